@@ -4,7 +4,7 @@ use Rattle.std.proofs.lemmas.Bool.{le-leb}
 use Rattle.sqlite.specs.Effect.{Database, IsDatabase}
 use Rattle.sqlite.specs.State.{IsUnchanged, State}
 use Rattle.kept_order.specs.InOrder.{HasTablesInOrder}
-use Rattle.vend_core.specs.Office.{IsOffice, Office, empty_office}
+use Rattle.office_rules.specs.Office.{IsOffice, Office, empty_office}
 use Rattle.book_tables.specs.Holds.{HasOfficeOf, IsKept, StandsFor}
 use Rattle.book_tables.specs.Kept.{kept, shifts_kept}
 use Rattle.book_tables.specs.Stands.{AreMembersOf}

@@ -13,7 +13,7 @@ use Rattle.one_table.proofs.ReadsOnlyLemmas.{read_where}
 use Rattle.kept_order.specs.InOrder.{HasTablesInOrder}
 use Rattle.sts_token.specs.Token.{BlockFunction}
 use Rattle.vend_core.specs.Law.Reached.{HasTokensOf, IsPlausible, IsWrittenBy}
-use Rattle.vend_core.specs.Office.{Office, empty_office}
+use Rattle.office_rules.specs.Office.{Office, empty_office}
 use Rattle.book_tables.specs.Holds.{HasOfficeOf, HoldsMembersOf, StandsFor, rows_in}
 use Rattle.book_tables.specs.Kept.{Kept, meters_kept, tariffs_kept}
 use Rattle.book_tables.specs.format.Making.{IsSoundOfFormat}

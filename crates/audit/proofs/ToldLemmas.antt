@@ -10,7 +10,7 @@ use Rattle.sqlite.specs.State.{HasCleanDisk, IsUnchanged, State, Survives}
 use Rattle.sqlite.proofs.Callers.{unchanged_then}
 use Rattle.sqlite_rules.specs.Lists.{Has as Member}
 use Rattle.one_table.specs.ReadsOnly.{ReadsOnly}
-use Rattle.vend_core.specs.Office.{Office}
+use Rattle.office_rules.specs.Office.{Office}
 use Rattle.book_tables.specs.format.Format.{HasFormat, IsFormatOf, TellsFormat}
 use Rattle.book_tables.specs.format.Making.{IsSoundOfFormat}
 use Rattle.book_tables.specs.Holds.{HasOfficeOf, IsKept, StandsFor}

@@ -6,7 +6,7 @@ use Rattle.one_table.specs.ReadsOnly.{ReadsOnly}
 use Rattle.kept_order.specs.InOrder.{HasTablesInOrder}
 use Rattle.sts_token.specs.Token.{BlockFunction}
 use Rattle.vend_core.specs.Law.Reached.{IsPlausible}
-use Rattle.vend_core.specs.Office.{IsOffice, Office}
+use Rattle.office_rules.specs.Office.{IsOffice, Office}
 use Rattle.book_tables.specs.Holds.{HasOfficeOf, StandsFor, rows_in}
 use Rattle.book_tables.specs.Kept.{Kept, meters_kept, tariffs_kept}
 use Rattle.book_tables.specs.Stands.{AreMembersOf}

@@ -2,7 +2,7 @@
 use Rattle.std.specs.Prelude.{◌≤◌, ℕ}
 use Rattle.sqlite.specs.Effect.{Database}
 use Rattle.kept_order.specs.InOrder.{HasTablesInOrder}
-use Rattle.vend_core.specs.Office.{Office}
+use Rattle.office_rules.specs.Office.{Office}
 use Rattle.book_tables.specs.Holds.{HasOfficeOf, IsKept, StandsFor}
 use Rattle.book_tables.specs.Kept.{shifts_kept}
 use Rattle.book_tables.specs.format.Format.{HasFormat}

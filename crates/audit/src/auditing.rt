@@ -7,7 +7,7 @@ ghost use Rattle.one_table.specs.ReadsOnly.{ReadsOnly};
 ghost use Rattle.book_tables.specs.format.Making.{IsSoundOfFormat};
 ghost use Rattle.book_tables.specs.row.Rows.{present_format};
 ghost use Rattle.vend_core.specs.Law.Reached.{IsPlausible};
-ghost use Rattle.vend_core.specs.Office.{Office};
+ghost use Rattle.office_rules.specs.Office.{Office};
 ghost use Rattle.audit_lists.specs.reached.Finds.{AreRowsOfOffice};
 ghost use Rattle.audit.specs.Audited.{IsAuditOf, IsSound};
 ghost use Rattle.audit.specs.Fails.{AreWritten, Denies, StopsBy, TellsForged, given_by};

@@ -6,10 +6,10 @@ use Rattle.sts_fields.specs.Base.{year_of}
 use Rattle.sts_fields.specs.declared.base.Base.{Base}
 use Rattle.tariff.specs.Steps.{IsSteps}
 use Rattle.tariff.specs.declared.step.Step.{Step}
-use Rattle.vend_core.specs.Office.{AreNumbered, IsBefore, IsOffice, IsSaleRow, NotBothOpen, Office, greatest_count}
-use Rattle.vend_core.specs.declared.office.meter.Meter.{Meter}
-use Rattle.vend_core.specs.declared.office.sale.Sale.{Sale}
-use Rattle.vend_core.specs.declared.office.shift.Shift.{Shift}
+use Rattle.office_rules.specs.Office.{AreNumbered, IsBefore, IsOffice, IsSaleRow, NotBothOpen, Office, greatest_count}
+use Rattle.office_rules.specs.declared.office.meter.Meter.{Meter}
+use Rattle.office_rules.specs.declared.office.sale.Sale.{Sale}
+use Rattle.office_rules.specs.declared.office.shift.Shift.{Shift}
 use Rattle.book_tables.specs.Stands.{AreApart, AreDatedApart, AreMembersOf, HasDatedStep, HasStep}
 use Rattle.book_tables.specs.row.Rows as stored
 use Rattle.book_tables.specs.declared.reading.pages.MeterRow.{MeterRow}

@@ -5,7 +5,7 @@ use Rattle.std.proofs.lemmas.List.Elements.{Contains-push}
 use Rattle.sqlite_keyed.specs.Keyed.{IsKeyedBy, insert_by}
 use Rattle.sqlite_keyed.specs.Lists.{update_where}
 use Rattle.sqlite_keyed.proofs.KeyedLemmas.{IsKeyedBy-update_where}
-use Rattle.vend_core.specs.declared.office.sale.Sale.{Sale}
+use Rattle.office_rules.specs.declared.office.sale.Sale.{Sale}
 use Rattle.book_tables.specs.row.Rows.{Rows}
 use Rattle.book_tables.specs.Stands.{AreRowsOf, AreTotalsOf, sales_in_month, sales_in_shift, sales_under, tenths_of, totals_of}
 use Rattle.book_tables.specs.writing.Edited.{no_rows}

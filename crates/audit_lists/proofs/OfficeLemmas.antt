@@ -8,11 +8,11 @@ use Rattle.sts_fields.specs.Day.{IsDay}
 use Rattle.sts_fields.specs.Moment.{IsMoment}
 use Rattle.sts_fields.specs.declared.base.Base.{Base}
 use Rattle.tariff.specs.declared.step.Step.{Step}
-use Rattle.vend_core.specs.Name.{IsMeterNo, IsName}
-use Rattle.vend_core.specs.Office.{IsBaseRow, IsBefore, IsDatedRow, IsMeterRow, IsOffice, IsSaleRow, IsShiftRow, IsTariffRow, NotBothOpen, Office, greatest_count}
-use Rattle.vend_core.specs.declared.office.meter.Meter.{Meter}
-use Rattle.vend_core.specs.declared.office.sale.Sale.{Sale}
-use Rattle.vend_core.specs.declared.office.shift.Shift.{Shift}
+use Rattle.office_rules.specs.Name.{IsMeterNo, IsName}
+use Rattle.office_rules.specs.Office.{IsBaseRow, IsBefore, IsDatedRow, IsMeterRow, IsOffice, IsSaleRow, IsShiftRow, IsTariffRow, NotBothOpen, Office, greatest_count}
+use Rattle.office_rules.specs.declared.office.meter.Meter.{Meter}
+use Rattle.office_rules.specs.declared.office.sale.Sale.{Sale}
+use Rattle.office_rules.specs.declared.office.shift.Shift.{Shift}
 use Rattle.book_tables.specs.Stands.{AreApart, AreDatedApart, AreMembersOf, AreTotalsOf, HasDatedStep, HasStep}
 use Rattle.book_tables.specs.row.Rows as stored
 use Rattle.book_tables.specs.row.Values.{AreMeterValues, AreSaleValues, AreShiftValues, AreStepValues, IsClosing}

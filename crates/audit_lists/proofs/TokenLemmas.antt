@@ -4,11 +4,11 @@ use Rattle.std.specs.Prelude.{◌↔◌, All, slice_get}
 use Rattle.std.proofs.lemmas.Option.{same_Some, slice_get_within}
 use Rattle.sts_token.specs.Fields.{AreFields, TokenFields}
 use Rattle.sts_token.specs.Token.{BlockFunction, IsToken}
-use Rattle.vend_core.specs.Law.NewSale.{fields_of}
+use Rattle.office_rules.specs.Law.NewSale.{fields_of}
 use Rattle.vend_core.specs.Law.Reached.{HasTokensOf, IsWrittenBy}
-use Rattle.vend_core.specs.Office.{IsSaleRow, Office}
-use Rattle.vend_core.specs.declared.office.meter.Meter.{Meter}
-use Rattle.vend_core.specs.declared.office.sale.Sale.{Sale}
+use Rattle.office_rules.specs.Office.{IsSaleRow, Office}
+use Rattle.office_rules.specs.declared.office.meter.Meter.{Meter}
+use Rattle.office_rules.specs.declared.office.sale.Sale.{Sale}
 use Rattle.book_tables.specs.declared.reading.pages.MeterRow.{MeterRow}
 use Rattle.audit_rows.specs.Entries.{meter_entry}
 use Rattle.audit_rows.specs.declared.finding.Finding.{Finding}

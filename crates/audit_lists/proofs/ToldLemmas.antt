@@ -1,6 +1,6 @@
 -- The rules of a format's tables, from those between rows and those of the totals.
 use Rattle.std.proofs.Common.{◌≡◌, ◌≤◌, ℕ, zero, suc, arith}
-use Rattle.vend_core.specs.Office.{IsOffice, Office}
+use Rattle.office_rules.specs.Office.{IsOffice, Office}
 use Rattle.book_tables.specs.Stands.{AreMembersOf, AreTotalsOf}
 use Rattle.book_tables.specs.row.Rows.{Rows}
 use Rattle.audit_rows.specs.AllRows.{KeepRules, with_totals}

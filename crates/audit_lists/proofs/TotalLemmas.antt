@@ -15,8 +15,8 @@ use Rattle.sqlite_value.proofs.OrderLemmas.{value_cmp-Int}
 use Rattle.sts_fields.specs.Base.{year_of}
 use Rattle.sts_fields.specs.Calendar.{month_at}
 use Rattle.sts_fields.specs.declared.base.Base.{Base}
-use Rattle.vend_core.specs.Office.Lookup.{greatest_of}
-use Rattle.vend_core.specs.declared.office.sale.Sale.{Sale}
+use Rattle.office_rules.specs.Office.Lookup.{greatest_of}
+use Rattle.office_rules.specs.declared.office.sale.Sale.{Sale}
 use Rattle.book_tables.specs.Stands.{AreRowsOf, AreTotalsOf, sales_in_month, sales_in_shift, sales_under, tenths_of, totals_of}
 use Rattle.book_tables.specs.row.Rows.{totals_columns}
 use Rattle.book_tables.specs.writing.Writing.{is_in_month, is_under}

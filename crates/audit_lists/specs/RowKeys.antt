@@ -1,8 +1,8 @@
 -- The keys of the rows of each table, and those by which they name other rows.
 use Rattle.std.specs.Prelude.{ℕ, ◌-◌, List, [], is_some, if◌then◌else◌}
 use Rattle.sts_fields.specs.Base.{year_of}
-use Rattle.vend_core.specs.declared.office.sale.Sale.{Sale}
-use Rattle.vend_core.specs.declared.office.shift.Shift.{Shift}
+use Rattle.office_rules.specs.declared.office.sale.Sale.{Sale}
+use Rattle.office_rules.specs.declared.office.shift.Shift.{Shift}
 use Rattle.audit_rows.specs.declared.rows.BaseRow.{BaseRow}
 use Rattle.audit_rows.specs.declared.rows.DatedStepRow.{DatedStepRow}
 use Rattle.book_tables.specs.declared.reading.pages.MeterRow.{MeterRow}

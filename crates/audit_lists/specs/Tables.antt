@@ -1,7 +1,7 @@
 -- The lists of an office's tables, and how a finding names their rows.
 use Rattle.std.specs.Prelude.{ℕ, List}
-use Rattle.vend_core.specs.declared.office.sale.Sale.{Sale}
-use Rattle.vend_core.specs.declared.office.shift.Shift.{Shift}
+use Rattle.office_rules.specs.declared.office.sale.Sale.{Sale}
+use Rattle.office_rules.specs.declared.office.shift.Shift.{Shift}
 use Rattle.book_tables.specs.declared.reading.pages.MeterRow.{MeterRow}
 use Rattle.audit_rows.specs.declared.finding.RowKey.TheVariants as key
 use Rattle.audit_rows.specs.declared.rows.BaseRow.{BaseRow}

@@ -1,7 +1,7 @@
 -- Rules that tie the rows of a list to one another, or to those of other lists: what each row keeps,
 -- and the first one that does not.
 use Rattle.std.specs.Prelude.{◌≡◌, ◌⊎◌, ◌+◌, ◌<◌, ⊤, ℕ, List, [], ◌∷◌, Some, slice_get}
-use Rattle.vend_core.specs.Office.{greatest_count}
+use Rattle.office_rules.specs.Office.{greatest_count}
 use Rattle.audit_rows.specs.declared.finding.Finding.{Finding}
 use Rattle.audit_rows.specs.declared.finding.RowKey.{RowKey}
 use Rattle.audit_rows.specs.declared.finding.RowKey.TheVariants.{Number}

@@ -1,6 +1,6 @@
 -- What is known of the rows of all tables once they were tested.
 use Rattle.std.specs.Prelude.{◌≡◌, ◌++◌, ◌≤◌, ℕ, zero, suc, List}
-use Rattle.vend_core.specs.Office.{IsOffice, Office}
+use Rattle.office_rules.specs.Office.{IsOffice, Office}
 use Rattle.book_tables.specs.Stands.{AreMembersOf}
 use Rattle.book_tables.specs.row.Rows.{Rows}
 use Rattle.audit_rows.specs.AllRows.{with_totals}

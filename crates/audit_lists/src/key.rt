@@ -1,13 +1,13 @@
 //! What rows are told apart by, and what they name others by.
 
 ghost use Rattle.std.specs.Prelude.{◌≡◌};
-ghost use Rattle.vend_core.specs.declared.office.sale.Sale.{Sale};
-ghost use Rattle.vend_core.specs.declared.office.shift.Shift.{Shift};
+ghost use Rattle.office_rules.specs.declared.office.sale.Sale.{Sale};
+ghost use Rattle.office_rules.specs.declared.office.shift.Shift.{Shift};
 ghost use Rattle.audit_lists.specs.Keys.{Key, told};
 ghost use Rattle.audit_lists.specs.RowKeys.{base_key, dated_before_key, dated_first_key, dated_key, dated_tariff_key, meter_base_key, meter_key, meter_tariff_key, name_key, open_key, ref_key, sale_base_key, step_before_key, step_key, step_tariff_key, tid_key};
 
 use audit_rows::{BaseRow, DatedStepRow, MeterRow, StepRow};
-use vend_core::{Sale, Shift, TariffName};
+use office_rules::{Sale, Shift, TariffName};
 
 /// A key of rows: two texts and two numbers; where a row has fewer, the rest are empty and 0.
 pub(crate) type LentKey<'a> = (&'a [u8], &'a [u8], u32, u32);

@@ -5,7 +5,7 @@ ghost use Rattle.audit_lists.specs.Ties.{IsFirst, IsKept, few, listed, numbered}
 
 use crate::fault::found_number;
 use audit_rows::{Finding, Named, Rule};
-use vend_core::{GREATEST_COUNT, Sale, Shift};
+use office_rules::{GREATEST_COUNT, Sale, Shift};
 
 /// A row that has a number.
 pub(crate) trait Numbered {

@@ -2,7 +2,7 @@
 
 ghost use Rattle.std.specs.Prelude.{IfErr, OnOk};
 ghost use Rattle.vend_core.specs.Law.Reached.{IsPlausible};
-ghost use Rattle.vend_core.specs.Office.{Office};
+ghost use Rattle.office_rules.specs.Office.{Office};
 ghost use Rattle.audit_lists.specs.reached.Finds.{AreRowsOfOffice, TellsUnreached};
 
 pub use laws::honest_law;

@@ -15,8 +15,8 @@ use crate::numbers::{test_count, test_numbers};
 use crate::places::{Places, places_of, test_names};
 use crate::steps::test_steps;
 use audit_rows::{BaseRow, DatedStepRow, Finding, MeterRow, OfficeRows, Rule, StepRow};
+use office_rules::{Sale, Shift, TariffName};
 use std::alloc::Global;
-use vend_core::{Sale, Shift, TariffName};
 
 // The places of the tariffs' names, where tariffs and their steps keep the rules.
 fn test_tariffs<'a>(

@@ -4,9 +4,9 @@ ghost use Rattle.std.specs.Prelude.{◌≡◌, ◌↔◌, All, IfErr, IsTrue, Li
 ghost use Rattle.sts_token.specs.Fields.{AreFields};
 ghost use Rattle.sts_token.specs.Token.{BlockFunction, IsToken};
 ghost use Rattle.vend_core.specs.Law.Life.{AreLives, Life};
-ghost use Rattle.vend_core.specs.Law.NewSale.{fields_of};
+ghost use Rattle.office_rules.specs.Law.NewSale.{fields_of};
 ghost use Rattle.vend_core.specs.Law.Reached.{HasTokensOf, IsWrittenBy};
-ghost use Rattle.vend_core.specs.Office.{IsSaleRow, Office};
+ghost use Rattle.office_rules.specs.Office.{IsSaleRow, Office};
 ghost use Rattle.audit_rows.specs.declared.finding.Finding.{Finding};
 ghost use Rattle.audit_lists.specs.Keys.{ArePlaces};
 ghost use Rattle.audit_lists.specs.RowKeys.{meter_key};
@@ -18,9 +18,10 @@ use crate::fault::{OfficeFault, found};
 use crate::key::Number;
 use crate::places::{Places, place_of, places_of};
 use audit_rows::{MeterRow, OfficeRows, Rule};
+use office_rules::Sale;
 use std::alloc::Global;
 use sts_token::{BlockTransform, read};
-use vend_core::{Sale, reached_law};
+use vend_core::reached_law;
 
 // Whether a sale's digits are the token of its fields under a key.
 fn is_token_of<T: BlockTransform>(transform: &T, key: u64, sale: &Sale) -> bool

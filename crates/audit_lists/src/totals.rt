@@ -1,7 +1,7 @@
 //! The running totals, which have to be those of the sales.
 
 ghost use Rattle.std.specs.Prelude.{◌≡◌, ◌≤◌, IfErr, IfOk, IsSome, OnOk, Some, length};
-ghost use Rattle.vend_core.specs.Office.{greatest_count};
+ghost use Rattle.office_rules.specs.Office.{greatest_count};
 ghost use Rattle.book_tables.specs.row.Gathered.{IsGathered};
 ghost use Rattle.audit_lists.specs.Ties.{AreKept, FindsFirst, IsFirst, IsKept, Says, each, listed};
 ghost use Rattle.audit_lists.specs.totals.Rules.{sum_rules, total_rules};
@@ -12,8 +12,8 @@ use crate::places::{first_astray, places_of};
 use crate::totals::summed::Summed;
 use audit_rows::{Finding, OfficeRows, Rule};
 use book_tables::Gathered;
+use office_rules::Sale;
 use std::alloc::Global;
-use vend_core::Sale;
 
 mod summed;
 

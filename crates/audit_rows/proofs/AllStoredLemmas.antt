@@ -7,8 +7,8 @@ use Rattle.sqlite.specs.Effect.{Database, IsDatabase}
 use Rattle.sqlite.specs.Order.{Row, column}
 use Rattle.sqlite_value.specs.declared.value.Value.TheVariants.{Null, Text}
 use Rattle.sts_fields.specs.declared.base.Base.{Base}
-use Rattle.vend_core.specs.declared.office.meter.Meter.{Meter}
-use Rattle.vend_core.specs.declared.office.sale.Sale.{Sale}
+use Rattle.office_rules.specs.declared.office.meter.Meter.{Meter}
+use Rattle.office_rules.specs.declared.office.sale.Sale.{Sale}
 use Rattle.one_table.specs.Numbered.{IsInOrder}
 use Rattle.book_tables.specs.format.Format.{TellsFormat}
 use Rattle.book_tables.specs.Holds.{AreStoredRows, HasOfficeOf, HoldsOf, HoldsRows, IsKept, rows_in}

@@ -8,8 +8,8 @@ use Rattle.std.proofs.lemmas.List.Edits.{length-swap, swap_is}
 use Rattle.std.proofs.lemmas.List.Sorted.{All-permutation, Contains-permutation, IsPermutation-keeps, IsPermutation-map, IsPermutation-refl, IsPermutation-sym}
 use Rattle.sqlite_keyed.specs.Keyed.{IsKeyedBy}
 use Rattle.sts_fields.specs.declared.base.Base.{Base}
-use Rattle.vend_core.specs.Office.{IsOffice, Office}
-use Rattle.vend_core.specs.declared.office.meter.Meter.{Meter}
+use Rattle.office_rules.specs.Office.{IsOffice, Office}
+use Rattle.office_rules.specs.declared.office.meter.Meter.{Meter}
 use Rattle.book_tables.specs.row.Rows.{DatedStepRow, Rows, base_columns, dated_columns, keyed, last_id_columns, meter_columns, month_columns, number, sale_columns, shift_columns, step_columns, tariff_columns, totals_columns}
 use Rattle.book_tables.specs.Stands.{AreApart, AreDatedApart, AreMembersOf, AreRowsOf, sales_in_shift, totals_of}
 use Rattle.book_tables.specs.declared.row.totals.Totals.{Totals}
@@ -23,9 +23,9 @@ use Rattle.sqlite_trees.proofs.ListLemmas.{pull_back}
 use Rattle.sqlite_value.specs.Order.{value_cmp}
 use Rattle.sqlite_value.specs.declared.value.Value.{Value}
 use Rattle.sqlite_value.proofs.OrderLemmas.{value_cmp_total}
-use Rattle.vend_core.proofs.ListsLemmas.MapLemmas.{all_from_contains}
-use Rattle.vend_core.specs.declared.office.sale.Sale.{Sale}
-use Rattle.vend_core.specs.declared.office.shift.Shift.{Shift}
+use Rattle.office_rules.proofs.OfficeLemmas.MapLemmas.{all_from_contains}
+use Rattle.office_rules.specs.declared.office.sale.Sale.{Sale}
+use Rattle.office_rules.specs.declared.office.shift.Shift.{Shift}
 use Rattle.book_tables.specs.Holds.{AreStoredRows, HoldsOf, HoldsRows, rows_in}
 use Rattle.book_tables.specs.Kept.{Kept, bases_kept, dated_steps_kept, kept, last_ids_kept, meters_kept, month_tenths_kept, sales_kept, shift_totals_kept, shifts_kept, steps_kept, tariffs_kept}
 use Rattle.book_tables.specs.row.Values.{IsKey}

@@ -3,7 +3,7 @@ use Rattle.std.proofs.Common.{◌≡◌, ℕ, zero, suc, ◌+◌, [], ◌∷◌,
 use Rattle.std.proofs.lemmas.List.{drop_all, drop_more}
 use Rattle.sqlite.specs.Order.{Row, column}
 use Rattle.sqlite.specs.declared.types.Value.TheVariants.{Null}
-use Rattle.vend_core.specs.declared.decision.request.Order.{Order}
+use Rattle.office_rules.specs.declared.decision.request.Order.{Order}
 use Rattle.book_tables.specs.row.Rows.{number}
 use Rattle.audit_rows.specs.Parts.{entry_columns, order_columns, shown_entry, shown_order, shown_token, token_columns}
 use Rattle.audit_rows.specs.Sales.{shown_sale_row}

@@ -13,7 +13,7 @@ use Rattle.sqlite.specs.State.{HasCause, HasCleanDisk, IsRolledBack, IsUnchanged
 use Rattle.sqlite.specs.declared.error.Error.{Error}
 use Rattle.sqlite.proofs.Callers.{unchanged_then}
 use Rattle.sqlite.proofs.StateLemmas.{survives_then}
-use Rattle.vend_core.proofs.ListsLemmas.MapLemmas.{all_from_contains}
+use Rattle.office_rules.proofs.OfficeLemmas.MapLemmas.{all_from_contains}
 use Rattle.one_table.specs.Reading.{FailsPlainly}
 use Rattle.one_table.specs.ReadsOnly.{ReadsOnly}
 use Rattle.one_table.proofs.AnswerLemmas.{left_then}

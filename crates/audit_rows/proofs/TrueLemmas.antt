@@ -3,7 +3,7 @@ use Rattle.std.proofs.Common.{Bool, IfSome, List, None, Option, Some, [], ap, ap
 use Rattle.std.proofs.lemmas.Bool.{false≢true, le-leb}
 use Rattle.sqlite.specs.Effect.{Database}
 use Rattle.sqlite_rules.specs.Lists.{Has as Member}
-use Rattle.vend_core.specs.Office.{Office}
+use Rattle.office_rules.specs.Office.{Office}
 use Rattle.book_tables.specs.format.Format.{TellsFormat}
 use Rattle.book_tables.specs.Holds.{AreStoredRows, HasOfficeOf, HoldsOf, HoldsRows, IsKept, StandsFor, rows_in}
 use Rattle.book_tables.specs.Kept.{Kept, about_kept, bases_kept, dated_steps_kept, kept, last_ids_kept, meters_kept, month_tenths_kept, sales_kept, shift_totals_kept, shifts_kept, steps_kept, tariffs_kept}
@@ -19,7 +19,7 @@ use Rattle.sqlite_keyed.proofs.ListLemmas.{map-map, map_same}
 use Rattle.sqlite_schema.specs.declared.schema.Schema.{Schema}
 use Rattle.sqlite_value.specs.declared.value.Value.{Value}
 use Rattle.book_tables.specs.reading.Reading.{AreOfOffice, ShowsRecord, meter_row}
-use Rattle.vend_core.proofs.ListsLemmas.MapLemmas.{all_from_contains}
+use Rattle.office_rules.proofs.OfficeLemmas.MapLemmas.{all_from_contains}
 use Rattle.audit_rows.specs.Whole.{all_columns, columns_of}
 use Rattle.std.proofs.lemmas.List.Sorted.{Contains-permutation}
 use Rattle.std.proofs.lemmas.List.Filters.{length-filter_both}
@@ -31,10 +31,10 @@ use Rattle.sts_fields.specs.Moment.{IsMoment}
 use Rattle.sts_fields.specs.Tid.{last_tid}
 use Rattle.sts_fields.specs.declared.base.Base.{Base}
 use Rattle.tariff.specs.Steps.{EndFits, HasPrice}
-use Rattle.vend_core.specs.Office.Lookup.{greatest_of}
-use Rattle.vend_core.specs.Name.{IsMeterNo, IsName}
-use Rattle.vend_core.specs.declared.office.meter.Meter.{Meter}
-use Rattle.vend_core.specs.declared.office.sale.Sale.{Sale}
+use Rattle.office_rules.specs.Office.Lookup.{greatest_of}
+use Rattle.office_rules.specs.Name.{IsMeterNo, IsName}
+use Rattle.office_rules.specs.declared.office.meter.Meter.{Meter}
+use Rattle.office_rules.specs.declared.office.sale.Sale.{Sale}
 use Rattle.book_tables.specs.Stands.{AreMembersOf, sales_in_month, sales_in_shift, sales_under, tenths_of, totals_of}
 use Rattle.book_tables.specs.row.Values.{AreSaleValues, AreShiftValues, AreStepValues, AreTotalsValues, IsNumber, IsTotal}
 use Rattle.book_tables.specs.declared.row.totals.Totals.{Totals}

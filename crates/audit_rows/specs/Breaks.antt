@@ -2,7 +2,7 @@
 use Rattle.std.specs.Prelude.{◌≡◌, ◌++◌, ℕ, List, ◌∷◌, All}
 use Rattle.sqlite.specs.Effect.{Database}
 use Rattle.sqlite.specs.Order.{Row}
-use Rattle.vend_core.specs.Name.{IsName}
+use Rattle.office_rules.specs.Name.{IsName}
 use Rattle.book_tables.specs.Holds.{IsKept}
 use Rattle.book_tables.specs.reading.Reading.{ShowsRecord}
 use Rattle.book_tables.specs.row.Rows.{shown_shift, tariff_columns}

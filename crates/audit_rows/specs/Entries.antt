@@ -1,8 +1,8 @@
 -- The rows of an office that the records of whole rows are.
 use Rattle.std.specs.Prelude.{ℕ, List, map}
 use Rattle.sts_fields.specs.declared.base.Base.{Base}
-use Rattle.vend_core.specs.declared.office.meter.Meter.{Meter}
-use Rattle.vend_core.specs.declared.office.sale.Sale.{Sale}
+use Rattle.office_rules.specs.declared.office.meter.Meter.{Meter}
+use Rattle.office_rules.specs.declared.office.sale.Sale.{Sale}
 use Rattle.book_tables.specs.row.Rows.{DatedStepRow, Rows, StepRow}
 use Rattle.book_tables.specs.declared.reading.pages.MeterRow.{MeterRow}
 use Rattle.book_tables.specs.declared.row.totals.Totals.{Totals}

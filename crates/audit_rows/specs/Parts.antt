@@ -5,7 +5,7 @@ use Rattle.sqlite.specs.declared.types.Value.TheVariants.{Text}
 use Rattle.sts_fields.specs.Base.{year_of}
 use Rattle.sts_fields.specs.Moment.{IsMoment}
 use Rattle.sts_token.specs.Token.{AreTwentyDigits}
-use Rattle.vend_core.specs.declared.decision.request.Order.{Order}
+use Rattle.office_rules.specs.declared.decision.request.Order.{Order}
 use Rattle.book_tables.specs.row.Rows.{number}
 use Rattle.book_tables.specs.row.Values.{IsNumber, IsSoldAmount, IsTid}
 use Rattle.audit_rows.specs.declared.sale_row.Entry.{Entry}

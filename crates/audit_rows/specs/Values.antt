@@ -1,7 +1,7 @@
 -- The rules that the values of a whole row keep by themselves, whatever else an office holds.
 use Rattle.std.specs.Prelude.{◌<◌, ◌^◌}
 use Rattle.sts_fields.specs.Day.{IsDay}
-use Rattle.vend_core.specs.Name.{IsMeterNo, IsName}
+use Rattle.office_rules.specs.Name.{IsMeterNo, IsName}
 use Rattle.book_tables.specs.row.Values.{AreMeterValues, AreStepValues, AreTotalsValues, IsNumber, IsTid, IsTotal}
 use Rattle.audit_rows.specs.declared.rows.BaseRow.{BaseRow}
 use Rattle.audit_rows.specs.declared.rows.DatedStepRow.{DatedStepRow}

@@ -1,7 +1,7 @@
 use crate::table_name::TableName;
+use office_rules::{MeterNo, TariffName};
 use sqlite::{Error, Row};
 use sts_fields::{Base, Day};
-use vend_core::{MeterNo, TariffName};
 
 /// The rules that a row may break. `docs/COMMANDS.md`, "What an audit prints", has them in words.
 #[derive(Clone, Copy, Debug, PartialEq, Eq)]

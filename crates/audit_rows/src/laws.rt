@@ -2,7 +2,7 @@
 
 ghost use Rattle.std.specs.Prelude.{◌≡◌, ◌≤◌, ℕ};
 ghost use Rattle.sqlite.specs.Effect.{Database, IsDatabase};
-ghost use Rattle.vend_core.specs.Office.{IsOffice, Office, empty_office};
+ghost use Rattle.office_rules.specs.Office.{IsOffice, Office, empty_office};
 ghost use Rattle.book_tables.specs.Holds.{HasOfficeOf, StandsFor};
 ghost use Rattle.book_tables.specs.Stands.{AreMembersOf};
 ghost use Rattle.book_tables.specs.format.Format.{TellsFormat};

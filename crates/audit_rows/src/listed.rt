@@ -9,7 +9,7 @@ use crate::rows::{BaseRow, DatedStepRow, LastId, MonthTenths, ShiftTotals, StepR
 use crate::sale_row::SaleRow;
 use book_tables::Record;
 use book_tables::reading::pages::MeterRow;
-use vend_core::{Shift, TariffName};
+use office_rules::{Shift, TariffName};
 
 /// A record that each row of one of the office's tables has to show.
 pub(crate) trait Listed: Record + Named {

@@ -8,7 +8,7 @@ use crate::rows::{BaseRow, DatedStepRow, LastId, MonthTenths, ShiftTotals, StepR
 use crate::sale_row::SaleRow;
 use crate::table_name::TableName;
 use book_tables::reading::pages::MeterRow;
-use vend_core::{Sale, Shift, TariffName};
+use office_rules::{Sale, Shift, TariffName};
 
 /// A row of one of the office's tables, which a finding names by its table and its key.
 pub trait Named {

@@ -2,7 +2,7 @@
 
 use crate::rows::{BaseRow, DatedStepRow, LastId, MonthTenths, ShiftTotals, StepRow};
 use book_tables::reading::pages::MeterRow;
-use vend_core::{Sale, Shift, TariffName};
+use office_rules::{Sale, Shift, TariffName};
 
 /// The rows of all tables, each table read whole.
 ///

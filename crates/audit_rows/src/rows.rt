@@ -4,10 +4,10 @@ ghost use Rattle.audit_rows.specs.Records.{shown_base, shown_dated_step, shown_l
 ghost use Rattle.audit_rows.specs.Values.{AreBaseValues, AreDatedStepValues, AreLastIdValues, AreMonthValues, AreShiftTotalsValues, AreStepRowValues};
 
 use book_tables::{Record, Totals, cells};
+use office_rules::{MeterNo, TariffName};
 use sqlite::Row;
 use sts_fields::{Base, Day};
 use tariff::Step;
-use vend_core::{MeterNo, TariffName};
 
 /// A step of a tariff, at its place from 0.
 #[derive(Clone, Copy, Debug)]

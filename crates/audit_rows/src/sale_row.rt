@@ -2,15 +2,15 @@
 
 ghost use Rattle.std.specs.Prelude.{◌≡◌, ◌==◌};
 ghost use Rattle.sts_fields.specs.Calendar.{month_at};
-ghost use Rattle.vend_core.specs.Decision.Requests.{IsOrder};
+ghost use Rattle.office_rules.specs.Decision.Requests.{IsOrder};
 ghost use Rattle.book_tables.specs.row.ReadBack.{ReadsBack};
 ghost use Rattle.audit_rows.specs.Parts.{AreEntryValues, AreTokenValues, entry_columns, order_columns, shown_entry, shown_order, shown_token, token_columns};
 ghost use Rattle.audit_rows.specs.Sales.{AreBookedValues, AreSaleRowValues, shown_sale_row};
 
 use book_tables::{Record, cells};
+use office_rules::{Order, Sale};
 use sqlite::Row;
 use sts_fields::{Amount, Base, Moment, month_of};
-use vend_core::{Order, Sale};
 
 /// A sale, and the month that its row tells.
 #[derive(Clone, Copy, Debug)]

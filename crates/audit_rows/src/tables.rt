@@ -8,9 +8,9 @@ use crate::rows::{BaseRow, DatedStepRow, LastId, MonthTenths, ShiftTotals, StepR
 use crate::sale_row::SaleRow;
 use crate::source::Source;
 use book_tables::reading::pages::MeterRow;
+use office_rules::{Sale, Shift, TariffName};
 use sqlite::Alter;
 use std::alloc::{AllocError, Global};
-use vend_core::{Sale, Shift, TariffName};
 
 /// What is read of all tables of a format.
 pub(crate) trait Tables<S: Alter>: Source<S> {

@@ -12,11 +12,11 @@ use Rattle.sqlite.proofs.StateLemmas.{survives_then}
 use Rattle.sqlite_trees.specs.Tree.{Trees}
 use Rattle.sqlite_trees.specs.declared.store.Store.{Ghosts}
 use Rattle.one_table.specs.Committing.{FailsAtCommit, HasBeen, HasCommitted, IsUndone, LeavesMade}
-use Rattle.vend_core.specs.Decision.Edits.{applied}
-use Rattle.vend_core.specs.Office.{IsOffice, Office}
-use Rattle.vend_core.specs.Law.Store.{Meets}
-use Rattle.vend_core.specs.declared.decision.change.Edit.{Edit}
-use Rattle.vend_core.specs.declared.decision.refusal.Refusal.{Refusal}
+use Rattle.office_rules.specs.Decision.Edits.{applied}
+use Rattle.office_rules.specs.Office.{IsOffice, Office}
+use Rattle.office_rules.specs.Law.Store.{Meets}
+use Rattle.office_rules.specs.declared.decision.change.Edit.{Edit}
+use Rattle.office_rules.specs.declared.decision.refusal.Refusal.{Refusal}
 use Rattle.book_tables.proofs.HoldsLemmas.{stands_present}
 use Rattle.book_tables.specs.writing.Failing.{IsRefused}
 use Rattle.book_tables.specs.writing.Writes.{EndsWith, Make, writes_of}

@@ -5,10 +5,10 @@ use Rattle.sqlite.specs.declared.error.Error.{Error}
 use Rattle.sqlite_trees.specs.Tree.{Trees}
 pub use Rattle.one_table.specs.Committing.{HasBeen}
 use Rattle.one_table.specs.Committing.{FailsAtCommit, LeavesMade}
-use Rattle.vend_core.specs.Office.{Office}
-use Rattle.vend_core.specs.declared.decision.change.Edit.{Edit}
-use Rattle.vend_core.specs.declared.decision.refusal.Refusal.{Refusal}
-use Rattle.vend_core.specs.declared.decision.refusal.Refusal.TheVariants.{Memory, Store}
+use Rattle.office_rules.specs.Office.{Office}
+use Rattle.office_rules.specs.declared.decision.change.Edit.{Edit}
+use Rattle.office_rules.specs.declared.decision.refusal.Refusal.{Refusal}
+use Rattle.office_rules.specs.declared.decision.refusal.Refusal.TheVariants.{Memory, Store}
 use Rattle.book_tables.specs.declared.error.TableError.{TableError}
 use Rattle.book_states.specs.Changing.{IsCounted, MakesAsComputed, MakesEdit}
 use Rattle.book_states.specs.Failing.{EditHasFailed, refusal_for}

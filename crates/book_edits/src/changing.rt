@@ -10,11 +10,11 @@ use book_tables::writing::bases::move_base;
 use book_tables::writing::changes::{close_shift, set_tariff};
 use book_tables::writing::dated_steps::add_steps;
 use book_tables::{TableError, members_law};
+use office_rules::Edit;
 use one_table::Change;
 use rows::add_rows;
 use sales::add_counted;
 use sqlite::{Alter, Transaction};
-use vend_core::Edit;
 
 mod rows;
 mod sales;

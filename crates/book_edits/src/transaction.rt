@@ -9,9 +9,9 @@ ghost use Rattle.book_edits.specs.Transaction.{Commits};
 
 use crate::changing::Editing;
 use book_states::refusal_of;
+use office_rules::{Edit, Refusal};
 use one_table::{CommitFault, change_once};
 use sqlite::{Alter, Connection};
-use vend_core::{Edit, Refusal};
 
 /// Makes an edit in a transaction of its own, and commits it once. `prior` are the tenths that the
 /// meter of a sale had in its month before it.

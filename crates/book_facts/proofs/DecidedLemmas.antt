@@ -2,13 +2,13 @@
 use Rattle.std.proofs.Common.{◌≡◌, ◌≢◌, ℕ, IfErr, IfOk, Result, Ok, Err, ap, inr}
 use Rattle.sqlite.specs.State.{State}
 use Rattle.sts_token.specs.Token.{BlockFunction}
-use Rattle.vend_core.specs.Decision.{decision}
-use Rattle.vend_core.specs.Decision.Facts.{AreFacts, IsUnlessMemory}
-use Rattle.vend_core.specs.Office.{Office}
-use Rattle.vend_core.specs.declared.decision.facts.Facts.{Facts}
-use Rattle.vend_core.specs.declared.decision.refusal.Refusal.{Refusal}
-use Rattle.vend_core.specs.declared.decision.refusal.Refusal.TheVariants.{Store}
-use Rattle.vend_core.specs.declared.decision.request.Stamped.{Stamped}
+use Rattle.office_rules.specs.Decision.{decision}
+use Rattle.office_rules.specs.Decision.Facts.{AreFacts, IsUnlessMemory}
+use Rattle.office_rules.specs.Office.{Office}
+use Rattle.office_rules.specs.declared.decision.facts.Facts.{Facts}
+use Rattle.office_rules.specs.declared.decision.refusal.Refusal.{Refusal}
+use Rattle.office_rules.specs.declared.decision.refusal.Refusal.TheVariants.{Store}
+use Rattle.office_rules.specs.declared.decision.request.Stamped.{Stamped}
 use Rattle.book_states.specs.Failing.{AreRead, IsChangeRead, RefusesUnchanged, prior_of_account}
 use Rattle.book_facts.specs.Deciding.{change_in}
 use Rattle.book_facts.specs.declared.decided.Decided.{Decided}

@@ -9,16 +9,16 @@ use Rattle.sqlite.specs.State.{HasCleanDisk, IsUnchanged, State, Survives}
 use Rattle.sts_fields.specs.Calendar.{month_at}
 use Rattle.sts_fields.specs.Day.{day_at}
 use Rattle.tariff.specs.declared.step.Step.{Step}
-use Rattle.vend_core.specs.Decision.{MeterAccount, account_of, row_decision}
-use Rattle.vend_core.specs.Decision.Facts.{AreRowsFacts, row_facts}
-use Rattle.vend_core.specs.Office.Lookup.{greatest_of, latest, open_shift, prior, steps_on, used}
-use Rattle.vend_core.specs.Office.{IsOffice, Office}
-use Rattle.vend_core.specs.declared.office.meter.Meter.{Meter}
-use Rattle.vend_core.specs.declared.decision.refusal.Refusal.TheVariants.{Differs}
-use Rattle.vend_core.specs.declared.office.row.Row.{Row}
-use Rattle.vend_core.specs.declared.decision.row_facts.RowFacts.{RowFacts}
-use Rattle.vend_core.specs.declared.office.sale.Sale.{Sale}
-use Rattle.vend_core.specs.declared.office.shift.Shift.{Shift}
+use Rattle.office_rules.specs.Decision.{MeterAccount, account_of, row_decision}
+use Rattle.office_rules.specs.Decision.Facts.{AreRowsFacts, row_facts}
+use Rattle.office_rules.specs.Office.Lookup.{greatest_of, latest, open_shift, prior, steps_on, used}
+use Rattle.office_rules.specs.Office.{IsOffice, Office}
+use Rattle.office_rules.specs.declared.office.meter.Meter.{Meter}
+use Rattle.office_rules.specs.declared.decision.refusal.Refusal.TheVariants.{Differs}
+use Rattle.office_rules.specs.declared.office.row.Row.{Row}
+use Rattle.office_rules.specs.declared.decision.row_facts.RowFacts.{RowFacts}
+use Rattle.office_rules.specs.declared.office.sale.Sale.{Sale}
+use Rattle.office_rules.specs.declared.office.shift.Shift.{Shift}
 use Rattle.book_tables.specs.reading.Found.{meters_numbered}
 use Rattle.book_tables.specs.Holds.{Holds, HoldsMembers}
 use Rattle.book_tables.specs.reading.Reading.{AreOfOffice, FailsToRead, HasTableRows, HasAllTables, OnlyReads}

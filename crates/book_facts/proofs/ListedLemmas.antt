@@ -7,9 +7,9 @@ use Rattle.std.proofs.lemmas.Bool.{false≢true}
 use Rattle.std.proofs.lemmas.List.{map-append}
 use Rattle.std.proofs.lemmas.List.Elements.{All-append, All-contains, All-map, All-weaker}
 use Rattle.tariff.specs.declared.step.Step.{Step}
-use Rattle.vend_core.proofs.ListsLemmas.MapLemmas.{all_from_contains}
-use Rattle.vend_core.specs.Office.Lookup.{latest, steps_on}
-use Rattle.vend_core.specs.Office.{Office}
+use Rattle.office_rules.proofs.OfficeLemmas.MapLemmas.{all_from_contains}
+use Rattle.office_rules.specs.Office.Lookup.{latest, steps_on}
+use Rattle.office_rules.specs.Office.{Office}
 use Rattle.book_lists.specs.Pages.{AreFirstAfter, ComesBefore}
 use Rattle.book_tables.proofs.ListLemmas.{contains_cases, contains_map, contains_none}
 use Rattle.book_tables.specs.declared.reading.pages.MeterRow.{MeterRow}

@@ -10,11 +10,11 @@ use Rattle.sqlite.specs.State.{HasCleanDisk, IsUnchanged, State}
 use Rattle.one_table.proofs.ReadsOnlyLemmas.{fail_on}
 use Rattle.sts_fields.specs.Day.{day_at}
 use Rattle.tariff.specs.declared.step.Step.{Step}
-use Rattle.vend_core.specs.Decision.{MeterAccount}
-use Rattle.vend_core.specs.Office.{Office}
-use Rattle.vend_core.specs.declared.decision.row_facts.RowFacts.{RowFacts}
-use Rattle.vend_core.specs.declared.office.meter.Meter.{Meter}
-use Rattle.vend_core.specs.declared.office.row.Row.{Row}
+use Rattle.office_rules.specs.Decision.{MeterAccount}
+use Rattle.office_rules.specs.Office.{Office}
+use Rattle.office_rules.specs.declared.decision.row_facts.RowFacts.{RowFacts}
+use Rattle.office_rules.specs.declared.office.meter.Meter.{Meter}
+use Rattle.office_rules.specs.declared.office.row.Row.{Row}
 use Rattle.book_tables.proofs.OfficeTableLemmas.{IsInOffice, has_table, read_in_office}
 use Rattle.book_tables.specs.Kept.{Kept}
 use Rattle.book_tables.specs.reading.Reading.{HasAllTables, OnlyReads, ReadsTable}

@@ -13,18 +13,18 @@ use Rattle.sts_fields.specs.declared.fault.TidFault.{TidFault}
 use Rattle.sts_fields.specs.declared.fault.TidFault.TheVariants.{BeforeBase, PastEnd, IdentifiersSpent, IdentifierAhead}
 use Rattle.sts_token.specs.Token.{BlockFunction}
 use Rattle.tariff.specs.Purchase.{purchase_of}
-use Rattle.vend_core.proofs.DecisionLemmas.EditLemmas.{base_eq-refl}
-use Rattle.vend_core.proofs.OfficeLemmas.RowLemmas.{both_true, found_none}
-use Rattle.vend_core.specs.Decision.{◌>>=◌, MeterAccount, next_number, or_refusal, sell}
-use Rattle.vend_core.specs.Law.Store.{IsLastSale}
-use Rattle.vend_core.specs.Office.{Office, greatest_count}
-use Rattle.vend_core.specs.declared.decision.change.Change.{Change}
-use Rattle.vend_core.specs.declared.decision.refusal.Refusal.{Refusal}
-use Rattle.vend_core.specs.declared.decision.refusal.Refusal.TheVariants as refusals
-use Rattle.vend_core.specs.declared.decision.request.Order.{Order}
-use Rattle.vend_core.specs.declared.office.meter.Meter.{Meter}
-use Rattle.vend_core.specs.declared.office.sale.Sale.{Sale}
-use Rattle.vend_core.specs.declared.office.shift.Shift.{Shift}
+use Rattle.office_rules.proofs.DecisionLemmas.EditLemmas.{base_eq-refl}
+use Rattle.office_rules.proofs.OfficeLemmas.RowLemmas.{both_true, found_none}
+use Rattle.office_rules.specs.Decision.{◌>>=◌, MeterAccount, next_number, or_refusal, sell}
+use Rattle.office_rules.specs.Law.Store.{IsLastSale}
+use Rattle.office_rules.specs.Office.{Office, greatest_count}
+use Rattle.office_rules.specs.declared.decision.change.Change.{Change}
+use Rattle.office_rules.specs.declared.decision.refusal.Refusal.{Refusal}
+use Rattle.office_rules.specs.declared.decision.refusal.Refusal.TheVariants as refusals
+use Rattle.office_rules.specs.declared.decision.request.Order.{Order}
+use Rattle.office_rules.specs.declared.office.meter.Meter.{Meter}
+use Rattle.office_rules.specs.declared.office.sale.Sale.{Sale}
+use Rattle.office_rules.specs.declared.office.shift.Shift.{Shift}
 use Rattle.book_facts.specs.Lookups.{IsOfRules, IsQuoted, last_found, meter_found, quote_for, sale_found, sale_of_tid}
 use Rattle.book_facts.specs.declared.lookup.Found.{Found}
 use Rattle.book_facts.specs.declared.lookup.Found.TheVariants as found

@@ -2,9 +2,9 @@
 use Rattle.std.proofs.Common.{◌≡◌, ℕ, List, nat_lt, take, IsTrue, ap, ◌∙◌}
 use Rattle.std.specs.List.{filter}
 use Rattle.sqlite.specs.State.{State}
-use Rattle.vend_core.specs.Office.{Office}
-use Rattle.vend_core.specs.Law.Store.{sales_above}
-use Rattle.vend_core.specs.declared.office.sale.Sale.{Sale}
+use Rattle.office_rules.specs.Office.{Office}
+use Rattle.office_rules.specs.Law.Store.{sales_above}
+use Rattle.office_rules.specs.declared.office.sale.Sale.{Sale}
 use Rattle.book_tables.specs.reading.Reading.{AreOfOffice, HasTableRows}
 use Rattle.book_tables.specs.Kept.{sales_kept}
 use Rattle.book_tables.proofs.OfficeTableLemmas.{has_table_rows, sales_in}

@@ -1,7 +1,7 @@
 -- What the members of a page are made of.
 use Rattle.std.specs.Prelude.{◌≡◌, ℕ, List, Option, Some, None}
-use Rattle.vend_core.specs.Office.Lookup.{steps_on}
-use Rattle.vend_core.specs.Office.{Office}
+use Rattle.office_rules.specs.Office.Lookup.{steps_on}
+use Rattle.office_rules.specs.Office.{Office}
 use Rattle.book_tables.specs.declared.reading.pages.MeterRow.{MeterRow}
 use Rattle.book_facts.specs.Lookups.{AreLaterSteps}
 use Rattle.book_facts.specs.declared.lookup.ListedMeter.{ListedMeter}

@@ -2,7 +2,7 @@
 use Rattle.std.specs.Prelude.{Result, IfOk}
 use Rattle.sqlite.specs.Effect.{Database}
 use Rattle.sqlite.specs.State.{HasCleanDisk, State}
-use Rattle.vend_core.specs.Office.{Office}
+use Rattle.office_rules.specs.Office.{Office}
 use Rattle.book_tables.specs.reading.Reading.{HasAllTables, OnlyReads}
 use Rattle.book_tables.specs.declared.error.TableError.{TableError}
 use Rattle.book_states.specs.Members.{SaysOfOffice}

@@ -1,11 +1,11 @@
 -- The totals of a shift.
 use Rattle.std.specs.Prelude.{ℕ, Option, None, Some, option_map, Result, Ok, Err, unwrap_or}
 use Rattle.sqlite.specs.Effect.{Database}
-use Rattle.vend_core.specs.Office.Lookup.{sales_of_shift, shift_numbered}
-use Rattle.vend_core.specs.Office.{Office}
-use Rattle.vend_core.specs.declared.decision.refusal.Refusal.{Refusal}
-use Rattle.vend_core.specs.declared.decision.refusal.Refusal.TheVariants.{NoSuchShift}
-use Rattle.vend_core.specs.declared.office.shift.Shift.{Shift}
+use Rattle.office_rules.specs.Office.Lookup.{sales_of_shift, shift_numbered}
+use Rattle.office_rules.specs.Office.{Office}
+use Rattle.office_rules.specs.declared.decision.refusal.Refusal.{Refusal}
+use Rattle.office_rules.specs.declared.decision.refusal.Refusal.TheVariants.{NoSuchShift}
+use Rattle.office_rules.specs.declared.office.shift.Shift.{Shift}
 use Rattle.book_tables.specs.Stands.{all_totals}
 use Rattle.book_tables.specs.declared.row.totals.Totals.{Totals}
 use Rattle.book_tables.specs.reading.Questions.{the_shift, the_shift_totals}

@@ -1,7 +1,7 @@
 ghost use Rattle.std.specs.Prelude.{◌≡◌};
 ghost use Rattle.book_states.specs.Failing.{prior_of_account};
 
-use vend_core::{Change, Facts};
+use office_rules::{Change, Facts};
 
 /// What was decided, and the tenths of a kWh that the meter of a sale had in its month before it.
 #[derive(Drop)]

@@ -3,9 +3,9 @@
 ghost use Rattle.std.specs.Prelude.{◌≡◌, ◌≢◌, ◌+◌, Err, IfErr, IfOk, false, length};
 ghost use Rattle.sqlite.specs.State.{HasCleanDisk};
 ghost use Rattle.one_table.specs.Over.{Over};
-ghost use Rattle.vend_core.specs.Decision.{decision};
-ghost use Rattle.vend_core.specs.Decision.Facts.{AreFacts, IsUnlessMemory};
-ghost use Rattle.vend_core.specs.Office.{Office};
+ghost use Rattle.office_rules.specs.Decision.{decision};
+ghost use Rattle.office_rules.specs.Decision.Facts.{AreFacts, IsUnlessMemory};
+ghost use Rattle.office_rules.specs.Office.{Office};
 ghost use Rattle.book_tables.specs.reading.Reading.{HasAllTables};
 ghost use Rattle.book_states.specs.Failing.{IsChangeRead, RefusesUnchanged, prior_of_account};
 ghost use Rattle.book_states.specs.Stores.{Stores};
@@ -15,10 +15,11 @@ ghost use Rattle.book_facts.specs.Deciding.{IsDecided, change_in};
 use crate::decided::{Decided, prior_of};
 use crate::facts::facts_of;
 use book_states::refusal_of;
+use office_decisions::decide;
+use office_rules::{Facts, Refusal, Stamped};
 use sqlite::{Alter, Connection};
 use std::alloc::Global;
 use sts_token::BlockTransform;
-use vend_core::{Facts, Refusal, Stamped, decide};
 
 /// What a request changes and its answer, by what the tables hold. Nothing is changed yet.
 ///

@@ -2,15 +2,15 @@
 
 ghost use Rattle.std.specs.Prelude.{◌≡◌, length};
 ghost use Rattle.one_table.specs.Over.{Over};
-ghost use Rattle.vend_core.specs.Decision.Facts.{AreFacts};
+ghost use Rattle.office_rules.specs.Decision.Facts.{AreFacts};
 ghost use Rattle.book_states.specs.FactsSeen.{AreFactsSeen};
 ghost use Rattle.book_states.specs.Same.{IsSame};
 ghost use Rattle.book_facts.specs.Looking.{LooksUp};
 
 use book_tables::TableError;
+use office_rules::{Facts, Request, Stamped};
 use sqlite::{Alter, Connection};
 use std::alloc::Global;
-use vend_core::{Facts, Request, Stamped};
 
 pub(crate) mod accounts;
 mod imports;

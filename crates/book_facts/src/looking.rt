@@ -3,7 +3,7 @@
 ghost use Rattle.std.specs.Prelude.{◌≡◌, ◌≢◌, ◌⊎◌, ◌+◌, Err, IfErr, IfOk, false, length};
 ghost use Rattle.sqlite.specs.State.{HasCleanDisk};
 ghost use Rattle.one_table.specs.Over.{Over};
-ghost use Rattle.vend_core.specs.Office.{Office};
+ghost use Rattle.office_rules.specs.Office.{Office};
 ghost use Rattle.book_tables.specs.reading.Reading.{HasAllTables};
 ghost use Rattle.book_states.specs.Failing.{IsToldOfRead};
 ghost use Rattle.book_states.specs.Stores.{Stores};
@@ -15,9 +15,9 @@ ghost use Rattle.book_facts.specs.LookupsSeen.{FindsSeen, IsFoundSeen};
 use crate::lookup::{Found, Lookup};
 use book_states::refusal_of;
 use book_tables::TableError;
+use office_rules::{Moment, Refusal};
 use sqlite::{Alter, Connection};
 use std::alloc::Global;
-use vend_core::{Moment, Refusal};
 
 mod last_sales;
 mod later_steps;

@@ -1,9 +1,9 @@
 //! What is looked up in an office, and what is found. No key of a meter is.
 
 use book_tables::Totals;
+use office_rules::{MeterNo, Operator, Ref, Sale, Shift, TariffName};
 use sts_fields::{Amount, Base, Day};
 use tariff::{Steps, Tender};
-use vend_core::{MeterNo, Operator, Ref, Sale, Shift, TariffName};
 
 /// What is looked up in an office. Nothing is changed by it (`docs/OFFICE.md`, "Look-ups").
 #[derive(Clone, Copy, Debug, PartialEq, Eq)]

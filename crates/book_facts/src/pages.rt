@@ -3,8 +3,8 @@
 ghost use Rattle.std.specs.Prelude.{◌≡◌, ◌⊎◌, Err, IfErr, IfOk, false};
 ghost use Rattle.sqlite.specs.State.{HasCleanDisk};
 ghost use Rattle.one_table.specs.Over.{Over};
-ghost use Rattle.vend_core.specs.Office.{Office};
-ghost use Rattle.vend_core.specs.Law.Store.{sales_above};
+ghost use Rattle.office_rules.specs.Office.{Office};
+ghost use Rattle.office_rules.specs.Law.Store.{sales_above};
 ghost use Rattle.book_tables.specs.reading.Reading.{HasAllTables};
 ghost use Rattle.book_tables.specs.reading.Questions.{the_sales_after};
 ghost use Rattle.book_tables.specs.reading.Seen.{HasSpoilt, ShowsAll};
@@ -14,9 +14,9 @@ ghost use Rattle.book_states.specs.Same.{ChangesNothing};
 
 use book_states::refusal_of;
 use book_tables::reading::sale_lists;
+use office_rules::{Refusal, Sale};
 use sqlite::{Alter, Connection};
 use std::alloc::Global;
-use vend_core::{Refusal, Sale};
 
 /// A page of the tables' sales: the first above a number, by number, at most so many (1 to 1000).
 ///

@@ -3,7 +3,7 @@
 ghost use Rattle.std.specs.Prelude.{◌≡◌, ◌⊎◌, false, Err, None, Some, IfErr, IfOk};
 ghost use Rattle.one_table.specs.Over.{Over};
 ghost use Rattle.sqlite.specs.State.{HasCleanDisk};
-ghost use Rattle.vend_core.specs.Office.{Office};
+ghost use Rattle.office_rules.specs.Office.{Office};
 ghost use Rattle.book_tables.specs.reading.Reading.{HasAllTables};
 ghost use Rattle.book_states.specs.Failing.{IsToldOfRead};
 ghost use Rattle.book_states.specs.Stores.{Stores};
@@ -13,8 +13,8 @@ ghost use Rattle.book_facts.specs.Totals.{GivesTotals, shift_totals};
 use crate::facts::shifts::totals_of;
 use book_states::refusal_of;
 use book_tables::Totals;
+use office_rules::Refusal;
 use sqlite::{Alter, Connection};
-use vend_core::Refusal;
 
 /// The totals that the tables have of the shift of a number (1 to 10^9).
 ///

@@ -9,7 +9,7 @@ use Rattle.sqlite.specs.declared.types.Value.TheVariants.{Text}
 use Rattle.sqlite_typed.proofs.TestLemmas.{last_term, then_term}
 use Rattle.sts_fields.specs.Day.{IsDay}
 use Rattle.tariff.specs.declared.step.Step.{Step}
-use Rattle.vend_core.specs.Office.{IsOffice, Office}
+use Rattle.office_rules.specs.Office.{IsOffice, Office}
 use Rattle.one_table.proofs.TestsLemmas.{number_above, text_is}
 use Rattle.book_tables.specs.Kept.{dated_steps_kept}
 use Rattle.book_tables.specs.row.Rows.{DatedStepRow, Rows, dated_columns, number, shown_number}

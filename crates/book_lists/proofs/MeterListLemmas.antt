@@ -8,8 +8,8 @@ use Rattle.sqlite.specs.declared.types.Value.TheVariants.{Text}
 use Rattle.sqlite_sql.specs.declared.ops.CompareOp.TheVariants.{Gt}
 use Rattle.sqlite_sql.specs.Term.{col}
 use Rattle.sqlite_typed.proofs.TestLemmas.{at_texts, last_term}
-use Rattle.vend_core.specs.Office.{Office}
-use Rattle.vend_core.specs.declared.office.meter.Meter.{Meter}
+use Rattle.office_rules.specs.Office.{Office}
+use Rattle.office_rules.specs.declared.office.meter.Meter.{Meter}
 use Rattle.book_tables.specs.Kept.{meters_kept}
 use Rattle.book_tables.specs.reading.Reading.{AreOfOffice, meter_row}
 use Rattle.book_tables.specs.row.Rows.{Rows, number}

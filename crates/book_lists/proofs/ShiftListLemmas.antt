@@ -7,7 +7,7 @@ use Rattle.sqlite_sql.specs.Term.{col}
 use Rattle.sqlite_typed.proofs.TestLemmas.{last_term}
 use Rattle.one_table.proofs.ListedLemmas.{first_by_key}
 use Rattle.one_table.proofs.TestsLemmas.{number_above}
-use Rattle.vend_core.specs.declared.office.shift.Shift.{Shift}
+use Rattle.office_rules.specs.declared.office.shift.Shift.{Shift}
 use Rattle.book_tables.specs.Kept.{shifts_kept}
 use Rattle.book_tables.specs.reading.Reading.{AreOfOffice}
 use Rattle.book_tables.specs.row.Rows.{Rows, number, shown_shift}

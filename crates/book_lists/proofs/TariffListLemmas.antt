@@ -7,8 +7,8 @@ use Rattle.sqlite.specs.declared.types.Value.TheVariants.{Text}
 use Rattle.sqlite_sql.specs.declared.ops.CompareOp.TheVariants.{Gt}
 use Rattle.sqlite_sql.specs.Term.{col}
 use Rattle.sqlite_typed.proofs.TestLemmas.{at_texts, last_term}
-use Rattle.vend_core.specs.Name.{IsName}
-use Rattle.vend_core.specs.Office.{Office}
+use Rattle.office_rules.specs.Name.{IsName}
+use Rattle.office_rules.specs.Office.{Office}
 use Rattle.book_tables.specs.Kept.{tariffs_kept}
 use Rattle.book_tables.specs.row.Rows.{Rows, number, tariff_columns}
 use Rattle.book_tables.specs.Stands.{AreMembersOf}

@@ -2,8 +2,8 @@
 use Rattle.std.specs.Prelude.{ℕ, List, [], ◌∷◌, codes}
 use Rattle.sqlite.specs.declared.types.Value.TheVariants.{Text}
 use Rattle.sts_fields.specs.Day.{IsDay}
-use Rattle.vend_core.specs.Name.{IsMeterNo, IsName}
-use Rattle.vend_core.specs.declared.office.shift.Shift.{Shift}
+use Rattle.office_rules.specs.Name.{IsMeterNo, IsName}
+use Rattle.office_rules.specs.declared.office.shift.Shift.{Shift}
 use Rattle.book_tables.specs.Kept.{dated_steps_kept, meters_kept, shifts_kept, tariffs_kept}
 use Rattle.book_tables.specs.reading.Questions.{Question, question}
 use Rattle.book_tables.specs.row.Rows.{meter_columns, number, shown_number, shown_shift, tariff_columns}

@@ -3,7 +3,7 @@
 ghost use Rattle.std.specs.Prelude.{IfOk};
 ghost use Rattle.sqlite.specs.State.{HasCleanDisk};
 ghost use Rattle.one_table.specs.Over.{Over};
-ghost use Rattle.vend_core.specs.Office.{IsOffice, Office};
+ghost use Rattle.office_rules.specs.Office.{IsOffice, Office};
 ghost use Rattle.book_tables.specs.Kept.{dated_steps_kept};
 ghost use Rattle.book_tables.specs.reading.Reading.{HasTableRows, ReadsTable};
 ghost use Rattle.book_tables.specs.reading.Seen.{SeesFirst};
@@ -15,9 +15,9 @@ ghost use Rattle.book_lists.specs.Questions.{the_next_day};
 use crate::texts::FIRST_DAY_AFTER;
 use crate::values::day_values;
 use book_tables::{TableError, first_record};
+use office_rules::TariffName;
 use sqlite::{Alter, Connection};
 use sts_fields::Day;
-use vend_core::TariffName;
 
 /// The first day after a day on which steps of the tariff of a name begin; `None` where none begin
 /// later.

@@ -3,7 +3,7 @@
 ghost use Rattle.std.specs.Prelude.{◌≡◌, All, IfOk, IsSome, Some, map};
 ghost use Rattle.sqlite.specs.State.{HasCleanDisk};
 ghost use Rattle.one_table.specs.Over.{Over};
-ghost use Rattle.vend_core.specs.Office.{IsOffice, Office};
+ghost use Rattle.office_rules.specs.Office.{IsOffice, Office};
 ghost use Rattle.book_tables.specs.Kept.{meters_kept};
 ghost use Rattle.book_tables.specs.reading.Reading.{HasTableRows, ReadsTable};
 ghost use Rattle.book_tables.specs.reading.Seen.{SeesAll};

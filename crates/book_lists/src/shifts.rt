@@ -11,9 +11,9 @@ ghost use Rattle.book_lists.specs.Questions.{the_shifts_after};
 use crate::texts::SHIFTS_AFTER;
 use crate::values::number_values;
 use book_tables::{TableError, all_records};
+use office_rules::Shift;
 use sqlite::{Alter, Connection};
 use std::alloc::Global;
-use vend_core::Shift;
 
 /// A page: the first shifts after a number, at most [`PAGE`](crate::PAGE).
 ///

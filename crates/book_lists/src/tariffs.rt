@@ -3,7 +3,7 @@
 ghost use Rattle.std.specs.Prelude.{IfOk, IsSome};
 ghost use Rattle.sqlite.specs.State.{HasCleanDisk};
 ghost use Rattle.one_table.specs.Over.{Over};
-ghost use Rattle.vend_core.specs.Office.{IsOffice, Office};
+ghost use Rattle.office_rules.specs.Office.{IsOffice, Office};
 ghost use Rattle.book_tables.specs.Kept.{tariffs_kept};
 ghost use Rattle.book_tables.specs.reading.Reading.{HasTableRows, ReadsTable};
 ghost use Rattle.book_tables.specs.reading.Seen.{SeesAll};
@@ -15,9 +15,9 @@ ghost use Rattle.book_lists.specs.Questions.{the_tariffs_after};
 use crate::texts::TARIFFS_AFTER;
 use crate::values::text_values;
 use book_tables::{TableError, all_records};
+use office_rules::TariffName;
 use sqlite::{Alter, Connection};
 use std::alloc::Global;
-use vend_core::TariffName;
 
 /// A page: the names of the first tariffs after a text in the order of their bytes, at most
 /// [`PAGE`](crate::PAGE). The empty text comes before all names. A page that is not full is the

@@ -7,9 +7,9 @@ ghost use Rattle.book_tables.specs.row.Rows.{number};
 ghost use Rattle.book_lists.specs.Pages.{page_size};
 
 use crate::PAGE;
+use office_rules::TariffName;
 use sqlite::types::ValueRef;
 use sts_fields::Day;
-use vend_core::TariffName;
 
 /// A text, and how many rows a page has.
 pub(crate) fn text_values(after: &[u8]) -> [ValueRef<'_>; 2]

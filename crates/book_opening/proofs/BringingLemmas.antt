@@ -8,9 +8,9 @@ use Rattle.sqlite.specs.declared.error.Error.{Error}
 use Rattle.sqlite_trees.specs.Tree.{Trees}
 use Rattle.sqlite_trees.specs.declared.store.Store.{Ghosts}
 use Rattle.one_table.specs.Committing.{LeavesMade}
-use Rattle.vend_core.specs.Office.{Office, empty_office}
-use Rattle.vend_core.specs.declared.office.meter.Meter.{Meter}
-use Rattle.vend_core.specs.declared.office.sale.Sale.{Sale}
+use Rattle.office_rules.specs.Office.{Office, empty_office}
+use Rattle.office_rules.specs.declared.office.meter.Meter.{Meter}
+use Rattle.office_rules.specs.declared.office.sale.Sale.{Sale}
 use Rattle.book_tables.specs.Holds.{HasOfficeOf, StandsFor}
 use Rattle.book_tables.specs.format.Filling.{AreHanded}
 use Rattle.book_tables.specs.format.Making.{BringsInside, BringsOffice, FailsToBring, HandsOver, IsSoundOfFormat}

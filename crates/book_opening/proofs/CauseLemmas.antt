@@ -12,7 +12,7 @@ use Rattle.sqlite.proofs.StateLemmas.{survives_then}
 use Rattle.sqlite_trees.specs.declared.store.Store.{Ghosts}
 use Rattle.one_table.specs.Committing.{FailsAtCommit, FailsInside, HasBeen}
 use Rattle.one_table.specs.declared.committing.CommitFault.TheVariants.{Unmade}
-use Rattle.vend_core.specs.declared.office.sale.Sale.{Sale}
+use Rattle.office_rules.specs.declared.office.sale.Sale.{Sale}
 use Rattle.book_tables.specs.Holds.{HasOfficeOf}
 use Rattle.book_tables.specs.format.Making.{FailsToBring, IsSoundOfFormat}
 use Rattle.book_tables.specs.reading.Reading.{FailsToReadOf}

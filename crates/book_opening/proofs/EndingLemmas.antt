@@ -8,7 +8,7 @@ use Rattle.sqlite.specs.Effect.{Database}
 use Rattle.sqlite.specs.State.{HasCleanDisk, IsUnchanged, State, Survives}
 use Rattle.sqlite.proofs.StateLemmas.{survives_then}
 use Rattle.one_table.specs.Committing.{LeavesMade}
-use Rattle.vend_core.specs.Office.{Office}
+use Rattle.office_rules.specs.Office.{Office}
 use Rattle.book_tables.proofs.HoldsLemmas.{held_as, stands_present}
 use Rattle.book_tables.specs.Holds.{HasOffice, HoldsMembers, StandsFor}
 use Rattle.book_tables.specs.format.Format.{HasFormat}

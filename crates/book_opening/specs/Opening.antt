@@ -12,8 +12,8 @@ use Rattle.one_table.specs.Committing.{FailsAtCommit, FailsInside, HasBeen, Leav
 use Rattle.one_table.specs.Reading.{FailsPlainly}
 use Rattle.one_table.specs.ReadsOnly.{ReadsOnly}
 use Rattle.one_table.specs.declared.committing.CommitFault.TheVariants.{Unmade}
-use Rattle.vend_core.specs.Office.{Office}
-use Rattle.vend_core.specs.declared.office.sale.Sale.{Sale}
+use Rattle.office_rules.specs.Office.{Office}
+use Rattle.office_rules.specs.declared.office.sale.Sale.{Sale}
 use Rattle.book_tables.specs.format.Format.{HasFormat}
 use Rattle.book_tables.specs.Holds.{HasOffice, HasOfficeOf}
 use Rattle.book_tables.specs.format.Making.{BringsOffice, FailsToBring, HandsOver}

@@ -16,10 +16,10 @@ use crate::opening::fault_of_table;
 use book_tables::TableError;
 use book_tables::format::upgrade::bring;
 use book_tables::reading::pages::MeterRow;
+use office_rules::Sale;
 use one_table::{Change, CommitFault, change_once};
 use sqlite::{Alter, Connection, Transaction};
 use std::alloc::Global;
-use vend_core::Sale;
 
 /// The tables of a format, or none, are brought to the present one; these are the meters and the
 /// sales of their office.

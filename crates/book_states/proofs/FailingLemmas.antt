@@ -9,9 +9,9 @@ use Rattle.sqlite_trees.specs.declared.error.StoreError.{StoreError}
 use Rattle.sqlite_trees.specs.declared.store.Store.{Ghosts}
 use Rattle.sqlite_trees.specs.declared.error.StoreError.TheVariants.{OutOfMemory, Io, Corrupt, Full, Broken, Unstorable}
 use Rattle.one_table.specs.Reading.{FailsPlainly}
-use Rattle.vend_core.specs.declared.decision.change.Edit.{Edit}
-use Rattle.vend_core.specs.declared.decision.refusal.Refusal.{Refusal}
-use Rattle.vend_core.specs.declared.decision.refusal.Refusal.TheVariants.{Store}
+use Rattle.office_rules.specs.declared.decision.change.Edit.{Edit}
+use Rattle.office_rules.specs.declared.decision.refusal.Refusal.{Refusal}
+use Rattle.office_rules.specs.declared.decision.refusal.Refusal.TheVariants.{Store}
 use Rattle.book_tables.specs.writing.Failing.{IsRefused}
 use Rattle.book_tables.specs.writing.Writes.{writes_of}
 use Rattle.book_tables.specs.reading.Reading.{FailsToRead, HasAllTables}

@@ -5,7 +5,7 @@ use Rattle.sqlite.specs.State.{HasCleanDisk, IsUnchanged, State, Survives}
 use Rattle.sqlite_trees.specs.Tree.{Trees}
 use Rattle.sqlite_trees.proofs.Doubt.{no_doubt}
 use Rattle.one_table.specs.Answer.{IsLeft}
-use Rattle.vend_core.specs.Office.{Office}
+use Rattle.office_rules.specs.Office.{Office}
 use Rattle.book_tables.specs.reading.Reading.{HasAllTables}
 use Rattle.book_states.specs.Stores.{Stores}
 use Rattle.book_states.specs.Same.{ChangesNothing, IsSame}

@@ -3,14 +3,14 @@ use Rattle.std.specs.Prelude.{◌≡◌, ◌≢◌, ◌+◌, ◌++◌, ◌∷◌
 use Rattle.std.specs.List.{flat_map}
 use Rattle.sqlite.specs.Effect.{Database, IsDatabase}
 use Rattle.sqlite.specs.State.{State}
-use Rattle.vend_core.specs.Decision.Edits.{applied, with_rows}
-use Rattle.vend_core.specs.Office.{IsOffice, Office}
-use Rattle.vend_core.specs.Law.Store.{MeetRows, Meets, MeetsNewSale}
-use Rattle.vend_core.specs.declared.decision.change.Edit.{Edit}
-use Rattle.vend_core.specs.declared.decision.change.Edit.TheVariants.{AddMeter, AddRows, AddSale, AddSteps, AddTariff, CloseShift, MoveBase, OpenShift, SetTariff}
-use Rattle.vend_core.specs.declared.office.row.Row.{Row}
-use Rattle.vend_core.specs.declared.office.row.Row.TheVariants as kinds
-use Rattle.vend_core.specs.declared.office.sale.Sale.{Sale}
+use Rattle.office_rules.specs.Decision.Edits.{applied, with_rows}
+use Rattle.office_rules.specs.Office.{IsOffice, Office}
+use Rattle.office_rules.specs.Law.Store.{MeetRows, Meets, MeetsNewSale}
+use Rattle.office_rules.specs.declared.decision.change.Edit.{Edit}
+use Rattle.office_rules.specs.declared.decision.change.Edit.TheVariants.{AddMeter, AddRows, AddSale, AddSteps, AddTariff, CloseShift, MoveBase, OpenShift, SetTariff}
+use Rattle.office_rules.specs.declared.office.row.Row.{Row}
+use Rattle.office_rules.specs.declared.office.row.Row.TheVariants as kinds
+use Rattle.office_rules.specs.declared.office.sale.Sale.{Sale}
 use Rattle.book_tables.specs.Holds.{HasOffice, HoldsMembers, table_names}
 use Rattle.book_tables.specs.writing.Keeping.{AreInOrder, KeepsRows, Keys, base_key, dated_keys, meter_key, sale_key, shift_key, tariff_keys, totals_keys}
 use Rattle.book_tables.specs.writing.Writing.{AreSaleTotals, TellsSold}

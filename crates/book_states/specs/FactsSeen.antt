@@ -5,22 +5,22 @@ use Rattle.sqlite.specs.Effect.{Database}
 use Rattle.sts_fields.specs.Calendar.{month_at}
 use Rattle.sts_fields.specs.Day.{day_at}
 use Rattle.tariff.specs.declared.step.Step.{Step}
-use Rattle.vend_core.specs.Decision.{MeterAccount, row_decision}
-use Rattle.vend_core.specs.Decision.Facts.{row_facts}
-use Rattle.vend_core.specs.Office.{Office}
-use Rattle.vend_core.specs.declared.decision.facts.Facts.{Facts}
-use Rattle.vend_core.specs.declared.decision.refusal.Refusal.TheVariants.{Differs}
-use Rattle.vend_core.specs.declared.decision.request.Order.{Order}
-use Rattle.vend_core.specs.declared.decision.request.Request.{Request}
-use Rattle.vend_core.specs.declared.decision.request.Request.TheVariants.{AddTariff, AddSteps, AddMeter, Import, SetTariff, MoveBase, OpenShift, CloseShift, Sell, Reprint, ShiftReport}
-use Rattle.vend_core.specs.declared.decision.request.Stamped.{Stamped}
-use Rattle.vend_core.specs.declared.decision.row_facts.RowFacts.{RowFacts}
-use Rattle.vend_core.specs.declared.decision.row_facts.RowFacts.TheVariants as found
-use Rattle.vend_core.specs.declared.office.meter.Meter.{Meter}
-use Rattle.vend_core.specs.declared.office.row.Row.{Row}
-use Rattle.vend_core.specs.declared.office.row.Row.TheVariants as kinds
-use Rattle.vend_core.specs.declared.office.sale.Sale.{Sale}
-use Rattle.vend_core.specs.declared.office.shift.Shift.{Shift}
+use Rattle.office_rules.specs.Decision.{MeterAccount, row_decision}
+use Rattle.office_rules.specs.Decision.Facts.{row_facts}
+use Rattle.office_rules.specs.Office.{Office}
+use Rattle.office_rules.specs.declared.decision.facts.Facts.{Facts}
+use Rattle.office_rules.specs.declared.decision.refusal.Refusal.TheVariants.{Differs}
+use Rattle.office_rules.specs.declared.decision.request.Order.{Order}
+use Rattle.office_rules.specs.declared.decision.request.Request.{Request}
+use Rattle.office_rules.specs.declared.decision.request.Request.TheVariants.{AddTariff, AddSteps, AddMeter, Import, SetTariff, MoveBase, OpenShift, CloseShift, Sell, Reprint, ShiftReport}
+use Rattle.office_rules.specs.declared.decision.request.Stamped.{Stamped}
+use Rattle.office_rules.specs.declared.decision.row_facts.RowFacts.{RowFacts}
+use Rattle.office_rules.specs.declared.decision.row_facts.RowFacts.TheVariants as found
+use Rattle.office_rules.specs.declared.office.meter.Meter.{Meter}
+use Rattle.office_rules.specs.declared.office.row.Row.{Row}
+use Rattle.office_rules.specs.declared.office.row.Row.TheVariants as kinds
+use Rattle.office_rules.specs.declared.office.sale.Sale.{Sale}
+use Rattle.office_rules.specs.declared.office.shift.Shift.{Shift}
 use Rattle.book_tables.specs.reading.Questions.{the_last_id, the_last_shift, the_meter, the_month_tenths, the_open_shift, the_sale, the_sale_of_ref, the_sales_of_shift, the_shift, the_steps, the_steps_from, the_tariff}
 use Rattle.book_tables.specs.reading.Seen.{AreLatestSeen, AreStepsSeen, ShowsAll, ShowsFirst, ShowsMade}
 

@@ -7,16 +7,16 @@ use Rattle.sqlite.specs.declared.error.Error.{Error}
 use Rattle.sqlite.specs.declared.error.Error.TheVariants.{SqliteFailure}
 use Rattle.sqlite.specs.declared.error.ErrorCode.TheVariants.{OutOfMemory}
 use Rattle.sts_token.specs.Token.{BlockFunction}
-use Rattle.vend_core.specs.Decision.{MeterAccount, decision}
-use Rattle.vend_core.specs.Decision.Facts.{AreFacts, IsUnlessMemory}
-use Rattle.vend_core.specs.Office.{IsOffice, Office}
-use Rattle.vend_core.specs.Law.Store.{Meets}
-use Rattle.vend_core.specs.declared.decision.change.Change.{Change}
-use Rattle.vend_core.specs.declared.decision.change.Edit.{Edit}
-use Rattle.vend_core.specs.declared.decision.facts.Facts.{Facts}
-use Rattle.vend_core.specs.declared.decision.refusal.Refusal.{Refusal}
-use Rattle.vend_core.specs.declared.decision.refusal.Refusal.TheVariants.{Memory, Store}
-use Rattle.vend_core.specs.declared.decision.request.Stamped.{Stamped}
+use Rattle.office_rules.specs.Decision.{MeterAccount, decision}
+use Rattle.office_rules.specs.Decision.Facts.{AreFacts, IsUnlessMemory}
+use Rattle.office_rules.specs.Office.{IsOffice, Office}
+use Rattle.office_rules.specs.Law.Store.{Meets}
+use Rattle.office_rules.specs.declared.decision.change.Change.{Change}
+use Rattle.office_rules.specs.declared.decision.change.Edit.{Edit}
+use Rattle.office_rules.specs.declared.decision.facts.Facts.{Facts}
+use Rattle.office_rules.specs.declared.decision.refusal.Refusal.{Refusal}
+use Rattle.office_rules.specs.declared.decision.refusal.Refusal.TheVariants.{Memory, Store}
+use Rattle.office_rules.specs.declared.decision.request.Stamped.{Stamped}
 use Rattle.book_tables.specs.writing.Failing.{FailsToWriteAll, IsRefused}
 use Rattle.book_tables.specs.writing.Writes.{writes_of}
 use Rattle.book_tables.specs.Holds.{Holds, HoldsMembers}

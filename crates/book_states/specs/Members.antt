@@ -1,7 +1,7 @@
 -- What a connection has of an office.
 use Rattle.std.specs.Prelude.{Result, IfOk, IsTrue}
 use Rattle.sqlite.specs.State.{HasCleanDisk, State}
-use Rattle.vend_core.specs.Office.{IsOffice, Office}
+use Rattle.office_rules.specs.Office.{IsOffice, Office}
 use Rattle.book_tables.specs.Holds.{HoldsMembers}
 
 -- while the connection is open, its tables hold the members of the office

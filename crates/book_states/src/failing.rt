@@ -4,8 +4,8 @@ ghost use Rattle.std.specs.Prelude.{◌≡◌, ◌↔◌, ◌⊎◌, Err, IsTrue
 ghost use Rattle.book_states.specs.Failing.{refusal_for};
 
 use book_tables::TableError;
+use office_rules::Refusal;
 use sqlite::{Error, ErrorCode};
-use vend_core::Refusal;
 
 /// What a request is answered where its tables gave this error before a commit: the store failed,
 /// unless it only found no memory.

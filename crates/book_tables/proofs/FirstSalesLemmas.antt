@@ -4,9 +4,9 @@ use Rattle.std.proofs.lemmas.List.Elements.{All-weaker}
 use Rattle.std.proofs.lemmas.List.Sums.{sum_by-le}
 use Rattle.sts_fields.specs.Amount.{IsRepresentable}
 use Rattle.sts_fields.specs.declared.base.Base.{Base}
-use Rattle.vend_core.specs.Office.Lookup.{greatest_of}
-use Rattle.vend_core.specs.Office.{IsOffice, IsSaleRow, Office, greatest_count}
-use Rattle.vend_core.specs.declared.office.sale.Sale.{Sale}
+use Rattle.office_rules.specs.Office.Lookup.{greatest_of}
+use Rattle.office_rules.specs.Office.{IsOffice, IsSaleRow, Office, greatest_count}
+use Rattle.office_rules.specs.declared.office.sale.Sale.{Sale}
 use Rattle.book_tables.specs.Stands.{sales_under}
 use Rattle.book_tables.specs.writing.Writing.{AreWithinTotals, is_under}
 use Rattle.book_tables.proofs.SalesOfLemmas.{kept_last, tells_under}

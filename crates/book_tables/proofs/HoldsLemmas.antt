@@ -8,9 +8,9 @@ use Rattle.sqlite_catalog.specs.Change.{is_used}
 use Rattle.sqlite_rules.specs.Lists.{Has as Member}
 use Rattle.sqlite_schema.specs.Names.{table_named}
 use Rattle.sqlite_schema.specs.declared.schema.Schema.{Schema}
-use Rattle.vend_core.specs.Office.{IsOffice, Office, empty_office}
-use Rattle.vend_core.proofs.OfficeLemmas.{empty_is_office}
-use Rattle.vend_core.specs.declared.office.meter.Meter.{Meter}
+use Rattle.office_rules.specs.Office.{IsOffice, Office, empty_office}
+use Rattle.office_rules.proofs.OfficeLemmas.{empty_is_office}
+use Rattle.office_rules.specs.declared.office.meter.Meter.{Meter}
 use Rattle.book_tables.specs.Holds.{HasOfficeOf, HoldsMembers, HoldsMembersOf, HoldsOf, HoldsRows, IsKept, IsUntaken, StandsFor}
 use Rattle.book_tables.specs.writing.Edited.{no_rows}
 use Rattle.book_tables.specs.Kept.{Kept, bases_kept, dated_steps_kept, kept, kept_names, last_ids_kept, later, meters_kept, sales_kept, shifts_kept, steps_kept, tariffs_kept}

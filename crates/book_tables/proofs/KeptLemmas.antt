@@ -13,9 +13,9 @@ use Rattle.sqlite_schema.specs.declared.schema.Table.{Table}
 use Rattle.one_table.specs.Numbered.{IsInOrder}
 use Rattle.one_table.specs.Standing.{Stands, tree_in}
 use Rattle.sts_fields.specs.declared.base.Base.{Base}
-use Rattle.vend_core.specs.declared.office.meter.Meter.{Meter}
-use Rattle.vend_core.specs.declared.office.sale.Sale.{Sale}
-use Rattle.vend_core.specs.declared.office.shift.Shift.{Shift}
+use Rattle.office_rules.specs.declared.office.meter.Meter.{Meter}
+use Rattle.office_rules.specs.declared.office.sale.Sale.{Sale}
+use Rattle.office_rules.specs.declared.office.shift.Shift.{Shift}
 use Rattle.book_tables.specs.Holds.{AreStoredRows, HasOffice, HoldsOf, HoldsRows, IsKept, rows_in}
 use Rattle.book_tables.specs.Kept.{Kept, about_kept, bases_kept, dated_steps_kept, last_ids_kept, meters_kept, month_tenths_kept, sales_kept, shift_totals_kept, shifts_kept, steps_kept, tariffs_kept, upto}
 use Rattle.book_tables.specs.row.Rows.{DatedStepRow, Rows, StepRow, about_rows, base_columns, dated_columns, last_id_columns, meter_columns, month_columns, present_format, sale_row, shift_row, step_columns, tariff_columns, totals_row}

@@ -12,11 +12,11 @@ use Rattle.sts_fields.specs.Amount.{IsRepresentable}
 use Rattle.sts_fields.specs.Base.{base_eq, year_of}
 use Rattle.sts_fields.specs.Calendar.{month_at}
 use Rattle.sts_fields.specs.declared.base.Base.{Base}
-use Rattle.vend_core.specs.Law.Cash.{cash_of}
-use Rattle.vend_core.specs.Office.Lookup.{greatest_of}
-use Rattle.vend_core.specs.Office.{IsOffice, IsSaleRow, Office, greatest_count}
-use Rattle.vend_core.specs.Law.Store.{MeetsNewSale}
-use Rattle.vend_core.specs.declared.office.sale.Sale.{Sale}
+use Rattle.office_rules.specs.Law.Cash.{cash_of}
+use Rattle.office_rules.specs.Office.Lookup.{greatest_of}
+use Rattle.office_rules.specs.Office.{IsOffice, IsSaleRow, Office, greatest_count}
+use Rattle.office_rules.specs.Law.Store.{MeetsNewSale}
+use Rattle.office_rules.specs.declared.office.sale.Sale.{Sale}
 use Rattle.book_tables.specs.Stands.{sales_in_month, sales_in_shift, sales_under, tenths_of, totals_of}
 use Rattle.book_tables.specs.row.Values.{AreTotalsValues, IsTotal}
 use Rattle.book_tables.specs.writing.Writing.{AreWithinTotals, FitColumns, HasRoomFor, is_in_month, is_under, no_totals, one_more, put_under}

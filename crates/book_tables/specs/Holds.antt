@@ -9,7 +9,7 @@ use Rattle.sqlite_schema.specs.declared.schema.Schema.{Schema}
 use Rattle.one_table.specs.Numbered.{IsInOrder}
 use Rattle.one_table.specs.Referring.{is_harmless, is_left_alone, is_unreferred}
 use Rattle.one_table.specs.Standing.{Stands, tree_in}
-use Rattle.vend_core.specs.Office.{IsOffice, Office, empty_office}
+use Rattle.office_rules.specs.Office.{IsOffice, Office, empty_office}
 use Rattle.book_tables.specs.Kept.{Kept, kept, later, kept_names, upto}
 use Rattle.book_tables.specs.row.Rows.{Rows, present_format}
 use Rattle.book_tables.specs.Stands.{AreMembersOf, IsOfFormat}

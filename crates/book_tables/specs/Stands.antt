@@ -7,11 +7,11 @@ use Rattle.sts_fields.specs.declared.base.Base.{Base}
 use Rattle.book_tables.specs.row.Rows.{DatedStepRow, Rows, StepRow}
 use Rattle.book_tables.specs.declared.row.totals.Totals.{Totals}
 use Rattle.tariff.specs.declared.step.Step.{Step}
-use Rattle.vend_core.specs.Law.Cash.{cash_of}
-use Rattle.vend_core.specs.Office.Lookup.{greatest_of}
-use Rattle.vend_core.specs.Office.{Office}
-use Rattle.vend_core.specs.declared.office.meter.Meter.{Meter}
-use Rattle.vend_core.specs.declared.office.sale.Sale.{Sale}
+use Rattle.office_rules.specs.Law.Cash.{cash_of}
+use Rattle.office_rules.specs.Office.Lookup.{greatest_of}
+use Rattle.office_rules.specs.Office.{Office}
+use Rattle.office_rules.specs.declared.office.meter.Meter.{Meter}
+use Rattle.office_rules.specs.declared.office.sale.Sale.{Sale}
 
 -- the tariff of the row's name has its step, at its place
 abbrev pub HasStep : Office → StepRow → Type 0

@@ -7,14 +7,14 @@ ghost use Rattle.sqlite.specs.Effect.{Database};
 ghost use Rattle.sqlite_resolve.specs.Compile.{table_defined_by};
 ghost use Rattle.sqlite_schema.specs.declared.schema.Schema.{Schema};
 ghost use Rattle.tariff.specs.declared.step.Step.{Step};
-ghost use Rattle.vend_core.specs.Decision.Edits.{applied};
-ghost use Rattle.vend_core.specs.Office.Lookup.{open_shift, sale_numbered, sale_of_ref, shift_numbered};
-ghost use Rattle.vend_core.specs.Office.{IsOffice, Office, empty_office};
-ghost use Rattle.vend_core.specs.Law.Store.{Meets};
-ghost use Rattle.vend_core.specs.declared.decision.change.Edit.{Edit};
-ghost use Rattle.vend_core.specs.declared.office.meter.Meter.{Meter};
-ghost use Rattle.vend_core.specs.declared.office.sale.Sale.{Sale};
-ghost use Rattle.vend_core.specs.declared.office.shift.Shift.{Shift};
+ghost use Rattle.office_rules.specs.Decision.Edits.{applied};
+ghost use Rattle.office_rules.specs.Office.Lookup.{open_shift, sale_numbered, sale_of_ref, shift_numbered};
+ghost use Rattle.office_rules.specs.Office.{IsOffice, Office, empty_office};
+ghost use Rattle.office_rules.specs.Law.Store.{Meets};
+ghost use Rattle.office_rules.specs.declared.decision.change.Edit.{Edit};
+ghost use Rattle.office_rules.specs.declared.office.meter.Meter.{Meter};
+ghost use Rattle.office_rules.specs.declared.office.sale.Sale.{Sale};
+ghost use Rattle.office_rules.specs.declared.office.shift.Shift.{Shift};
 ghost use Rattle.book_tables.specs.writing.Edited.{edited, is_sale, no_rows};
 ghost use Rattle.book_tables.specs.reading.Found.{meters_numbered, tariffs_named};
 ghost use Rattle.book_tables.specs.Holds.{HasOfficeOf, HoldsMembers, HoldsMembersOf, IsUntaken, StandsFor};
@@ -23,8 +23,6 @@ ghost use Rattle.book_tables.specs.row.ReadBack.{ReadsBack};
 ghost use Rattle.book_tables.specs.row.Rows.{Rows, present_format, shown_meter, shown_number, shown_sale, shown_shift, shown_step};
 ghost use Rattle.book_tables.specs.Stands.{AreMembersOf};
 ghost use Rattle.book_tables.specs.row.Values.{AreMeterValues, AreSaleValues, AreShiftValues, AreStepValues, IsNumber, IsSoldAmount, IsTid};
-
-use vend_core::office_law;
 
 /// Which office a database stands for.
 pub fn stands_law()
@@ -70,9 +68,7 @@ pub fn stands_law()
 
     // The text of each table defines it.
     ensures defined { AllByRecursion (λ k. table_defined_by k.text ≡ Ok k.table) kept }
-{
-    office_law();
-}
+{}
 
 /// What the rows have of the office whose members they are, and how both change by an edit.
 pub fn members_law()

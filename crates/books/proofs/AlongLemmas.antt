@@ -9,10 +9,10 @@ use Rattle.std.proofs.lemmas.Option.{get_or_from_slice_get, slice_get-get_or, sl
 use Rattle.sqlite.specs.State.{HasCleanDisk}
 use Rattle.vend_core.specs.Law.Life.{Life}
 use Rattle.vend_core.specs.Law.LifeLaws.{extended_along, extended_by}
-use Rattle.vend_core.specs.declared.decision.answer.Answer.{Answer}
-use Rattle.vend_core.specs.declared.decision.refusal.Refusal.{Refusal}
-use Rattle.vend_core.specs.declared.decision.refusal.Refusal.TheVariants.{Store, Stopped}
-use Rattle.vend_core.specs.declared.decision.request.Stamped.{Stamped}
+use Rattle.office_rules.specs.declared.decision.answer.Answer.{Answer}
+use Rattle.office_rules.specs.declared.decision.refusal.Refusal.{Refusal}
+use Rattle.office_rules.specs.declared.decision.refusal.Refusal.TheVariants.{Store, Stopped}
+use Rattle.office_rules.specs.declared.decision.request.Stamped.{Stamped}
 use Rattle.books.specs.Asking.{AreServedInTurn, Replies}
 use Rattle.books.specs.Keeps.{BooksHaveTables, Represents, Seen}
 use Rattle.book_states.specs.Others.{LeavesOthers}

@@ -4,19 +4,19 @@ use Rattle.std.specs.Option.{option_map_or}
 use Rattle.std.specs.Prelude.{IsErrAnd}
 use Rattle.sqlite.specs.State.{HasCleanDisk, State}
 use Rattle.sts_token.specs.Token.{BlockFunction}
-use Rattle.vend_core.specs.Decision.{decision}
-use Rattle.vend_core.specs.Decision.Edits.{applied, office_after, with_row, with_rows}
-use Rattle.vend_core.specs.Decision.Fold.{reply, reply_of, step}
-use Rattle.vend_core.specs.Office.{IsOffice, Office}
-use Rattle.vend_core.specs.Law.Store.{Meets}
-use Rattle.vend_core.specs.declared.decision.change.Change.{Change}
-use Rattle.vend_core.specs.declared.decision.change.Edit.{Edit}
-use Rattle.vend_core.specs.declared.decision.change.Edit.TheVariants.{AddTariff, AddSteps, AddMeter, AddRows, SetTariff, MoveBase, OpenShift, CloseShift, AddSale}
-use Rattle.vend_core.specs.declared.decision.refusal.Refusal.{Refusal}
-use Rattle.vend_core.specs.declared.decision.request.Stamped.{Stamped}
-use Rattle.vend_core.specs.declared.office.row.Row.{Row}
-use Rattle.vend_core.specs.declared.office.row.Row.TheVariants as kinds
-use Rattle.vend_core.specs.declared.office.sale.Sale.{Sale}
+use Rattle.office_rules.specs.Decision.{decision}
+use Rattle.office_rules.specs.Decision.Edits.{applied, office_after, with_row, with_rows}
+use Rattle.office_rules.specs.Decision.Fold.{reply, reply_of, step}
+use Rattle.office_rules.specs.Office.{IsOffice, Office}
+use Rattle.office_rules.specs.Law.Store.{Meets}
+use Rattle.office_rules.specs.declared.decision.change.Change.{Change}
+use Rattle.office_rules.specs.declared.decision.change.Edit.{Edit}
+use Rattle.office_rules.specs.declared.decision.change.Edit.TheVariants.{AddTariff, AddSteps, AddMeter, AddRows, SetTariff, MoveBase, OpenShift, CloseShift, AddSale}
+use Rattle.office_rules.specs.declared.decision.refusal.Refusal.{Refusal}
+use Rattle.office_rules.specs.declared.decision.request.Stamped.{Stamped}
+use Rattle.office_rules.specs.declared.office.row.Row.{Row}
+use Rattle.office_rules.specs.declared.office.row.Row.TheVariants as kinds
+use Rattle.office_rules.specs.declared.office.sale.Sale.{Sale}
 use Rattle.book_states.specs.Stores.{Stores}
 use Rattle.books.specs.Keeps.{Seen}
 use Rattle.book_states.specs.Same.{ChangesNothing}

@@ -6,7 +6,7 @@ use Rattle.sqlite.specs.Order.{Row}
 use Rattle.sqlite.specs.Table.{Table}
 use Rattle.one_table.specs.Numbered.{IsInOrder}
 use Rattle.one_table.specs.Standing.{Stands}
-use Rattle.vend_core.specs.Office.{Office}
+use Rattle.office_rules.specs.Office.{Office}
 use Rattle.book_tables.specs.Holds.{AreStoredRows, HoldsRows, IsKept, StandsFor, rows_in}
 use Rattle.book_tables.specs.Kept.{Kept, upto}
 use Rattle.book_tables.specs.row.Rows.{Rows}

@@ -5,7 +5,7 @@ use Rattle.sqlite_schema.specs.declared.schema.Schema.{Schema}
 use Rattle.sqlite.specs.Effect.{Database}
 use Rattle.sqlite.specs.Held.{Held, state}
 use Rattle.sqlite.specs.Steps.{IsEmpty, over_memory}
-use Rattle.vend_core.specs.Office.{empty_office}
+use Rattle.office_rules.specs.Office.{empty_office}
 use Rattle.book_tables.specs.Holds.{IsUntaken, StandsFor}
 use Rattle.book_states.specs.Stores.{StoreStandsFor}
 use Rattle.book_opening.specs.declared.fault.OpenFault.{OpenFault}

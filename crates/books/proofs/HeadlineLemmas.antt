@@ -2,7 +2,7 @@
 use Rattle.std.proofs.Common.{◌≡◌, ◌++◌, ◌∷◌, [], List, refl, inl}
 use Rattle.sqlite_trees.specs.Tree.{Trees}
 use Rattle.vend_core.specs.Law.Life.{AreLives, IsLife, Life, MayLeave, present}
-use Rattle.vend_core.specs.Office.{Office}
+use Rattle.office_rules.specs.Office.{Office}
 use Rattle.books.specs.Headline.{RepresentTheLast, with_last}
 use Rattle.book_states.specs.Stores.{RecoversTo}
 use Rattle.books.specs.Keeps.{Seen}

@@ -11,13 +11,13 @@ use Rattle.std.proofs.lemmas.Slice.Eq.{bytes_eq-Decides}
 use Rattle.sts_fields.specs.Base.{base_eq, year_of}
 use Rattle.sts_fields.specs.declared.base.Base.{Base}
 use Rattle.sts_fields.specs.declared.base.Base.TheVariants.{Y1993, Y2014, Y2035}
-use Rattle.vend_core.proofs.DecisionLemmas.EditLemmas.{base_eq-refl}
-use Rattle.vend_core.proofs.OfficeLemmas.RowLemmas.{both_true, contains_map, found, kept, parts_true}
+use Rattle.office_rules.proofs.DecisionLemmas.EditLemmas.{base_eq-refl}
+use Rattle.office_rules.proofs.OfficeLemmas.RowLemmas.{both_true, contains_map, found, kept, parts_true}
 use Rattle.vend_core.specs.Law.Reached.{IsPlausible, sales_alone}
-use Rattle.vend_core.specs.Law.Store.{IsLastSale}
-use Rattle.vend_core.specs.Office.{IsOffice, Office}
-use Rattle.vend_core.specs.Office.Lookup.{greatest_of, used}
-use Rattle.vend_core.specs.declared.office.sale.Sale.{Sale}
+use Rattle.office_rules.specs.Law.Store.{IsLastSale}
+use Rattle.office_rules.specs.Office.{IsOffice, Office}
+use Rattle.office_rules.specs.Office.Lookup.{greatest_of, used}
+use Rattle.office_rules.specs.declared.office.sale.Sale.{Sale}
 use Rattle.book_facts.proofs.LookupLemmas.{sale_there}
 use Rattle.book_facts.specs.Lookups.{last_sale, last_under, sale_of_some_tid}
 use Rattle.books.specs.Looking.{IsLastTo}

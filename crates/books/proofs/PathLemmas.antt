@@ -9,7 +9,7 @@ use Rattle.sqlite_store.specs.FileStore.{view}
 use Rattle.sqlite_store.specs.declared.store.FileStore.{FileStore}
 use Rattle.sqlite_wal.specs.Recovery.{Image}
 use Rattle.kept_order.specs.InOrder.{HasTablesInOrder}
-use Rattle.vend_core.specs.Office.{Office}
+use Rattle.office_rules.specs.Office.{Office}
 use Rattle.book_states.specs.Stores.{StoreStandsFor}
 use Rattle.book_opening.specs.Opening.{FailsToOpen, LeavesBrought, LeavesRefused, OpensAs}
 use Rattle.books.specs.Found.{FindsOffice}

@@ -5,9 +5,9 @@ use Rattle.std.specs.Prelude.{IfErr}
 use Rattle.sqlite.specs.Effect.{Database}
 use Rattle.sqlite.specs.State.{HasCleanDisk}
 use Rattle.vend_core.specs.Law.Life.{Life}
-use Rattle.vend_core.specs.Office.{Office}
-use Rattle.vend_core.specs.declared.decision.refusal.Refusal.{Refusal}
-use Rattle.vend_core.specs.declared.decision.refusal.Refusal.TheVariants.{Memory, Store, Stopped}
+use Rattle.office_rules.specs.Office.{Office}
+use Rattle.office_rules.specs.declared.decision.refusal.Refusal.{Refusal}
+use Rattle.office_rules.specs.declared.decision.refusal.Refusal.TheVariants.{Memory, Store, Stopped}
 use Rattle.book_tables.specs.reading.Reading.{HasAllTables}
 use Rattle.book_facts.specs.Lookups.{Finds, IsFoundIn}
 use Rattle.book_facts.specs.declared.lookup.Found.{Found}

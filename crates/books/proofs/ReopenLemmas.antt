@@ -10,7 +10,7 @@ use Rattle.sqlite.specs.Files.{HoldsDatabase, IsEmpty}
 use Rattle.sqlite.specs.State.{IsLive, Opens, State}
 use Rattle.sqlite.proofs.ListingLemmas.{empty_is_sound}
 use Rattle.sqlite_wal.specs.Recovery.{Image}
-use Rattle.vend_core.specs.Office.{Office, empty_office}
+use Rattle.office_rules.specs.Office.{Office, empty_office}
 use Rattle.book_tables.specs.Holds.{IsUntaken, StandsFor}
 use Rattle.book_states.specs.Stores.{RecoversTo, StoreStandsFor}
 use Rattle.books.specs.Found.{FindsOffice}

@@ -2,16 +2,16 @@
 use Rattle.std.proofs.Common.{◌≡◌, ◌≢◌, ◌⊎◌, ◌↔◌, ℕ, ◌+◌, Bool, true, IsTrue, Option, None, Some, Result, Ok, Err, IfOk, length, refl, sym, ap, subst, ◌∙◌, inl, inr}
 use Rattle.std.proofs.lemmas.Bool.{false≢true}
 use Rattle.sts_token.specs.Token.{BlockFunction}
-use Rattle.vend_core.specs.Decision.{decision}
-use Rattle.vend_core.specs.Decision.Fold.{reply, step}
+use Rattle.office_rules.specs.Decision.{decision}
+use Rattle.office_rules.specs.Decision.Fold.{reply, step}
 use Rattle.vend_core.specs.Law.Life.{IsLife, Life, MayLeave}
 use Rattle.vend_core.specs.Law.LifeLaws.{IsRunning, extended_by}
-use Rattle.vend_core.specs.Office.{IsOffice, Office}
-use Rattle.vend_core.specs.declared.decision.answer.Answer.{Answer}
-use Rattle.vend_core.specs.declared.decision.change.Edit.{Edit}
-use Rattle.vend_core.specs.declared.decision.refusal.Refusal.{Refusal}
-use Rattle.vend_core.specs.declared.decision.refusal.Refusal.TheVariants.{Memory, Store, Stopped}
-use Rattle.vend_core.specs.declared.decision.request.Stamped.{Stamped}
+use Rattle.office_rules.specs.Office.{IsOffice, Office}
+use Rattle.office_rules.specs.declared.decision.answer.Answer.{Answer}
+use Rattle.office_rules.specs.declared.decision.change.Edit.{Edit}
+use Rattle.office_rules.specs.declared.decision.refusal.Refusal.{Refusal}
+use Rattle.office_rules.specs.declared.decision.refusal.Refusal.TheVariants.{Memory, Store, Stopped}
+use Rattle.office_rules.specs.declared.decision.request.Stamped.{Stamped}
 use Rattle.books.specs.Keeps.{IsNextOrOneBefore, IsRepresented, Seen}
 use Rattle.books.specs.Serving.{HoldsOffice, IsMade, ServesGranted, ServingEnds}
 use Rattle.book_edits.specs.Transaction.{MayBeLeft}

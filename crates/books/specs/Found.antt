@@ -5,7 +5,7 @@ use Rattle.std.specs.List.{AllByRecursion}
 use Rattle.sqlite.specs.Effect.{Database, IsDatabase}
 use Rattle.sqlite.specs.Order.{Row}
 use Rattle.sqlite_trees.specs.Tree.{Trees}
-use Rattle.vend_core.specs.Office.{IsOffice, Office, empty_office}
+use Rattle.office_rules.specs.Office.{IsOffice, Office, empty_office}
 use Rattle.book_tables.specs.Holds.{HasOfficeOf, rows_in}
 use Rattle.book_tables.specs.Kept.{Kept, upto}
 use Rattle.book_tables.specs.Stands.{AreMembersOf, IsOfFormat}

@@ -4,7 +4,7 @@ use Rattle.sqlite.specs.State.{HasCleanDisk}
 use Rattle.sqlite_trees.specs.declared.store.Store.{Ghosts}
 use Rattle.sts_token.specs.declared.transform.BlockTransform as block
 use Rattle.vend_core.specs.Law.Life.{AreLives, Life, present}
-use Rattle.vend_core.specs.Office.{Office}
+use Rattle.office_rules.specs.Office.{Office}
 use Rattle.books.specs.Keeps.{Represents, Seen, seen}
 use Rattle.books.specs.declared.books.Books.{Books}
 

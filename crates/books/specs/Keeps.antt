@@ -8,7 +8,7 @@ use Rattle.sts_token.specs.Token.{BlockFunction}
 use Rattle.sts_token.specs.declared.transform.BlockTransform as block
 use Rattle.vend_core.specs.Law.Life.{IsLife, Life, MayLeave}
 use Rattle.vend_core.specs.Law.LifeLaws.{IsRunning}
-use Rattle.vend_core.specs.Office.{IsOffice, Office}
+use Rattle.office_rules.specs.Office.{IsOffice, Office}
 use Rattle.book_tables.specs.reading.Reading.{HasAllTables}
 use Rattle.book_edits.specs.Transaction.{HasBeen}
 pub use Rattle.book_states.specs.Stores.{RecoversTo, StoreStandsFor, Stores}

@@ -1,11 +1,12 @@
 ghost use Rattle.std.specs.Prelude.{◌≡◌, ◌≢◌, ℕ, List, None, Some, Contains};
 ghost use Rattle.vend_core.specs.Law.Life.{AreLives, Life};
-ghost use Rattle.vend_core.specs.Office.{IsOffice, Office};
-ghost use Rattle.vend_core.specs.declared.office.sale.Sale.{Sale};
+ghost use Rattle.office_rules.specs.Office.{IsOffice, Office};
+ghost use Rattle.office_rules.specs.declared.office.sale.Sale.{Sale};
 ghost use Rattle.book_facts.specs.Lookups.{last_sale};
 ghost use Rattle.books.specs.Looking.{IsLastTo};
 
-use vend_core::{history_law, reached_law, store_law};
+use office_rules::store_law;
+use vend_core::{history_law, reached_law};
 
 /// What is found as the last sale to a meter.
 pub fn last_sale_law()

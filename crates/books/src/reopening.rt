@@ -5,7 +5,7 @@ ghost use Rattle.sqlite.specs.Files.{HoldsDatabase, IsNothing};
 ghost use Rattle.sqlite.specs.Held.{Held, state};
 ghost use Rattle.sqlite.specs.State.{IsLive, Opens};
 ghost use Rattle.kept_order.specs.InOrder.{HasTablesInOrder};
-ghost use Rattle.vend_core.specs.Office.{Office, empty_office};
+ghost use Rattle.office_rules.specs.Office.{Office, empty_office};
 ghost use Rattle.book_states.specs.Stores.{RecoversTo, StoreStandsFor};
 ghost use Rattle.books.specs.Found.{FindsOffice};
 ghost use Rattle.books.specs.Path.{StandsIn};

@@ -2,6 +2,7 @@
 
 use crate::pages::Office;
 use books::{Found, Lookup, MeterSummary, Quote, Totals};
+use office_rules::{Ref, Refusal, Sale};
 use office_testing::both::{agree, office, sold};
 use office_testing::values::{
     FIRST_DAY, METER, NO_METER, OTHER_METER, flat, meter_no, moment, operator, order, tariff_name,
@@ -10,7 +11,6 @@ use std::process::Abort;
 use std::test::Fail;
 use sts_fields::Base;
 use tariff::Tender;
-use vend_core::{Ref, Refusal, Sale};
 
 // What is found of one thing, or how many members a page has.
 #[derive(Clone, Copy, Debug, PartialEq, Eq)]

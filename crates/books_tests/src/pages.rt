@@ -2,6 +2,7 @@
 
 use crate::shown::all_shown;
 use books::{Books, Lookup, OpenFault};
+use office_rules::{Refusal, Request, Sale, Stamped};
 use office_testing::both::{Both, agree, ask, in_memory, is_same, office, serve, serve_all, sold};
 use office_testing::in_file::change_tables;
 use office_testing::older::OLDER;
@@ -13,7 +14,6 @@ use std::process::Abort;
 use std::test::Fail;
 use sts_fields::Base;
 use sts_token::Plain;
-use vend_core::{Refusal, Request, Sale, Stamped};
 
 pub(crate) type Office = Both<MemStore, Plain>;
 

@@ -1,5 +1,6 @@
 //! More shifts than any list opens, and dated steps as many as a day may have.
 
+use office_rules::Request;
 use office_testing::both::{Both, agree, ask, in_memory, office, sold};
 use office_testing::values::{FIRST_DAY, METER, flat, moment, operator, order, tariff_name};
 use sqlite::MemStore;
@@ -8,7 +9,6 @@ use std::test::Fail;
 use sts_fields::{Base, day_of};
 use sts_token::Plain;
 use tariff::Steps;
-use vend_core::Request;
 
 // Ann opens a shift and closes it.
 fn one_shift(both: &mut Both<MemStore, Plain>) -> Result<(), Fail> {

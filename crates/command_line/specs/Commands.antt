@@ -28,9 +28,9 @@ use Rattle.command_line.specs.declared.commands.show.Shown.{Shown}
 use Rattle.command_line.specs.declared.commands.show.Shown.TheVariants as shown
 use Rattle.command_line.specs.declared.commands.trial.TrialWords.{TrialWords}
 use Rattle.command_line.specs.declared.request_words.RequestWords.{RequestWords}
-use Rattle.vend_core.specs.declared.decision.request.Order.{Order}
-use Rattle.vend_core.specs.declared.decision.request.Request.{Request}
-use Rattle.vend_core.specs.declared.decision.request.Request.TheVariants.{MoveBase, OpenShift, CloseShift, Sell}
+use Rattle.office_rules.specs.declared.decision.request.Order.{Order}
+use Rattle.office_rules.specs.declared.decision.request.Request.{Request}
+use Rattle.office_rules.specs.declared.decision.request.Request.TheVariants.{MoveBase, OpenShift, CloseShift, Sell}
 
 pub record SaysTrial (rows : List Row) (words : TrialWords) : Type 0 where
   pub transform : IsArgument SaysTransform

@@ -12,7 +12,7 @@ use Rattle.tariff.specs.Steps.{IsSteps}
 use Rattle.tariff.specs.StepsText.{IsStepsText}
 use Rattle.tariff.specs.Tender.{IsTender}
 use Rattle.tariff.specs.declared.step.Step.{Step}
-use Rattle.vend_core.specs.Name.{IsMeterNo, IsName, IsOperator}
+use Rattle.office_rules.specs.Name.{IsMeterNo, IsName, IsOperator}
 use Rattle.command_line.specs.declared.transform.Shipped.{Shipped}
 use Rattle.command_line.specs.declared.transform.Shipped.TheVariants.{Plain, Demo}
 

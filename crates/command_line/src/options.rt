@@ -16,11 +16,11 @@ use crate::address::Address;
 use crate::transform::Shipped;
 use crate::{said, values};
 use clap::{Arg, ArgAction, ArgMatches, Command};
+use office_rules::{MeterNo, Operator, Ref};
 use std::alloc::{AllocError, Global};
 use sts_fields::{Base, Moment};
 use sts_token::read_key;
 use tariff::Tender;
-use vend_core::{MeterNo, Operator, Ref};
 
 /// A command with a line on what it does and an example below its options, and no words yet.
 pub(crate) fn command<'a>(

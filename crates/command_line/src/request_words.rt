@@ -5,8 +5,8 @@ use crate::commands::{base, sell, shift};
 use crate::options;
 use crate::transform::Shipped;
 use clap::ArgMatches;
+use office_rules::Request;
 use sts_fields::Moment;
-use vend_core::Request;
 
 /// What `base`, `shift` and `sell` are asked to do: a request, made to an office.
 #[derive(Drop)]

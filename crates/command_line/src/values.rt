@@ -7,10 +7,10 @@ ghost use Rattle.command_line.specs.Values.{SaysMoment, SaysOctet, SaysPort};
 ghost use Rattle.command_line.specs.Values.{SaysPrior, SaysTender, SaysWait};
 
 use crate::words::BadWords;
+use office_rules::GREATEST_COUNT;
 use std::alloc::Global;
 use sts_fields::{Base, Moment};
 use tariff::{MAX_PRIOR, Tender};
-use vend_core::GREATEST_COUNT;
 
 /// A number of 64 bits in ASCII digits; zeros may stand in front.
 pub(crate) fn number(word: &str) -> Option<u64>

@@ -1,5 +1,6 @@
 //! The number, the name and the sentence of each fault and of each refusal.
 
+use office_rules::{Refusal, RowCause};
 use papers::{RowFault, TextFault};
 use std::alloc::Global;
 use std::fmt::Display;
@@ -7,7 +8,6 @@ use std::test::Fail;
 use sts_fields::{DayFault, Memory, TidFault};
 use sts_token::TokenFault;
 use tariff::StepsFault;
-use vend_core::{Refusal, RowCause};
 
 fn named() -> &'static str {
     "\

@@ -1,17 +1,17 @@
 //! Worked values of the rules: a line for each call, with what it has to give (`sts_fields`,
-//! `sts_token`, `tariff`, and the meter numbers of `vend_core`).
+//! `sts_token`, `tariff`, and the meter numbers of `office_rules`).
 
 ghost use Rattle.std.specs.Prelude.{◌≤◌, IfOk};
 ghost use Rattle.tariff.specs.Cost.{greatest_prior};
 
 use office_lines::values::moment;
+use office_rules::MeterNo;
 use std::alloc::Global;
 use std::fmt::Display;
 use std::test::Fail;
 use sts_fields::{Amount, Base, Day, LAST_TID, Moment, civil, day_of, minute, month_of, next_tid};
 use sts_token::{BlockTransform, Demo, Fields, Plain, check16, key_text, read, read_key, write};
 use tariff::{MAX_PRIOR, Steps, Tender, buy, price};
-use vend_core::MeterNo;
 
 mod days;
 mod rows;

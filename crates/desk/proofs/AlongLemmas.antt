@@ -3,10 +3,10 @@ use Rattle.std.proofs.Common.{◌≡◌, ◌∙◌, ℕ, ℤ, inl, inr, List, []
 use Rattle.vend_core.specs.Law.Life.{Life}
 use Rattle.vend_core.specs.Law.Life as lives
 use Rattle.vend_core.specs.Law.LifeLaws.{exchanges_of, extended_along, extended_by}
-use Rattle.vend_core.specs.declared.decision.answer.Answer.{Answer}
-use Rattle.vend_core.specs.declared.decision.refusal.Refusal.{Refusal}
-use Rattle.vend_core.specs.declared.decision.request.Request.{Request}
-use Rattle.vend_core.specs.declared.decision.request.Stamped.{Stamped}
+use Rattle.office_rules.specs.declared.decision.answer.Answer.{Answer}
+use Rattle.office_rules.specs.declared.decision.refusal.Refusal.{Refusal}
+use Rattle.office_rules.specs.declared.decision.request.Request.{Request}
+use Rattle.office_rules.specs.declared.decision.request.Stamped.{Stamped}
 use Rattle.book_facts.specs.declared.lookup.Found.{Found}
 use Rattle.conversation.specs.Exchanges.{MessageExchange, Exchanged, Timed, timed}
 use Rattle.conversation.specs.message.Messages.{Message}

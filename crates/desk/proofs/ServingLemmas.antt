@@ -4,11 +4,11 @@ use Rattle.std.specs.Prelude.{IfOk, OnErr}
 use Rattle.sqlite.specs.State.{HasCleanDisk, State}
 use Rattle.vend_core.specs.Law.Life.{Life, present}
 use Rattle.vend_core.specs.Law.LifeLaws.{extended_by}
-use Rattle.vend_core.specs.declared.decision.answer.Answer.{Answer}
-use Rattle.vend_core.specs.declared.decision.refusal.Refusal.{Refusal}
-use Rattle.vend_core.specs.declared.decision.refusal.Refusal.TheVariants.{Stopped}
-use Rattle.vend_core.specs.declared.decision.request.Request.{Request}
-use Rattle.vend_core.specs.declared.decision.request.Stamped.{Stamped}
+use Rattle.office_rules.specs.declared.decision.answer.Answer.{Answer}
+use Rattle.office_rules.specs.declared.decision.refusal.Refusal.{Refusal}
+use Rattle.office_rules.specs.declared.decision.refusal.Refusal.TheVariants.{Stopped}
+use Rattle.office_rules.specs.declared.decision.request.Request.{Request}
+use Rattle.office_rules.specs.declared.decision.request.Stamped.{Stamped}
 use Rattle.books.specs.Asking.{IsAsked, Replies, ReplyAt}
 use Rattle.books.specs.Keeps.{Represents, Seen}
 use Rattle.books.specs.Others.{LeavesOthers}

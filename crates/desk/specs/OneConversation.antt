@@ -1,7 +1,7 @@
 -- What is one: the meaning of a message, and the conversation of an input.
 use Rattle.std.specs.Prelude.{◌≡◌, ℕ, ℤ, List, ◌++◌, map, Option}
-use Rattle.vend_core.specs.declared.decision.request.Request.{Request}
-use Rattle.vend_core.specs.declared.decision.request.Stamped.{Stamped}
+use Rattle.office_rules.specs.declared.decision.request.Request.{Request}
+use Rattle.office_rules.specs.declared.decision.request.Stamped.{Stamped}
 use Rattle.book_facts.specs.declared.lookup.Lookup.{Lookup}
 use Rattle.conversation.specs.Conversation.{last_words, replies_of}
 use Rattle.conversation.specs.Exchanges.{MessageExchange}

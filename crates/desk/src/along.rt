@@ -1,9 +1,9 @@
 ghost use Rattle.std.specs.Prelude.{◌≡◌, ℕ, ℤ, List, Option, Result};
 ghost use Rattle.vend_core.specs.Law.Life.{Life};
 ghost use Rattle.vend_core.specs.Law.LifeLaws.{extended_along};
-ghost use Rattle.vend_core.specs.declared.decision.answer.Answer.{Answer};
-ghost use Rattle.vend_core.specs.declared.decision.refusal.Refusal.{Refusal};
-ghost use Rattle.vend_core.specs.declared.decision.request.Stamped.{Stamped};
+ghost use Rattle.office_rules.specs.declared.decision.answer.Answer.{Answer};
+ghost use Rattle.office_rules.specs.declared.decision.refusal.Refusal.{Refusal};
+ghost use Rattle.office_rules.specs.declared.decision.request.Stamped.{Stamped};
 ghost use Rattle.book_facts.specs.declared.lookup.Found.{Found};
 ghost use Rattle.conversation.specs.Conversation.{messages_of};
 ghost use Rattle.conversation.specs.Exchanges.{Exchanged, MessageExchange, Timed, timed};

@@ -11,15 +11,15 @@ use Rattle.sts_fields.specs.Amount.{IsRepresentable, greatest_amount}
 use Rattle.sts_fields.specs.Base.{year_of}
 use Rattle.sts_fields.specs.declared.base.Base.{Base}
 use Rattle.sts_fields.specs.declared.base.Base.TheVariants.{Y1993, Y2014, Y2035}
-use Rattle.vend_core.specs.Decision.Refusals.{refusal_category, refusal_name, refusal_number}
-use Rattle.vend_core.specs.Decision.RowCauses.{cause_text}
-use Rattle.vend_core.specs.declared.decision.category.Category.{Category}
-use Rattle.vend_core.specs.declared.decision.category.Category.TheVariants as categories
-use Rattle.vend_core.specs.declared.decision.refusal.Refusal.{Refusal}
-use Rattle.vend_core.specs.declared.decision.refusal.Refusal.TheVariants.{ImportRow}
-use Rattle.vend_core.specs.declared.decision.row_cause.RowCause.{RowCause}
-use Rattle.vend_core.specs.declared.decision.row_cause.RowCause.TheVariants as causes
-use Rattle.vend_core.specs.declared.office.sale.Sale.{Sale}
+use Rattle.office_rules.specs.Decision.Refusals.{refusal_category, refusal_name, refusal_number}
+use Rattle.office_rules.specs.Decision.RowCauses.{cause_text}
+use Rattle.office_rules.specs.declared.decision.category.Category.{Category}
+use Rattle.office_rules.specs.declared.decision.category.Category.TheVariants as categories
+use Rattle.office_rules.specs.declared.decision.refusal.Refusal.{Refusal}
+use Rattle.office_rules.specs.declared.decision.refusal.Refusal.TheVariants.{ImportRow}
+use Rattle.office_rules.specs.declared.decision.row_cause.RowCause.{RowCause}
+use Rattle.office_rules.specs.declared.decision.row_cause.RowCause.TheVariants as causes
+use Rattle.office_rules.specs.declared.office.sale.Sale.{Sale}
 use Rattle.desk_client.specs.Alike.{GrantAlike, TellAlike}
 use Rattle.desk_client.specs.Meter.{IsLastSale, IsToldMeter, last_sale_text, meter_ends, meter_text, meter_values}
 use Rattle.desk_client.specs.Quote.{IsToldQuote, quote_ends, quote_text, quote_values}

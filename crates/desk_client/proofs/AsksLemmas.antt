@@ -28,9 +28,9 @@ use Rattle.sts_fields.specs.Base.{year_of}
 use Rattle.sts_fields.specs.Moment.{IsMoment}
 use Rattle.sts_fields.specs.declared.base.Base.{Base}
 use Rattle.sts_fields.specs.declared.base.Base.TheVariants.{Y1993, Y2014, Y2035}
-use Rattle.vend_core.specs.Name.{IsMeterNo, IsName, IsOperator}
-use Rattle.vend_core.specs.declared.decision.request.Order.{Order}
-use Rattle.vend_core.specs.declared.office.row.Row.{Row}
+use Rattle.office_rules.specs.Name.{IsMeterNo, IsName, IsOperator}
+use Rattle.office_rules.specs.declared.decision.request.Order.{Order}
+use Rattle.office_rules.specs.declared.office.row.Row.{Row}
 use Rattle.desk_client.specs.Asks.{IsAskable, IsAskableOrder, IsNoMoment, MeansAsked, MeansRows, asked_by, question_message}
 use Rattle.desk_client.specs.Message.{HasBodyOf}
 use Rattle.desk_client.specs.Question.{body_pieces, operator_pieces, order_pieces, question_method, question_text, target_pieces}

@@ -5,9 +5,9 @@ use Rattle.std.proofs.lemmas.Fmt.{length-decimal-le}
 use Rattle.std.proofs.lemmas.List.{append-nil, append_cancel_left, nil_from_length}
 use Rattle.httparse.proofs.GrammarLemmas.{cons-append}
 use Rattle.conversation.proofs.HeadLemmas.{front_within}
-use Rattle.vend_core.specs.Decision.Refusals.{refusal_category}
-use Rattle.vend_core.specs.declared.decision.category.Category.{Category}
-use Rattle.vend_core.specs.declared.decision.category.Category.TheVariants as categories
+use Rattle.office_rules.specs.Decision.Refusals.{refusal_category}
+use Rattle.office_rules.specs.declared.decision.category.Category.{Category}
+use Rattle.office_rules.specs.declared.decision.category.Category.TheVariants as categories
 use Rattle.desk_client.specs.Reply.{IsRefusing, IsReply, head_bytes, longest_body, longest_head}
 use Rattle.desk_client.specs.Start.{category_start, head_end, start_text}
 use Rattle.desk_client.specs.Told.{IsStart, IsTellable, granted_start, told_start, told_text}

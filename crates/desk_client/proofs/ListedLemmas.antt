@@ -9,7 +9,7 @@ use Rattle.desk_messages.specs.reply.Lists as lists
 use Rattle.desk_messages.specs.reply.Members.{some_number}
 use Rattle.serde_json.proofs.OnLiterals.{serde_json_on_literals}
 use Rattle.serde_json.specs.Written.{compact_text}
-use Rattle.vend_core.specs.Name.{IsOperator}
+use Rattle.office_rules.specs.Name.{IsOperator}
 use Rattle.desk_client.specs.ListedMeter.{listed_meter_ends, listed_meter_text, listed_meter_values}
 use Rattle.desk_client.specs.ListedShift.{end_text, listed_shift_ends, listed_shift_text, listed_shift_values}
 use Rattle.desk_client.specs.Page.{IsToldEnd, IsToldListedMeter, IsToldListedShift}

@@ -15,8 +15,8 @@ use Rattle.desk_messages.specs.reply.Lists.{comma, list_members, list_text, list
 use Rattle.desk_messages.specs.reply.Members.{json_text}
 use Rattle.serde_json.specs.Data.{Data}
 use Rattle.serde_json.specs.Written.{compact_text}
-use Rattle.vend_core.specs.Name.{IsName, is_name_byte}
-use Rattle.vend_core.specs.declared.office.sale.Sale.{Sale}
+use Rattle.office_rules.specs.Name.{IsName, is_name_byte}
+use Rattle.office_rules.specs.declared.office.sale.Sale.{Sale}
 use Rattle.desk_client.specs.Items.{AreReadInOneWay, closed_text}
 use Rattle.desk_client.specs.ListedMeter.{listed_meter_text}
 use Rattle.desk_client.specs.ListedShift.{listed_shift_text}

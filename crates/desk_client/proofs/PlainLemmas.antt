@@ -10,7 +10,7 @@ use Rattle.std.proofs.lemmas.Str.Parse.{digit_at}
 use Rattle.sts_fields.specs.Base.{year_of}
 use Rattle.sts_fields.specs.declared.base.Base.{Base}
 use Rattle.sts_fields.specs.declared.base.Base.TheVariants.{Y1993, Y2014, Y2035}
-use Rattle.vend_core.specs.Name.{is_name_byte}
+use Rattle.office_rules.specs.Name.{is_name_byte}
 use Rattle.desk_client.specs.Text.{LacksStop, is_stop}
 
 digit : (b : ℕ) → 48 ≤ b → b ≤ 57 → is_stop b ≡ false

@@ -7,7 +7,7 @@ use Rattle.desk_messages.specs.reply.SaleText as desk_text
 use Rattle.papers.specs.Text.{change_of}
 use Rattle.serde_json.specs.Written.{compact_text}
 use Rattle.sts_fields.specs.Amount.{IsRepresentable, greatest_amount}
-use Rattle.vend_core.specs.declared.office.sale.Sale.{Sale}
+use Rattle.office_rules.specs.declared.office.sale.Sale.{Sale}
 use Rattle.desk_client.specs.Sale.{IsTold, sale_ends, sale_text, sale_values}
 use Rattle.desk_client.specs.Text.{IsFound, LackStops, now, woven}
 use Rattle.desk_client.proofs.FoundLemmas.{found_by}

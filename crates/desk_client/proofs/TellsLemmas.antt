@@ -15,13 +15,13 @@ use Rattle.desk_messages.specs.reply.Members.{json_text}
 use Rattle.desk_messages.specs.reply.SaleText.{IsTellableSale}
 use Rattle.desk_messages.specs.reply.SaleText as desk_text
 use Rattle.desk_messages.specs.reply.Text.{field_line, line_end, reply_bytes_of, reply_text, status_line}
-use Rattle.vend_core.specs.Decision.Refusals.{refusal_category}
-use Rattle.vend_core.specs.declared.decision.answer.Answer.{Answer}
-use Rattle.vend_core.specs.declared.decision.answer.Answer.TheVariants as answers
-use Rattle.vend_core.specs.declared.decision.category.Category.{Category}
-use Rattle.vend_core.specs.declared.decision.category.Category.TheVariants as categories
-use Rattle.vend_core.specs.declared.decision.refusal.Refusal.{Refusal}
-use Rattle.vend_core.specs.declared.office.sale.Sale.{Sale}
+use Rattle.office_rules.specs.Decision.Refusals.{refusal_category}
+use Rattle.office_rules.specs.declared.decision.answer.Answer.{Answer}
+use Rattle.office_rules.specs.declared.decision.answer.Answer.TheVariants as answers
+use Rattle.office_rules.specs.declared.decision.category.Category.{Category}
+use Rattle.office_rules.specs.declared.decision.category.Category.TheVariants as categories
+use Rattle.office_rules.specs.declared.decision.refusal.Refusal.{Refusal}
+use Rattle.office_rules.specs.declared.office.sale.Sale.{Sale}
 use Rattle.desk_client.specs.Page.{page_text}
 use Rattle.desk_client.specs.Reply.{IsReading, IsReply, head_bytes, longest_body}
 use Rattle.desk_client.specs.Reply as replies

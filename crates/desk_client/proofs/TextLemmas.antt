@@ -16,12 +16,12 @@ use Rattle.book_tables.specs.declared.row.totals.Totals.{Totals}
 use Rattle.desk_messages.specs.reply.Body.{fault_members, meter_members, quote_members, refusal_members, row_members, totals_members}
 use Rattle.desk_messages.specs.reply.Members.{json_text, some_number, whole_number}
 use Rattle.sts_fields.specs.Base.{year_of}
-use Rattle.vend_core.specs.Name.{is_name_byte}
-use Rattle.vend_core.specs.Decision.RowCauses.{cause_text}
-use Rattle.vend_core.specs.declared.decision.refusal.Refusal.{Refusal}
-use Rattle.vend_core.specs.declared.decision.refusal.Refusal.TheVariants as refusals
-use Rattle.vend_core.specs.declared.decision.row_cause.RowCause.{RowCause}
-use Rattle.vend_core.specs.declared.decision.row_cause.RowCause.TheVariants.{Header, Columns, Field, TooManyRows, Differs, NoTariff, DayPast}
+use Rattle.office_rules.specs.Name.{is_name_byte}
+use Rattle.office_rules.specs.Decision.RowCauses.{cause_text}
+use Rattle.office_rules.specs.declared.decision.refusal.Refusal.{Refusal}
+use Rattle.office_rules.specs.declared.decision.refusal.Refusal.TheVariants as refusals
+use Rattle.office_rules.specs.declared.decision.row_cause.RowCause.{RowCause}
+use Rattle.office_rules.specs.declared.decision.row_cause.RowCause.TheVariants.{Header, Columns, Field, TooManyRows, Differs, NoTariff, DayPast}
 use Rattle.desk_client.specs.Meter.{IsToldMeter, meter_text}
 use Rattle.desk_client.specs.Quote.{IsToldQuote, quote_text}
 use Rattle.desk_client.specs.Refusal.{IsCause, row_text}

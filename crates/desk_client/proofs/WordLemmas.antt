@@ -15,7 +15,7 @@ use Rattle.std.proofs.lemmas.Str.Ascii.{IsAscii-from_all}
 use Rattle.std.proofs.lemmas.Str.Parse.{digit_at}
 use Rattle.httparse.specs.Grammar.{is_uri_byte}
 use Rattle.json.specs.Print.{escape_byte}
-use Rattle.vend_core.specs.Name.{IsMeterNo, IsName, IsOperator, is_name_byte}
+use Rattle.office_rules.specs.Name.{IsMeterNo, IsName, IsOperator, is_name_byte}
 use Rattle.desk_client.proofs.WalkLemmas.{IsInside}
 
 -- a byte that stands as it is in a target and in a text of JSON, and parts no target

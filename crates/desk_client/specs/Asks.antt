@@ -17,12 +17,12 @@ use Rattle.papers.specs.declared.row_fault.RowFault.{RowFault}
 use Rattle.papers.specs.declared.row_fault.RowFault.TheVariants.{At, Memory}
 use Rattle.sts_fields.specs.Moment.{IsMoment}
 use Rattle.tariff.specs.Tender.{IsTender}
-use Rattle.vend_core.specs.Name.{IsMeterNo, IsName, IsOperator}
-use Rattle.vend_core.specs.declared.decision.refusal.Refusal.TheVariants.{ImportRow}
-use Rattle.vend_core.specs.declared.decision.request.Order.{Order}
-use Rattle.vend_core.specs.declared.decision.request.Request.{Request}
-use Rattle.vend_core.specs.declared.decision.request.Request.TheVariants as requests
-use Rattle.vend_core.specs.declared.office.row.Row.{Row}
+use Rattle.office_rules.specs.Name.{IsMeterNo, IsName, IsOperator}
+use Rattle.office_rules.specs.declared.decision.refusal.Refusal.TheVariants.{ImportRow}
+use Rattle.office_rules.specs.declared.decision.request.Order.{Order}
+use Rattle.office_rules.specs.declared.decision.request.Request.{Request}
+use Rattle.office_rules.specs.declared.decision.request.Request.TheVariants as requests
+use Rattle.office_rules.specs.declared.office.row.Row.{Row}
 use Rattle.desk_client.specs.Question.{body_pieces, question_method, target_pieces}
 use Rattle.desk_client.specs.declared.question.Question.{Question}
 use Rattle.desk_client.specs.declared.question.Question.TheVariants.{Import, MoveBase, OpenShift, CloseShift, Sell, ShiftReport, Receipt, ShiftTotals, Meter, LastSale, SaleOfRef, Quote, Tariffs, Meters, Shifts, Sales}

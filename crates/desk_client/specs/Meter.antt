@@ -2,7 +2,7 @@
 use Rattle.std.specs.Prelude.{ℕ, ◌^◌, ◌<◌, List, [], ◌∷◌, ◌++◌, Option, Some, None, codes, decimal, ⊤}
 use Rattle.book_facts.specs.declared.lookup.MeterSummary.{MeterSummary}
 use Rattle.sts_fields.specs.Base.{year_of}
-use Rattle.vend_core.specs.Name.{IsMeterNo, IsName}
+use Rattle.office_rules.specs.Name.{IsMeterNo, IsName}
 use Rattle.desk_client.specs.Text.{woven}
 
 -- the number of the last sale to a meter, or that there is none

@@ -13,7 +13,7 @@ use Rattle.sts_fields.specs.Day.{IsDay}
 use Rattle.sts_fields.specs.Moment.{IsMoment}
 use Rattle.tariff.specs.Steps.{IsSteps}
 use Rattle.tariff.specs.declared.step.Step.{Step}
-use Rattle.vend_core.specs.Name.{IsMeterNo, IsName, IsOperator}
+use Rattle.office_rules.specs.Name.{IsMeterNo, IsName, IsOperator}
 use Rattle.desk_client.specs.Sale.{IsTold}
 use Rattle.desk_client.specs.declared.page.PageKind.{PageKind}
 use Rattle.desk_client.specs.declared.page.PageKind.TheVariants.{Tariffs, Meters, Shifts, Sales}

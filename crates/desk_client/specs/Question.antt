@@ -6,7 +6,7 @@ use Rattle.conversation.specs.declared.message.method.Method.TheVariants.{Get, P
 use Rattle.papers.specs.declared.file_kind.FileKind.{FileKind}
 use Rattle.papers.specs.declared.file_kind.FileKind.TheVariants as files
 use Rattle.sts_fields.specs.Base.{year_of}
-use Rattle.vend_core.specs.declared.decision.request.Order.{Order}
+use Rattle.office_rules.specs.declared.decision.request.Order.{Order}
 use Rattle.desk_client.specs.Message.{message_bytes}
 use Rattle.desk_client.specs.declared.told.Wanted.{Wanted}
 use Rattle.desk_client.specs.declared.told.Wanted.TheVariants as wanted

@@ -3,7 +3,7 @@ use Rattle.std.specs.Prelude.{ℕ, ◌-◌, ◌≤◌, List, [], ◌∷◌, ◌+
 use Rattle.book_facts.specs.declared.lookup.Quote.{Quote}
 use Rattle.sts_fields.specs.Amount.{IsRepresentable}
 use Rattle.tariff.specs.Tender.{IsTender}
-use Rattle.vend_core.specs.Name.{IsMeterNo, IsName}
+use Rattle.office_rules.specs.Name.{IsMeterNo, IsName}
 use Rattle.desk_client.specs.Text.{woven}
 
 -- the values that stand in the text of a quote: what would be given back stands first

@@ -1,11 +1,11 @@
 -- The texts of refusals in replies.
 use Rattle.std.specs.Prelude.{◌≢◌, ◌^◌, ◌<◌, ℕ, List, [], ◌∷◌, ◌++◌, codes, decimal, ⊤}
-use Rattle.vend_core.specs.Decision.Refusals.{refusal_name, refusal_number}
-use Rattle.vend_core.specs.Decision.RowCauses.{cause_text}
-use Rattle.vend_core.specs.declared.decision.refusal.Refusal.{Refusal}
-use Rattle.vend_core.specs.declared.decision.refusal.Refusal.TheVariants.{ImportRow}
-use Rattle.vend_core.specs.declared.decision.row_cause.RowCause.{RowCause}
-use Rattle.vend_core.specs.declared.decision.row_cause.RowCause.TheVariants.{Header, Columns, Field, TooManyRows, Differs, NoTariff, DayPast}
+use Rattle.office_rules.specs.Decision.Refusals.{refusal_name, refusal_number}
+use Rattle.office_rules.specs.Decision.RowCauses.{cause_text}
+use Rattle.office_rules.specs.declared.decision.refusal.Refusal.{Refusal}
+use Rattle.office_rules.specs.declared.decision.refusal.Refusal.TheVariants.{ImportRow}
+use Rattle.office_rules.specs.declared.decision.row_cause.RowCause.{RowCause}
+use Rattle.office_rules.specs.declared.decision.row_cause.RowCause.TheVariants.{Header, Columns, Field, TooManyRows, Differs, NoTariff, DayPast}
 use Rattle.desk_client.specs.Text.{woven}
 
 -- the refusal of no row

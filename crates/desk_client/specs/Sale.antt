@@ -6,8 +6,8 @@ use Rattle.sts_fields.specs.Base.{year_of}
 use Rattle.sts_fields.specs.Moment.{IsMoment}
 use Rattle.sts_token.specs.Token.{AreTwentyDigits}
 use Rattle.tariff.specs.Tender.{IsTender}
-use Rattle.vend_core.specs.Name.{IsMeterNo, IsName, IsOperator}
-use Rattle.vend_core.specs.declared.office.sale.Sale.{Sale}
+use Rattle.office_rules.specs.Name.{IsMeterNo, IsName, IsOperator}
+use Rattle.office_rules.specs.declared.office.sale.Sale.{Sale}
 use Rattle.desk_client.specs.Text.{woven}
 
 -- the values that stand in the text of a sale

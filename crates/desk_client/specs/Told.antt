@@ -1,9 +1,9 @@
 -- What replies tell, and their bodies.
 use Rattle.std.specs.Prelude.{◌≡◌, ℕ, ◌^◌, ◌<◌, List, ◌++◌, codes, decimal, ⊤}
-use Rattle.vend_core.specs.Decision.Refusals.{refusal_category}
-use Rattle.vend_core.specs.declared.decision.category.Category.{Category}
-use Rattle.vend_core.specs.declared.decision.category.Category.TheVariants.{Missing, Forbidden, Unfit, UnfitRow, Unable}
-use Rattle.vend_core.specs.declared.decision.refusal.Refusal.{Refusal}
+use Rattle.office_rules.specs.Decision.Refusals.{refusal_category}
+use Rattle.office_rules.specs.declared.decision.category.Category.{Category}
+use Rattle.office_rules.specs.declared.decision.category.Category.TheVariants.{Missing, Forbidden, Unfit, UnfitRow, Unable}
+use Rattle.office_rules.specs.declared.decision.refusal.Refusal.{Refusal}
 use Rattle.desk_client.specs.Meter.{IsToldMeter, meter_text}
 use Rattle.desk_client.specs.Quote.{IsToldQuote, quote_text}
 use Rattle.desk_client.specs.Refusal.{IsRow, plain_text, row_text}

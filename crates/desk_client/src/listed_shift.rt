@@ -8,8 +8,8 @@ use crate::text::{Values, number, read_front_values, small_number};
 use crate::values::{end_of, moment_of, operator_of};
 use book_facts::ListedShift;
 use book_tables::Totals;
+use office_rules::Shift;
 use std::alloc::{AllocError, Global};
-use vend_core::Shift;
 
 // What stands behind each value of a shift.
 const ENDS: [&str; 7] = [

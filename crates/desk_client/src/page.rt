@@ -10,9 +10,9 @@ use crate::items::{Item, read_list};
 use crate::tariff_items::tariff_law;
 use book_facts::{Found, ListedMeter, ListedShift, ListedTariff};
 use desk_messages::list_law;
+use office_rules::Sale;
 use std::alloc::{AllocError, Global};
 use sts_fields::amount_law;
-use vend_core::Sale;
 
 /// What a page lists.
 #[derive(Clone, Copy, Debug, PartialEq, Eq)]

@@ -11,11 +11,11 @@ use crate::sending::message;
 use crate::told::Wanted;
 use conversation::Method;
 use itoa::Buffer;
+use office_rules::{MeterNo, Operator, Order, Ref, TariffName};
 use papers::FileKind;
 use std::alloc::{AllocError, Global};
 use sts_fields::Base;
 use tariff::Tender;
-use vend_core::{MeterNo, Operator, Order, Ref, TariffName};
 
 /// What a desk is asked (`docs/DESK.md`). Numbers of shifts and sales are 1 to 10^9.
 #[derive(Clone, Copy, Debug, PartialEq, Eq)]

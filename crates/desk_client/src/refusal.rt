@@ -1,13 +1,13 @@
 //! The refusals of an office, as a reply tells them.
 
 ghost use Rattle.std.specs.Prelude.{◌≡◌};
-ghost use Rattle.vend_core.specs.Decision.Refusals.{refusal_number};
-ghost use Rattle.vend_core.specs.Decision.RowCauses.{cause_text};
+ghost use Rattle.office_rules.specs.Decision.Refusals.{refusal_number};
+ghost use Rattle.office_rules.specs.Decision.RowCauses.{cause_text};
 ghost use Rattle.desk_client.specs.Refusal.{IsCause, IsPlain, IsRow, IsWord, plain_text, row_text};
 ghost use Rattle.desk_client.specs.Text.{IsFound};
 
 use crate::text::{read_values, small_number};
-use vend_core::{Refusal, RowCause};
+use office_rules::{Refusal, RowCause};
 
 // The refusal of no row that a text tells, by its name and number.
 pub(crate) fn plain_refusal(text: &[u8]) -> Option<Refusal>

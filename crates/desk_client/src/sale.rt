@@ -7,9 +7,9 @@ use crate::text::{Values, read_front_values, read_values, small_number};
 use crate::values::{
     amount_of, base_of, meter_of, moment_of, operator_of, ref_of, tender_of, token_of,
 };
+use office_rules::Sale;
 use std::alloc::{AllocError, Global};
 use sts_fields::amount_law;
-use vend_core::Sale;
 
 // What stands behind each value of a sale.
 const ENDS: [&str; 13] = [

@@ -1,9 +1,9 @@
 ghost use Rattle.std.specs.Prelude.{◌≡◌, ◌≢◌, ◌++◌, ◌^◌, ◌<◌, ℕ, List, MatchOption, decimal};
-ghost use Rattle.vend_core.specs.Decision.Refusals.{refusal_category};
+ghost use Rattle.office_rules.specs.Decision.Refusals.{refusal_category};
 ghost use Rattle.desk_client.specs.Start.{category_start, head_end, start_text};
 
 use crate::text::{number, value_at};
-use vend_core::{Category, Refusal};
+use office_rules::{Category, Refusal};
 
 // What a reply begins with, up to the length of its body: what is granted is told as JSON or as a
 // paper, and a refusal as JSON, by a status for its category.

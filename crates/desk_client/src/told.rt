@@ -11,7 +11,7 @@ use crate::start::Start;
 use crate::totals::read_totals;
 use book_facts::{MeterSummary, Quote};
 use book_tables::Totals;
-use vend_core::{Refusal, Sale};
+use office_rules::{Refusal, Sale};
 
 /// What a reply is to tell, where the desk grants what it was asked.
 #[derive(Clone, Copy, Debug, PartialEq, Eq)]

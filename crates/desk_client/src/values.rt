@@ -8,16 +8,16 @@ ghost use Rattle.sts_fields.specs.Base.{year_of};
 ghost use Rattle.sts_fields.specs.Moment.{IsMoment};
 ghost use Rattle.sts_token.specs.Token.{AreTwentyDigits};
 ghost use Rattle.tariff.specs.Tender.{IsTender};
-ghost use Rattle.vend_core.specs.Name.{IsMeterNo, IsName, IsOperator};
+ghost use Rattle.office_rules.specs.Name.{IsMeterNo, IsName, IsOperator};
 ghost use Rattle.desk_client.specs.ListedShift.{end_text};
 ghost use Rattle.desk_client.specs.Meter.{IsLastSale, last_sale_text};
 ghost use Rattle.desk_client.specs.Page.{IsToldEnd};
 ghost use Rattle.desk_client.specs.Text.{IsFound};
 
 use crate::text::{number, small_number};
+use office_rules::{MeterNo, Operator, Ref, TariffName};
 use sts_fields::{Amount, Base, Moment, amount_law};
 use tariff::Tender;
-use vend_core::{MeterNo, Operator, Ref, TariffName};
 
 // The base date whose year a value writes.
 pub(crate) fn base_of(value: &[u8]) -> Option<Base>

@@ -18,7 +18,7 @@ use Rattle.desk_client.specs.declared.told.Told.{Told}
 use Rattle.desk_client.specs.declared.told.Told.TheVariants as tells
 use Rattle.desk_client.specs.declared.told.Wanted.TheVariants as wanted
 use Rattle.sts_fields.specs.Text.{Text}
-use Rattle.vend_core.specs.declared.decision.refusal.Refusal.TheVariants as refusals
+use Rattle.office_rules.specs.declared.decision.refusal.Refusal.TheVariants as refusals
 use Rattle.desk_commands.specs.Exchanged.{Calls, IsRound, IsUnsent, Round}
 use Rattle.desk_commands.specs.print.ListTexts.{pages_text}
 use Rattle.desk_commands.specs.print.Pages.{IsPagePut, list_behind, most_pages}

@@ -20,10 +20,10 @@ use book_facts::{Found, Lookup};
 use command_line::{Address, DeskQuestion, DeskWords, Shown};
 use conversation::MAX_BODY;
 use desk_client::{Granted, Question, Told};
+use office_rules::{Refusal, Sale};
 use papers::receipt_in_place;
 use std::alloc::{AllocError, Global};
 use std::io::Write;
-use vend_core::{Refusal, Sale};
 use vend_ports::{
     CommandEnd, FileFault, Loopback, TextFiles, Watched, put_added, put_line, put_no_moment,
     put_read_fault, put_refusal, put_shift,

@@ -13,9 +13,9 @@ use crate::print::pages::put_page;
 use book_facts::Found;
 use command_line::{Address, Listed};
 use desk_client::{Granted, PageKind, Question, Told, Wanted, page_in};
+use office_rules::Refusal;
 use std::alloc::{AllocError, Global};
 use std::io::{Read, Write};
-use vend_core::Refusal;
 use vend_ports::{CommandEnd, Loopback, Watched, put_line, put_no_moment, put_refusal};
 
 /// Why a page of a list is not printed.

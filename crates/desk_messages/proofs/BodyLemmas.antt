@@ -9,8 +9,8 @@ use Rattle.serde_json.specs.View.{members_view}
 use Rattle.serde_json.specs.declared.value.Value.{Value}
 use Rattle.serde_json.proofs.Views.{members_len-members_view}
 use Rattle.tariff.specs.declared.step.Step.{Step}
-use Rattle.vend_core.specs.declared.office.meter.Meter.{Meter}
-use Rattle.vend_core.specs.declared.decision.request.Request.{Request}
+use Rattle.office_rules.specs.declared.office.meter.Meter.{Meter}
+use Rattle.office_rules.specs.declared.decision.request.Request.{Request}
 use Rattle.desk_messages.specs.declared.body_fault.BodyFault.{BodyFault}
 use Rattle.desk_messages.specs.declared.body_fault.BodyFault.TheVariants.{OutsideRule, Row, Memory}
 use Rattle.desk_messages.specs.declared.json_body.kind.JsonKind.{JsonKind}

@@ -15,7 +15,7 @@ use Rattle.sts_fields.specs.declared.calendar.date_time.Civil.{Civil}
 use Rattle.tariff.specs.Steps.{IsSteps}
 use Rattle.tariff.specs.StepsText.{IsWritable, steps_text}
 use Rattle.tariff.specs.declared.step.Step.{Step}
-use Rattle.vend_core.specs.Name.{IsMeterNo, IsName, IsOperator, is_name_byte}
+use Rattle.office_rules.specs.Name.{IsMeterNo, IsName, IsOperator, is_name_byte}
 use Rattle.book_facts.specs.declared.lookup.LaterSteps.{LaterSteps}
 use Rattle.book_facts.specs.declared.lookup.ListedMeter.{ListedMeter}
 use Rattle.book_facts.specs.declared.lookup.ListedShift.{ListedShift}

@@ -5,7 +5,7 @@ use Rattle.std.specs.Prelude.{codes, decimal, is_err}
 use Rattle.std.proofs.lemmas.List.{append_cancel_left, append_cancel_right}
 use Rattle.std.proofs.lemmas.List.Sums.{fold_more}
 use Rattle.tariff.specs.Tender.{IsTender}
-use Rattle.vend_core.specs.Name.{IsMeterNo, IsName, IsOperator}
+use Rattle.office_rules.specs.Name.{IsMeterNo, IsName, IsOperator}
 use Rattle.matchit.specs.Route.{Scan, parse_route}
 use Rattle.matchit.specs.Router.{InsertsRead}
 use Rattle.matchit.specs.declared.error.InsertError.{InsertError}

@@ -15,8 +15,8 @@ use Rattle.desk_messages.specs.reply.Members.{Pair, some_number, whole_number}
 use Rattle.desk_messages.specs.reply.Body.{meter_members, quote_members, sale_members}
 use Rattle.papers.specs.Text.{change_of}
 use Rattle.sts_fields.specs.Base.{year_of}
-use Rattle.vend_core.specs.Name.{IsMeterNo, IsName, IsOperator, is_name_byte}
-use Rattle.vend_core.specs.declared.office.sale.Sale.{Sale}
+use Rattle.office_rules.specs.Name.{IsMeterNo, IsName, IsOperator, is_name_byte}
+use Rattle.office_rules.specs.declared.office.sale.Sale.{Sale}
 
 -- text of bytes that pass a test of ASCII is kept as it is
 kept : (test : ℕ → Bool) → ((b : ℕ) → test b ≡ true → b < 128) → (text : List ℕ) → AllPass test text → utf8_lossy text ≡ text

@@ -15,8 +15,8 @@ use Rattle.desk_messages.specs.reply.Members.{json_text, whole_number}
 use Rattle.desk_messages.specs.reply.Body.{sale_members}
 use Rattle.desk_messages.specs.reply.SaleText.{IsTellableSale, sale_text, sale_text_of}
 use Rattle.desk_messages.proofs.SaleLemmas.{digits-kept}
-use Rattle.vend_core.specs.Name.{is_name_byte}
-use Rattle.vend_core.specs.declared.office.sale.Sale.{Sale}
+use Rattle.office_rules.specs.Name.{is_name_byte}
+use Rattle.office_rules.specs.declared.office.sale.Sale.{Sale}
 
 pub plain_digit : (b : ℕ) → is_ascii_digit b ≡ true → escape_byte b ≡ b ∷ []
 unfolding escape_byte

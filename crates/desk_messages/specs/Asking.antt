@@ -7,9 +7,9 @@ use Rattle.papers.specs.declared.file_kind.FileKind.TheVariants.{Meters, Tariffs
 use Rattle.papers.specs.declared.row_fault.RowFault.{RowFault}
 use Rattle.papers.specs.declared.row_fault.RowFault.TheVariants as row_faults
 use Rattle.serde_json.specs.Data.{Data}
-use Rattle.vend_core.specs.declared.decision.request.Request.{Request}
-use Rattle.vend_core.specs.declared.decision.request.Request.TheVariants as requests
-use Rattle.vend_core.specs.declared.office.row.Row.{Row}
+use Rattle.office_rules.specs.declared.decision.request.Request.{Request}
+use Rattle.office_rules.specs.declared.decision.request.Request.TheVariants as requests
+use Rattle.office_rules.specs.declared.office.row.Row.{Row}
 use Rattle.desk_messages.specs.declared.body_fault.BodyFault.{BodyFault}
 use Rattle.desk_messages.specs.declared.body_fault.BodyFault.TheVariants as faults
 use Rattle.desk_messages.specs.declared.route.Route.{Route}

@@ -2,18 +2,18 @@ ghost use Rattle.std.specs.Prelude.{◌≡◌, ◌≢◌, ℕ, List, Result, Err
 ghost use Rattle.desk_messages.specs.Asking.{AsksByJson, BodyAsks, import_of};
 ghost use Rattle.desk_messages.specs.declared.body_fault.BodyFault.{BodyFault};
 ghost use Rattle.desk_messages.specs.declared.route.Route.{Route};
-ghost use Rattle.vend_core.specs.declared.decision.request.Request.{Request};
+ghost use Rattle.office_rules.specs.declared.decision.request.Request.{Request};
 
 use crate::body_fault::BodyFault;
 use crate::json_body::kind::JsonKind;
 use crate::json_body::requests::{said, sale};
 use crate::json_body::value::read_value;
 use crate::route::Route;
+use office_rules::{Request, Rows};
 use papers::{RowFault, import_law, read_meters, read_tariffs};
 use std::alloc::Global;
 use sts_fields::day_law;
 use tariff::steps_text_law;
-use vend_core::{Request, Rows};
 
 /// The request that a body asks of a route, or why it asks none. A route that is asked by GET
 /// doesn't look at the body, and takes no memory. One that looks something up asks no request: for

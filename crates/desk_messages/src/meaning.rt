@@ -16,8 +16,8 @@ use crate::route::Route;
 use crate::route::routes::Routes;
 use book_facts::Lookup;
 use conversation::{Clock, Received};
+use office_rules::{Moment, Refusal, Request};
 use std::alloc::Global;
-use vend_core::{Moment, Refusal, Request};
 
 /// What a message means.
 #[derive(Drop)]

@@ -5,7 +5,7 @@ mod parameter;
 pub(crate) mod routes;
 
 use book_facts::Lookup;
-use vend_core::{MeterNo, TariffName};
+use office_rules::{MeterNo, TariffName};
 
 /// What a target asks for, with what it names: a request, which may change the office, or a
 /// look-up, which changes nothing.

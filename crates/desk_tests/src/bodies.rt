@@ -2,10 +2,10 @@
 
 use crate::texts::bytes;
 use desk::{BodyFault, Method, Route, Routes, request_of};
+use office_rules::Request;
 use office_testing::lines::stamped_of;
 use std::alloc::Global;
 use std::test::Fail;
-use vend_core::Request;
 
 // Each a body behind its route, and below them the request, as a line of `tools/oracle`, or the
 // fault. `texts` says how the bodies are written.

@@ -1,11 +1,11 @@
 //! Members of lists, as a desk tells them.
 
 use desk::{LaterSteps, ListedMeter, ListedShift, ListedTariff, Totals};
+use office_rules::{MeterNo, Shift, TariffName};
 use std::alloc::Global;
 use std::test::Fail;
 use sts_fields::{Base, Day};
 use tariff::Steps;
-use vend_core::{MeterNo, Shift, TariffName};
 
 /// A tariff with steps from two later days on, and one without.
 pub(crate) fn listed_tariffs(alloc: Global) -> Result<Vec<ListedTariff>, Fail> {

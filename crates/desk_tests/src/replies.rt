@@ -6,13 +6,13 @@ use desk::{
     DeskFault, Form, Found, MessageFault, MeterSummary, Method, Outcome, Quote, Totals, found_json,
     reply_bytes,
 };
-use std::alloc::Global;
-use std::test::Fail;
-use sts_fields::{Amount, Base};
-use vend_core::{
+use office_rules::{
     Answer, MeterNo, Moment, Operator, Ref, Refusal, RowCause, Sale, Sales, Shift, TariffName,
     Tender,
 };
+use std::alloc::Global;
+use std::test::Fail;
+use sts_fields::{Amount, Base};
 
 // A tenth of a kWh for ten cents.
 fn first_sale() -> Result<Sale, Fail> {

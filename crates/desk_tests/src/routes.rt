@@ -2,8 +2,8 @@
 
 use crate::texts::bytes;
 use desk::{DeskFault, Endpoint, Lookup, Method, Route, Routes};
+use office_rules::{MeterNo, Operator, Ref, TariffName, Tender};
 use std::test::Fail;
-use vend_core::{MeterNo, Operator, Ref, TariffName, Tender};
 
 // Each a target behind its method, and its route.
 fn targets() -> &'static str {

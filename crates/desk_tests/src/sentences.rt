@@ -1,10 +1,10 @@
 //! The sentence of each fault of a message, of a body and of a request's target.
 
 use desk::{BodyFault, DeskFault, MessageFault, Method};
+use office_rules::RowCause;
 use std::alloc::Global;
 use std::fmt::Display;
 use std::test::Fail;
-use vend_core::RowCause;
 
 fn told() -> &'static str {
     "\

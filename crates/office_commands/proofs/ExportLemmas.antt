@@ -6,8 +6,8 @@ use Rattle.sqlite.specs.State.{HasCleanDisk}
 use Rattle.books.specs.Keeps.{Represents, Seen}
 use Rattle.papers.specs.Export.{export_of}
 use Rattle.vend_core.specs.Law.Life.{Life, present}
-use Rattle.vend_core.specs.declared.decision.refusal.Refusal.{Refusal}
-use Rattle.vend_core.specs.declared.office.sale.Sale.{Sale}
+use Rattle.office_rules.specs.declared.decision.refusal.Refusal.{Refusal}
+use Rattle.office_rules.specs.declared.office.sale.Sale.{Sale}
 use Rattle.office_commands.proofs.OnlyReadLemmas.{read_none, read_then}
 use Rattle.office_commands.proofs.RefusedLemmas.{stopped_before}
 use Rattle.vend_ports.proofs.TakeLemmas.{takes_last, takes_next, takes_none}

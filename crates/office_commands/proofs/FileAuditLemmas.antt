@@ -19,8 +19,8 @@ use Rattle.one_table.specs.Answer.{IsLeft}
 use Rattle.one_table.specs.Standing.{tree_in}
 use Rattle.kept_order.specs.InOrder.{HasTablesInOrder}
 use Rattle.sts_token.specs.Token.{BlockFunction}
-use Rattle.vend_core.specs.Office.{Office, empty_office}
-use Rattle.vend_core.specs.declared.office.shift.Shift.{Shift}
+use Rattle.office_rules.specs.Office.{Office, empty_office}
+use Rattle.office_rules.specs.declared.office.shift.Shift.{Shift}
 use Rattle.book_tables.specs.Holds.{HasOfficeOf, IsKept, StandsFor, rows_in}
 use Rattle.book_tables.specs.Kept.{kept, shifts_kept}
 use Rattle.book_tables.specs.row.Rows.{shift_row}

@@ -11,9 +11,9 @@ use Rattle.books.specs.Looking.{IsFoundAt}
 use Rattle.command_line.specs.declared.commands.list.Listed.{Listed}
 use Rattle.command_line.specs.declared.commands.list.Listed.TheVariants as listed
 use Rattle.vend_core.specs.Law.Life.{Life, present}
-use Rattle.vend_core.specs.Office.{Office}
-use Rattle.vend_core.specs.declared.decision.refusal.Refusal.{Refusal}
-use Rattle.vend_core.specs.declared.decision.refusal.Refusal.TheVariants.{Memory, Store, Stopped}
+use Rattle.office_rules.specs.Office.{Office}
+use Rattle.office_rules.specs.declared.decision.refusal.Refusal.{Refusal}
+use Rattle.office_rules.specs.declared.decision.refusal.Refusal.TheVariants.{Memory, Store, Stopped}
 use Rattle.office_commands.proofs.OnlyReadLemmas.{read_none, read_then}
 use Rattle.office_commands.proofs.RefusedLemmas.{stopped_before}
 use Rattle.desk_commands.proofs.PageLemmas.{more_text, some_behind}

@@ -7,7 +7,7 @@ use Rattle.book_states.specs.Same.{ChangesNothing}
 use Rattle.books.specs.Keeps.{Seen}
 use Rattle.books.specs.Reads.{ReadsBooks}
 use Rattle.sqlite.specs.State.{State}
-use Rattle.vend_core.specs.declared.decision.refusal.Refusal.{Refusal}
+use Rattle.office_rules.specs.declared.decision.refusal.Refusal.{Refusal}
 use Rattle.office_commands.specs.office.OnlyRead.{AreOnlyRead}
 
 nothing_then : (a b c : State) → ChangesNothing a b → ChangesNothing b c → ChangesNothing a c

@@ -5,7 +5,7 @@ use Rattle.book_opening.specs.declared.fault.OpenFault.{OpenFault}
 use Rattle.book_opening.specs.declared.fault.OpenFault.TheVariants.{Memory, NotAnOffice, Store}
 use Rattle.book_states.specs.Stores.{StoreStandsFor}
 use Rattle.sqlite.specs.State.{State}
-use Rattle.vend_core.specs.Office.{Office}
+use Rattle.office_rules.specs.Office.{Office}
 
 -- a fault that names the file is true of it
 pub fits : (s : State) (fault : OpenFault) → (fault ≡ NotAnOffice → (o : Office) → ¬ StoreStandsFor s o) → FaultFitsStore s fault

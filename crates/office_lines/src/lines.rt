@@ -2,12 +2,12 @@
 //! lines from the rules alone.
 
 use crate::values::{import, meter_no, operator, order_of, stamped, tariff_name};
+use office_rules::{Answer, Meter, Refusal, Reply, Request, Row, Sale, Sales, Shift, Stamped};
 use std::alloc::Global;
 use std::test::Fail;
 use sts_fields::{Base, Day};
 use sts_token::read_key;
 use tariff::Steps;
-use vend_core::{Answer, Meter, Refusal, Reply, Request, Row, Sale, Sales, Shift, Stamped};
 
 /// The request of a line, with its moment. The nibble is that of the next number after so many
 /// sales.
@@ -71,11 +71,11 @@ fn values(text: &str, between: char) -> (usize, [&str; 5]) {
     (text.split(between).count(), [one, two, three, four, five])
 }
 
-fn name(text: &str) -> Result<vend_core::TariffName, Fail> {
+fn name(text: &str) -> Result<office_rules::TariffName, Fail> {
     tariff_name(text.as_bytes())
 }
 
-fn number(text: &str) -> Result<vend_core::MeterNo, Fail> {
+fn number(text: &str) -> Result<office_rules::MeterNo, Fail> {
     meter_no(text.as_bytes())
 }
 

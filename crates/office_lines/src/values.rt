@@ -1,10 +1,10 @@
 //! What requests are made of, by their texts.
 
+use office_rules::{Meter, MeterNo, Operator, Order, Ref, Request, Row, Rows, Stamped, TariffName};
 use std::alloc::Global;
 use std::test::Fail;
 use sts_fields::{Base, Moment};
 use tariff::{Step, Steps, Tender};
-use vend_core::{Meter, MeterNo, Operator, Order, Ref, Request, Row, Rows, Stamped, TariffName};
 
 /// 2014-01-01T00:00:30Z
 pub const FIRST_DAY: i64 = 1_388_534_430;

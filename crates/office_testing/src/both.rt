@@ -4,13 +4,14 @@ use books::{Books, Totals};
 use office_lines::values::{
     FIRST_DAY, METER, OTHER_METER, meter, meter_no, operator, stamped, tariff_name,
 };
+use office_rules::{Answer, Refusal, Reply, Request, Sale, Stamped};
 use sqlite::{Alter, Connection, MemStore};
 use std::alloc::Global;
 use std::test::Fail;
 use sts_fields::Base;
 use sts_token::{BlockTransform, Plain};
 use tariff::Steps;
-use vend_core::{Answer, Lists, Refusal, Reply, Request, Sale, Stamped};
+use vend_core::Lists;
 
 #[derive(Drop)]
 pub struct Both<S: Alter, T: BlockTransform> {

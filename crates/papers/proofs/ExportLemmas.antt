@@ -9,7 +9,7 @@ use Rattle.std.specs.List.{flat_map}
 use Rattle.papers.specs.Export.{export_fields, export_of, header_text, sale_record}
 use Rattle.papers.specs.Text.{change_of}
 use Rattle.sts_fields.specs.Base.{year_of}
-use Rattle.vend_core.specs.declared.office.sale.Sale.{Sale}
+use Rattle.office_rules.specs.declared.office.sale.Sale.{Sale}
 
 -- one more sale adds its record
 pub export_of-more : (header : Bool) (sales : List Sale) (i : ℕ) (sale : Sale) → i < length sales → sale ≡ get_or sales i sale

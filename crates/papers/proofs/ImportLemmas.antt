@@ -6,18 +6,18 @@ use Rattle.papers.specs.File.{Fields, IsFirstOutside, IsFromText, IsTariffText, 
 use Rattle.papers.specs.Import.{AreRowsIn, AreSaid, HasCause, HasForm, FileHasFault, IsFault, IsFirstFault, IsNoRow, IsReading, IsRowAt, IsRowFault, TakesRoom}
 use Rattle.papers.specs.declared.row_fault.RowFault.{RowFault}
 use Rattle.papers.specs.declared.row_fault.RowFault.TheVariants.{At, Memory}
-use Rattle.vend_core.specs.Name.{IsName}
-use Rattle.vend_core.specs.Office.Rows.{greatest_rows}
+use Rattle.office_rules.specs.Name.{IsName}
+use Rattle.office_rules.specs.Office.Rows.{greatest_rows}
 use Rattle.papers.specs.declared.file_form.FileForm.{FileForm}
 use Rattle.papers.specs.declared.file_form.FileForm.TheVariants.{Meters, Tariffs, DatedTariffs}
 use Rattle.papers.specs.declared.file_kind.FileKind.{FileKind}
 use Rattle.papers.specs.declared.file_kind.FileKind.TheVariants as kinds
 use Rattle.sts_fields.specs.Day.{IsDayText}
 use Rattle.tariff.specs.declared.step.Step.{Step}
-use Rattle.vend_core.specs.declared.office.row.Row.{Row}
-use Rattle.vend_core.specs.declared.office.row.Row.TheVariants.{Tariff, Meter, Steps}
-use Rattle.vend_core.specs.declared.decision.row_cause.RowCause.{RowCause}
-use Rattle.vend_core.specs.declared.decision.row_cause.RowCause.TheVariants.{Header, Columns, Field, TooManyRows, Differs, NoTariff, DayPast}
+use Rattle.office_rules.specs.declared.office.row.Row.{Row}
+use Rattle.office_rules.specs.declared.office.row.Row.TheVariants.{Tariff, Meter, Steps}
+use Rattle.office_rules.specs.declared.decision.row_cause.RowCause.{RowCause}
+use Rattle.office_rules.specs.declared.decision.row_cause.RowCause.TheVariants.{Header, Columns, Field, TooManyRows, Differs, NoTariff, DayPast}
 
 -- forms differ by how many fields their headers have
 pub same-form : (a b : FileForm) → length (header_of a) ≡ length (header_of b) → a ≡ b

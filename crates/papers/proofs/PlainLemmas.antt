@@ -16,10 +16,10 @@ use Rattle.sts_fields.specs.Amount.{IsRepresentable, greatest_amount}
 use Rattle.sts_fields.specs.Base.{year_of}
 use Rattle.sts_fields.specs.declared.base.Base.{Base}
 use Rattle.sts_fields.specs.declared.base.Base.TheVariants.{Y1993, Y2014, Y2035}
-use Rattle.vend_core.specs.Name.{is_name_byte}
-use Rattle.vend_core.specs.Office.{IsOffice, IsSaleRow, Office}
-use Rattle.vend_core.specs.declared.office.meter.Meter.{Meter}
-use Rattle.vend_core.specs.declared.office.sale.Sale.{Sale}
+use Rattle.office_rules.specs.Name.{is_name_byte}
+use Rattle.office_rules.specs.Office.{IsOffice, IsSaleRow, Office}
+use Rattle.office_rules.specs.declared.office.meter.Meter.{Meter}
+use Rattle.office_rules.specs.declared.office.sale.Sale.{Sale}
 
 -- such a byte calls for no quotes
 plain_byte : (b : ℕ) → is_name_byte b ≡ true → needs_byte default_writer b ≡ false

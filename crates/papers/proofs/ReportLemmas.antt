@@ -5,9 +5,9 @@ use Rattle.std.specs.Prelude.{codes, decimal}
 use Rattle.papers.specs.Text.{line}
 use Rattle.std.specs.List.{flat_map}
 use Rattle.papers.specs.Report.{report_of, sale_line, shift_head, tenths_of, totals_text}
-use Rattle.vend_core.specs.Law.Cash.{cash_of}
-use Rattle.vend_core.specs.declared.office.sale.Sale.{Sale}
-use Rattle.vend_core.specs.declared.office.shift.Shift.{Shift}
+use Rattle.office_rules.specs.Law.Cash.{cash_of}
+use Rattle.office_rules.specs.declared.office.sale.Sale.{Sale}
+use Rattle.office_rules.specs.declared.office.shift.Shift.{Shift}
 
 -- its parts, each behind what was there
 pub report-parts : (shift : Shift) (sales : List Sale)

@@ -9,7 +9,7 @@ use Rattle.papers.specs.Text.{change_of, groups, kwh_text, line, right, time_tex
 use Rattle.sts_fields.specs.Calendar.{civil_at}
 use Rattle.sts_fields.specs.Day.{iso_date, two_digits}
 use Rattle.sts_fields.specs.declared.calendar.date_time.Civil.{Civil}
-use Rattle.vend_core.specs.declared.office.sale.Sale.{Sale}
+use Rattle.office_rules.specs.declared.office.sale.Sale.{Sale}
 
 -- a line is its word, a space, its value and a line feed, each behind what was there
 pub line-parts : (old word value : List ℕ) → (((old ++ word) ++ 32 ∷ []) ++ value) ++ 10 ∷ [] ≡ old ++ line word value

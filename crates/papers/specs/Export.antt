@@ -7,8 +7,8 @@ use Rattle.csv.specs.Writing.{default_writer, fields_written, has_written, row_t
 use Rattle.csv.specs.declared.writer.Writer.{Writer}
 use Rattle.papers.specs.Text.{change_of}
 use Rattle.sts_fields.specs.Base.{year_of}
-use Rattle.vend_core.specs.Name.{is_name_byte}
-use Rattle.vend_core.specs.declared.office.sale.Sale.{Sale}
+use Rattle.office_rules.specs.Name.{is_name_byte}
+use Rattle.office_rules.specs.declared.office.sale.Sale.{Sale}
 
 -- the names of the fields
 abbrev pub export_header : List (List ℕ)

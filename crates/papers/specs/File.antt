@@ -14,10 +14,10 @@ use Rattle.sts_token.specs.Key.{AreKeyDigits, IsKeyText}
 use Rattle.tariff.specs.Steps.{IsSteps}
 use Rattle.tariff.specs.StepsText.{IsStepsText}
 use Rattle.tariff.specs.declared.step.Step.{Step}
-use Rattle.vend_core.specs.Name.{IsMeterNo, IsName}
-use Rattle.vend_core.specs.declared.office.meter.Meter as declared
-use Rattle.vend_core.specs.declared.office.row.Row.{Row}
-use Rattle.vend_core.specs.declared.office.row.Row.TheVariants.{Tariff, Meter, Steps}
+use Rattle.office_rules.specs.Name.{IsMeterNo, IsName}
+use Rattle.office_rules.specs.declared.office.meter.Meter as declared
+use Rattle.office_rules.specs.declared.office.row.Row.{Row}
+use Rattle.office_rules.specs.declared.office.row.Row.TheVariants.{Tariff, Meter, Steps}
 
 -- a record: its fields in order
 abbrev pub Fields : Type 0

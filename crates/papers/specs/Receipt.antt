@@ -1,7 +1,7 @@
 -- The receipt of a sale.
 use Rattle.std.specs.Prelude.{ℕ, List, ◌++◌, codes, decimal}
 use Rattle.papers.specs.Text.{change_of, grouped, kwh_text, line, time_text}
-use Rattle.vend_core.specs.declared.office.sale.Sale.{Sale}
+use Rattle.office_rules.specs.declared.office.sale.Sale.{Sale}
 
 -- a line each: its number, meter, time and energy, the money in whole cents, and the token
 unfoldable pub receipt_of : Sale → List ℕ

@@ -5,7 +5,7 @@ use Rattle.sts_fields.specs.Calendar.{civil_at}
 use Rattle.sts_fields.specs.Day.{iso_date, two_digits}
 use Rattle.sts_fields.specs.Text.{colon}
 use Rattle.sts_fields.specs.declared.calendar.date_time.Civil.{Civil}
-use Rattle.vend_core.specs.declared.office.sale.Sale.{Sale}
+use Rattle.office_rules.specs.declared.office.sale.Sale.{Sale}
 
 abbrev pub line_feed : ℕ
 line_feed = 10

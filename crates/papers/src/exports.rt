@@ -7,8 +7,8 @@ use crate::lines::{change, decimal};
 use crate::outlet::Outlet;
 use crate::output::write_whole;
 use csv::{Writer, WriterBuilder};
+use office_rules::Sale;
 use std::alloc::{AllocError, Global};
-use vend_core::Sale;
 
 // The names of the fields of an export.
 const HEADER: [&[u8]; 13] = [

@@ -11,8 +11,8 @@ use crate::read_row::read_row;
 use crate::record::form_of;
 use crate::row_fault::RowFault;
 use csv::{ByteRecord, ByteRecordsIntoIter, ReaderBuilder};
+use office_rules::{Row, RowCause, Rows};
 use std::alloc::Global;
-use vend_core::{Row, RowCause, Rows};
 
 /// The meters that a file has, or its first fault (`docs/TEXTS.md`, "Meters").
 pub fn read_meters(alloc: Global, bytes: &[u8]) -> Result<Rows, RowFault>

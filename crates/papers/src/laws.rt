@@ -3,10 +3,10 @@ ghost use Rattle.papers.specs.Export.{IsPlainField, export_fields, export_of, pl
 ghost use Rattle.papers.specs.File.{AreFileRecords, Fields};
 ghost use Rattle.papers.specs.Import.{AreRows, FileHasFault, IsFirstFault};
 ghost use Rattle.papers.specs.declared.file_kind.FileKind.{FileKind};
-ghost use Rattle.vend_core.specs.Office.{IsOffice, Office};
-ghost use Rattle.vend_core.specs.declared.office.row.Row.{Row};
-ghost use Rattle.vend_core.specs.declared.decision.row_cause.RowCause.{RowCause};
-ghost use Rattle.vend_core.specs.declared.office.sale.Sale.{Sale};
+ghost use Rattle.office_rules.specs.Office.{IsOffice, Office};
+ghost use Rattle.office_rules.specs.declared.office.row.Row.{Row};
+ghost use Rattle.office_rules.specs.declared.decision.row_cause.RowCause.{RowCause};
+ghost use Rattle.office_rules.specs.declared.office.sale.Sale.{Sale};
 
 use crate::receipts::RECEIPT_ROOM;
 use sts_fields::{amount_law, day_law};

@@ -1,8 +1,8 @@
 ghost use Rattle.std.specs.Prelude.{◌≡◌, ◌++◌, IfOk, OnOk, decimal, string_bytes};
 ghost use Rattle.papers.specs.Text.{change_of, line};
 
+use office_rules::Sale;
 use std::alloc::{AllocError, Global};
-use vend_core::Sale;
 
 // Adds a line to a text: a word, a space and its value.
 pub(crate) fn put_line(text: &mut Vec<u8>, word: &str, value: &[u8]) -> Result<(), AllocError>

@@ -10,11 +10,11 @@ use crate::record::field;
 use crate::row_fault::RowFault;
 use csv::ByteRecord;
 use itoa::Buffer;
+use office_rules::{Meter, MeterNo, Row, RowCause, TariffName};
 use std::alloc::Global;
 use sts_fields::{Base, Day};
 use sts_token::read_key;
 use tariff::{Steps, StepsFault};
-use vend_core::{Meter, MeterNo, Row, RowCause, TariffName};
 
 // The row that a record says in a form, or its fault at the row of this number.
 pub(crate) fn read_row(

@@ -8,8 +8,8 @@ use crate::outlet::Outlet;
 use crate::output::write_whole;
 use crate::room::{grouped, kwh_text, put_count, put_entry, time_text};
 use arrayvec::ArrayVec;
+use office_rules::Sale;
 use std::alloc::{AllocError, Global};
-use vend_core::Sale;
 
 /// A receipt has this room, and needs less.
 pub const RECEIPT_ROOM: usize = 192;

@@ -1,17 +1,17 @@
 ghost use Rattle.std.specs.Prelude.{◌≡◌, ◌+◌, ◌++◌, ◌∷◌, ℕ, List, length, IfOk, OnOk, string_bytes};
-ghost use Rattle.vend_core.specs.declared.office.sale.Sale.{Sale};
-ghost use Rattle.vend_core.specs.declared.office.shift.Shift.{Shift};
+ghost use Rattle.office_rules.specs.declared.office.sale.Sale.{Sale};
+ghost use Rattle.office_rules.specs.declared.office.shift.Shift.{Shift};
 ghost use Rattle.papers.specs.Output.{BlamesWriter, IsWritten};
 ghost use Rattle.papers.specs.Report.{report_of, sale_line, shift_head, tenths_of, totals_text};
-ghost use Rattle.vend_core.specs.Law.Cash.{cash_of};
+ghost use Rattle.office_rules.specs.Law.Cash.{cash_of};
 
 use crate::fault::TextFault;
 use crate::lines::{change, put_line, put_number};
 use crate::outlet::Outlet;
 use crate::output::write_whole;
 use crate::room::{closed_text, time_text};
+use office_rules::{Moment, Sale, Shift};
 use std::alloc::{AllocError, Global};
-use vend_core::{Moment, Sale, Shift};
 
 /// The report of a shift with these sales (`docs/TEXTS.md`, "Shift report"), or want of memory.
 pub fn shift_report(alloc: Global, shift: &Shift, sales: &[Sale]) -> Result<Vec<u8>, AllocError>

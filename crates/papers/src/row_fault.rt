@@ -1,5 +1,5 @@
+use office_rules::RowCause;
 use thiserror::Error;
-use vend_core::RowCause;
 
 /// Why a file was not read.
 #[derive(Clone, Copy, Debug, PartialEq, Eq, Hash, Error)]

@@ -5,23 +5,23 @@ use Rattle.std.proofs.lemmas.Bool.{and_parts}
 use Rattle.std.proofs.lemmas.Bool.Decides.{nat_tests}
 use Rattle.std.proofs.lemmas.Slice.Eq.{bytes_eq-Decides}
 use Rattle.sts_token.specs.Token.{BlockFunction, KeepsRange}
-use Rattle.vend_core.specs.Decision.{account_of, decision_of, sell_once, unchanged}
-use Rattle.vend_core.specs.Decision.Fold.{replies_to, reply, reply_of, step}
+use Rattle.office_rules.specs.Decision.{account_of, decision_of, sell_once, unchanged}
+use Rattle.office_rules.specs.Decision.Fold.{replies_to, reply, reply_of, step}
 use Rattle.vend_core.specs.Law.Life.{IsLife, LeadTo, Life}
 use Rattle.vend_core.specs.Law.LifeLaws.{extended_by, opened}
-use Rattle.vend_core.specs.Law.NewSale.{IsNewSale}
+use Rattle.office_rules.specs.Law.NewSale.{IsNewSale}
 use Rattle.vend_core.specs.Law.OfficeLaws.{IsSameOrder, WasSold}
-use Rattle.vend_core.specs.Law.Store.{IsUnderRef}
-use Rattle.vend_core.specs.Office.Lookup.{open_shift, sale_of_ref}
-use Rattle.vend_core.specs.Office.{IsOffice, Office}
-use Rattle.vend_core.specs.declared.decision.answer.Answer.{Answer}
-use Rattle.vend_core.specs.declared.decision.answer.Answer.TheVariants.{Reprinted, Sold}
-use Rattle.vend_core.specs.declared.decision.refusal.Refusal.{Refusal}
-use Rattle.vend_core.specs.declared.decision.refusal.Refusal.TheVariants as refusals
-use Rattle.vend_core.specs.declared.decision.request.Order.{Order}
-use Rattle.vend_core.specs.declared.decision.request.Request.TheVariants.{Reprint, Sell}
-use Rattle.vend_core.specs.declared.decision.request.Stamped.{Stamped}
-use Rattle.vend_core.specs.declared.office.sale.Sale.{Sale}
+use Rattle.office_rules.specs.Law.Store.{IsUnderRef}
+use Rattle.office_rules.specs.Office.Lookup.{open_shift, sale_of_ref}
+use Rattle.office_rules.specs.Office.{IsOffice, Office}
+use Rattle.office_rules.specs.declared.decision.answer.Answer.{Answer}
+use Rattle.office_rules.specs.declared.decision.answer.Answer.TheVariants.{Reprinted, Sold}
+use Rattle.office_rules.specs.declared.decision.refusal.Refusal.{Refusal}
+use Rattle.office_rules.specs.declared.decision.refusal.Refusal.TheVariants as refusals
+use Rattle.office_rules.specs.declared.decision.request.Order.{Order}
+use Rattle.office_rules.specs.declared.decision.request.Request.TheVariants.{Reprint, Sell}
+use Rattle.office_rules.specs.declared.decision.request.Stamped.{Stamped}
+use Rattle.office_rules.specs.declared.office.sale.Sale.{Sale}
 
 -- ---- an order and its sale
 

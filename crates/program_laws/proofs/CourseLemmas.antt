@@ -14,10 +14,10 @@ use Rattle.sts_fields.specs.Text.{Text}
 use Rattle.sts_token.specs.Token.{BlockFunction}
 use Rattle.vend_core.specs.Law.Life.{AreLives, IsLife, Life, MayLeave}
 use Rattle.vend_core.specs.Law.LifeLaws.{opened}
-use Rattle.vend_core.specs.Office.{Office}
+use Rattle.office_rules.specs.Office.{Office}
 use Rattle.vend_commands.specs.serving.Connections.{AreHeld, AreReady, Service, service}
 use Rattle.program_laws.specs.Courses.{Course, IsNext, LiveOn, course}
-use Rattle.vend_commands.specs.port.Places.{Way}
+use Rattle.vend_commands.specs.port.Machines.{Way}
 
 -- ---- a life goes on from the office that it opened
 

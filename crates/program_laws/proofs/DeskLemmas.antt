@@ -13,17 +13,17 @@ use Rattle.conversation.specs.Run.{IsRun}
 use Rattle.conversation.specs.declared.end.End as conversation
 use Rattle.conversation.specs.declared.end.End.TheVariants.{Closed, BadMessage, ReadFault, WriteFault, Memory}
 use Rattle.sts_token.specs.Token.{BlockFunction}
-use Rattle.vend_core.specs.Law.Handed.{sales_of}
+use Rattle.office_rules.specs.Law.Handed.{sales_of}
 use Rattle.vend_core.specs.Law.Life.{HandsOut, IsHanded, Life}
 use Rattle.vend_core.specs.Law.LifeLaws.{extended_by, opened}
-use Rattle.vend_core.specs.declared.decision.answer.Answer.{Answer}
-use Rattle.vend_core.specs.declared.decision.refusal.Refusal.{Refusal}
-use Rattle.vend_core.specs.declared.decision.request.Stamped.{Stamped}
-use Rattle.vend_core.specs.declared.office.sale.Sale.{Sale}
+use Rattle.office_rules.specs.declared.decision.answer.Answer.{Answer}
+use Rattle.office_rules.specs.declared.decision.refusal.Refusal.{Refusal}
+use Rattle.office_rules.specs.declared.decision.request.Stamped.{Stamped}
+use Rattle.office_rules.specs.declared.office.sale.Sale.{Sale}
 use Rattle.vend_commands.specs.serving.Connections.{Service, service}
 use Rattle.program_laws.specs.Courses.{AreLived, Course, IsNext, course}
 use Rattle.program_laws.specs.SalesTold.{ConnectionsTell, CutReplyTells, ExchangeTells, ExchangesTell, RunTells}
-use Rattle.vend_commands.specs.port.Places.{Way}
+use Rattle.vend_commands.specs.port.Machines.{Way}
 use Rattle.program_laws.specs.runs.OneOffice.{LivesIn, TellsIn}
 use Rattle.program_laws.specs.runs.Uses.{Use, asking_life, connected, idle_life, many_lives, no_life, reading_life, unconnected, unseen}
 use Rattle.program_laws.proofs.FoundLemmas.{found_hands, read_hands}

@@ -9,15 +9,15 @@ use Rattle.sts_fields.specs.declared.base.Base.{Base}
 use Rattle.sts_fields.specs.declared.base.Base.TheVariants.{Y1993, Y2014, Y2035}
 use Rattle.sts_fields.specs.Tid.{fresh_after, minute_of}
 use Rattle.tariff.specs.Purchase.{purchase_of}
-use Rattle.vend_core.specs.Decision.{MeterAccount, ◌>>=◌, account_of, next_number, or_refusal}
-use Rattle.vend_core.specs.Decision.Fold.{after}
+use Rattle.office_rules.specs.Decision.{MeterAccount, ◌>>=◌, account_of, next_number, or_refusal}
+use Rattle.office_rules.specs.Decision.Fold.{after}
 use Rattle.vend_core.specs.Law.Life.{HandsOut, Life, acknowledged, present}
-use Rattle.vend_core.specs.Office.Lookup.{greatest_of, sale_of_ref, used}
-use Rattle.vend_core.specs.Office.{Office}
-use Rattle.vend_core.specs.declared.decision.refusal.Refusal.{Refusal}
-use Rattle.vend_core.specs.declared.decision.refusal.Refusal.TheVariants as refusals
-use Rattle.vend_core.specs.declared.office.meter.Meter.{Meter}
-use Rattle.vend_core.specs.declared.office.sale.Sale.{Sale}
+use Rattle.office_rules.specs.Office.Lookup.{greatest_of, sale_of_ref, used}
+use Rattle.office_rules.specs.Office.{Office}
+use Rattle.office_rules.specs.declared.decision.refusal.Refusal.{Refusal}
+use Rattle.office_rules.specs.declared.decision.refusal.Refusal.TheVariants as refusals
+use Rattle.office_rules.specs.declared.office.meter.Meter.{Meter}
+use Rattle.office_rules.specs.declared.office.sale.Sale.{Sale}
 use Rattle.book_lists.specs.Pages.{page_size}
 use Rattle.book_facts.specs.Lookups.{Finds, last_found, last_sale, last_under, quote_for, sale_found, sale_of_some_tid}
 use Rattle.book_facts.specs.Totals.{shift_totals}
@@ -27,7 +27,7 @@ use Rattle.book_facts.specs.declared.lookup.Lookup.{Lookup}
 use Rattle.book_facts.specs.declared.lookup.Lookup.TheVariants as lookups
 use Rattle.books.specs.Looking.{IsFoundAt}
 use Rattle.command_line.specs.declared.commands.list.Listed.{Listed}
-use Rattle.vend_commands.specs.print.Listing.{ArePages, list_behind, page_lookup}
+use Rattle.desk_commands.specs.print.Pages.{ArePages, list_behind, page_lookup}
 use Rattle.program_laws.specs.runs.Readings.{IsReadIn, IsSaleRead, Reading, exported, one_found, pages_found}
 use Rattle.program_laws.specs.SalesTold.{sales_found}
 

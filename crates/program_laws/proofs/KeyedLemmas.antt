@@ -10,7 +10,7 @@ use Rattle.std.proofs.lemmas.List.{length-map, map-append}
 use Rattle.std.proofs.lemmas.List.Elements.{All-append, All-contains, Contains-append_left, Contains-append_right}
 use Rattle.std.proofs.lemmas.Option.{get_or_from_slice_get, slice_get-map, slice_get_within}
 use Rattle.book_tables.proofs.ListLemmas.{pairs_append}
-use Rattle.vend_core.proofs.ListsLemmas.MapLemmas.{all_from_contains}
+use Rattle.office_rules.proofs.OfficeLemmas.MapLemmas.{all_from_contains}
 use Rattle.book_lists.specs.Pages.{AreFirstAfter, ComesBefore}
 use Rattle.book_facts.specs.Lookups.{Finds, IsListedMeter, IsListedTariff}
 use Rattle.book_facts.specs.declared.lookup.Found.{Found}
@@ -22,11 +22,11 @@ use Rattle.command_line.specs.declared.commands.list.Listed.{Listed}
 use Rattle.command_line.specs.declared.commands.list.Listed.TheVariants as listed
 use Rattle.sts_fields.specs.Day.{day_at}
 use Rattle.sts_fields.specs.Text.{Text}
-use Rattle.vend_core.specs.Office.{Office}
+use Rattle.office_rules.specs.Office.{Office}
 use Rattle.program_laws.proofs.WholeLemmas.{from_first, from_next, no_page_more, none_past, text_from}
-use Rattle.vend_commands.specs.print.FoundTexts.{row_of}
-use Rattle.vend_commands.specs.print.Listing.{ArePages, last_of_full, list_behind, page_lookup}
-use Rattle.vend_commands.specs.print.ListTexts.{meter_line, meter_names, page_text, pages_text, table_text, tariff_lines, tariff_names}
+use Rattle.vend_ports.specs.print.Printed.{row_of}
+use Rattle.desk_commands.specs.print.Pages.{ArePages, last_of_full, list_behind, page_lookup}
+use Rattle.desk_commands.specs.print.ListTexts.{meter_line, meter_names, page_text, pages_text, table_text, tariff_lines, tariff_names}
 use Rattle.program_laws.specs.WholeLists.{AreAllAfter, AreAllMeters, AreAllTariffs, meters_text, tariffs_text}
 
 -- ---- keys

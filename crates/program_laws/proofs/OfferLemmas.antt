@@ -6,16 +6,16 @@ use Rattle.sts_fields.specs.Text.{Text}
 use Rattle.tariff.specs.Purchase.{purchase_of}
 use Rattle.tariff.specs.declared.bought.Buy.{Buy}
 use Rattle.tariff.specs.declared.step.Step.{Step}
-use Rattle.vend_core.specs.Decision.{◌>>=◌, MeterAccount, next_number, or_refusal}
-use Rattle.vend_core.specs.Office.{Office}
-use Rattle.vend_core.specs.declared.decision.refusal.Refusal.{Refusal}
-use Rattle.vend_core.specs.declared.decision.refusal.Refusal.TheVariants as refusals
+use Rattle.office_rules.specs.Decision.{◌>>=◌, MeterAccount, next_number, or_refusal}
+use Rattle.office_rules.specs.Office.{Office}
+use Rattle.office_rules.specs.declared.decision.refusal.Refusal.{Refusal}
+use Rattle.office_rules.specs.declared.decision.refusal.Refusal.TheVariants as refusals
 use Rattle.book_facts.specs.Lookups.{quote, quote_for}
 use Rattle.book_facts.specs.declared.lookup.Found.{Found}
 use Rattle.book_facts.specs.declared.lookup.Found.TheVariants as found
 use Rattle.book_facts.specs.declared.lookup.Quote.{Quote}
-use Rattle.vend_commands.specs.commands.LookedUp.{IsPurchaseFor}
-use Rattle.vend_commands.specs.print.FoundTexts.{purchase_in}
+use Rattle.office_commands.specs.commands.LookedUp.{IsPurchaseFor}
+use Rattle.desk_commands.specs.print.FoundTexts.{purchase_in}
 
 -- what a test that was passed gave
 then_ok : {A B : Type 0} (r : Result A Refusal) (f : A → Result B Refusal) (y : B) → r >>= f ≡ Ok y → (x : A) × (r ≡ Ok x) × (f x ≡ Ok y)

@@ -3,19 +3,19 @@ use Rattle.std.proofs.Common.{◌≡◌, Bool, true, false, List, [], ◌∷◌,
 use Rattle.std.specs.Prelude.{All, Contains, filter, map}
 use Rattle.std.proofs.lemmas.List.Elements.{All-head, All-tail}
 use Rattle.sts_token.specs.Token.{BlockFunction, KeepsRange}
-use Rattle.vend_core.specs.Decision.Fold.{replies_to, reply, step}
-use Rattle.vend_core.specs.Decision.Requests.{IsStamped}
-use Rattle.vend_core.specs.Law.Growth.{HasGrown}
+use Rattle.office_rules.specs.Decision.Fold.{replies_to, reply, step}
+use Rattle.office_rules.specs.Decision.Requests.{IsStamped}
+use Rattle.office_rules.specs.Law.Growth.{HasGrown}
 use Rattle.vend_core.specs.Law.Life.{AreLives, Exchange, HandsOut, IsHanded, IsLife, LeadTo, Life, MayLeave, acknowledges}
-use Rattle.vend_core.specs.Office.{IsOffice, Office, empty_office}
-use Rattle.vend_core.specs.declared.decision.answer.Answer.{Answer}
-use Rattle.vend_core.specs.declared.decision.answer.Answer.TheVariants.{Sold}
-use Rattle.vend_core.specs.declared.decision.refusal.Refusal.{Refusal}
-use Rattle.vend_core.specs.declared.decision.request.Order.{Order}
-use Rattle.vend_core.specs.declared.decision.request.Request.TheVariants.{Sell}
-use Rattle.vend_core.specs.declared.decision.request.Stamped.{Stamped}
-use Rattle.vend_core.specs.declared.office.sale.Sale.{Sale}
-use Rattle.vend_core.proofs.OfficeLemmas.RowLemmas.{contains_cases, contains_map}
+use Rattle.office_rules.specs.Office.{IsOffice, Office, empty_office}
+use Rattle.office_rules.specs.declared.decision.answer.Answer.{Answer}
+use Rattle.office_rules.specs.declared.decision.answer.Answer.TheVariants.{Sold}
+use Rattle.office_rules.specs.declared.decision.refusal.Refusal.{Refusal}
+use Rattle.office_rules.specs.declared.decision.request.Order.{Order}
+use Rattle.office_rules.specs.declared.decision.request.Request.TheVariants.{Sell}
+use Rattle.office_rules.specs.declared.decision.request.Stamped.{Stamped}
+use Rattle.office_rules.specs.declared.office.sale.Sale.{Sale}
+use Rattle.office_rules.proofs.OfficeLemmas.RowLemmas.{contains_cases, contains_map}
 use Rattle.program_laws.specs.runs.OneOffice.{AreSoldFor}
 use Rattle.program_laws.proofs.AgainLemmas.{IsSaleOf, OrderLaws, sold_for}
 

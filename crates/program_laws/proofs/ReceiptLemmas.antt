@@ -6,16 +6,16 @@ use Rattle.std.proofs.lemmas.Fmt.{decimal_injective}
 use Rattle.std.proofs.lemmas.List.{append_cancel_left}
 use Rattle.std.proofs.lemmas.List.Elements.{All-contains, All-weaker, recursion_from_All}
 use Rattle.std.proofs.lemmas.Option.{slice_get-get_or}
-use Rattle.desk.specs.reply.Body.{sale_members}
-use Rattle.desk.specs.reply.Members.{json_text}
-use Rattle.desk.specs.reply.SaleText.{IsTellableSale, sale_text}
+use Rattle.desk_messages.specs.reply.Body.{sale_members}
+use Rattle.desk_messages.specs.reply.Members.{json_text}
+use Rattle.desk_messages.specs.reply.SaleText.{IsTellableSale, sale_text}
 use Rattle.papers.specs.Export.{IsPlainField, export_fields}
 use Rattle.papers.specs.Receipt.{receipt_of}
 use Rattle.papers.specs.Text.{change_of, grouped, kwh_text, line, time_text}
-use Rattle.vend_core.specs.Name.{is_name_byte}
-use Rattle.vend_core.specs.Office.{IsOffice, IsSaleRow, Office}
-use Rattle.vend_core.specs.declared.office.meter.Meter.{Meter}
-use Rattle.vend_core.specs.declared.office.sale.Sale.{Sale}
+use Rattle.office_rules.specs.Name.{is_name_byte}
+use Rattle.office_rules.specs.Office.{IsOffice, IsSaleRow, Office}
+use Rattle.office_rules.specs.declared.office.meter.Meter.{Meter}
+use Rattle.office_rules.specs.declared.office.sale.Sale.{Sale}
 
 -- ---- what stands before a sign
 

@@ -9,33 +9,33 @@ use Rattle.sts_fields.specs.Text.{Text}
 use Rattle.sts_fields.specs.Tid.{fresh_after, minute_of}
 use Rattle.sts_token.specs.Token.{BlockFunction}
 use Rattle.tariff.specs.Purchase.{purchase_of}
-use Rattle.vend_core.specs.Decision.{MeterAccount, ◌>>=◌, decision_of, next_number, or_refusal, sell, sell_once, unchanged}
-use Rattle.vend_core.specs.Decision.Fold.{after, replies_to, reply, reply_of, step}
-use Rattle.vend_core.specs.Law.Handed.{sales_of}
+use Rattle.office_rules.specs.Decision.{MeterAccount, ◌>>=◌, decision_of, next_number, or_refusal, sell, sell_once, unchanged}
+use Rattle.office_rules.specs.Decision.Fold.{after, replies_to, reply, reply_of, step}
+use Rattle.office_rules.specs.Law.Handed.{sales_of}
 use Rattle.vend_core.specs.Law.Life.{IsLife, MayLeave}
 use Rattle.vend_core.specs.Law.LifeLaws.{IsRunning, extended_by, opened}
-use Rattle.vend_core.specs.Office.{Office}
-use Rattle.vend_core.specs.declared.decision.answer.Answer.{Answer}
-use Rattle.vend_core.specs.declared.decision.answer.Answer.TheVariants.{Sold}
-use Rattle.vend_core.specs.declared.decision.change.Change.{Change}
-use Rattle.vend_core.specs.declared.decision.refusal.Refusal.{Refusal}
-use Rattle.vend_core.specs.declared.decision.refusal.Refusal.TheVariants as refusals
-use Rattle.vend_core.specs.declared.decision.request.Order.{Order}
-use Rattle.vend_core.specs.declared.decision.request.Request.TheVariants.{Sell}
-use Rattle.vend_core.specs.declared.decision.request.Stamped.{Stamped}
-use Rattle.vend_core.specs.declared.office.sale.Sale.{Sale}
-use Rattle.vend_core.specs.declared.office.shift.Shift.{Shift}
+use Rattle.office_rules.specs.Office.{Office}
+use Rattle.office_rules.specs.declared.decision.answer.Answer.{Answer}
+use Rattle.office_rules.specs.declared.decision.answer.Answer.TheVariants.{Sold}
+use Rattle.office_rules.specs.declared.decision.change.Change.{Change}
+use Rattle.office_rules.specs.declared.decision.refusal.Refusal.{Refusal}
+use Rattle.office_rules.specs.declared.decision.refusal.Refusal.TheVariants as refusals
+use Rattle.office_rules.specs.declared.decision.request.Order.{Order}
+use Rattle.office_rules.specs.declared.decision.request.Request.TheVariants.{Sell}
+use Rattle.office_rules.specs.declared.decision.request.Stamped.{Stamped}
+use Rattle.office_rules.specs.declared.office.sale.Sale.{Sale}
+use Rattle.office_rules.specs.declared.office.shift.Shift.{Shift}
 use Rattle.program_laws.specs.Selling.{EndsSold, TellsSale}
-use Rattle.vend_commands.specs.office.Served.{TellsReply, answer_text}
-use Rattle.vend_commands.specs.commands.Asked.{IsAskedAt}
-use Rattle.vend_commands.specs.port.Places.{Places}
-use Rattle.vend_commands.specs.print.Told.{IsTold, Outputs, Takes}
-use Rattle.vend_commands.specs.office.Visited.{seen_in}
-use Rattle.vend_commands.specs.office.Visited.IsVisited.{unopened, visited}
+use Rattle.office_commands.specs.office.Served.{TellsReply, answer_text}
+use Rattle.office_commands.specs.commands.Asked.{IsAskedAt}
+use Rattle.office_commands.specs.port.Places.{Places}
+use Rattle.vend_ports.specs.print.Told.{IsTold, Outputs, Takes}
+use Rattle.office_commands.specs.office.Visited.{seen_in}
+use Rattle.office_commands.specs.office.Visited.IsVisited.{unopened, visited}
 use Rattle.command_line.specs.Transform.{forward_of}
 use Rattle.command_line.specs.declared.transform.Shipped.{Shipped}
-use Rattle.vend_commands.specs.declared.command_end.CommandEnd.{CommandEnd}
-use Rattle.vend_commands.specs.declared.command_end.CommandEnd.TheVariants as how
+use Rattle.vend_ports.specs.declared.command_end.CommandEnd.{CommandEnd}
+use Rattle.vend_ports.specs.declared.command_end.CommandEnd.TheVariants as how
 
 -- ---- an order that is granted gives a sale
 

@@ -10,12 +10,12 @@ use Rattle.sqlite_disk.specs.declared.Disk.{Ghosts}
 use Rattle.sqlite_wal.specs.Recovery.{Image}
 use Rattle.sts_token.specs.Token.{BlockFunction}
 use Rattle.program_laws.specs.Sound.{EndsSound}
-use Rattle.vend_commands.specs.commands.Audited.{IsAudited}
-use Rattle.vend_commands.specs.commands.Audited.IsAudited.{absent, looked, unopened}
-use Rattle.vend_commands.specs.office.Audits.{AuditsIn}
-use Rattle.vend_commands.specs.port.Places.{Place}
-use Rattle.vend_commands.specs.declared.command_end.CommandEnd.TheVariants as how
-use Rattle.vend_commands.specs.print.Told.{Outputs}
+use Rattle.office_commands.specs.commands.Audited.{IsAudited}
+use Rattle.office_commands.specs.commands.Audited.IsAudited.{absent, looked, unopened}
+use Rattle.office_commands.specs.office.Audits.{AuditsIn}
+use Rattle.office_commands.specs.port.Places.{Place}
+use Rattle.vend_ports.specs.declared.command_end.CommandEnd.TheVariants as how
+use Rattle.vend_ports.specs.print.Told.{Outputs}
 
 -- what ends as done was sound
 pub ends_sound : {D : Type 0} (g : Ghosts D) (image : Image) (LetsGo : D → D → Type 0) (given : Option BlockFunction) (place : Place) (o : Outputs)

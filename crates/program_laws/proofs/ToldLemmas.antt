@@ -9,20 +9,20 @@ use Rattle.sqlite_wal.specs.Recovery.{Image}
 use Rattle.sts_fields.specs.Moment.{first_moment}
 use Rattle.sts_fields.specs.Text.{Text}
 use Rattle.sts_token.specs.Token.{BlockFunction}
-use Rattle.vend_core.specs.Law.Handed.{sales_of}
+use Rattle.office_rules.specs.Law.Handed.{sales_of}
 use Rattle.vend_core.specs.Law.Life.{AreLives, Exchange, HandsOut, IsHanded, IsLife, Life}
-use Rattle.vend_core.specs.Decision.Fold.{reply}
-use Rattle.vend_core.specs.Office.{IsOffice, Office}
-use Rattle.vend_core.specs.declared.decision.answer.Answer.{Answer}
-use Rattle.vend_core.specs.declared.decision.answer.Answer.TheVariants.{Reprinted, Sold}
-use Rattle.vend_core.specs.declared.decision.refusal.Refusal.{Refusal}
-use Rattle.vend_core.specs.declared.decision.request.Order.{Order}
-use Rattle.vend_core.specs.declared.decision.request.Request.{Request}
-use Rattle.vend_core.specs.declared.decision.request.Request.TheVariants as requests
-use Rattle.vend_core.specs.declared.decision.request.Stamped.{Stamped}
-use Rattle.vend_core.specs.declared.office.row.Row.{Row}
-use Rattle.vend_core.proofs.OfficeLemmas.RowLemmas.{contains_cases}
-use Rattle.vend_core.specs.declared.office.sale.Sale.{Sale}
+use Rattle.office_rules.specs.Decision.Fold.{reply}
+use Rattle.office_rules.specs.Office.{IsOffice, Office}
+use Rattle.office_rules.specs.declared.decision.answer.Answer.{Answer}
+use Rattle.office_rules.specs.declared.decision.answer.Answer.TheVariants.{Reprinted, Sold}
+use Rattle.office_rules.specs.declared.decision.refusal.Refusal.{Refusal}
+use Rattle.office_rules.specs.declared.decision.request.Order.{Order}
+use Rattle.office_rules.specs.declared.decision.request.Request.{Request}
+use Rattle.office_rules.specs.declared.decision.request.Request.TheVariants as requests
+use Rattle.office_rules.specs.declared.decision.request.Stamped.{Stamped}
+use Rattle.office_rules.specs.declared.office.row.Row.{Row}
+use Rattle.office_rules.proofs.OfficeLemmas.RowLemmas.{contains_cases}
+use Rattle.office_rules.specs.declared.office.sale.Sale.{Sale}
 use Rattle.papers.specs.declared.row_fault.RowFault.{RowFault}
 use Rattle.book_facts.specs.declared.lookup.Lookup.TheVariants as lookups
 use Rattle.book_opening.specs.declared.fault.OpenFault.{OpenFault}
@@ -41,22 +41,23 @@ use Rattle.command_line.specs.declared.transform.Shipped.{Shipped}
 use Rattle.command_line.specs.declared.transform.Shipped.TheVariants.{Plain}
 use Rattle.vend_commands.specs.Run.{IsCarriedOut, IsProgramRun}
 use Rattle.vend_commands.specs.Run.IsProgramRun.{answered, bad_word, explained, no_room}
-use Rattle.vend_commands.specs.commands.Asked.{IsAskedAt}
-use Rattle.vend_commands.specs.commands.Audited.{IsAudited}
-use Rattle.vend_commands.specs.commands.Audited.IsAudited.{absent as audit_absent, looked as audit_looked, unopened as audit_unopened}
-use Rattle.vend_commands.specs.commands.Imported.{AreAdded, IsFileImported}
-use Rattle.vend_commands.specs.commands.LookedUp.{IsShownAt, lookup_of}
-use Rattle.vend_commands.specs.commands.LookedUp.IsShownAt.{absent as shown_absent, present as shown_present}
-use Rattle.vend_commands.specs.commands.Reported.{IsReported, PrintsPaper}
-use Rattle.vend_commands.specs.commands.Reported.IsReported.{absent as report_absent, present as report_present}
-use Rattle.vend_commands.specs.commands.Timed.{IsDoneAt}
-use Rattle.vend_commands.specs.office.Served.{IsServedAndTold, TellsReply}
-use Rattle.vend_commands.specs.office.Visited.{IsVisited, seen_in}
-use Rattle.vend_commands.specs.office.Visited.IsVisited.{unopened as visit_unopened, visited as visit_opened}
-use Rattle.vend_commands.specs.port.Places.{IsUnopened, Machine, Place, Way, where_present}
-use Rattle.vend_commands.specs.port.Places.IsUnopened.{unfound, unopened as found_unopened}
-use Rattle.vend_commands.specs.port.Places.IsUnopenedIn.{refused, unsalted}
-use Rattle.vend_commands.specs.print.Told.{Outputs, Sink}
+use Rattle.office_commands.specs.commands.Asked.{IsAskedAt}
+use Rattle.office_commands.specs.commands.Audited.{IsAudited}
+use Rattle.office_commands.specs.commands.Audited.IsAudited.{absent as audit_absent, looked as audit_looked, unopened as audit_unopened}
+use Rattle.office_commands.specs.commands.Imported.{AreAdded, IsFileImported}
+use Rattle.office_commands.specs.commands.LookedUp.{IsShownAt, lookup_of}
+use Rattle.office_commands.specs.commands.LookedUp.IsShownAt.{absent as shown_absent, present as shown_present}
+use Rattle.office_commands.specs.commands.Reported.{IsReported, PrintsPaper}
+use Rattle.office_commands.specs.commands.Reported.IsReported.{absent as report_absent, present as report_present}
+use Rattle.vend_ports.specs.commands.Timed.{IsDoneAt}
+use Rattle.office_commands.specs.office.Served.{IsServedAndTold, TellsReply}
+use Rattle.office_commands.specs.office.Visited.{IsVisited, seen_in}
+use Rattle.office_commands.specs.office.Visited.IsVisited.{unopened as visit_unopened, visited as visit_opened}
+use Rattle.office_commands.specs.port.Places.{IsUnopened, Place, where_present}
+use Rattle.vend_commands.specs.port.Machines.{Machine, Way}
+use Rattle.office_commands.specs.port.Places.IsUnopened.{unfound, unopened as found_unopened}
+use Rattle.office_commands.specs.port.Places.IsUnopenedIn.{refused, unsalted}
+use Rattle.vend_ports.specs.print.Told.{Outputs, Sink}
 use Rattle.program_laws.specs.runs.Follow.{Here, ProgramRun, use_of}
 use Rattle.program_laws.specs.runs.OneOffice.{AreLivedBy, AreOneOffice, AreSoldFor, Asks, AsksIn, AsksSo, TellAlong, Gets, IsAmong, IsToldIn, IsUnlessFailed, LivesIn, TellsIn}
 use Rattle.program_laws.specs.runs.Readings.{reading_of}
@@ -64,11 +65,11 @@ use Rattle.program_laws.specs.runs.Uses.{Ending, IsAskedLife, Living, Question, 
 use Rattle.vend_commands.specs.serving.Connections.{AreServed, Service, service}
 use Rattle.vend_commands.specs.serving.Listening.{IsServing}
 use Rattle.vend_commands.specs.serving.Listening.IsServing.{unheard as serve_unheard, unopened as serve_unopened, was_open as serve_open}
-use Rattle.vend_commands.specs.declared.office.wanted.Wanted.{Wanted}
-use Rattle.vend_commands.specs.declared.office.wanted.Wanted.TheVariants.{One, Listing}
-use Rattle.vend_commands.specs.declared.command_end.CommandEnd.{CommandEnd}
-use Rattle.vend_commands.specs.declared.port.ports.OfficeFile as file
-use Rattle.vend_commands.specs.declared.port.ports.SaltSource as source
+use Rattle.office_commands.specs.declared.office.wanted.Wanted.{Wanted}
+use Rattle.office_commands.specs.declared.office.wanted.Wanted.TheVariants.{One, Listing}
+use Rattle.vend_ports.specs.declared.command_end.CommandEnd.{CommandEnd}
+use Rattle.office_commands.specs.declared.port.ports.OfficeFile as file
+use Rattle.office_commands.specs.declared.port.ports.SaltSource as source
 use Rattle.program_laws.proofs.AgainLemmas.{IsSaleOf, OrderLaws, life_opens, replied, sold_by, sold_for}
 use Rattle.program_laws.proofs.DeskLemmas.{HandingLaws, handed_more, use_hands}
 use Rattle.program_laws.proofs.OrderLemmas.{SellingLaws, sold_handed, sold_is_orders}

@@ -18,12 +18,12 @@ use Rattle.command_line.specs.declared.commands.list.Listed.{Listed}
 use Rattle.command_line.specs.declared.commands.list.Listed.TheVariants as listed
 use Rattle.papers.specs.Export.{export_of}
 use Rattle.sts_fields.specs.Text.{Text}
-use Rattle.vend_core.specs.Office.{AreNumbered, IsOffice, Office}
-use Rattle.vend_core.specs.declared.office.sale.Sale.{Sale}
-use Rattle.vend_commands.proofs.ExportLemmas.{PagesLaw}
-use Rattle.vend_commands.specs.print.FoundTexts.{row_of}
-use Rattle.vend_commands.specs.print.Listing.{ArePages, last_of_full, list_behind, page_lookup}
-use Rattle.vend_commands.specs.print.ListTexts.{listed_shift_line, page_text, pages_text, shift_names, shifts_text}
+use Rattle.office_rules.specs.Office.{AreNumbered, IsOffice, Office}
+use Rattle.office_rules.specs.declared.office.sale.Sale.{Sale}
+use Rattle.office_commands.proofs.ExportLemmas.{PagesLaw}
+use Rattle.vend_ports.specs.print.Printed.{row_of}
+use Rattle.desk_commands.specs.print.Pages.{ArePages, last_of_full, list_behind, page_lookup}
+use Rattle.desk_commands.specs.print.ListTexts.{listed_shift_line, page_text, pages_text, shift_names, shifts_text}
 
 -- ---- places in lists
 

@@ -28,24 +28,24 @@ use Rattle.sts_fields.specs.Day.{day_at}
 use Rattle.sts_fields.specs.Moment.{IsMoment}
 use Rattle.sts_fields.specs.Text.{Text}
 use Rattle.vend_core.specs.Law.Life.{Life, present}
-use Rattle.vend_core.specs.declared.decision.answer.Answer.{Answer}
-use Rattle.vend_core.specs.declared.decision.refusal.Refusal.{Refusal}
-use Rattle.vend_core.specs.declared.decision.request.Request.{Request}
-use Rattle.vend_core.specs.declared.decision.request.Request.TheVariants as requests
-use Rattle.vend_core.specs.declared.office.row.Row.{Row}
+use Rattle.office_rules.specs.declared.decision.answer.Answer.{Answer}
+use Rattle.office_rules.specs.declared.decision.refusal.Refusal.{Refusal}
+use Rattle.office_rules.specs.declared.decision.request.Request.{Request}
+use Rattle.office_rules.specs.declared.decision.request.Request.TheVariants as requests
+use Rattle.office_rules.specs.declared.office.row.Row.{Row}
 use Rattle.command_line.specs.declared.commands.list.Listed.{Listed}
-use Rattle.vend_commands.specs.commands.Imported.{refusal_of_rows}
-use Rattle.vend_commands.specs.commands.ListedAtDesk.{IsPageReply}
-use Rattle.vend_commands.specs.commands.LookedUp.{TellsFound}
-use Rattle.vend_commands.specs.office.Served.{TellsReply}
-use Rattle.vend_commands.specs.port.Exchanged.{Round}
-use Rattle.vend_commands.specs.print.ListTexts.{pages_text}
-use Rattle.vend_commands.specs.print.Listing.{ArePages}
-use Rattle.vend_commands.specs.print.Printed.{refusal_line}
-use Rattle.vend_commands.specs.print.Told.{IsTold, Outputs}
-use Rattle.vend_commands.specs.print.Totalled.{TellsTotals}
-use Rattle.vend_commands.specs.declared.command_end.CommandEnd.{CommandEnd}
-use Rattle.vend_commands.specs.declared.command_end.CommandEnd.TheVariants.{Refused}
+use Rattle.office_commands.specs.commands.Imported.{refusal_of_rows}
+use Rattle.desk_commands.specs.ListedAtDesk.{IsPageReply}
+use Rattle.office_commands.specs.commands.LookedUp.{TellsFound}
+use Rattle.office_commands.specs.office.Served.{TellsReply}
+use Rattle.desk_commands.specs.Exchanged.{Round}
+use Rattle.desk_commands.specs.print.ListTexts.{pages_text}
+use Rattle.desk_commands.specs.print.Pages.{ArePages}
+use Rattle.vend_ports.specs.print.Printed.{refusal_line}
+use Rattle.vend_ports.specs.print.Told.{IsTold, Outputs}
+use Rattle.office_commands.specs.print.Totalled.{TellsTotals}
+use Rattle.vend_ports.specs.declared.command_end.CommandEnd.{CommandEnd}
+use Rattle.vend_ports.specs.declared.command_end.CommandEnd.TheVariants.{Refused}
 
 -- ---- the line
 

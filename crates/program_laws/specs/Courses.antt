@@ -8,9 +8,9 @@ use Rattle.conversation.specs.declared.end.End as conversation
 use Rattle.sts_token.specs.Token.{BlockFunction}
 use Rattle.vend_core.specs.Law.Life.{Life, MayLeave}
 use Rattle.vend_core.specs.Law.LifeLaws.{opened}
-use Rattle.vend_core.specs.Office.{Office}
+use Rattle.office_rules.specs.Office.{Office}
 use Rattle.vend_commands.specs.serving.Connections.{Service, service}
-use Rattle.vend_commands.specs.port.Places.{Way}
+use Rattle.vend_commands.specs.port.Machines.{Way}
 
 -- the lives that are over, and the one that goes on
 pub record Course : Type 0 where

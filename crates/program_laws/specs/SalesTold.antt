@@ -12,16 +12,16 @@ use Rattle.conversation.specs.declared.end.End.TheVariants.{Closed, BadMessage, 
 use Rattle.desk.specs.Along.{AskedOffice, LookedUp}
 use Rattle.desk.specs.Answering.{answers_by, life_serves, message_refusal_of}
 use Rattle.sts_token.specs.Token.{BlockFunction}
-use Rattle.vend_core.specs.Law.Handed.{sales_of}
+use Rattle.office_rules.specs.Law.Handed.{sales_of}
 use Rattle.vend_core.specs.Law.Life.{Life}
 use Rattle.vend_core.specs.Law.LifeLaws.{extended_by}
-use Rattle.vend_core.specs.declared.decision.answer.Answer.{Answer}
-use Rattle.vend_core.specs.declared.decision.refusal.Refusal.{Refusal}
-use Rattle.vend_core.specs.declared.decision.request.Stamped.{Stamped}
-use Rattle.vend_core.specs.declared.office.sale.Sale.{Sale}
+use Rattle.office_rules.specs.declared.decision.answer.Answer.{Answer}
+use Rattle.office_rules.specs.declared.decision.refusal.Refusal.{Refusal}
+use Rattle.office_rules.specs.declared.decision.request.Stamped.{Stamped}
+use Rattle.office_rules.specs.declared.office.sale.Sale.{Sale}
 use Rattle.vend_commands.specs.serving.Connections.{Service}
 use Rattle.program_laws.specs.Courses.{AreLived, Course}
-use Rattle.vend_commands.specs.port.Places.{Way}
+use Rattle.vend_commands.specs.port.Machines.{Way}
 
 -- the sales in what was found
 abbrev pub sales_found : Result Found Refusal → List Sale

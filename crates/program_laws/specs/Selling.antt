@@ -7,19 +7,19 @@ use Rattle.sqlite.specs.State.{HasCleanDisk}
 use Rattle.sqlite_trees.specs.Tree.{Trees}
 use Rattle.sqlite_trees.specs.declared.store.Store.{Ghosts}
 use Rattle.sts_token.specs.Token.{BlockFunction}
-use Rattle.vend_core.specs.Decision.Fold.{reply, step}
-use Rattle.vend_core.specs.Office.{Office}
-use Rattle.vend_core.specs.declared.decision.answer.Answer.TheVariants.{Sold}
-use Rattle.vend_core.specs.declared.decision.request.Order.{Order}
-use Rattle.vend_core.specs.declared.decision.request.Request.TheVariants.{Sell}
-use Rattle.vend_core.specs.declared.decision.request.Stamped.{Stamped}
-use Rattle.vend_core.specs.declared.office.sale.Sale.{Sale}
-use Rattle.vend_commands.specs.print.Told.{IsTold, Outputs, Takes}
-use Rattle.vend_commands.specs.office.Visited.{seen_in}
+use Rattle.office_rules.specs.Decision.Fold.{reply, step}
+use Rattle.office_rules.specs.Office.{Office}
+use Rattle.office_rules.specs.declared.decision.answer.Answer.TheVariants.{Sold}
+use Rattle.office_rules.specs.declared.decision.request.Order.{Order}
+use Rattle.office_rules.specs.declared.decision.request.Request.TheVariants.{Sell}
+use Rattle.office_rules.specs.declared.decision.request.Stamped.{Stamped}
+use Rattle.office_rules.specs.declared.office.sale.Sale.{Sale}
+use Rattle.vend_ports.specs.print.Told.{IsTold, Outputs, Takes}
+use Rattle.office_commands.specs.office.Visited.{seen_in}
 use Rattle.command_line.specs.Transform.{forward_of, shipped}
 use Rattle.command_line.specs.declared.transform.Shipped.{Shipped}
-use Rattle.vend_commands.specs.declared.command_end.CommandEnd.{CommandEnd}
-use Rattle.vend_commands.specs.declared.command_end.CommandEnd.TheVariants.{Done}
+use Rattle.vend_ports.specs.declared.command_end.CommandEnd.{CommandEnd}
+use Rattle.vend_ports.specs.declared.command_end.CommandEnd.TheVariants.{Done}
 
 -- the order at this moment, with the nibble of the office's next sale
 pub record IsOrdered (moment : ℕ) (order : Order) (office : Office) (at : Stamped) : Type 0 where

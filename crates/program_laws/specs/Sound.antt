@@ -13,9 +13,9 @@ use Rattle.book_tables.specs.Holds.{StandsFor}
 use Rattle.audit.specs.Audited.{IsSound}
 use Rattle.audit.specs.declared.audited.Audited.{Audited}
 use Rattle.books.specs.Path.{MayFind}
-use Rattle.vend_commands.specs.office.Closed.{AreClosed}
-use Rattle.vend_commands.specs.print.AuditLines.{sound_line}
-use Rattle.vend_commands.specs.print.Told.{Outputs, Takes}
+use Rattle.office_commands.specs.office.Closed.{AreClosed}
+use Rattle.office_commands.specs.print.AuditLines.{sound_line}
+use Rattle.vend_ports.specs.print.Told.{Outputs, Takes}
 
 -- The output was given what was counted. The database is one that an opening of the files may find,
 -- and it stands for an office that requests may lead to, whose tokens the transform that was given

@@ -6,8 +6,8 @@ use Rattle.book_facts.specs.declared.lookup.ListedMeter.{ListedMeter}
 use Rattle.book_facts.specs.declared.lookup.ListedTariff.{ListedTariff}
 use Rattle.book_lists.specs.Pages.{ComesBefore}
 use Rattle.sts_fields.specs.Text.{Text}
-use Rattle.vend_core.specs.Office.{Office}
-use Rattle.vend_commands.specs.print.ListTexts.{meter_line, meter_names, table_text, tariff_lines, tariff_names}
+use Rattle.office_rules.specs.Office.{Office}
+use Rattle.desk_commands.specs.print.ListTexts.{meter_line, meter_names, table_text, tariff_lines, tariff_names}
 
 -- all keys after a text, in the order of their bytes, each once
 pub record AreAllAfter (Has : Text → Type 0) (after : Text) (keys : List Text) : Type 0 where

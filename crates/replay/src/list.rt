@@ -1,9 +1,9 @@
 //! Reads the text of a list. `tools/oracle` says what a line is.
 
 use office_lines::lines::stamped_of;
+use office_rules::Stamped;
 use std::alloc::Global;
 use std::test::Fail;
-use vend_core::Stamped;
 
 /// A request and the reply that is expected.
 #[derive(Drop)]

@@ -3,13 +3,14 @@
 use crate::list::{Exchange, ListedLife, Transform};
 use crate::outcome::{Outcome, Place};
 use books::Books;
+use office_rules::Stamped;
 use office_testing::both::{Both, agree, agree_on_totals, next_number, opened_again, serve};
 use office_testing::in_file::{Life, change_tables, live_and_change, live_and_stop, remove};
 use sqlite::{Alter, Connection, MemStore};
 use std::alloc::Global;
 use std::test::Fail;
 use sts_token::{BlockTransform, Demo, Plain};
-use vend_core::{Lists, Stamped};
+use vend_core::Lists;
 
 const PATH: &str = "office.db";
 

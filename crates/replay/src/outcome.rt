@@ -1,10 +1,10 @@
 //! The outcome of a list.
 
 use office_lines::lines::told;
+use office_rules::Reply;
 use office_testing::both::is_same;
 use std::alloc::{AllocError, Global};
 use std::test::Fail;
-use vend_core::Reply;
 
 /// The number of requests, and a line for each reply that was not the expected one.
 #[derive(Drop)]

@@ -12,10 +12,10 @@ use Rattle.book_facts.specs.declared.lookup.Lookup.{Lookup}
 use Rattle.books.specs.Keeps.{Seen}
 use Rattle.book_tables.specs.declared.row.totals.Totals.{Totals}
 use Rattle.sts_fields.specs.Text.{Text}
-use Rattle.vend_core.specs.declared.decision.answer.Answer as core
-use Rattle.vend_core.specs.declared.decision.refusal.Refusal.{Refusal}
-use Rattle.vend_core.specs.declared.decision.request.Request.{Request}
-use Rattle.vend_core.specs.declared.office.row.Row.{Row}
+use Rattle.office_rules.specs.declared.decision.answer.Answer as core
+use Rattle.office_rules.specs.declared.decision.refusal.Refusal.{Refusal}
+use Rattle.office_rules.specs.declared.decision.request.Request.{Request}
+use Rattle.office_rules.specs.declared.office.row.Row.{Row}
 use Rattle.command_line.specs.Transform.{forward_of}
 use Rattle.sts_token.specs.Token.{BlockFunction}
 use Rattle.papers.specs.declared.row_fault.RowFault.{RowFault}

@@ -5,16 +5,16 @@ use Rattle.books.specs.Asking.{ReplyAt}
 use Rattle.books.specs.Keeps.{Represents, Seen}
 use Rattle.vend_core.specs.Law.Life.{Life}
 use Rattle.vend_core.specs.Law.LifeLaws.{extended_by}
-use Rattle.vend_core.specs.declared.decision.answer.Answer.{Answer}
-use Rattle.vend_core.specs.declared.decision.refusal.Refusal.{Refusal}
-use Rattle.vend_core.specs.declared.decision.request.Request.{Request}
+use Rattle.office_rules.specs.declared.decision.answer.Answer.{Answer}
+use Rattle.office_rules.specs.declared.decision.refusal.Refusal.{Refusal}
+use Rattle.office_rules.specs.declared.decision.request.Request.{Request}
 use Rattle.conversation.specs.declared.end.End as conversation
 use Rattle.conversation.specs.declared.end.End.TheVariants.{Closed, BadMessage, ReadFault, WriteFault, Memory}
 use Rattle.vend_commands.specs.commands.Selfchecked.{AreReplies, Converses, HasNoReplies, IsGranted, IsPrepared, IsUnprepared, add_flat, add_selfcheck_meter, clock_moment, fault_in_memory, fault_over_net, messages, open_selfcheck_shift, preparing}
 use Rattle.vend_commands.specs.commands.Selfchecked.{ConversesOver, Disagrees}
 use Rattle.vend_commands.specs.commands.Selfchecked.Disagrees.{no_room, unlike}
 use Rattle.vend_commands.specs.commands.Selfchecked.HasNoReplies.{cut_off}
-use Rattle.vend_core.specs.declared.decision.refusal.Refusal.TheVariants as refusal
+use Rattle.office_rules.specs.declared.decision.refusal.Refusal.TheVariants as refusal
 use Rattle.sts_fields.specs.Text.{Text}
 use Rattle.vend_ports.specs.declared.port.loopback.Loopback as loopback
 use Rattle.sts_token.specs.Token.{BlockFunction}

@@ -54,7 +54,7 @@ use Rattle.command_line.specs.declared.commands.import.ImportWords.{ImportWords}
 use Rattle.command_line.specs.declared.transform.Shipped.{Shipped}
 use Rattle.command_line.specs.declared.transform.Shipped.TheVariants.{Plain}
 use Rattle.papers.specs.declared.row_fault.RowFault.{RowFault}
-use Rattle.vend_core.specs.declared.office.row.Row.{Row}
+use Rattle.office_rules.specs.declared.office.row.Row.{Row}
 use Rattle.command_line.specs.Transform.{forward_of}
 
 abbrev bare_place : Place → Place

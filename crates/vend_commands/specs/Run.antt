@@ -5,7 +5,7 @@ use Rattle.clap.specs.declared.error.kind.ErrorKind.{ErrorKind}
 use Rattle.clap.specs.declared.error.kind.ErrorKind.TheVariants.{DisplayHelp, DisplayVersion, OutOfMemory}
 use Rattle.sqlite_trees.specs.declared.store.Store.{Ghosts}
 use Rattle.sts_fields.specs.Text.{Text}
-use Rattle.vend_core.specs.declared.decision.refusal.Refusal.TheVariants.{Memory}
+use Rattle.office_rules.specs.declared.decision.refusal.Refusal.TheVariants.{Memory}
 use Rattle.command_line.specs.Asked.{AskFor}
 use Rattle.command_line.specs.Line.{faults_in}
 use Rattle.command_line.specs.Transform.{forward_of}

@@ -1,7 +1,7 @@
 ghost use Rattle.std.specs.Prelude.{◌≡◌, ◌≢◌, ◌⊎◌, ◌≤◌, ℕ, Bool, false, [], map};
 ghost use Rattle.sqlite_wal.specs.Files.{image_at};
 ghost use Rattle.sts_fields.specs.Text.{Text};
-ghost use Rattle.vend_core.specs.declared.decision.refusal.Refusal.TheVariants.{Memory};
+ghost use Rattle.office_rules.specs.declared.decision.refusal.Refusal.TheVariants.{Memory};
 ghost use Rattle.command_line.specs.Asked.{AskFor};
 ghost use Rattle.conversation.specs.declared.machine_clock.MachineClock.{MachineClock};
 ghost use Rattle.vend_ports.specs.port.Dial.{dial_of};
@@ -25,12 +25,12 @@ use desk::{Clock, MachineClock, TimeSource};
 use desk_commands::at_desk;
 use office_commands::commands::{file_audit, import, list, offer, report, request, show};
 use office_commands::{EachTry, MachineFile, OfficeFile, Ports, Progress, TerminalProgress};
+use office_rules::Refusal;
 use sqlite::{FileFrom, FileStore, Start};
 use sqlite_disk::Disk;
 use sqlite_trees::store::Store;
 use std::alloc::Global;
 use std::io::Write;
-use vend_core::Refusal;
 use vend_ports::commands::{meter, quote, trial};
 use vend_ports::{
     CommandEnd, Door, Loopback, MachineDoor, MachineTexts, TextFiles, Watched, put_line,

@@ -8,7 +8,7 @@ ghost use Rattle.std.specs.Prelude.{◌≡◌, ◌⊎◌, ◌↔◌, true, IfErr
 ghost use Rattle.sqlite.specs.Steps.{over_memory};
 ghost use Rattle.conversation.specs.declared.end.End.TheVariants.{Closed};
 ghost use Rattle.vend_core.specs.Law.Life.{Life};
-ghost use Rattle.vend_core.specs.declared.decision.refusal.Refusal.TheVariants.{Memory};
+ghost use Rattle.office_rules.specs.declared.decision.refusal.Refusal.TheVariants.{Memory};
 ghost use Rattle.books.specs.Keeps.{Represents, seen};
 ghost use Rattle.vend_commands.specs.commands.Selfchecked.{AgreesOver, AreReplies, Converses, ConversesOver};
 ghost use Rattle.vend_commands.specs.commands.Selfchecked.{Disagrees, HasNoReplies, fault_in_memory};
@@ -18,12 +18,12 @@ use crate::selfcheck::fault::SelfcheckFault;
 use crate::selfcheck::prepared::{NOW, prepare};
 use books::Books;
 use desk::{Desk, End, Script};
+use office_rules::Refusal;
 use sqlite::MemStore;
 use std::alloc::{AllocError, Global};
 use std::io;
 use std::io::{ErrorKind, Read, Write};
 use sts_token::BlockTransform;
-use vend_core::Refusal;
 use vend_ports::Loopback;
 
 // A sale, and the receipt of it.

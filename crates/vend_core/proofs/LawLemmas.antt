@@ -12,54 +12,33 @@ pub mod MeterLemmas
 pub mod PlausibleLemmas
 pub mod PriceLemmas
 pub mod ReachedLemmas
+pub mod RefusalLemmas
 pub mod RiseLemmas
 pub mod SaleLemmas
-pub mod StayLemmas
-use Rattle.std.proofs.Common.{◌≡◌, ℕ, inl, inr, Bool, true, false, List, [], ◌∷◌, ◌++◌, length, Option, Some, None, Result, Ok, Err, refl, sym, ◌∙◌, ap, subst}
+use Rattle.std.proofs.Common.{◌≡◌, ℕ, Bool, true, false, List, [], ◌∷◌, ◌++◌, length, Option, Some, None, Result, Ok, Err, refl, sym, ◌∙◌, ap, subst}
 use Rattle.std.specs.Prelude.{◌==◌, Contains, if◌then◌else◌}
 use Rattle.std.proofs.lemmas.Bool.{false≢true}
 use Rattle.std.proofs.lemmas.Bool.Decides.{Decides-eqb}
 use Rattle.std.proofs.lemmas.Slice.Eq.{bytes_eq-Decides}
 use Rattle.sts_token.specs.Token.{KeepsRange}
-use Rattle.vend_core.specs.Decision.{decision_of, account_of, report, reprint, sell, sell_again, sell_once, unchanged}
-use Rattle.vend_core.specs.Decision.Fold.{office_after, reply, reply_of, step}
-use Rattle.vend_core.specs.Office.Lookup.{open_shift, sale_numbered, sale_of_ref, sales_of_shift, shift_numbered}
-use Rattle.vend_core.specs.Law.NewSale.{IsNewSale}
-use Rattle.vend_core.specs.Office.{IsBefore, IsOffice, Office}
+use Rattle.office_rules.specs.Decision.{decision_of, account_of, report, reprint, sell, sell_again, sell_once, unchanged}
+use Rattle.office_rules.specs.Decision.Fold.{office_after, reply, reply_of, step}
+use Rattle.office_rules.specs.Office.Lookup.{open_shift, sale_numbered, sale_of_ref, sales_of_shift, shift_numbered}
+use Rattle.office_rules.specs.Law.NewSale.{IsNewSale}
+use Rattle.office_rules.specs.Office.{IsOffice, Office}
 use Rattle.vend_core.specs.Law.OfficeLaws.{IsSameOrder, WasSold}
-use Rattle.vend_core.specs.declared.decision.answer.Answer.{Answer}
-use Rattle.vend_core.specs.declared.decision.answer.Answer.TheVariants as answers
-use Rattle.vend_core.specs.declared.decision.change.Change.{Change}
-use Rattle.vend_core.specs.declared.decision.refusal.Refusal.{Refusal}
-use Rattle.vend_core.specs.declared.decision.refusal.Refusal.TheVariants as refusals
-use Rattle.vend_core.specs.declared.decision.request.Order.{Order}
-use Rattle.vend_core.specs.declared.decision.request.Request.TheVariants as requests
-use Rattle.vend_core.specs.declared.decision.request.Stamped.{Stamped}
-use Rattle.vend_core.specs.declared.office.sale.Sale.{Sale}
-use Rattle.vend_core.specs.declared.office.shift.Shift.{Shift}
-use Rattle.vend_core.proofs.DecisionLemmas.NewSaleLemmas.{LowerLaws, granted_sale}
-use Rattle.vend_core.proofs.OfficeLemmas.RowLemmas.{both_true, parts_true, finds, related, same_number}
-
--- two sales of an office are one where they agree in meter, base and identifier, in number, or in
--- operator and ref
-pub one_of_tid : (o : Office) (a b : Sale) → IsOffice o → Contains o.sales a → Contains o.sales b → a.meter ≡ b.meter → a.base ≡ b.base → a.tid ≡ b.tid → a ≡ b
-one_of_tid o a b office x y meter base tid =
-    elim (related IsBefore o.sales a b office.before x y) [
-      | inl same ↦ same
-      | inr (inl before) ↦ absurd (before.tid meter base tid)
-      | inr (inr after) ↦ absurd (after.tid (sym meter) (sym base) (sym tid))
-    ]
-
-pub one_of_number : (o : Office) (a b : Sale) → IsOffice o → Contains o.sales a → Contains o.sales b → a.number ≡ b.number → a ≡ b
-one_of_number o a b office x y same = same_number (λ s. s.number) o.sales a b office.sale_numbers x y same
-
-pub one_of_ref : (o : Office) (a b : Sale) → IsOffice o → Contains o.sales a → Contains o.sales b → a.operator ≡ b.operator → a.order_ref ≡ b.order_ref → a ≡ b
-one_of_ref o a b office x y operator order_ref =
-    elim (related IsBefore o.sales a b office.before x y) [
-      | inl same ↦ same
-      | inr (inl before) ↦ absurd (before.order_ref operator order_ref)
-      | inr (inr after) ↦ absurd (after.order_ref (sym operator) (sym order_ref))
-    ]
+use Rattle.office_rules.specs.declared.decision.answer.Answer.{Answer}
+use Rattle.office_rules.specs.declared.decision.answer.Answer.TheVariants as answers
+use Rattle.office_rules.specs.declared.decision.change.Change.{Change}
+use Rattle.office_rules.specs.declared.decision.refusal.Refusal.{Refusal}
+use Rattle.office_rules.specs.declared.decision.refusal.Refusal.TheVariants as refusals
+use Rattle.office_rules.specs.declared.decision.request.Order.{Order}
+use Rattle.office_rules.specs.declared.decision.request.Request.TheVariants as requests
+use Rattle.office_rules.specs.declared.decision.request.Stamped.{Stamped}
+use Rattle.office_rules.specs.declared.office.sale.Sale.{Sale}
+use Rattle.office_rules.specs.declared.office.shift.Shift.{Shift}
+use Rattle.office_rules.proofs.DecisionLemmas.NewSaleLemmas.{LowerLaws, granted_sale}
+use Rattle.office_rules.proofs.OfficeLemmas.RowLemmas.{both_true, finds, one_of_number, one_of_ref, parts_true, same_number}
 
 -- the first sale of an order is looked up by its ref
 first_found : (o : Office) (order : Order) (first : Sale) → IsOffice o → WasSold o order first → sale_of_ref o order.operator order.order_ref ≡ Some first

@@ -10,21 +10,21 @@ use Rattle.std.specs.Prelude.{All, Contains, filter, map}
 use Rattle.std.proofs.lemmas.List.{take-append-drop}
 use Rattle.std.proofs.lemmas.List.Elements.{All-contains, All-drop, All-filter, All-head, All-map, All-tail, All-take}
 use Rattle.sts_token.specs.Token.{KeepsRange}
-use Rattle.vend_core.specs.Decision.Fold.{after, replies_to, reply, step}
-use Rattle.vend_core.specs.Law.Growth.{HasGrown}
-use Rattle.vend_core.specs.Law.Handed.{sales_of}
+use Rattle.office_rules.specs.Decision.Fold.{after, replies_to, reply, step}
+use Rattle.office_rules.specs.Law.Growth.{HasGrown}
+use Rattle.office_rules.specs.Law.Handed.{sales_of}
 use Rattle.vend_core.specs.Law.Life.{Answered, AreLives, Exchange, HandsOut, IsHanded, IsLife, LeadTo, Life, MayLeave, acknowledged, acknowledges, in_doubt, present}
-use Rattle.vend_core.specs.Office.{IsOffice, Office, empty_office}
-use Rattle.vend_core.specs.Decision.Requests.{IsStamped}
-use Rattle.vend_core.specs.declared.decision.answer.Answer.{Answer}
-use Rattle.vend_core.specs.declared.decision.refusal.Refusal.{Refusal}
-use Rattle.vend_core.specs.declared.decision.request.Stamped.{Stamped}
-use Rattle.vend_core.specs.declared.office.sale.Sale.{Sale}
+use Rattle.office_rules.specs.Office.{IsOffice, Office, empty_office}
+use Rattle.office_rules.specs.Decision.Requests.{IsStamped}
+use Rattle.office_rules.specs.declared.decision.answer.Answer.{Answer}
+use Rattle.office_rules.specs.declared.decision.refusal.Refusal.{Refusal}
+use Rattle.office_rules.specs.declared.decision.request.Stamped.{Stamped}
+use Rattle.office_rules.specs.declared.office.sale.Sale.{Sale}
 use Rattle.vend_core.proofs.LawLemmas.AnswerLemmas.{answered_stand}
 use Rattle.vend_core.proofs.LawLemmas.FoldLemmas.{after_grows, after_keeps_office, grown_none, grown_twice, stands_on, step_grows}
-use Rattle.vend_core.proofs.DecisionLemmas.NewSaleLemmas.{LowerLaws}
-use Rattle.vend_core.proofs.OfficeLemmas.{empty_is_office, step_keeps_office}
-use Rattle.vend_core.proofs.OfficeLemmas.RowLemmas.{contains_cases, contains_map, kept, map_source}
+use Rattle.office_rules.proofs.DecisionLemmas.NewSaleLemmas.{LowerLaws}
+use Rattle.office_rules.proofs.OfficeLemmas.{empty_is_office, step_keeps_office}
+use Rattle.office_rules.proofs.OfficeLemmas.RowLemmas.{contains_cases, contains_map, kept, map_source}
 
 -- requests one after others
 pub after-append : (forward : ℕ → ℕ → ℕ) (o : Office) (ats more : List Stamped) → after forward o (ats ++ more) ≡ after forward (after forward o ats) more

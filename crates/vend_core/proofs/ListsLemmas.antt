@@ -1,5 +1,4 @@
 -- The office over plain lists.
 pub mod FitsLemmas
 pub mod LookUpLemmas
-pub mod MapLemmas
 pub mod PlainRowLemmas

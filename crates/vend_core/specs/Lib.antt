@@ -1,5 +1,2 @@
-pub mod Decision
 pub mod Law
 pub mod Lists
-pub mod Name
-pub mod Office

@@ -1,43 +1,32 @@
 -- The office that plain lists keep, and what serving a request does to it.
 pub mod PlainRows
-use Rattle.std.specs.Prelude.{◌≡◌, ◌⊎◌, ◌<◌, ◌≤◌, Bool, true, false, ℕ, List, [], ◌∷◌, Some, Result, Ok, Err, IsNone, IsSome, length}
+use Rattle.std.specs.Prelude.{◌≡◌, ◌⊎◌, ◌<◌, ◌≤◌, Bool, true, false, ℕ, Some, Result, Ok, Err, IsNone, IsSome, length}
 use Rattle.sts_fields.specs.Tid.{last_tid}
 use Rattle.sts_token.specs.Token.{BlockFunction}
-use Rattle.vend_core.specs.Decision.{account_of, decision}
-use Rattle.vend_core.specs.Decision.Edits.{with_row}
-use Rattle.vend_core.specs.Decision.Facts.{report_of}
-use Rattle.vend_core.specs.Decision.Fold.{reply, step}
-use Rattle.vend_core.specs.Office.Lookup.{open_shift, sale_of_ref}
-use Rattle.vend_core.specs.Office.{Office, greatest_count}
+use Rattle.office_rules.specs.Decision.{account_of, decision}
+use Rattle.office_rules.specs.Decision.Edits.{RowsFit}
+use Rattle.office_rules.specs.Decision.Facts.{report_of}
+use Rattle.office_rules.specs.Decision.Fold.{reply, step}
+use Rattle.office_rules.specs.Office.Lookup.{open_shift, sale_of_ref}
+use Rattle.office_rules.specs.Office.{Office, greatest_count}
 use Rattle.vend_core.specs.Lists.PlainRows.{office_of_rows}
-use Rattle.vend_core.specs.declared.decision.answer.Answer.{Answer}
-use Rattle.vend_core.specs.declared.decision.change.Change.{Change}
-use Rattle.vend_core.specs.declared.decision.change.Edit.{Edit}
-use Rattle.vend_core.specs.declared.decision.change.Edit.TheVariants.{AddTariff, AddSteps, AddMeter, AddRows, SetTariff, MoveBase, OpenShift, CloseShift, AddSale}
+use Rattle.office_rules.specs.declared.decision.answer.Answer.{Answer}
+use Rattle.office_rules.specs.declared.decision.change.Change.{Change}
+use Rattle.office_rules.specs.declared.decision.change.Edit.{Edit}
+use Rattle.office_rules.specs.declared.decision.change.Edit.TheVariants.{AddTariff, AddSteps, AddMeter, AddRows, SetTariff, MoveBase, OpenShift, CloseShift, AddSale}
 use Rattle.vend_core.specs.declared.lists.Lists.{Lists}
 use Rattle.vend_core.specs.declared.lists.records.Records.{Records}
-use Rattle.vend_core.specs.declared.decision.refusal.Refusal.{Refusal}
-use Rattle.vend_core.specs.declared.decision.refusal.Refusal.TheVariants.{Memory}
-use Rattle.vend_core.specs.declared.decision.request.Request.{Request}
-use Rattle.vend_core.specs.declared.decision.request.Request.TheVariants as requests
-use Rattle.vend_core.specs.declared.decision.request.Stamped.{Stamped}
-use Rattle.vend_core.specs.declared.office.row.Row.{Row}
-use Rattle.vend_core.specs.declared.office.row.Row.TheVariants as kinds
+use Rattle.office_rules.specs.declared.decision.refusal.Refusal.{Refusal}
+use Rattle.office_rules.specs.declared.decision.refusal.Refusal.TheVariants.{Memory}
+use Rattle.office_rules.specs.declared.decision.request.Request.{Request}
+use Rattle.office_rules.specs.declared.decision.request.Request.TheVariants as requests
+use Rattle.office_rules.specs.declared.decision.request.Stamped.{Stamped}
 
 -- the office that records stand for
 abbrev pub recorded : Records → Office
 recorded r =
     office_of_rows r.tariffs.items r.meters.items r.bases.items r.dated_steps.items r.shifts.items
     r.sales.items
-
--- rows of which each meter's tariff is the office's, or one of a row before it
-abbrev pub RowsFit : List Row → Office → Type 0
-RowsFit [] o = Unit {0}
-RowsFit (kinds.Tariff name steps ∷ rest) o = RowsFit rest (with_row (kinds.Tariff name steps) o)
-RowsFit (kinds.Steps name day steps ∷ rest) o =
-    RowsFit rest (with_row (kinds.Steps name day steps) o)
-RowsFit (kinds.Meter number m ∷ rest) o =
-    IsSome (o.tariffs m.tariff) × RowsFit rest (with_row (kinds.Meter number m) o)
 
 -- an edit that leaves each meter with a tariff of the office, each identifier within its range,
 -- and room for the count

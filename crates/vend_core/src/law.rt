@@ -4,10 +4,8 @@ mod history;
 mod life;
 mod office;
 mod reached;
-mod store;
 
 pub use history::history_law;
 pub use life::life_law;
 pub use office::office_law;
 pub use reached::reached_law;
-pub use store::store_law;

@@ -1,21 +1,18 @@
-//! The office of a vending station: its requests, its decisions, and the laws that hold of them.
+//! The office of a vending station: the laws that hold of it, and an office in plain vectors.
 //!
-//! `docs/OFFICE.md` has the rules in words, and `specs/` has them as definitions.
+//! `docs/OFFICE.md` has the rules in words, and `specs/` of `office_rules` has them as definitions.
 #![tactic(auto)]
 
-mod decision;
 mod law;
 mod lists;
-mod name;
-mod office;
 
-pub use decision::{
-    Answer, Category, Change, Edit, Facts, GREATEST_COUNT, ImportFacts, MeterAccount, Order,
-    Refusal, Reply, Request, RowCause, RowFacts, Stamped, decide, limits_law,
-};
-pub use law::{history_law, life_law, office_law, reached_law, store_law};
+pub use law::{history_law, life_law, office_law, reached_law};
 pub use lists::Lists;
-pub use name::{MeterNo, Operator, Ref, TariffName};
-pub use office::{Meter, Row, Rows, Sale, Sales, Shift};
+pub use office_decisions::decide;
+pub use office_rules::{
+    Answer, Category, Change, Edit, Facts, GREATEST_COUNT, ImportFacts, Meter, MeterAccount,
+    MeterNo, Operator, Order, Ref, Refusal, Reply, Request, Row, RowCause, RowFacts, Rows, Sale,
+    Sales, Shift, Stamped, TariffName, limits_law, store_law,
+};
 pub use sts_fields::Moment;
 pub use tariff::Tender;

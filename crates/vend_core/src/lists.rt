@@ -1,6 +1,6 @@
-use crate::decision::{Change, Reply, Stamped, decide};
 use crate::law::office_law;
-use crate::office::{Sale, Shift};
+use office_decisions::decide;
+use office_rules::{Change, Reply, Sale, Shift, Stamped};
 use records::Records;
 use std::alloc::Global;
 use sts_token::BlockTransform;
@@ -23,7 +23,7 @@ pub struct Lists<T> {
 impl<T> Lists<T> {
     ghost use Rattle.std.specs.Prelude.{◌≡◌};
     ghost use Rattle.vend_core.specs.Lists.{office_of, transform_of};
-    ghost use Rattle.vend_core.specs.Office.{empty_office};
+    ghost use Rattle.office_rules.specs.Office.{empty_office};
 
     /// The empty office, without taking memory.
     pub fn new(alloc: Global, transform: T) -> Lists<T>
@@ -69,8 +69,8 @@ impl<T> Lists<T> {
 impl<T: BlockTransform> Lists<T> {
     ghost use Rattle.std.specs.Prelude.{◌≡◌, Err};
     ghost use Rattle.vend_core.specs.Lists.{IsServed, NeedsRoom, office_of, transform_of};
-    ghost use Rattle.vend_core.specs.Office.{IsOffice};
-    ghost use Rattle.vend_core.specs.declared.decision.refusal.Refusal.{Refusal};
+    ghost use Rattle.office_rules.specs.Office.{IsOffice};
+    ghost use Rattle.office_rules.specs.declared.decision.refusal.Refusal.{Refusal};
 
     /// Serves a request: its answer, or why it is refused.
     ///

@@ -9,9 +9,9 @@ use Rattle.sts_fields.specs.Base.{base_eq, year_of}
 use Rattle.sts_fields.specs.declared.base.Base.{Base}
 use Rattle.sts_fields.specs.declared.base.Base.TheVariants.{Y1993, Y2014, Y2035}
 use Rattle.vend_core.specs.Law.Reached.{IsUnderPresentBase}
-use Rattle.vend_core.specs.Office.Lookup.{greatest_of}
-use Rattle.vend_core.specs.declared.office.sale.Sale.{Sale}
-use Rattle.vend_core.proofs.OfficeLemmas.RowLemmas.{both_true, contains_first, kept, kept_from, parts_true}
+use Rattle.office_rules.specs.Office.Lookup.{greatest_of}
+use Rattle.office_rules.specs.declared.office.sale.Sale.{Sale}
+use Rattle.office_rules.proofs.OfficeLemmas.RowLemmas.{both_true, contains_first, kept, kept_from, parts_true}
 use Rattle.audit_lists.specs.reached.Walk.{IsNotAfter}
 
 none_of : (xs : List Sale) → is_none (greatest_of (map (λ (s : Sale). s.tid) xs)) ≡ true → (x : Sale) → ¬ Contains xs x

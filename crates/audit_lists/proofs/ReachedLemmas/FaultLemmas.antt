@@ -1,8 +1,8 @@
 -- Faults that are told on.
 use Rattle.std.proofs.Common.{◌≡◌, ◌≤◌, List, Result, Ok, Err, arith, inl, inr, length, sym, subst}
 use Rattle.std.specs.Prelude.{IfErr, IsErrAnd}
-use Rattle.vend_core.specs.Office.{Office}
-use Rattle.vend_core.specs.declared.office.shift.Shift.{Shift}
+use Rattle.office_rules.specs.Office.{Office}
+use Rattle.office_rules.specs.declared.office.shift.Shift.{Shift}
 use Rattle.audit_rows.specs.declared.finding.Finding.{Finding}
 use Rattle.audit_rows.specs.declared.office_rows.OfficeRows.{OfficeRows}
 use Rattle.audit_lists.specs.Ties.{IsFirst, IsKept, Says}

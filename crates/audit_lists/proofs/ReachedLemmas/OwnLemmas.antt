@@ -5,8 +5,8 @@ use Rattle.std.proofs.Math.Dec.{ltb}
 use Rattle.std.proofs.lemmas.Bool.{cases_lt, lt-ltb, ltb-true}
 use Rattle.std.proofs.lemmas.Option.{slice_get_within}
 use Rattle.vend_core.specs.Law.Reached.{IsInOpenShift}
-use Rattle.vend_core.specs.Office.{IsOffice, Office}
-use Rattle.vend_core.specs.declared.office.sale.Sale.{Sale}
+use Rattle.office_rules.specs.Office.{IsOffice, Office}
+use Rattle.office_rules.specs.declared.office.sale.Sale.{Sale}
 use Rattle.audit_lists.specs.reached.Lasts.{IsLastOf, NoneBetween}
 use Rattle.audit_lists.specs.reached.Walk.{IsLatest}
 use Rattle.audit_lists.proofs.ListLemmas.{at_contains, contains_at}

@@ -11,9 +11,9 @@ use Rattle.tariff.specs.Cost.{greatest_prior}
 use Rattle.tariff.specs.Purchase.{IsPurchase}
 use Rattle.tariff.specs.declared.step.Step.{Step}
 use Rattle.vend_core.specs.Law.Reached.{IsBoughtByOne, sales_alone}
-use Rattle.vend_core.specs.Office.Lookup.{prior}
-use Rattle.vend_core.specs.Office.{IsSaleRow, Office, greatest_count}
-use Rattle.vend_core.specs.declared.office.sale.Sale.{Sale}
+use Rattle.office_rules.specs.Office.Lookup.{prior}
+use Rattle.office_rules.specs.Office.{IsSaleRow, Office, greatest_count}
+use Rattle.office_rules.specs.declared.office.sale.Sale.{Sale}
 use Rattle.book_tables.specs.Stands.{tenths_of}
 use Rattle.audit_lists.specs.declared.reached.listed.ListedSteps.{ListedSteps}
 use Rattle.audit_lists.specs.reached.Prices.{AreListed, Sells, bought_in}

@@ -5,10 +5,10 @@ use Rattle.std.proofs.lemmas.Bool.{false≢true}
 use Rattle.std.proofs.lemmas.List.{get_or-take, length-take}
 use Rattle.std.proofs.lemmas.List.Elements.{All-contains}
 use Rattle.std.proofs.lemmas.Option.{get_or_from_slice_get, slice_get-get_or, slice_get_within}
-use Rattle.vend_core.proofs.ListsLemmas.MapLemmas.{all_from_contains}
-use Rattle.vend_core.proofs.OfficeLemmas.RowLemmas.{kept, kept_from}
+use Rattle.office_rules.proofs.OfficeLemmas.MapLemmas.{all_from_contains}
+use Rattle.office_rules.proofs.OfficeLemmas.RowLemmas.{kept, kept_from}
 use Rattle.vend_core.specs.Law.Reached.{IsClosedFirst}
-use Rattle.vend_core.specs.declared.office.shift.Shift.{Shift}
+use Rattle.office_rules.specs.declared.office.shift.Shift.{Shift}
 use Rattle.audit_lists.specs.Ties.{IsKept}
 use Rattle.audit_lists.specs.reached.Finds.{closed_first}
 

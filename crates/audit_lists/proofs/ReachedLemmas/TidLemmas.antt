@@ -7,9 +7,9 @@ use Rattle.sts_fields.specs.Tid.{FreshOutcome, IsLast, fresh_after, last_tid, mi
 use Rattle.sts_fields.specs.declared.fault.TidFault.{TidFault}
 use Rattle.sts_fields.proofs.TidLemmas.{fresh_after_is}
 use Rattle.vend_core.specs.Law.Reached.{HasFreshTid, sales_alone}
-use Rattle.vend_core.specs.Office.Lookup.{greatest_of, used}
-use Rattle.vend_core.specs.declared.office.sale.Sale.{Sale}
-use Rattle.vend_core.proofs.DecisionLemmas.NewSaleLemmas.{greatest_is_last}
+use Rattle.office_rules.specs.Office.Lookup.{greatest_of, used}
+use Rattle.office_rules.specs.declared.office.sale.Sale.{Sale}
+use Rattle.office_rules.proofs.DecisionLemmas.NewSaleLemmas.{greatest_is_last}
 
 abbrev pub HaveOneOutcome : Type 0
 HaveOneOutcome = (sold : List ℕ) (now : ℕ) (r s : Result ℕ TidFault) → FreshOutcome sold now r → FreshOutcome sold now s → r ≡ s

@@ -7,9 +7,9 @@ use Rattle.std.proofs.lemmas.List.Elements.{All-contains, All-push, All-take, Al
 use Rattle.std.proofs.lemmas.Option.{get_or_from_slice_get, slice_get-get_or, slice_get_within}
 use Rattle.sts_fields.specs.Tid.{last_tid}
 use Rattle.vend_core.specs.Law.Reached.{IsGrantedAfter}
-use Rattle.vend_core.specs.Office.{IsOffice, IsSaleRow, Office, greatest_count}
-use Rattle.vend_core.specs.declared.office.sale.Sale.{Sale}
-use Rattle.vend_core.proofs.ListsLemmas.MapLemmas.{all_from_contains}
+use Rattle.office_rules.specs.Office.{IsOffice, IsSaleRow, Office, greatest_count}
+use Rattle.office_rules.specs.declared.office.sale.Sale.{Sale}
+use Rattle.office_rules.proofs.OfficeLemmas.MapLemmas.{all_from_contains}
 use Rattle.audit_rows.specs.declared.finding.Rule.{Rule}
 use Rattle.audit_lists.specs.Ties.{EachBelow}
 use Rattle.audit_lists.specs.declared.reached.walked.Walked.{Walked}

@@ -2,9 +2,9 @@
 use Rattle.std.specs.Prelude.{◌≡◌, ◌⊎◌, ◌+◌, ◌≤◌, ⊤, ℕ, List, [], ◌∷◌, Some, All, length, slice_get, take}
 use Rattle.sts_token.specs.Reading.{IsOfClassZero}
 use Rattle.vend_core.specs.Law.Reached.{HasFreshTid, IsBoughtByOne, IsClosedFirst, IsGrantedAfter, IsInOpenShift, IsInOwnShift, IsUnderPresentBase}
-use Rattle.vend_core.specs.Office.{IsOffice, Office}
-use Rattle.vend_core.specs.declared.office.sale.Sale.{Sale}
-use Rattle.vend_core.specs.declared.office.shift.Shift.{Shift}
+use Rattle.office_rules.specs.Office.{IsOffice, Office}
+use Rattle.office_rules.specs.declared.office.sale.Sale.{Sale}
+use Rattle.office_rules.specs.declared.office.shift.Shift.{Shift}
 use Rattle.book_tables.specs.Stands.{AreMembersOf}
 use Rattle.book_tables.specs.row.Rows.{Rows}
 use Rattle.audit_rows.specs.AllRows.{with_totals}

@@ -4,8 +4,8 @@ use Rattle.tariff.specs.Purchase.{IsPurchase}
 use Rattle.tariff.specs.declared.bought.Buy.{Buy}
 use Rattle.tariff.specs.declared.step.Step.{Step}
 use Rattle.vend_core.specs.Law.Reached.{AreStepsOfOne}
-use Rattle.vend_core.specs.Office.{Office}
-use Rattle.vend_core.specs.declared.office.sale.Sale.{Sale}
+use Rattle.office_rules.specs.Office.{Office}
+use Rattle.office_rules.specs.declared.office.sale.Sale.{Sale}
 use Rattle.audit_lists.specs.Keys.{IsNew, Key}
 use Rattle.audit_lists.specs.Steps.{AreFirst, AreSteps}
 use Rattle.audit_lists.specs.Ties.{Each, EachBelow}

@@ -5,13 +5,13 @@ ghost use Rattle.std.specs.Prelude.{◌≡◌, ◌↔◌, ◌≤◌, List, All, 
 ghost use Rattle.std.specs.Option.{ForSome};
 ghost use Rattle.sts_fields.specs.Tid.{fresh_after, last_tid};
 ghost use Rattle.vend_core.specs.Law.Reached.{HasFreshTid, IsUnderPresentBase};
-ghost use Rattle.vend_core.specs.declared.office.sale.Sale.{Sale};
+ghost use Rattle.office_rules.specs.declared.office.sale.Sale.{Sale};
 ghost use Rattle.book_tables.specs.row.Gathered.{IsGathered};
 ghost use Rattle.audit_lists.specs.reached.Walk.{IsNotAfter};
 
 use book_tables::Gathered;
+use office_rules::Sale;
 use sts_fields::{Base, LAST_TID, fresh_law, minute, next_tid};
-use vend_core::Sale;
 
 // Whether a base is no later one than the sale's, or was not sold under to its meter.
 fn is_not_after(gathered: &Gathered, base: Base, sale: &Sale) -> bool

@@ -3,9 +3,9 @@
 ghost use Rattle.std.specs.Prelude.{◌≡◌, OnOk, length, max, min};
 ghost use Rattle.audit_lists.specs.reached.Lasts.{AreLasts, last_under};
 
+use office_rules::Shift;
 use std::alloc::AllocError;
 use std::collections::BTreeMap;
-use vend_core::Shift;
 
 /// The place, from 0, of the last one of some first shifts of each operator, under its text.
 pub(crate) type LastShifts<'a> = BTreeMap<&'a [u8], usize>;

@@ -3,7 +3,7 @@
 ghost use Rattle.std.specs.Prelude.{List};
 ghost use Rattle.vend_core.specs.Law.Life.{AreLives, Life};
 ghost use Rattle.vend_core.specs.Law.Reached.{IsPlausible};
-ghost use Rattle.vend_core.specs.Office.{Office};
+ghost use Rattle.office_rules.specs.Office.{Office};
 ghost use Rattle.audit_lists.specs.reached.Finds.{Finds};
 ghost use Rattle.audit_rows.specs.declared.finding.Finding.{Finding};
 

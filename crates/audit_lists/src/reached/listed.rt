@@ -1,7 +1,7 @@
 //! The steps that the tariffs of an office may have had.
 
 ghost use Rattle.std.specs.Prelude.{◌≡◌, ◌≢◌, ◌++◌, [], ◌∷◌, IfErr, IfOk, OnOk, length};
-ghost use Rattle.vend_core.specs.Office.{Office};
+ghost use Rattle.office_rules.specs.Office.{Office};
 ghost use Rattle.audit_lists.specs.Keys.{ArePlaces, IsNew};
 ghost use Rattle.audit_lists.specs.Steps.{AreSteps};
 ghost use Rattle.audit_lists.specs.Ties.{Each, Says};

@@ -1,6 +1,6 @@
 ghost use Rattle.std.specs.Prelude.{◌≡◌, ◌≢◌, false, true};
 
-use vend_core::Operator;
+use office_rules::Operator;
 
 #[tactic(auto, using(crate::proofs::ReachedLemmas::TextLemmas::text_same, crate::proofs::ReachedLemmas::TextLemmas::text_other))]
 pub(crate) fn is_same(a: &Operator, b: &Operator) -> bool

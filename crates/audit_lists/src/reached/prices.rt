@@ -4,16 +4,16 @@ ghost use Rattle.std.specs.Prelude.{◌≡◌, ◌↔◌, ◌≤◌, List, All, 
 ghost use Rattle.tariff.specs.Cost.{greatest_prior};
 ghost use Rattle.tariff.specs.Purchase.{IsPurchase};
 ghost use Rattle.vend_core.specs.Law.Reached.{IsBoughtByOne};
-ghost use Rattle.vend_core.specs.Office.{IsSaleRow, Office, greatest_count};
-ghost use Rattle.vend_core.specs.declared.office.sale.Sale.{Sale};
+ghost use Rattle.office_rules.specs.Office.{IsSaleRow, Office, greatest_count};
+ghost use Rattle.office_rules.specs.declared.office.sale.Sale.{Sale};
 ghost use Rattle.book_tables.specs.row.Gathered.{IsGathered};
 ghost use Rattle.audit_lists.specs.reached.Prices.{AreListed, Sells, bought_in};
 
 use crate::reached::listed::ListedSteps;
 use book_tables::Gathered;
+use office_rules::Sale;
 use sts_fields::{amount_law, day_of, month_of};
 use tariff::{MAX_PRIOR, Steps, buy, price_law, purchase_law};
-use vend_core::Sale;
 
 // Whether a sale's tender buys its tenths at its price by some steps, after the month's prior ones.
 fn buys(steps: &Steps, prior: u64, sale: &Sale) -> bool

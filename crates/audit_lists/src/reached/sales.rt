@@ -3,15 +3,15 @@
 ghost use Rattle.std.specs.Prelude.{◌≡◌, ◌↔◌, ℕ, List, IsTrue, length, min};
 ghost use Rattle.sts_token.specs.Reading.{IsOfClassZero};
 ghost use Rattle.vend_core.specs.Law.Reached.{IsInOpenShift, IsInOwnShift};
-ghost use Rattle.vend_core.specs.Office.{IsOffice, Office};
-ghost use Rattle.vend_core.specs.declared.office.sale.Sale.{Sale};
+ghost use Rattle.office_rules.specs.Office.{IsOffice, Office};
+ghost use Rattle.office_rules.specs.declared.office.sale.Sale.{Sale};
 ghost use Rattle.audit_lists.specs.reached.Lasts.{AreLasts};
 ghost use Rattle.audit_lists.specs.reached.Walk.{IsLatest};
 
 use crate::reached::lasts::{LastShifts, last_of};
 use crate::reached::operators::is_same;
+use office_rules::{Sale, Shift};
 use sts_token::{Plain, TokenFault, read};
-use vend_core::{Sale, Shift};
 
 // Whether a sale's operator is that of its shift.
 pub(crate) fn is_in_own_shift(shifts: &[Shift], sale: &Sale) -> bool

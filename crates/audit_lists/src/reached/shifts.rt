@@ -8,8 +8,8 @@ ghost use Rattle.audit_lists.specs.reached.Walk.{TellsShift};
 use crate::fault::{OfficeFault, found};
 use crate::reached::operators::is_same;
 use audit_rows::Rule;
+use office_rules::Shift;
 use std::alloc::{AllocError, Global};
-use vend_core::Shift;
 
 // Whether one of the shifts is the operator's of this one.
 fn has_operator_of(shift: &Shift, others: &[Shift]) -> bool

@@ -2,8 +2,8 @@
 
 ghost use Rattle.std.specs.Prelude.{◌≡◌, ◌↔◌, ◌++◌, [], ◌∷◌, ℕ, List, IfErr, IsTrue, OnOk, take};
 ghost use Rattle.vend_core.specs.Law.Reached.{EachAfter, IsGrantedAfter};
-ghost use Rattle.vend_core.specs.Office.{IsOffice, Office};
-ghost use Rattle.vend_core.specs.declared.office.sale.Sale.{Sale};
+ghost use Rattle.office_rules.specs.Office.{IsOffice, Office};
+ghost use Rattle.office_rules.specs.declared.office.sale.Sale.{Sale};
 ghost use Rattle.audit_rows.specs.declared.finding.Rule.{Rule as Rules};
 ghost use Rattle.audit_lists.specs.reached.Finds.{AreRowsOfOffice, Keeps, granting_rules};
 ghost use Rattle.audit_lists.specs.reached.Prices.{AreListed};
@@ -16,8 +16,8 @@ use crate::reached::prices::is_bought;
 use crate::reached::sales::{is_in_open_shift, is_in_own_shift, is_of_class_zero};
 use crate::reached::walked::Walked;
 use audit_rows::{OfficeRows, Rule};
+use office_rules::{Sale, Shift};
 use std::alloc::Global;
-use vend_core::{Sale, Shift};
 
 // The first rule that is broken, of some and one more, which is kept or not.
 fn first_of(broken: Option<Rule>, rule: Rule, kept: bool) -> Option<Rule>

@@ -1,15 +1,15 @@
 //! What is kept of the sales that were gone through.
 
 ghost use Rattle.std.specs.Prelude.{◌≡◌, ◌++◌, ◌<◌, ◌^◌, List, [], ◌∷◌, OnOk, length};
-ghost use Rattle.vend_core.specs.declared.office.sale.Sale.{Sale};
-ghost use Rattle.vend_core.specs.declared.office.shift.Shift.{Shift};
+ghost use Rattle.office_rules.specs.declared.office.sale.Sale.{Sale};
+ghost use Rattle.office_rules.specs.declared.office.shift.Shift.{Shift};
 ghost use Rattle.audit_lists.specs.reached.Walk.{IsWalked};
 
 use crate::reached::lasts::{LastShifts, add_shifts};
 use book_tables::Gathered;
+use office_rules::{Sale, Shift};
 use std::alloc::{AllocError, Global};
 use std::collections::BTreeMap;
-use vend_core::{Sale, Shift};
 
 /// What is kept of some first sales of an office.
 #[derive(Drop)]

@@ -8,13 +8,13 @@ ghost use Rattle.audit_lists.specs.totals.Rules.{last_id_asked, last_id_key, las
 use crate::key::{KeyOf, LentKey, UnderBase};
 use audit_rows::{LastId, MonthTenths, Named, RowKey, ShiftTotals};
 use book_tables::{Gathered, Totals};
+use office_rules::Sale;
 use sts_fields::month_of;
-use vend_core::Sale;
 
 /// A row of a table of running totals.
 pub(crate) trait Summed: Named {
     ghost use Rattle.std.specs.Prelude.{◌≡◌, ◌↔◌, List, Option, Some, is_some, true};
-    ghost use Rattle.vend_core.specs.declared.office.sale.Sale.{Sale};
+    ghost use Rattle.office_rules.specs.declared.office.sale.Sale.{Sale};
     ghost use Rattle.book_tables.specs.row.Gathered.{IsGathered};
     ghost use Rattle.audit_rows.specs.declared.finding.RowKey.{RowKey};
 

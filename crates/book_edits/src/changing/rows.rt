@@ -13,8 +13,8 @@ ghost use Rattle.book_states.specs.Changing.{MakesRows};
 use book_tables::writing::additions::{add_meter, add_tariff};
 use book_tables::writing::dated_steps::add_steps;
 use book_tables::{TableError, members_law};
+use office_rules::Row;
 use sqlite::{Alter, Error, ErrorCode, Transaction};
-use vend_core::Row;
 
 /// Adds the rows of an import, one after another.
 ///

@@ -5,14 +5,14 @@ ghost use Rattle.sqlite.specs.State.{HasCleanDisk};
 ghost use Rattle.one_table.specs.Over.{Inside};
 ghost use Rattle.one_table.specs.InTransaction.{IsUnderWay, KeepsTransaction};
 ghost use Rattle.book_tables.specs.reading.Reading.{HasAllTables};
-ghost use Rattle.vend_core.specs.declared.decision.change.Edit.TheVariants.{AddSale};
+ghost use Rattle.office_rules.specs.declared.decision.change.Edit.TheVariants.{AddSale};
 ghost use Rattle.book_states.specs.Changing.{AddsAsComputed};
 ghost use Rattle.book_states.specs.Failing.{FailsToMake};
 
 use book_tables::TableError;
 use book_tables::writing::totals::add_sold;
+use office_rules::Sale;
 use sqlite::{Alter, Transaction};
-use vend_core::Sale;
 
 /// Adds a sale with its totals, where its meter had so many tenths in its month before it.
 ///

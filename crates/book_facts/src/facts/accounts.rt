@@ -4,19 +4,19 @@ ghost use Rattle.std.specs.Prelude.{◌<◌, ◌≡◌};
 ghost use Rattle.sqlite.specs.State.{IsUnchanged};
 ghost use Rattle.one_table.specs.Over.{Over};
 ghost use Rattle.sts_fields.specs.Calendar.{month_at};
-ghost use Rattle.vend_core.specs.Decision.{account_of};
-ghost use Rattle.vend_core.specs.Office.Lookup.{greatest_of, prior, used};
+ghost use Rattle.office_rules.specs.Decision.{account_of};
+ghost use Rattle.office_rules.specs.Office.Lookup.{greatest_of, prior, used};
 ghost use Rattle.book_states.specs.FactsSeen.{IsAccountSeen, IsSoldSeen};
 ghost use Rattle.book_facts.specs.Looking.{LooksUp};
 
 use crate::facts::steps::steps_on;
 use book_tables::reading::{meters, totals};
 use book_tables::{TableError, members_law};
+use office_rules::{Meter, MeterAccount, MeterNo, Moment, store_law};
 use sqlite::{Alter, Connection};
 use std::alloc::Global;
 use sts_fields::{LAST_TID, day_of, month_of};
 use tariff::{MAX_PRIOR, Steps};
-use vend_core::{Meter, MeterAccount, MeterNo, Moment, store_law};
 
 /// What a sale at a moment looks at of the meter of a number.
 #[inline(never)]

@@ -4,20 +4,20 @@ ghost use Rattle.std.specs.Prelude.{◌≡◌, ◌↔◌, Err, List, Some, false
 ghost use Rattle.sqlite.specs.State.{IsUnchanged};
 ghost use Rattle.one_table.specs.Over.{Over};
 ghost use Rattle.tariff.specs.declared.step.Step.{Step};
-ghost use Rattle.vend_core.specs.Decision.{meter_eq, row_decision};
-ghost use Rattle.vend_core.specs.Decision.Facts.{AreRowsFacts, row_facts};
-ghost use Rattle.vend_core.specs.Office.{Office};
-ghost use Rattle.vend_core.specs.declared.decision.row_facts.RowFacts.{RowFacts};
+ghost use Rattle.office_rules.specs.Decision.{meter_eq, row_decision};
+ghost use Rattle.office_rules.specs.Decision.Facts.{AreRowsFacts, row_facts};
+ghost use Rattle.office_rules.specs.Office.{Office};
+ghost use Rattle.office_rules.specs.declared.decision.row_facts.RowFacts.{RowFacts};
 ghost use Rattle.book_states.specs.FactsSeen.{AreRowsSeen, IsRowSeen};
 ghost use Rattle.book_states.specs.Same.{IsSame};
 ghost use Rattle.book_facts.specs.Looking.{LooksUp};
 
 use book_tables::reading::{dated_steps, meters, tariffs};
 use book_tables::{TableError, members_law};
+use office_rules::{Facts, ImportFacts, Meter, MeterNo, Refusal, Row, RowFacts, Rows, TariffName};
 use sqlite::{Alter, Connection};
 use std::alloc::{AllocError, Global};
 use sts_fields::Day;
-use vend_core::{Facts, ImportFacts, Meter, MeterNo, Refusal, Row, RowFacts, Rows, TariffName};
 
 /// What an import looks at: what is under the names of its rows, up to the first row that differs
 /// from it.

@@ -3,7 +3,7 @@
 ghost use Rattle.std.specs.Prelude.{◌≡◌};
 ghost use Rattle.sqlite.specs.State.{IsUnchanged};
 ghost use Rattle.one_table.specs.Over.{Over};
-ghost use Rattle.vend_core.specs.Decision.Facts.{AreMeterFacts, AreSettingFacts};
+ghost use Rattle.office_rules.specs.Decision.Facts.{AreMeterFacts, AreSettingFacts};
 ghost use Rattle.book_tables.specs.reading.Questions.{the_meter, the_steps};
 ghost use Rattle.book_tables.specs.reading.Seen.{AreStepsSeen, ShowsFirst};
 ghost use Rattle.book_states.specs.FactsSeen.{AreMeterFactsSeen, AreSettingFactsSeen};
@@ -11,9 +11,9 @@ ghost use Rattle.book_facts.specs.Looking.{LooksUp};
 
 use book_tables::reading::{meters, tariffs};
 use book_tables::{TableError, members_law};
+use office_rules::{Facts, Meter, MeterNo, TariffName};
 use sqlite::{Alter, Connection};
 use std::alloc::Global;
-use vend_core::{Facts, Meter, MeterNo, TariffName};
 
 /// What AddTariff looks at: the steps under its name.
 pub(crate) fn tariff_facts<S: Alter>(

@@ -3,8 +3,8 @@
 ghost use Rattle.std.specs.Prelude.{◌≡◌, length};
 ghost use Rattle.sqlite.specs.State.{IsUnchanged};
 ghost use Rattle.one_table.specs.Over.{Over};
-ghost use Rattle.vend_core.specs.Decision.Facts.{AreSaleFacts};
-ghost use Rattle.vend_core.specs.Office.Lookup.{sale_numbered};
+ghost use Rattle.office_rules.specs.Decision.Facts.{AreSaleFacts};
+ghost use Rattle.office_rules.specs.Office.Lookup.{sale_numbered};
 ghost use Rattle.book_tables.specs.reading.Questions.{the_sale};
 ghost use Rattle.book_tables.specs.reading.Seen.{ShowsFirst};
 ghost use Rattle.book_states.specs.FactsSeen.{AreSaleFactsSeen};
@@ -13,9 +13,9 @@ ghost use Rattle.book_facts.specs.Looking.{LooksUp};
 use crate::facts::accounts::account_numbered;
 use book_tables::TableError;
 use book_tables::reading::{sales, shifts};
+use office_rules::{Facts, Moment, Order};
 use sqlite::{Alter, Connection};
 use std::alloc::Global;
-use vend_core::{Facts, Moment, Order};
 
 /// What Sell looks at: the rest only where no sale was made under the order's ref, and the meter
 /// only where the operator has a shift open. The count of sales is the caller's, which knows the

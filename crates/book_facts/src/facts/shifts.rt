@@ -3,8 +3,8 @@
 ghost use Rattle.std.specs.Prelude.{◌≡◌};
 ghost use Rattle.sqlite.specs.State.{IsUnchanged};
 ghost use Rattle.one_table.specs.Over.{Over};
-ghost use Rattle.vend_core.specs.Decision.Facts.{AreOpeningFacts, report_of};
-ghost use Rattle.vend_core.specs.Office.Lookup.{open_shift};
+ghost use Rattle.office_rules.specs.Decision.Facts.{AreOpeningFacts, report_of};
+ghost use Rattle.office_rules.specs.Office.Lookup.{open_shift};
 ghost use Rattle.book_tables.specs.reading.Questions.{the_open_shift};
 ghost use Rattle.book_tables.specs.reading.Seen.{ShowsFirst};
 ghost use Rattle.book_states.specs.FactsSeen.{AreOpeningFactsSeen, IsReportSeen};
@@ -13,9 +13,9 @@ ghost use Rattle.book_facts.specs.Totals.{AreTotalsSeen, shift_totals};
 
 use book_tables::reading::{sale_lists, shifts, totals};
 use book_tables::{TableError, Totals};
+use office_rules::{Facts, Operator, Sales};
 use sqlite::{Alter, Connection};
 use std::alloc::Global;
-use vend_core::{Facts, Operator, Sales};
 
 /// What OpenShift looks at: the shifts are counted only where the operator has no open one.
 pub(crate) fn opening_facts<S: Alter>(

@@ -4,18 +4,18 @@ ghost use Rattle.std.specs.Option.{option_or};
 ghost use Rattle.std.specs.Prelude.{◌≡◌};
 ghost use Rattle.sqlite.specs.State.{IsUnchanged};
 ghost use Rattle.one_table.specs.Over.{Over};
-ghost use Rattle.vend_core.specs.Decision.Facts.{AreDatedFacts};
-ghost use Rattle.vend_core.specs.Office.Lookup.{latest};
+ghost use Rattle.office_rules.specs.Decision.Facts.{AreDatedFacts};
+ghost use Rattle.office_rules.specs.Office.Lookup.{latest};
 ghost use Rattle.book_states.specs.FactsSeen.{AreDatedFactsSeen, AreStepsSeenOn};
 ghost use Rattle.book_facts.specs.Looking.{LooksUp};
 
 use book_tables::TableError;
 use book_tables::reading::{dated_steps, tariffs};
+use office_rules::{Facts, TariffName};
 use sqlite::{Alter, Connection};
 use std::alloc::Global;
 use sts_fields::Day;
 use tariff::Steps;
-use vend_core::{Facts, TariffName};
 
 /// The steps of the tariff of a name on a day: the latest that have begun by then, else the first.
 pub(crate) fn steps_on<S: Alter>(

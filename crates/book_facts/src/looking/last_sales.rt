@@ -11,9 +11,9 @@ use crate::looking::sales::sale_or_none;
 use crate::lookup::Found;
 use book_tables::reading::{meters, sales, totals};
 use book_tables::{TableError, members_law};
+use office_rules::{MeterNo, Refusal, Sale, store_law};
 use sqlite::{Alter, Connection};
 use sts_fields::Base;
-use vend_core::{MeterNo, Refusal, Sale, store_law};
 
 /// The last sale to the meter of a number, where there is one of it.
 pub(crate) fn last_sale_of<S: Alter>(

@@ -10,10 +10,10 @@ use crate::lookup::LaterSteps;
 use book_lists::first_day_after;
 use book_tables::TableError;
 use book_tables::reading::dated_steps::steps_from;
+use office_rules::TariffName;
 use sqlite::{Alter, Connection};
 use std::alloc::{AllocError, Global};
 use sts_fields::Day;
-use vend_core::TariffName;
 
 /// The steps that the tariff of a name has from each day after a day on, by day.
 pub(crate) fn later_steps<S: Alter>(

@@ -12,9 +12,9 @@ use crate::lookup::{Found, ListedMeter};
 use book_lists::meters_after;
 use book_tables::TableError;
 use book_tables::reading::pages::MeterRow;
+use office_rules::{MeterNo, Refusal};
 use sqlite::{Alter, Connection};
 use std::alloc::{AllocError, Global};
-use vend_core::{MeterNo, Refusal};
 
 /// A page of the meters after a number, or of all. No key goes out.
 pub(crate) fn meter_page<S: Alter>(

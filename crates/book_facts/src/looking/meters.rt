@@ -4,7 +4,7 @@ ghost use Rattle.std.specs.Prelude.{◌≡◌, IfErr, IfOk, option_map};
 ghost use Rattle.sqlite.specs.State.{IsUnchanged};
 ghost use Rattle.one_table.specs.Over.{Over};
 ghost use Rattle.sts_fields.specs.Calendar.{month_at};
-ghost use Rattle.vend_core.specs.Office.Lookup.{prior};
+ghost use Rattle.office_rules.specs.Office.Lookup.{prior};
 ghost use Rattle.book_facts.specs.Lookups.{IsOfRules, last_sale, meter_found};
 ghost use Rattle.book_facts.specs.Looking.{LooksUp};
 ghost use Rattle.book_facts.specs.LookupsSeen.{IsMeterFoundSeen};
@@ -13,9 +13,9 @@ use crate::looking::last_sales::last_sale;
 use crate::lookup::{Found, MeterSummary};
 use book_tables::reading::{meters, totals};
 use book_tables::{TableError, members_law};
+use office_rules::{MeterNo, Moment, Refusal, Sale};
 use sqlite::{Alter, Connection};
 use sts_fields::month_of;
-use vend_core::{MeterNo, Moment, Refusal, Sale};
 
 /// What is told of the meter of a number, where there is one of it.
 pub(crate) fn meter_of<S: Alter>(

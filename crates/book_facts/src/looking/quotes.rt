@@ -5,11 +5,11 @@ ghost use Rattle.std.specs.Option.{option_copied};
 ghost use Rattle.sqlite.specs.State.{IsUnchanged};
 ghost use Rattle.one_table.specs.Over.{Over};
 ghost use Rattle.sts_token.specs.Token.{BlockFunction};
-ghost use Rattle.vend_core.specs.Decision.{decision_of};
-ghost use Rattle.vend_core.specs.Office.{Office};
-ghost use Rattle.vend_core.specs.Office.Lookup.{open_shift, sale_of_ref};
-ghost use Rattle.vend_core.specs.declared.decision.request.Order.{Order};
-ghost use Rattle.vend_core.specs.declared.decision.request.Request.{Request};
+ghost use Rattle.office_rules.specs.Decision.{decision_of};
+ghost use Rattle.office_rules.specs.Office.{Office};
+ghost use Rattle.office_rules.specs.Office.Lookup.{open_shift, sale_of_ref};
+ghost use Rattle.office_rules.specs.declared.decision.request.Order.{Order};
+ghost use Rattle.office_rules.specs.declared.decision.request.Request.{Request};
 ghost use Rattle.book_facts.specs.Lookups.{IsOfRules, IsQuoted, quote, quote_for};
 ghost use Rattle.book_facts.specs.Looking.{LooksUp};
 ghost use Rattle.book_facts.specs.LookupsSeen.{IsQuoteSeen};
@@ -17,11 +17,11 @@ ghost use Rattle.book_facts.specs.LookupsSeen.{IsQuoteSeen};
 use crate::facts::accounts::account_numbered;
 use crate::lookup::{Found, Quote};
 use book_tables::TableError;
+use office_rules::{GREATEST_COUNT, MeterAccount, MeterNo, Moment, Refusal, limits_law};
 use sqlite::{Alter, Connection};
 use std::alloc::Global;
 use sts_fields::{minute, next_tid};
 use tariff::{Tender, buy};
-use vend_core::{GREATEST_COUNT, MeterAccount, MeterNo, Moment, Refusal, limits_law};
 
 /// Where an operator has a shift open and has not used a ref, a sale under it at the moment has
 /// what the quote tells, or is refused for the same reason.

@@ -11,9 +11,9 @@ use crate::lookup::Found;
 use book_lists::PAGE;
 use book_tables::TableError;
 use book_tables::reading::sale_lists;
+use office_rules::Refusal;
 use sqlite::{Alter, Connection};
 use std::alloc::Global;
-use vend_core::Refusal;
 
 /// A page of the sales after a number.
 pub(crate) fn sale_page<S: Alter>(

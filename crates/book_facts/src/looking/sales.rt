@@ -3,7 +3,7 @@
 ghost use Rattle.std.specs.Prelude.{◌≡◌, IfErr, IfOk};
 ghost use Rattle.sqlite.specs.State.{IsUnchanged};
 ghost use Rattle.one_table.specs.Over.{Over};
-ghost use Rattle.vend_core.specs.Office.Lookup.{sale_of_ref};
+ghost use Rattle.office_rules.specs.Office.Lookup.{sale_of_ref};
 ghost use Rattle.book_facts.specs.Lookups.{IsOfRules, sale_found};
 ghost use Rattle.book_facts.specs.Looking.{LooksUp};
 ghost use Rattle.book_facts.specs.LookupsSeen.{IsSaleFoundSeen};
@@ -11,8 +11,8 @@ ghost use Rattle.book_facts.specs.LookupsSeen.{IsSaleFoundSeen};
 use crate::lookup::Found;
 use book_tables::TableError;
 use book_tables::reading::sales;
+use office_rules::{Operator, Ref, Refusal, Sale};
 use sqlite::{Alter, Connection};
-use vend_core::{Operator, Ref, Refusal, Sale};
 
 /// The sale that the operator made under the ref.
 pub(crate) fn sale_under<S: Alter>(

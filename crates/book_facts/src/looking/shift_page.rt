@@ -11,9 +11,9 @@ use crate::lookup::{Found, ListedShift};
 use book_lists::shifts_after;
 use book_tables::TableError;
 use book_tables::reading::totals;
+use office_rules::Refusal;
 use sqlite::{Alter, Connection};
 use std::alloc::{AllocError, Global};
-use vend_core::Refusal;
 
 /// A page of the shifts after a number, each with its running totals.
 pub(crate) fn shift_page<S: Alter>(

@@ -11,8 +11,8 @@ ghost use Rattle.book_facts.specs.LookupsSeen.{AreTotalsFoundSeen};
 use crate::facts::shifts::totals_of;
 use crate::lookup::Found;
 use book_tables::{TableError, Totals};
+use office_rules::Refusal;
 use sqlite::{Alter, Connection};
-use vend_core::Refusal;
 
 /// The totals of the shift of a number.
 pub(crate) fn totals_under<S: Alter>(

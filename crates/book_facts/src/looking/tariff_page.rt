@@ -15,10 +15,10 @@ use crate::looking::later_steps::later_steps;
 use crate::lookup::{Found, ListedTariff};
 use book_lists::tariffs_after;
 use book_tables::TableError;
+use office_rules::{Moment, Refusal, TariffName};
 use sqlite::{Alter, Connection};
 use std::alloc::{AllocError, Global};
 use sts_fields::{Day, day_of};
-use vend_core::{Moment, Refusal, TariffName};
 
 /// A page of the tariffs after a name, or of all: each with its steps on the day of the moment, and
 /// with those of later days.

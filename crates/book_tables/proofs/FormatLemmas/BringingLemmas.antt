@@ -6,8 +6,8 @@ use Rattle.sqlite.specs.State.{HasCleanDisk, State, Survives}
 use Rattle.sqlite.proofs.StateLemmas.{survives_then}
 use Rattle.sqlite_trees.specs.declared.store.Store.{Ghosts}
 use Rattle.sts_fields.specs.declared.base.Base.{Base}
-use Rattle.vend_core.specs.Office.{IsOffice, Office, empty_office}
-use Rattle.vend_core.specs.declared.office.sale.Sale.{Sale}
+use Rattle.office_rules.specs.Office.{IsOffice, Office, empty_office}
+use Rattle.office_rules.specs.declared.office.sale.Sale.{Sale}
 use Rattle.one_table.specs.InTransaction.{KeepsTransaction, StaysInside}
 use Rattle.one_table.proofs.ChangeLemmas.{if_err, keeps_inside, keeps_then, on_ok, stays_then}
 use Rattle.book_tables.specs.format.Filling.{AreHanded, Fills, FillsBases, FillsTotals, IsFilling, IsReady, base_row}

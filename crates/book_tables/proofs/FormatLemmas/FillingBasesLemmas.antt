@@ -4,9 +4,9 @@ use Rattle.std.specs.Prelude.{AllPairs, Contains}
 use Rattle.std.proofs.lemmas.List.{map-append}
 use Rattle.sqlite.specs.State.{State}
 use Rattle.sts_fields.specs.declared.base.Base.{Base}
-use Rattle.vend_core.specs.Office.{Office}
-use Rattle.vend_core.specs.declared.office.meter.Meter.{Meter}
-use Rattle.vend_core.specs.declared.office.sale.Sale.{Sale}
+use Rattle.office_rules.specs.Office.{Office}
+use Rattle.office_rules.specs.declared.office.meter.Meter.{Meter}
+use Rattle.office_rules.specs.declared.office.sale.Sale.{Sale}
 use Rattle.book_tables.specs.format.Filling.{AreHanded, FillsBases, IsReady, base_row}
 use Rattle.book_tables.specs.Holds.{HoldsOf}
 use Rattle.book_tables.specs.row.Rows.{Rows, present_format}

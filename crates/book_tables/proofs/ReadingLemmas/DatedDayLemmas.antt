@@ -11,8 +11,8 @@ use Rattle.sqlite_typed.proofs.TestLemmas.{last_term, then_term}
 use Rattle.sts_fields.specs.Day.{IsDay}
 use Rattle.sts_fields.specs.Tid.{IsLast}
 use Rattle.tariff.specs.declared.step.Step.{Step}
-use Rattle.vend_core.specs.Office.Lookup.{IsLatest, greatest_of, latest}
-use Rattle.vend_core.specs.Office.{IsOffice, Office}
+use Rattle.office_rules.specs.Office.Lookup.{IsLatest, greatest_of, latest}
+use Rattle.office_rules.specs.Office.{IsOffice, Office}
 use Rattle.one_table.proofs.TestsLemmas.{number_up_to, text_is}
 use Rattle.book_tables.specs.Kept.{dated_steps_kept}
 use Rattle.book_tables.specs.reading.Reading.{IsFirstDay, IsLastBegun}

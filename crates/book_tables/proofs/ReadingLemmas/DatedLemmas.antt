@@ -7,7 +7,7 @@ use Rattle.std.proofs.lemmas.Bool.Decides.{nat_tests}
 use Rattle.std.proofs.lemmas.Int.{ints}
 use Rattle.std.proofs.lemmas.Slice.Eq.{bytes_eq-Decides}
 use Rattle.tariff.specs.declared.step.Step.{Step}
-use Rattle.vend_core.specs.Office.{Office}
+use Rattle.office_rules.specs.Office.{Office}
 use Rattle.book_tables.specs.row.Rows.{DatedStepRow, Rows, shown_step}
 use Rattle.book_tables.specs.Stands.{AreDatedApart, AreMembersOf}
 use Rattle.book_tables.proofs.ListLemmas.{contains_cases, contains_first, contains_further, contains_none, no_pairs, pairs_cons}

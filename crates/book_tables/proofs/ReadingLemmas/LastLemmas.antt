@@ -9,7 +9,7 @@ use Rattle.std.proofs.lemmas.List.Elements.{All-head, All-tail, recursion_from_A
 use Rattle.std.proofs.lemmas.Option.{slice_get-get_or}
 use Rattle.sqlite.specs.Order.{Row}
 use Rattle.sqlite_keyed.specs.Keyed.{IsKeyedBy}
-use Rattle.vend_core.specs.Office.{AreNumbered}
+use Rattle.office_rules.specs.Office.{AreNumbered}
 use Rattle.book_tables.specs.row.Rows.{shown_number}
 
 -- rows that are numbered on from a number

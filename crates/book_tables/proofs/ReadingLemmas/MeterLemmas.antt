@@ -13,8 +13,8 @@ use Rattle.book_tables.specs.reading.Reading.{AreOfOffice}
 use Rattle.book_tables.proofs.ReadingLemmas.FindLemmas.{Finds}
 use Rattle.book_tables.proofs.ReadingLemmas.ReadLemmas.{few, found_keeps}
 use Rattle.book_tables.proofs.ListLemmas.{NotBothPass, first_is_all, pairs_weaker}
-use Rattle.vend_core.specs.Name.{IsMeterNo}
-use Rattle.vend_core.specs.declared.office.meter.Meter.{Meter}
+use Rattle.office_rules.specs.Name.{IsMeterNo}
+use Rattle.office_rules.specs.declared.office.meter.Meter.{Meter}
 use Rattle.book_tables.specs.declared.reading.pages.MeterRow.{MeterRow}
 use Rattle.book_tables.specs.Kept.{meters_kept}
 use Rattle.book_tables.specs.row.Rows.{Rows, meter_columns, shown_meter}

@@ -11,8 +11,8 @@ use Rattle.one_table.proofs.ListedLemmas.{last_by_key, one_row}
 use Rattle.one_table.proofs.TestsLemmas.{number_is, text_is}
 use Rattle.sts_fields.specs.Base.{base_eq, year_of}
 use Rattle.sts_fields.specs.declared.base.Base.{Base}
-use Rattle.vend_core.specs.Office.{AreNumbered, IsOffice, Office}
-use Rattle.vend_core.specs.declared.office.sale.Sale.{Sale}
+use Rattle.office_rules.specs.Office.{AreNumbered, IsOffice, Office}
+use Rattle.office_rules.specs.declared.office.sale.Sale.{Sale}
 use Rattle.book_tables.specs.reading.Reading.{AreOfOffice}
 use Rattle.book_tables.specs.Kept.{sales_kept}
 use Rattle.book_tables.specs.row.Rows.{Rows, number, shown_number, shown_sale}

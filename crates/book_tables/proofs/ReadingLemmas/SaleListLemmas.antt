@@ -11,8 +11,8 @@ use Rattle.sqlite_typed.proofs.TestLemmas.{last_term}
 use Rattle.one_table.specs.Listed.{no_limit}
 use Rattle.one_table.proofs.ListedLemmas.{first_by_key}
 use Rattle.one_table.proofs.TestsLemmas.{number_above, number_is}
-use Rattle.vend_core.specs.Office.{AreNumbered}
-use Rattle.vend_core.specs.declared.office.sale.Sale.{Sale}
+use Rattle.office_rules.specs.Office.{AreNumbered}
+use Rattle.office_rules.specs.declared.office.sale.Sale.{Sale}
 use Rattle.book_tables.specs.reading.Reading.{AreOfOffice}
 use Rattle.book_tables.specs.Kept.{sales_kept}
 use Rattle.book_tables.specs.row.Rows.{Rows, number, shown_sale}

@@ -12,8 +12,8 @@ use Rattle.sqlite_typed.proofs.TestLemmas.{last_term, then_term}
 use Rattle.sqlite_value.specs.declared.keys.Collation.TheVariants.{Binary}
 use Rattle.one_table.proofs.ListedLemmas.{last_by_key, one_row}
 use Rattle.one_table.proofs.TestsLemmas.{number_absent, number_is, text_is}
-use Rattle.vend_core.specs.Office.{AreNumbered, IsOffice, Office}
-use Rattle.vend_core.specs.declared.office.shift.Shift.{Shift}
+use Rattle.office_rules.specs.Office.{AreNumbered, IsOffice, Office}
+use Rattle.office_rules.specs.declared.office.shift.Shift.{Shift}
 use Rattle.book_tables.specs.reading.Reading.{AreOfOffice}
 use Rattle.book_tables.specs.Kept.{shifts_kept}
 use Rattle.book_tables.specs.row.Rows.{Rows, number, optional, shown_number, shown_shift}

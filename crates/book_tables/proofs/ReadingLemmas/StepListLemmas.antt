@@ -10,7 +10,7 @@ use Rattle.sqlite.specs.declared.types.Value.TheVariants.{Text}
 use Rattle.sqlite_typed.proofs.TestLemmas.{last_term}
 use Rattle.tariff.specs.Steps.{IsSteps}
 use Rattle.tariff.specs.declared.step.Step.{Step}
-use Rattle.vend_core.specs.Office.{IsOffice, Office}
+use Rattle.office_rules.specs.Office.{IsOffice, Office}
 use Rattle.one_table.specs.Listed.{no_limit}
 use Rattle.one_table.proofs.HiddenLemmas.{rising_hidden}
 use Rattle.one_table.proofs.TestsLemmas.{text_is}

@@ -13,7 +13,7 @@ use Rattle.book_tables.specs.reading.Reading.{AreOfOffice}
 use Rattle.book_tables.proofs.ReadingLemmas.FindLemmas.{Finds}
 use Rattle.book_tables.proofs.ReadingLemmas.ReadLemmas.{few, found_keeps}
 use Rattle.book_tables.proofs.ListLemmas.{NotBothPass, contains_cases, contains_first, contains_further, contains_none, first_is_all, pairs_weaker}
-use Rattle.vend_core.specs.Name.{IsName}
+use Rattle.office_rules.specs.Name.{IsName}
 use Rattle.book_tables.specs.Kept.{tariffs_kept}
 use Rattle.book_tables.specs.row.Rows.{Rows, tariff_columns}
 use Rattle.book_tables.specs.Tables.{tariffs_table}

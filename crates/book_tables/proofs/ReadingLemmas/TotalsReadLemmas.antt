@@ -16,9 +16,9 @@ use Rattle.sts_fields.specs.Base.{year_of}
 use Rattle.sts_fields.specs.Calendar.{month_at}
 use Rattle.sts_fields.specs.Tid.{last_tid}
 use Rattle.sts_fields.specs.declared.base.Base.{Base}
-use Rattle.vend_core.specs.Office.Lookup.{greatest_of}
-use Rattle.vend_core.specs.Office.{greatest_count}
-use Rattle.vend_core.specs.declared.office.sale.Sale.{Sale}
+use Rattle.office_rules.specs.Office.Lookup.{greatest_of}
+use Rattle.office_rules.specs.Office.{greatest_count}
+use Rattle.office_rules.specs.declared.office.sale.Sale.{Sale}
 use Rattle.book_tables.specs.Kept.{last_ids_kept, month_tenths_kept, shift_totals_kept}
 use Rattle.book_tables.specs.reading.Reading.{AreOfOffice}
 use Rattle.book_tables.specs.row.Rows.{Rows, number, shown_number, shown_totals}

@@ -15,9 +15,9 @@ use Rattle.std.proofs.lemmas.Map.Lookups.{CmpEqualImpliesEq, exact_bytes, exact_
 use Rattle.std.proofs.lemmas.Map.Views.{btree_map_get_iff}
 use Rattle.sts_fields.specs.declared.base.Base.{Base}
 use Rattle.sts_fields.specs.Calendar.{month_at}
-use Rattle.vend_core.specs.Law.Cash.{cash_of}
-use Rattle.vend_core.specs.Office.Lookup.{greatest_of}
-use Rattle.vend_core.specs.declared.office.sale.Sale.{Sale}
+use Rattle.office_rules.specs.Law.Cash.{cash_of}
+use Rattle.office_rules.specs.Office.Lookup.{greatest_of}
+use Rattle.office_rules.specs.declared.office.sale.Sale.{Sale}
 use Rattle.book_tables.specs.row.Gathered.{HoldsAt, IsGathered, IsInWords, IsOfWords, base_place, key_cmp, own_place}
 use Rattle.book_tables.specs.Stands.{AreRowsOf, sales_in_month, sales_in_shift, sales_under, tenths_of, totals_of}
 use Rattle.book_tables.specs.writing.Writing.{is_in_month, is_under, put_under}

@@ -4,9 +4,9 @@ use Rattle.sts_fields.specs.Base.{year_of}
 use Rattle.sts_fields.specs.declared.base.Base.{Base}
 use Rattle.sts_fields.specs.declared.base.Base.TheVariants.{Y1993, Y2014, Y2035}
 use Rattle.tariff.specs.declared.step.Step.{Step}
-use Rattle.vend_core.specs.declared.office.meter.Meter.{Meter}
-use Rattle.vend_core.specs.declared.office.sale.Sale.{Sale}
-use Rattle.vend_core.specs.declared.office.shift.Shift.{Shift}
+use Rattle.office_rules.specs.declared.office.meter.Meter.{Meter}
+use Rattle.office_rules.specs.declared.office.sale.Sale.{Sale}
+use Rattle.office_rules.specs.declared.office.shift.Shift.{Shift}
 use Rattle.book_tables.specs.row.ReadBack.{ReadsBack}
 use Rattle.book_tables.specs.row.Rows.{DatedStepRow, StepRow, base_columns, dated_columns, meter_columns, optional, sale_row, secret_of, shift_row, shown_meter, shown_number, shown_sale, shown_shift, shown_step, step_columns, tariff_columns}
 use Rattle.book_tables.specs.row.Values.{IsKey}

@@ -5,12 +5,12 @@ use Rattle.std.proofs.lemmas.Bool.{false≢true}
 use Rattle.std.proofs.lemmas.List.Elements.{All-get_or}
 use Rattle.std.proofs.lemmas.Option.{slice_get-get_or}
 use Rattle.tariff.specs.declared.step.Step.{Step}
-use Rattle.vend_core.specs.Name.{IsMeterNo, IsName}
+use Rattle.office_rules.specs.Name.{IsMeterNo, IsName}
 use Rattle.sts_fields.specs.Moment.{IsMoment}
-use Rattle.vend_core.specs.Office.{AreNumbered, IsOffice, IsSaleRow, IsShiftRow, Office, greatest_count}
-use Rattle.vend_core.specs.declared.office.meter.Meter.{Meter}
-use Rattle.vend_core.specs.declared.office.sale.Sale.{Sale}
-use Rattle.vend_core.specs.declared.office.shift.Shift.{Shift}
+use Rattle.office_rules.specs.Office.{AreNumbered, IsOffice, IsSaleRow, IsShiftRow, Office, greatest_count}
+use Rattle.office_rules.specs.declared.office.meter.Meter.{Meter}
+use Rattle.office_rules.specs.declared.office.sale.Sale.{Sale}
+use Rattle.office_rules.specs.declared.office.shift.Shift.{Shift}
 use Rattle.book_tables.specs.row.Values.{AreMeterValues, AreSaleValues, AreShiftValues, AreStepValues, IsClosing, IsNumber}
 
 -- the number of a row is from 1 to the greatest count

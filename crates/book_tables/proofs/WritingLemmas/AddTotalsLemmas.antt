@@ -10,12 +10,12 @@ use Rattle.sqlite_schema.specs.declared.schema.Table.{Table}
 use Rattle.sts_fields.specs.Amount.{IsRepresentable}
 use Rattle.sts_fields.specs.Calendar.{month_at}
 use Rattle.one_table.proofs.ChangeLemmas.{stays_then}
-use Rattle.vend_core.specs.Decision.Edits.{applied}
-use Rattle.vend_core.specs.Office.Lookup.{greatest_of}
-use Rattle.vend_core.specs.Office.{AreNumbered, IsOffice, Office}
-use Rattle.vend_core.specs.Law.Store.{MeetsNewSale}
-use Rattle.vend_core.specs.declared.decision.change.Edit.TheVariants.{AddSale}
-use Rattle.vend_core.specs.declared.office.sale.Sale.{Sale}
+use Rattle.office_rules.specs.Decision.Edits.{applied}
+use Rattle.office_rules.specs.Office.Lookup.{greatest_of}
+use Rattle.office_rules.specs.Office.{AreNumbered, IsOffice, Office}
+use Rattle.office_rules.specs.Law.Store.{MeetsNewSale}
+use Rattle.office_rules.specs.declared.decision.change.Edit.TheVariants.{AddSale}
+use Rattle.office_rules.specs.declared.office.sale.Sale.{Sale}
 use Rattle.book_tables.specs.Holds.{HasOffice, HoldsMembers, HoldsOf}
 use Rattle.book_tables.specs.reading.Reading.{HasAllTables}
 use Rattle.book_tables.specs.row.Rows.{Rows, present_format, sale_row}

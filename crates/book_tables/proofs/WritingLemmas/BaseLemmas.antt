@@ -20,8 +20,8 @@ use Rattle.one_table.proofs.HiddenSetLemmas.{sets_hidden}
 use Rattle.one_table.proofs.TestsLemmas.{text_is}
 use Rattle.sts_fields.specs.Base.{year_of}
 use Rattle.sts_fields.specs.declared.base.Base.{Base}
-use Rattle.vend_core.specs.Decision.Edits.{with_base}
-use Rattle.vend_core.specs.declared.office.meter.Meter.{Meter}
+use Rattle.office_rules.specs.Decision.Edits.{with_base}
+use Rattle.office_rules.specs.declared.office.meter.Meter.{Meter}
 use Rattle.book_tables.specs.writing.Edited.{row_with_base}
 use Rattle.book_tables.specs.row.Rows.{base_columns, meter_columns, present_format}
 use Rattle.book_tables.specs.Tables.{meter_bases_table, meters_table}

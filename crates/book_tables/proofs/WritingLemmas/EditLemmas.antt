@@ -2,13 +2,13 @@
 use Rattle.std.proofs.Common.{◌≡◌, ◌≢◌, false, List, [], ◌∷◌, ◌++◌, None, refl, sym, ap, true≢false}
 use Rattle.std.specs.Prelude.{map}
 use Rattle.std.proofs.lemmas.Bool.{false≢true}
-use Rattle.vend_core.specs.Decision.Edits.{applied, with_row, with_rows}
-use Rattle.vend_core.specs.Office.{Office, empty_office}
-use Rattle.vend_core.specs.Law.Store.{MeetRows, Meets, MeetsRow}
-use Rattle.vend_core.specs.declared.decision.change.Edit.{Edit}
-use Rattle.vend_core.specs.declared.decision.change.Edit.TheVariants as edits
-use Rattle.vend_core.specs.declared.office.row.Row.{Row}
-use Rattle.vend_core.specs.declared.office.row.Row.TheVariants as kinds
+use Rattle.office_rules.specs.Decision.Edits.{applied, with_row, with_rows}
+use Rattle.office_rules.specs.Office.{Office, empty_office}
+use Rattle.office_rules.specs.Law.Store.{MeetRows, Meets, MeetsRow}
+use Rattle.office_rules.specs.declared.decision.change.Edit.{Edit}
+use Rattle.office_rules.specs.declared.decision.change.Edit.TheVariants as edits
+use Rattle.office_rules.specs.declared.office.row.Row.{Row}
+use Rattle.office_rules.specs.declared.office.row.Row.TheVariants as kinds
 use Rattle.book_tables.specs.writing.Edited.{edited, is_sale, no_rows, row_added, rows_added, shift_closed}
 use Rattle.book_tables.specs.row.Rows.{Rows}
 use Rattle.book_tables.specs.Stands.{AreApart, AreDatedApart, AreMembersOf, AreRowsOf, AreTotalsOf}

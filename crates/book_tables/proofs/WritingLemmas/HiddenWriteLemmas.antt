@@ -24,8 +24,8 @@ use Rattle.one_table.proofs.CastLemmas.{cast_int, cast_no_int}
 use Rattle.one_table.proofs.HiddenSetLemmas.{sets_hidden}
 use Rattle.one_table.proofs.TestsLemmas.{text_is}
 use Rattle.sts_fields.specs.Base.{year_of}
-use Rattle.vend_core.specs.Decision.Fold.{with_tariff}
-use Rattle.vend_core.specs.declared.office.meter.Meter.{Meter}
+use Rattle.office_rules.specs.Decision.Fold.{with_tariff}
+use Rattle.office_rules.specs.declared.office.meter.Meter.{Meter}
 use Rattle.book_tables.specs.writing.Edited.{row_with_tariff}
 use Rattle.book_tables.specs.row.Rows.{StepRow, meter_columns, present_format, step_columns, tariff_columns}
 use Rattle.book_tables.specs.Tables.{meters_table, tariff_steps_table, tariffs_table}

@@ -8,10 +8,10 @@ use Rattle.std.proofs.lemmas.Slice.Eq.{bytes_eq-Decides}
 use Rattle.sts_fields.specs.Base.{base_eq}
 use Rattle.sts_fields.specs.declared.base.Base.{Base}
 use Rattle.sts_fields.specs.declared.base.Base.TheVariants.{Y1993, Y2014, Y2035}
-use Rattle.vend_core.specs.Decision.Edits.{applied, one_base_more, set_meter, with_base, with_tariff}
-use Rattle.vend_core.specs.Office.{Office}
-use Rattle.vend_core.specs.declared.decision.change.Edit.TheVariants as edits
-use Rattle.vend_core.specs.declared.office.meter.Meter.{Meter}
+use Rattle.office_rules.specs.Decision.Edits.{applied, one_base_more, set_meter, with_base, with_tariff}
+use Rattle.office_rules.specs.Office.{Office}
+use Rattle.office_rules.specs.declared.decision.change.Edit.TheVariants as edits
+use Rattle.office_rules.specs.declared.office.meter.Meter.{Meter}
 use Rattle.book_tables.specs.writing.Edited.{edited}
 use Rattle.book_tables.specs.row.Rows.{Rows}
 use Rattle.book_tables.specs.Stands.{AreMembersOf}

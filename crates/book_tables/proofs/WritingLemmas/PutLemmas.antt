@@ -6,8 +6,8 @@ use Rattle.std.proofs.lemmas.Option.{same_Some}
 use Rattle.std.proofs.lemmas.Slice.Eq.{bytes_eq-Decides}
 use Rattle.sts_fields.specs.declared.base.Base.{Base}
 use Rattle.sqlite_keyed.specs.Keyed.{IsKeyedBy}
-use Rattle.vend_core.specs.Office.Lookup.{greatest_of}
-use Rattle.vend_core.specs.declared.office.sale.Sale.{Sale}
+use Rattle.office_rules.specs.Office.Lookup.{greatest_of}
+use Rattle.office_rules.specs.declared.office.sale.Sale.{Sale}
 use Rattle.book_tables.specs.row.Rows.{Rows}
 use Rattle.book_tables.specs.Stands.{AreRowsOf, AreTotalsOf, sales_in_month, sales_in_shift, sales_under, tenths_of, totals_of}
 use Rattle.book_tables.specs.declared.row.totals.Totals.{Totals}

@@ -8,9 +8,9 @@ use Rattle.std.proofs.lemmas.List.Elements.{Contains-append_cases, Contains-appe
 use Rattle.std.proofs.lemmas.Option.{same_Some}
 use Rattle.std.proofs.lemmas.Slice.Eq.{bytes_eq-Decides}
 use Rattle.tariff.specs.declared.step.Step.{Step}
-use Rattle.vend_core.specs.Decision.Edits.{applied}
-use Rattle.vend_core.specs.Office.{Office}
-use Rattle.vend_core.specs.declared.decision.change.Edit.TheVariants as edits
+use Rattle.office_rules.specs.Decision.Edits.{applied}
+use Rattle.office_rules.specs.Office.{Office}
+use Rattle.office_rules.specs.declared.decision.change.Edit.TheVariants as edits
 use Rattle.book_tables.specs.writing.Edited.{dated_rows, edited, step_rows}
 use Rattle.book_tables.specs.row.Rows.{DatedStepRow, Rows, StepRow}
 use Rattle.book_tables.specs.Stands.{AreApart, AreDatedApart, AreMembersOf, HasDatedStep, HasStep}

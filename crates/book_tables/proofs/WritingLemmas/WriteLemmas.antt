@@ -25,8 +25,8 @@ use Rattle.sqlite_trees.specs.Tree.{rowid}
 use Rattle.sqlite_trees.specs.View.{is_int}
 use Rattle.one_table.proofs.TestsLemmas.{number_is}
 use Rattle.one_table.proofs.UpdateLemmas.{sets_listed}
-use Rattle.vend_core.specs.Decision.Fold.{closed_at}
-use Rattle.vend_core.specs.declared.office.shift.Shift.{Shift}
+use Rattle.office_rules.specs.Decision.Fold.{closed_at}
+use Rattle.office_rules.specs.declared.office.shift.Shift.{Shift}
 use Rattle.book_tables.specs.writing.Edited.{shift_closed}
 use Rattle.book_tables.specs.row.Rows.{optional, present_format, shift_columns, shift_row}
 use Rattle.book_tables.specs.Tables.{shifts_table}
@@ -45,8 +45,8 @@ use Rattle.one_table.specs.Inserting.{new_row}
 use Rattle.one_table.specs.Standing.{tree_in}
 use Rattle.one_table.proofs.AppendLemmas.{appends}
 use Rattle.one_table.proofs.CastLemmas.{cast_int, cast_no_int}
-use Rattle.vend_core.specs.Office.{AreNumbered}
-use Rattle.vend_core.specs.declared.office.sale.Sale.{Sale}
+use Rattle.office_rules.specs.Office.{AreNumbered}
+use Rattle.office_rules.specs.declared.office.sale.Sale.{Sale}
 use Rattle.sts_fields.specs.Base.{year_of}
 use Rattle.sts_fields.specs.Calendar.{month_at}
 use Rattle.book_tables.specs.row.Rows.{sale_columns, sale_row}

@@ -9,8 +9,8 @@ use Rattle.sqlite.specs.declared.error.Error.{Error}
 use Rattle.sqlite_trees.specs.declared.store.Store.{Ghosts}
 use Rattle.one_table.specs.Making.{FailsToMake, made}
 use Rattle.one_table.specs.Place.{Has}
-use Rattle.vend_core.specs.Office.{IsOffice, Office, empty_office}
-use Rattle.vend_core.specs.declared.office.sale.Sale.{Sale}
+use Rattle.office_rules.specs.Office.{IsOffice, Office, empty_office}
+use Rattle.office_rules.specs.declared.office.sale.Sale.{Sale}
 use Rattle.book_tables.specs.writing.Edited.{no_rows}
 use Rattle.book_tables.specs.format.Filling.{AreHanded, IsFilling}
 use Rattle.book_tables.specs.format.Format.{HasFormat, TellsFormat}

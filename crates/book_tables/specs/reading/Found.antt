@@ -1,6 +1,6 @@
 -- What the rows have of what is looked up.
 use Rattle.std.specs.Prelude.{ℕ, List, bytes_eq, filter}
-use Rattle.vend_core.specs.declared.office.meter.Meter.{Meter}
+use Rattle.office_rules.specs.declared.office.meter.Meter.{Meter}
 use Rattle.book_tables.specs.row.Rows.{Rows}
 
 -- the rows of a tariff's name and of a meter's number

@@ -6,10 +6,10 @@ use Rattle.sts_fields.specs.Base.{year_of}
 use Rattle.sts_fields.specs.Day.{IsDay}
 use Rattle.sts_fields.specs.declared.base.Base.{Base}
 use Rattle.tariff.specs.declared.step.Step.{Step}
-use Rattle.vend_core.specs.Name.{IsName}
-use Rattle.vend_core.specs.declared.office.meter.Meter.{Meter}
-use Rattle.vend_core.specs.declared.office.sale.Sale.{Sale}
-use Rattle.vend_core.specs.declared.office.shift.Shift.{Shift}
+use Rattle.office_rules.specs.Name.{IsName}
+use Rattle.office_rules.specs.declared.office.meter.Meter.{Meter}
+use Rattle.office_rules.specs.declared.office.sale.Sale.{Sale}
+use Rattle.office_rules.specs.declared.office.shift.Shift.{Shift}
 use Rattle.book_tables.specs.Kept.{Kept, dated_steps_kept, last_ids_kept, meters_kept, month_tenths_kept, sales_kept, shift_totals_kept, shifts_kept, steps_kept, tariffs_kept}
 use Rattle.book_tables.specs.row.Rows.{number, shown_meter, shown_number, shown_sale, shown_shift, shown_step, shown_totals, tariff_columns}
 use Rattle.book_tables.specs.row.Values.{AreMeterValues, AreSaleValues, AreShiftValues, AreStepValues, AreTotalsValues, IsNumber, IsTid, IsTotal}

@@ -11,9 +11,9 @@ use Rattle.one_table.specs.ReadsOnly.{ReadsOnly}
 use Rattle.one_table.specs.declared.read_fault.ReadFault.{ReadFault}
 use Rattle.one_table.specs.declared.read_fault.ReadFault.TheVariants as fault
 use Rattle.tariff.specs.declared.step.Step.{Step}
-use Rattle.vend_core.specs.Office.{IsOffice, Office}
-use Rattle.vend_core.specs.Law.OfficeLaws.{NoneBegun}
-use Rattle.vend_core.specs.declared.office.meter.Meter.{Meter}
+use Rattle.office_rules.specs.Office.{IsOffice, Office}
+use Rattle.office_rules.specs.Office.Lookup.{NoneBegun}
+use Rattle.office_rules.specs.declared.office.meter.Meter.{Meter}
 use Rattle.book_tables.specs.Holds.{HasOffice, Holds, HoldsRows, IsKept}
 use Rattle.book_tables.specs.Kept.{Kept}
 use Rattle.book_tables.specs.row.Rows.{Rows}

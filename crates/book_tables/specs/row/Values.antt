@@ -6,12 +6,12 @@ use Rattle.sts_token.specs.Token.{AreTwentyDigits}
 use Rattle.tariff.specs.Steps.{EndFits, HasPrice}
 use Rattle.tariff.specs.Tender.{IsTender}
 use Rattle.tariff.specs.declared.step.Step.{Step}
-use Rattle.vend_core.specs.Name.{IsMeterNo, IsName, IsOperator}
+use Rattle.office_rules.specs.Name.{IsMeterNo, IsName, IsOperator}
 use Rattle.sts_fields.specs.Moment.{IsMoment}
-use Rattle.vend_core.specs.Office.{greatest_count}
-use Rattle.vend_core.specs.declared.office.meter.Meter.{Meter}
-use Rattle.vend_core.specs.declared.office.sale.Sale.{Sale}
-use Rattle.vend_core.specs.declared.office.shift.Shift.{Shift}
+use Rattle.office_rules.specs.Office.{greatest_count}
+use Rattle.office_rules.specs.declared.office.meter.Meter.{Meter}
+use Rattle.office_rules.specs.declared.office.sale.Sale.{Sale}
+use Rattle.office_rules.specs.declared.office.shift.Shift.{Shift}
 use Rattle.book_tables.specs.declared.row.totals.Totals.{Totals}
 
 -- a number from the first bound to the second

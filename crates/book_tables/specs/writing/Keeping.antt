@@ -11,7 +11,7 @@ use Rattle.one_table.specs.Numbered.{IsInOrder}
 use Rattle.sts_fields.specs.Base.{year_of}
 use Rattle.sts_fields.specs.Calendar.{month_at}
 use Rattle.sts_fields.specs.declared.base.Base.{Base}
-use Rattle.vend_core.specs.declared.office.sale.Sale.{Sale}
+use Rattle.office_rules.specs.declared.office.sale.Sale.{Sale}
 use Rattle.book_tables.specs.Holds.{rows_in, table_names}
 use Rattle.book_tables.specs.row.Rows.{DatedStepRow, StepRow, number}
 

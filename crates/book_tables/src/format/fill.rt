@@ -12,11 +12,11 @@ use crate::reading::pages::MeterRow;
 use crate::row::gathered::Gathered;
 use crate::writing::bases::add_base;
 use crate::writing::first_totals::TotalRow;
+use office_rules::Sale;
 use sqlite::{Alter, Transaction};
 use std::alloc::Global;
 use std::collections::BTreeMap;
 use sts_fields::amount_law;
-use vend_core::Sale;
 
 // Puts the rows of a table of totals in, which has none.
 fn put_all<S: Alter, K: Ord, T: TotalRow>(

@@ -15,10 +15,10 @@ use crate::format::tables::tables_after;
 use crate::reading::pages::MeterRow;
 use crate::texts::{FORMAT_SET, NEW_FORMAT};
 use crate::writing::store::{put, set};
+use office_rules::Sale;
 use one_table::make::create_tables;
 use sqlite::{Alter, Transaction};
 use std::alloc::Global;
-use vend_core::Sale;
 
 // Makes the tables that a format lacks, with nothing in them.
 fn make_missing<S: Alter>(tx: &mut Transaction<'_, S>, from: u32) -> Result<(), TableError>

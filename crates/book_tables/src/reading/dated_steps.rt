@@ -4,8 +4,8 @@ ghost use Rattle.std.specs.Prelude.{◌≡◌, IfOk};
 ghost use Rattle.sqlite.specs.State.{HasCleanDisk};
 ghost use Rattle.one_table.specs.Over.{Over};
 ghost use Rattle.sts_fields.specs.Day.{IsDay};
-ghost use Rattle.vend_core.specs.Office.Lookup.{latest};
-ghost use Rattle.vend_core.specs.Office.{IsOffice, Office};
+ghost use Rattle.office_rules.specs.Office.Lookup.{latest};
+ghost use Rattle.office_rules.specs.Office.{IsOffice, Office};
 ghost use Rattle.book_tables.specs.Kept.{dated_steps_kept};
 ghost use Rattle.book_tables.specs.reading.Questions.{the_first_day, the_steps_from};
 ghost use Rattle.book_tables.specs.reading.Reading.{HasTableRows, IsFirstDay, ReadsTable};
@@ -20,11 +20,11 @@ use crate::row::cells;
 use crate::row::record::{Record, first_record};
 use crate::row::values::dated_values;
 use crate::texts::{FIRST_DAY_UNTIL, STEPS_FROM};
+use office_rules::{TariffName, store_law};
 use sqlite::{Alter, Connection, Row};
 use std::alloc::Global;
 use sts_fields::Day;
 use tariff::{Step, Steps};
-use vend_core::{TariffName, store_law};
 
 impl Record for Day {
     ghost shown = { shown_number };

@@ -11,8 +11,8 @@ use crate::error::TableError;
 use crate::row::record::first_record;
 use crate::row::values::meter_no_values;
 use crate::texts::METER_NUMBERED;
+use office_rules::{Meter, MeterNo};
 use sqlite::{Alter, Connection};
-use vend_core::{Meter, MeterNo};
 
 /// The meter of a number.
 ///

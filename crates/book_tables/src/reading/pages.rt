@@ -1,13 +1,13 @@
 //! The record of a meter, as rows show it.
 
-ghost use Rattle.vend_core.specs.Name.{IsMeterNo};
+ghost use Rattle.office_rules.specs.Name.{IsMeterNo};
 ghost use Rattle.book_tables.specs.row.Rows.{meter_columns};
 ghost use Rattle.book_tables.specs.row.Values.{AreMeterValues};
 
 use crate::row::cells;
 use crate::row::record::Record;
+use office_rules::{Meter, MeterNo};
 use sqlite::Row;
-use vend_core::{Meter, MeterNo};
 
 /// A meter under its number.
 #[derive(Clone, Copy, Debug, PartialEq, Eq)]

@@ -11,9 +11,9 @@ use crate::error::TableError;
 use crate::reading::lists::all_records;
 use crate::row::values::{number_values, page_values};
 use crate::texts::{SALES_AFTER, SALES_OF_SHIFT};
+use office_rules::Sale;
 use sqlite::{Alter, Connection};
 use std::alloc::Global;
-use vend_core::Sale;
 
 /// A page: the first sales after a number, at most so many.
 ///

@@ -13,9 +13,9 @@ use crate::error::TableError;
 use crate::row::record::first_record;
 use crate::row::values::{last_id_values, number_values, ref_values};
 use crate::texts::{LAST_SALE_NUMBER, SALE_NUMBERED, SALE_OF_REF, SALE_OF_TID};
+use office_rules::{MeterNo, Operator, Ref, Sale};
 use sqlite::{Alter, Connection};
 use sts_fields::Base;
-use vend_core::{MeterNo, Operator, Ref, Sale};
 
 /// The sale of a number.
 ///

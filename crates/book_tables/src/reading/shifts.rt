@@ -12,8 +12,8 @@ use crate::error::TableError;
 use crate::row::record::first_record;
 use crate::row::values::{number_values, operator_values};
 use crate::texts::{LAST_SHIFT_NUMBER, OPEN_SHIFT, SHIFT_NUMBERED};
+use office_rules::{Operator, Shift};
 use sqlite::{Alter, Connection};
-use vend_core::{Operator, Shift};
 
 /// The shift of a number.
 ///

@@ -4,7 +4,7 @@ ghost use Rattle.std.specs.Prelude.{◌≡◌, ◌≢◌, ◌↔◌, ◌⊎◌, 
 ghost use Rattle.sqlite.specs.State.{HasCleanDisk};
 ghost use Rattle.one_table.specs.Over.{Over};
 ghost use Rattle.tariff.specs.Steps.{IsSteps};
-ghost use Rattle.vend_core.specs.Office.{IsOffice, Office};
+ghost use Rattle.office_rules.specs.Office.{IsOffice, Office};
 ghost use Rattle.book_tables.specs.Kept.{steps_kept, tariffs_kept};
 ghost use Rattle.book_tables.specs.reading.Questions.{the_steps, the_tariff};
 ghost use Rattle.book_tables.specs.reading.Reading.{HasTableRows, ReadsTable, SaysOfTable};
@@ -17,10 +17,10 @@ use crate::reading::lists::all_records;
 use crate::row::record::first_record;
 use crate::row::values::tariff_values;
 use crate::texts::{STEPS_OF, TARIFF_NAMED};
+use office_rules::TariffName;
 use sqlite::{Alter, Connection, Error, ErrorCode};
 use std::alloc::Global;
 use tariff::{Step, Steps, StepsFault};
-use vend_core::TariffName;
 
 /// Whether there is a tariff of a name.
 ///

@@ -3,8 +3,8 @@
 
 ghost use Rattle.std.specs.Prelude.{◌≡◌, length, map, option_map, sum_by, unwrap_or};
 ghost use Rattle.one_table.specs.Over.{Over};
-ghost use Rattle.vend_core.specs.Law.Cash.{cash_of};
-ghost use Rattle.vend_core.specs.Office.Lookup.{greatest_of};
+ghost use Rattle.office_rules.specs.Law.Cash.{cash_of};
+ghost use Rattle.office_rules.specs.Office.Lookup.{greatest_of};
 ghost use Rattle.book_tables.specs.Kept.{last_ids_kept, month_tenths_kept, shift_totals_kept};
 ghost use Rattle.book_tables.specs.reading.Questions.{the_last_id, the_month_tenths, the_shift_totals};
 ghost use Rattle.book_tables.specs.reading.Reading.{ReadsTable, SaysOfTable};
@@ -18,9 +18,9 @@ use crate::row::total_records::{Tenths, Tid};
 use crate::row::totals::Totals;
 use crate::row::values::{base_values, month_values, number_values};
 use crate::texts::{LAST_ID, MONTH_TENTHS, SHIFT_TOTALS};
+use office_rules::MeterNo;
 use sqlite::{Alter, Connection};
 use sts_fields::{Base, amount_law};
-use vend_core::MeterNo;
 
 /// The greatest identifier sold to a meter under a base.
 ///

@@ -12,18 +12,18 @@ ghost use Rattle.sts_fields.specs.Base.{year_of};
 ghost use Rattle.sts_fields.specs.Day.{IsDay};
 ghost use Rattle.sts_token.specs.Token.{AreTwentyDigits};
 ghost use Rattle.tariff.specs.Tender.{IsTender};
-ghost use Rattle.vend_core.specs.Name.{IsMeterNo, IsName, IsOperator};
+ghost use Rattle.office_rules.specs.Name.{IsMeterNo, IsName, IsOperator};
 ghost use Rattle.sts_fields.specs.Moment.{IsMoment};
 ghost use Rattle.book_tables.specs.row.ReadBack.{ReadsBack};
 ghost use Rattle.book_tables.specs.row.Rows.{number, optional, secret_of};
 ghost use Rattle.book_tables.specs.row.Values.{IsClosing, IsEnd, IsFromTo, IsKey, IsNumber, IsSoldAmount, IsTid, IsTotal};
 
+use office_rules::{GREATEST_COUNT, MeterNo, Operator, Ref, TariffName};
 use sqlite::Row;
 use sqlite::types::ValueRef;
 use sts_fields::{Amount, Base, Day, Moment, amount_law};
 use sts_token::read_key;
 use tariff::Tender;
-use vend_core::{GREATEST_COUNT, MeterNo, Operator, Ref, TariffName};
 
 // The value in a column, or NULL past the last one.
 fn value_at(row: &Row, at: usize) -> ValueRef<'_>

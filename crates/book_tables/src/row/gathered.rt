@@ -4,18 +4,18 @@ ghost use Rattle.std.specs.Prelude.{◌≡◌, ◌+◌, ◌++◌, ◌<◌, ◌�
 ghost use Rattle.std.specs.Ordering.{nat_cmp};
 ghost use Rattle.sts_fields.specs.Calendar.{month_at};
 ghost use Rattle.sts_fields.specs.declared.base.Base.{Base};
-ghost use Rattle.vend_core.specs.Office.Lookup.{greatest_of};
-ghost use Rattle.vend_core.specs.declared.office.sale.Sale.{Sale};
+ghost use Rattle.office_rules.specs.Office.Lookup.{greatest_of};
+ghost use Rattle.office_rules.specs.declared.office.sale.Sale.{Sale};
 ghost use Rattle.book_tables.specs.Stands.{sales_in_month, sales_in_shift, sales_under, tenths_of, totals_of};
 ghost use Rattle.book_tables.specs.row.Gathered.{HoldsAt, IsGathered, IsInWords, base_place, key_cmp, own_place};
 ghost use Rattle.book_tables.specs.writing.Writing.{is_in_month, is_under, no_totals, one_more, put_under};
 ghost use Rattle.book_tables.specs.declared.row.totals.Totals.{Totals};
 
 use crate::row::totals::Totals;
+use office_rules::{MeterNo, Sale};
 use std::alloc::{AllocError, Global};
 use std::collections::BTreeMap;
 use sts_fields::{Base, month_of};
-use vend_core::{MeterNo, Sale};
 
 /// The digits of a meter's number, and a year or a month.
 pub(crate) type Key = ([u8; 11], u32);

@@ -3,21 +3,21 @@
 //! A record is read of a row of its columns, in their order. There is none exactly where they are
 //! those of no record whose values keep their rules: such a row is no office's.
 
-ghost use Rattle.vend_core.specs.Decision.Requests.{IsOrder};
+ghost use Rattle.office_rules.specs.Decision.Requests.{IsOrder};
 ghost use Rattle.book_tables.specs.row.ReadBack.{ReadsBack};
 ghost use Rattle.book_tables.specs.row.Parts.{AreEntryValues, AreTokenValues, entry_columns, order_columns, shown_entry, sale_part, shown_order, shown_token, token_columns};
 ghost use Rattle.book_tables.specs.row.Rows.{shown_meter, shown_number, shown_sale, shown_shift, shown_step, tariff_columns};
 ghost use Rattle.std.specs.Prelude.{◌∷◌, [], ℕ};
 ghost use Rattle.sqlite_value.specs.Order.{column};
-ghost use Rattle.vend_core.specs.Name.{IsName};
+ghost use Rattle.office_rules.specs.Name.{IsName};
 ghost use Rattle.book_tables.specs.row.Values.{AreMeterValues, AreSaleValues, AreShiftValues, AreStepValues, IsNumber};
 
 use crate::row::cells;
 use crate::row::record::Record;
+use office_rules::{Meter, Order, Sale, Shift, TariffName};
 use sqlite::Row;
 use sts_fields::{Amount, Base, Moment};
 use tariff::Step;
-use vend_core::{Meter, Order, Sale, Shift, TariffName};
 
 // The number of a shift or of a sale.
 impl Record for u32 {

@@ -10,10 +10,10 @@ ghost use Rattle.sqlite_value.specs.Value.{owned};
 ghost use Rattle.book_tables.specs.writing.Writing.{HasRoomFor};
 
 use crate::row::totals::Totals;
+use office_rules::{Meter, MeterNo, Operator, Ref, Sale, Shift, TariffName};
 use sqlite::types::ValueRef;
 use sts_fields::{Base, Day, Moment, month_of};
 use tariff::Step;
-use vend_core::{Meter, MeterNo, Operator, Ref, Sale, Shift, TariffName};
 
 /// A whole number.
 pub(crate) fn whole(n: u32) -> ValueRef<'static>

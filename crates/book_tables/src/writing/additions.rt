@@ -15,10 +15,10 @@ use crate::row::values::{meter_values, sale_values, shift_values, step_values, t
 use crate::texts::{NEW_METER, NEW_SALE, NEW_SHIFT, NEW_STEP, NEW_TARIFF};
 use crate::writing::bases::add_base;
 use crate::writing::store::put;
+use office_rules::{Meter, MeterNo, Sale, Shift, TariffName};
 use sqlite::{Alter, Transaction};
 use sts_token::key_text;
 use tariff::Step;
-use vend_core::{Meter, MeterNo, Sale, Shift, TariffName};
 
 /// Adds a sale, with the month of its moment.
 ///

@@ -13,9 +13,9 @@ use crate::error::TableError;
 use crate::row::values::base_values;
 use crate::texts::{BASE_SET, NEW_BASE};
 use crate::writing::store::{put, set};
+use office_rules::MeterNo;
 use sqlite::{Alter, Transaction};
 use sts_fields::Base;
-use vend_core::MeterNo;
 
 /// Adds a base that the meter of a number has had.
 ///

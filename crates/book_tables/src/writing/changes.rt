@@ -9,10 +9,10 @@ use crate::error::TableError;
 use crate::row::values::{seconds, whole};
 use crate::texts::{SHIFT_CLOSED, TARIFF_SET};
 use crate::writing::store::set;
+use office_rules::{MeterNo, TariffName};
 use sqlite::types::ValueRef;
 use sqlite::{Alter, Transaction};
 use sts_fields::Moment;
-use vend_core::{MeterNo, TariffName};
 
 /// Closes the shift of a number at a moment.
 ///

@@ -12,10 +12,10 @@ use crate::error::TableError;
 use crate::row::values::dated_step_values;
 use crate::texts::NEW_DATED_STEP;
 use crate::writing::store::put;
+use office_rules::TariffName;
 use sqlite::{Alter, Error, ErrorCode, Transaction};
 use sts_fields::Day;
 use tariff::Step;
-use vend_core::TariffName;
 
 /// Adds a step of those that a tariff has from a day on, at a place, from 0.
 ///

@@ -12,9 +12,9 @@ use crate::row::totals::Totals;
 use crate::row::values::{last_id_values, month_total_values, shift_total_values};
 use crate::texts::{NEW_LAST_ID, NEW_MONTH_TENTHS, NEW_SHIFT_TOTALS};
 use crate::writing::store::put;
+use office_rules::MeterNo;
 use sqlite::{Alter, Transaction};
 use sts_fields::Base;
-use vend_core::MeterNo;
 
 /// A row of a table of running totals, with its key.
 pub(crate) trait TotalRow: Sized {

@@ -18,9 +18,9 @@ use crate::row::values::{last_id_values, sale_total_values, tenths_values};
 use crate::texts::{LAST_ID_SET, SALE_COUNTED, TENTHS_ADDED};
 use crate::writing::additions::add_sale;
 use crate::writing::merge::merge;
+use office_rules::{MeterNo, Sale};
 use sqlite::{Alter, Transaction};
 use sts_fields::{Base, amount_law};
-use vend_core::{MeterNo, Sale};
 
 /// Sets the last identifier of a meter under a base.
 ///

@@ -5,9 +5,9 @@ ghost use Rattle.books.specs.Asking.{IsAsked, ReplyAt};
 ghost use Rattle.books.specs.Keeps.{seen};
 
 use super::Books;
+use office_rules::{Moment, Reply, Request, Stamped};
 use sqlite::Alter;
 use sts_token::BlockTransform;
-use vend_core::{Moment, Reply, Request, Stamped};
 
 impl<S: Alter, T: BlockTransform> Books<S, T> {
     /// Serves a request at a moment, with the nibble of the next sale's number: that number modulo

@@ -4,10 +4,10 @@
 ghost use Rattle.std.specs.Prelude.{◌≡◌, ◌≢◌, ◌+◌, Err, IfErr, IfOk, length};
 ghost use Rattle.sqlite.specs.State.{HasCleanDisk};
 ghost use Rattle.sqlite.specs.Held.{state};
-ghost use Rattle.vend_core.specs.Decision.Edits.{applied};
-ghost use Rattle.vend_core.specs.Office.{Office};
-ghost use Rattle.vend_core.specs.Decision.Requests.{IsStamped};
-ghost use Rattle.vend_core.specs.Law.Store.{Meets};
+ghost use Rattle.office_rules.specs.Decision.Edits.{applied};
+ghost use Rattle.office_rules.specs.Office.{Office};
+ghost use Rattle.office_rules.specs.Decision.Requests.{IsStamped};
+ghost use Rattle.office_rules.specs.Law.Store.{Meets};
 ghost use Rattle.book_tables.specs.reading.Reading.{HasAllTables};
 ghost use Rattle.books.specs.Keeps.{seen};
 ghost use Rattle.book_states.specs.Others.{LeavesOthers};
@@ -16,9 +16,10 @@ ghost use Rattle.books.specs.Serving.{FailsToServe, HoldsOffice, ServesGranted, 
 use super::Books;
 use book_edits::commit;
 use book_facts::decision_of;
+use office_rules::{Edit, Refusal, Reply, Stamped, store_law};
 use sqlite::Alter;
 use sts_token::BlockTransform;
-use vend_core::{Edit, Refusal, Reply, Stamped, office_law, store_law};
+use vend_core::office_law;
 
 impl<S: Alter, T: BlockTransform> Books<S, T> {
     // Serves a request at books that are not stopped.

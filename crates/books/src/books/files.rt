@@ -3,7 +3,7 @@
 ghost use Rattle.std.specs.Prelude.{◌≡◌, false, IfErr, IfOk, IsTrue};
 ghost use Rattle.sqlite.specs.Files.{image_of};
 ghost use Rattle.vend_core.specs.Law.LifeLaws.{opened};
-ghost use Rattle.vend_core.specs.Office.{Office};
+ghost use Rattle.office_rules.specs.Office.{Office};
 ghost use Rattle.books.specs.Keeps.{BooksHaveTables, Represents, seen};
 ghost use Rattle.books.specs.Path.{OpensFiles, RefusesFiles, StandsIn};
 

@@ -9,9 +9,9 @@ ghost use Rattle.books.specs.Looking.{IsFoundAt, LooksUpBooks};
 use super::Books;
 use book_facts::{Found, Lookup, look_up};
 use book_states::has_failed;
+use office_rules::{Moment, Refusal};
 use sqlite::Alter;
 use sts_token::BlockTransform;
-use vend_core::{Moment, Refusal};
 
 impl<S: Alter, T: BlockTransform> Books<S, T> {
     /// What the office has of what is looked up, at a moment.

@@ -2,7 +2,7 @@
 
 ghost use Rattle.std.specs.Prelude.{◌≡◌, ◌⊎◌, false, None, IfOk, IfErr};
 ghost use Rattle.vend_core.specs.Law.LifeLaws.{opened};
-ghost use Rattle.vend_core.specs.Office.{empty_office};
+ghost use Rattle.office_rules.specs.Office.{empty_office};
 ghost use Rattle.books.specs.Keeps.{BooksHaveTables, Represents, seen};
 
 use crate::books::Books;

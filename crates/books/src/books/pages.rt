@@ -3,8 +3,8 @@
 ghost use Rattle.std.specs.Prelude.{◌≡◌, ◌≤◌, ◌+◌, IfOk, false, length, true};
 ghost use Rattle.sqlite.specs.State.{HasCleanDisk};
 ghost use Rattle.vend_core.specs.Law.Life.{Life, MayLeave, present};
-ghost use Rattle.vend_core.specs.Office.{Office};
-ghost use Rattle.vend_core.specs.Law.Store.{sales_above};
+ghost use Rattle.office_rules.specs.Office.{Office};
+ghost use Rattle.office_rules.specs.Law.Store.{sales_above};
 ghost use Rattle.book_tables.specs.reading.Questions.{the_sales_after};
 ghost use Rattle.book_tables.specs.reading.Seen.{ShowsAll};
 ghost use Rattle.books.specs.Keeps.{IsNextOrOneBefore, Represents, seen};
@@ -13,9 +13,9 @@ ghost use Rattle.books.specs.Reads.{ReadsBooks};
 use super::Books;
 use book_facts::page;
 use book_states::has_failed;
+use office_rules::{Refusal, Sale};
 use sqlite::Alter;
 use sts_token::BlockTransform;
-use vend_core::{Refusal, Sale};
 
 impl<S: Alter, T: BlockTransform> Books<S, T> {
     /// A page: the first sales above a number, by number, at most so many (1 to 1000).

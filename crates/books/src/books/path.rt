@@ -3,7 +3,7 @@
 ghost use Rattle.std.specs.Prelude.{◌≡◌, ◌≢◌, codes, false, Err, IfOk, IfErr, IsErrAnd};
 ghost use Rattle.sqlite_wal.specs.Files.{image_at};
 ghost use Rattle.vend_core.specs.Law.LifeLaws.{opened};
-ghost use Rattle.vend_core.specs.Office.{Office};
+ghost use Rattle.office_rules.specs.Office.{Office};
 ghost use Rattle.books.specs.Keeps.{BooksHaveTables, Represents, seen};
 ghost use Rattle.books.specs.Path.{OpensFiles, RefusedAt, RefusesPath, StandsIn};
 

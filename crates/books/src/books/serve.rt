@@ -6,9 +6,10 @@ ghost use Rattle.books.specs.Keeps.{seen};
 
 use super::Books;
 use book_states::has_failed;
+use office_rules::{Refusal, Reply, Stamped};
 use sqlite::Alter;
 use sts_token::BlockTransform;
-use vend_core::{Refusal, Reply, Stamped, life_law};
+use vend_core::life_law;
 
 impl<S: Alter, T: BlockTransform> Books<S, T> {
     /// Serves a request: its answer, or why it is refused (`docs/OFFICE.md`).

@@ -10,9 +10,10 @@ ghost use Rattle.book_states.specs.Others.{LeavesOthers};
 ghost use Rattle.books.specs.Stopping.{StopAtFailure};
 
 use super::Books;
+use office_rules::{Refusal, Reply, Stamped};
 use sqlite::Alter;
 use sts_token::BlockTransform;
-use vend_core::{Refusal, Reply, Stamped, life_law};
+use vend_core::life_law;
 
 impl<S: Alter, T: BlockTransform> Books<S, T> {
     /// Serves requests in their order, each as `serve` does: their replies.

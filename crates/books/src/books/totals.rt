@@ -11,9 +11,9 @@ use super::Books;
 use book_facts::totals;
 use book_states::has_failed;
 use book_tables::Totals;
+use office_rules::Refusal;
 use sqlite::Alter;
 use sts_token::BlockTransform;
-use vend_core::Refusal;
 
 impl<S: Alter, T: BlockTransform> Books<S, T> {
     /// The totals of the shift of a number (1 to 10^9): the count of its sales, and the sums of

@@ -2,6 +2,7 @@
 
 use crate::shown::all_shown;
 use books::{Books, OpenFault};
+use office_rules::{Reply, Stamped};
 use office_testing::both::serve_all;
 use sqlite::{Alter, Connection, FileStore, Files, Options};
 use sqlite_disk::{Disk, Fuse, Memory};
@@ -9,7 +10,6 @@ use std::alloc::{AllocError, Global};
 use std::io;
 use std::test::Fail;
 use sts_token::Plain;
-use vend_core::{Reply, Stamped};
 
 /// The bytes of a log and of a database, as a life left them.
 #[derive(Drop, PartialEq)]

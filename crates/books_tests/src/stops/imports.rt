@@ -2,11 +2,11 @@
 //! import that comes again adds the others.
 
 use crate::stops::disks::{Ended, Kept, Room, SOUND, Stopping, count, life, nothing};
+use office_rules::{Answer, Refusal, Reply, Stamped};
 use office_testing::values::{FIRST_DAY, flat_with_meters, import, stamped};
 use std::alloc::Global;
 use std::process::Abort;
 use std::test::Fail;
-use vend_core::{Answer, Refusal, Reply, Stamped};
 
 // How many meters the import has that a stop meets.
 const METERS: u32 = 30;

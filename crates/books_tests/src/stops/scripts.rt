@@ -2,9 +2,9 @@
 //! may have follow it, the one in an office that it is new to first.
 
 use office_lines::lines::{stamped_of, told};
+use office_rules::{Refusal, Reply, Stamped};
 use std::alloc::Global;
 use std::test::Fail;
-use vend_core::{Refusal, Reply, Stamped};
 
 /// Requests, and the replies that each may have.
 #[derive(Drop)]

@@ -18,11 +18,11 @@ use crate::commands::{base, offer, sell, shift};
 use crate::options::{self, with};
 use crate::said;
 use clap::{ArgMatches, Command};
+use office_rules::{MeterNo, Operator, Order};
 use papers::FileKind;
 use std::alloc::{AllocError, Global};
 use sts_fields::Base;
 use tariff::Tender;
-use vend_core::{MeterNo, Operator, Order};
 
 /// What a desk is asked.
 #[derive(Clone, Copy)]

@@ -5,8 +5,8 @@ ghost use Rattle.command_line.specs.Said.{ReadsWhat, argument_rows};
 
 use crate::options::{self, with};
 use clap::{ArgMatches, Command};
+use office_rules::Request;
 use std::alloc::{AllocError, Global};
-use vend_core::Request;
 
 /// What it does, in its help.
 pub(crate) const ABOUT: &str =

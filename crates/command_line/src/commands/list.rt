@@ -9,9 +9,9 @@ ghost use Rattle.command_line.specs.Values.{SaysMeterNo, SaysTariff};
 use crate::options::{self, option, with};
 use crate::{said, values};
 use clap::{Arg, ArgMatches, Command};
+use office_rules::{MeterNo, TariffName};
 use std::alloc::{AllocError, Global};
 use sts_fields::Moment;
-use vend_core::{MeterNo, TariffName};
 
 /// What it does, in its help.
 pub(crate) const ABOUT: &str =

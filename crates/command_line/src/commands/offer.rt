@@ -6,10 +6,10 @@ ghost use Rattle.command_line.specs.Said.{ReadsWhat, argument_rows};
 
 use crate::options::{self, with};
 use clap::{Arg, ArgMatches, Command};
+use office_rules::MeterNo;
 use std::alloc::{AllocError, Global};
 use sts_fields::Moment;
 use tariff::Tender;
-use vend_core::MeterNo;
 
 /// What it does, in its help.
 pub(crate) const ABOUT: &str =

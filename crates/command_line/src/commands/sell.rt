@@ -6,8 +6,8 @@ ghost use Rattle.command_line.specs.Said.{ReadsWhat, argument_rows};
 
 use crate::options::{self, needed, with};
 use clap::{Arg, ArgMatches, Command};
+use office_rules::{Order, Request};
 use std::alloc::{AllocError, Global};
-use vend_core::{Order, Request};
 
 /// What it does, in its help.
 pub(crate) const ABOUT: &str =

@@ -8,9 +8,9 @@ ghost use Rattle.command_line.specs.Said.{ReadsWhat, argument_rows};
 use crate::options::{self, option, with};
 use crate::said;
 use clap::{Arg, ArgMatches, Command};
+use office_rules::{MeterNo, Operator, Ref};
 use std::alloc::{AllocError, Global};
 use sts_fields::Moment;
-use vend_core::{MeterNo, Operator, Ref};
 
 /// What it does, in its help.
 pub(crate) const ABOUT: &str =

@@ -1,10 +1,11 @@
 //! An office that is nearly full.
+use office_decisions::decide;
 use office_lines::values::{FIRST_DAY, METER, flat, meter, moment, operator, order, stamped};
+use office_rules::{Answer, Facts, MeterAccount, Refusal, Shift};
 use std::alloc::Global;
 use std::test::Fail;
 use sts_fields::Base;
 use sts_token::Plain;
-use vend_core::{Answer, Facts, MeterAccount, Refusal, Shift, decide};
 
 // The number of the sale that is decided where there are so many, or the refusal.
 fn next_sale(alloc: Global, sale_count: u64) -> Result<Result<u32, Refusal>, Fail> {

@@ -1,12 +1,13 @@
 //! Imports over plain vectors at their greatest size.
 
 use office_lines::values::{FIRST_DAY, METER, import, meter, meter_no, stamped, tariff_name};
+use office_rules::{Answer, Row, Rows};
 use std::alloc::Global;
 use std::test::Fail;
 use sts_fields::{Base, Day};
 use sts_token::Plain;
 use tariff::{Step, Steps};
-use vend_core::{Answer, Lists, Row, Rows};
+use vend_core::Lists;
 
 // How many rows were new.
 fn imported(lists: &mut Lists<Plain>, rows: Vec<Row>) -> Result<u32, Fail> {

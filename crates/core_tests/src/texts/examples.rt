@@ -1,7 +1,7 @@
 //! The sales and the shift of the examples of `docs/TEXTS.md`.
+use office_rules::{MeterNo, Operator, Ref, Sale, Shift, Tender};
 use std::test::Fail;
 use sts_fields::{Amount, Base, Moment};
-use vend_core::{MeterNo, Operator, Ref, Sale, Shift, Tender};
 
 // The first sale of the examples: a tenth of a kWh for ten cents.
 pub(crate) fn first_sale() -> Result<Sale, Fail> {

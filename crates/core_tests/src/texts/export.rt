@@ -1,10 +1,10 @@
 //! The sales export.
 use crate::texts::examples::first_sale;
 use crate::texts::printed::put_export;
+use office_rules::Sale;
 use std::alloc::Global;
 use std::process::Abort;
 use std::test::Fail;
-use vend_core::Sale;
 
 fn header() -> &'static str {
     "number,moment,shift,operator,ref,meter,base,tid,tenths,price,tender,change,token\n"

@@ -1,10 +1,10 @@
 //! Files of meters and of tariffs, whose steps may have a first day.
 
 use office_lines::lines::stamped_of;
+use office_rules::{Request, Rows};
 use papers::{RowFault, read_meters, read_tariffs};
 use std::alloc::{AllocError, Global};
 use std::test::Fail;
-use vend_core::{Request, Rows};
 
 // Files, each with its rows as a line of `tools/oracle` has them, or its first fault. In a file `'`
 // stands for `"`, `|` for a line feed, `~` for a carriage return and a line feed, and `^` for the

@@ -1,11 +1,11 @@
 //! Writers that take a part of what they are given, and then fail.
 use crate::texts::examples::{first_sale, first_shift};
 use crate::texts::printed::{put_export, put_receipt, put_report, receipt_of};
+use office_rules::Sale;
 use papers::TextFault;
 use std::io::{self, Write};
 use std::process::Abort;
 use std::test::Fail;
-use vend_core::Sale;
 
 // Takes so many bytes, at most three a call, and then fails.
 #[derive(Drop)]

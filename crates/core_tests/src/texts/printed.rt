@@ -1,12 +1,12 @@
 //! What is printed, by functions without a clause, so that the proof of a test does not carry what
 //! `papers` promises. Each paper is printed twice, by itself and behind other bytes.
 
+use office_rules::{Sale, Shift};
 use papers::{TextFault, receipt, receipt_text, sales_csv, shift_report, shift_text};
 use std::alloc::Global;
 use std::io::Write;
 use std::process::Abort;
 use std::test::Fail;
-use vend_core::{Sale, Shift};
 
 pub(crate) fn receipt_of(alloc: Global, sale: &Sale) -> Result<Vec<u8>, Fail> {
     Ok(receipt(alloc, sale)?)

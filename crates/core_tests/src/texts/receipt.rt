@@ -1,9 +1,9 @@
 //! The receipt.
 use crate::texts::examples::{first_sale, large_sale};
 use crate::texts::printed::{before, is_paper, put_receipt, receipt_of};
+use office_rules::Sale;
 use std::process::Abort;
 use std::test::Fail;
-use vend_core::Sale;
 
 fn first() -> &'static str {
     "\

@@ -1,11 +1,11 @@
 //! The shift report.
 use crate::texts::examples::{first_sale, first_shift, large_sale};
 use crate::texts::printed::{before, is_paper, put_report, report_of};
+use office_rules::{Sale, Shift};
 use std::alloc::Global;
 use std::process::Abort;
 use std::test::Fail;
 use sts_fields::Moment;
-use vend_core::{Sale, Shift};
 
 fn closed() -> &'static str {
     "\

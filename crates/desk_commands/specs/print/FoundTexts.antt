@@ -6,14 +6,14 @@ use Rattle.book_facts.specs.declared.lookup.Lookup.{Lookup}
 use Rattle.book_facts.specs.declared.lookup.Lookup.TheVariants as lookups
 use Rattle.book_facts.specs.declared.lookup.MeterSummary.{MeterSummary}
 use Rattle.book_facts.specs.declared.lookup.Quote.{Quote}
-use Rattle.desk.specs.declared.reply.form.Form.TheVariants.{Json}
-use Rattle.desk.specs.reply.Body.{found_body}
+use Rattle.desk_messages.specs.declared.reply.form.Form.TheVariants.{Json}
+use Rattle.desk_messages.specs.reply.Body.{found_body}
 use Rattle.papers.specs.Export.{export_of}
 use Rattle.papers.specs.Receipt.{receipt_of}
 use Rattle.sts_fields.specs.Base.{year_of}
 use Rattle.sts_fields.specs.Text.{Text}
 use Rattle.tariff.specs.declared.bought.Buy.{Buy}
-use Rattle.vend_core.specs.declared.office.sale.Sale.{Sale}
+use Rattle.office_rules.specs.declared.office.sale.Sale.{Sale}
 use Rattle.vend_ports.specs.print.Printed.{quote_line, row_of}
 
 -- the number of a sale, or a hyphen where there is none

@@ -7,7 +7,7 @@ use Rattle.book_facts.specs.declared.lookup.LaterSteps.{LaterSteps}
 use Rattle.book_facts.specs.declared.lookup.ListedMeter.{ListedMeter}
 use Rattle.book_facts.specs.declared.lookup.ListedShift.{ListedShift}
 use Rattle.book_facts.specs.declared.lookup.ListedTariff.{ListedTariff}
-use Rattle.desk.specs.reply.Lists.{day_text}
+use Rattle.desk_messages.specs.reply.Lists.{day_text}
 use Rattle.papers.specs.Export.{export_of}
 use Rattle.sts_fields.specs.Base.{year_of}
 use Rattle.sts_fields.specs.Text.{Text}

@@ -10,11 +10,11 @@ ghost use Rattle.book_facts.specs.declared.lookup.Found.TheVariants.{Sale as Fou
 use crate::print::page::json_line;
 use book_facts::{Found, Lookup, MeterSummary, Quote};
 use itoa::Buffer;
+use office_rules::Sale;
 use papers::{export, receipt_in_place};
 use std::alloc::{AllocError, Global};
 use std::io::Write;
 use tariff::Buy;
-use vend_core::Sale;
 use vend_ports::{Watched, put_quote, put_row};
 
 /// Prints what was found, as JSON or as lines. Only JSON and an export may find no room, and then

@@ -7,10 +7,10 @@ ghost use Rattle.desk_commands.specs.print.ListTexts.{later_line};
 
 use crate::print::table::{Member, put_fields};
 use book_facts::{LaterSteps, ListedMeter, ListedShift, ListedTariff};
-use desk::{put_day, put_steps};
+use desk_messages::{put_day, put_steps};
 use itoa::Buffer;
+use office_rules::Moment;
 use std::alloc::{AllocError, Global};
-use vend_core::Moment;
 
 impl Member for ListedTariff {
     ghost use Rattle.desk_commands.specs.print.ListTexts.{tariff_lines};

@@ -6,7 +6,7 @@ ghost use Rattle.desk_commands.specs.print.ListTexts.{page_text};
 
 use crate::print::table::table;
 use book_facts::Found;
-use desk::found_json;
+use desk_messages::found_json;
 use papers::export;
 use std::alloc::{AllocError, Global};
 

@@ -3,8 +3,8 @@ use Rattle.std.specs.Prelude.{ℕ, List, ◌++◌, codes, decimal}
 use Rattle.papers.specs.Text.{change_of}
 use Rattle.sts_fields.specs.Base.{year_of}
 use Rattle.sts_token.specs.Token.{AreTwentyDigits}
-use Rattle.vend_core.specs.Name.{IsMeterNo, IsName, IsOperator}
-use Rattle.vend_core.specs.declared.office.sale.Sale.{Sale}
+use Rattle.office_rules.specs.Name.{IsMeterNo, IsName, IsOperator}
+use Rattle.office_rules.specs.declared.office.sale.Sale.{Sale}
 
 -- a sale whose names keep their rules and whose token has twenty digits, as each of an office
 pub record IsTellableSale (s : Sale) : Type 0 where

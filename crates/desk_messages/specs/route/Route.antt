@@ -3,7 +3,7 @@ use Rattle.std.specs.Prelude.{◌≡◌, ◌≢◌, ℕ, ◌≤◌, List, Some, 
 use Rattle.matchit.specs.Router.{RouteOf}
 use Rattle.matchit.specs.Seek.{first}
 use Rattle.tariff.specs.Tender.{IsTender}
-use Rattle.vend_core.specs.Name.{IsMeterNo, IsName, IsOperator}
+use Rattle.office_rules.specs.Name.{IsMeterNo, IsName, IsOperator}
 use Rattle.book_facts.specs.declared.lookup.Lookup.{Lookup}
 use Rattle.book_facts.specs.declared.lookup.Lookup.TheVariants as lookups
 use Rattle.conversation.specs.declared.message.method.Method.{Method}

@@ -1,4 +1,4 @@
-use vend_core::{MeterNo, TariffName};
+use office_rules::{MeterNo, TariffName};
 
 /// What an object of JSON is to say. Each route that is asked by JSON has one of these, so that no
 /// route is without a rule for its body.

@@ -5,16 +5,16 @@ ghost use Rattle.serde_json.specs.View.{view};
 ghost use Rattle.desk_messages.specs.json_body.Body.{IsBaseAt, IsDayAt, IsKeyAt, IsStepsAt};
 ghost use Rattle.desk_messages.specs.Reads.{IsFound, IsFoundIn, ReadsWritten};
 ghost use Rattle.tariff.specs.Tender.{IsTender};
-ghost use Rattle.vend_core.specs.Name.{IsMeterNo, IsName, IsOperator};
+ghost use Rattle.office_rules.specs.Name.{IsMeterNo, IsName, IsOperator};
 
 use crate::body_fault::BodyFault;
 use crate::json_body::value::{number_at, text_at};
+use office_rules::{MeterNo, Operator, Ref, TariffName, Tender};
 use serde_json::Value;
 use std::alloc::Global;
 use sts_fields::{Base, Day};
 use sts_token::read_key;
 use tariff::{Steps, StepsFault};
-use vend_core::{MeterNo, Operator, Ref, TariffName, Tender};
 
 // The number of a meter that the member of a name is.
 pub(crate) fn meter_at(value: &Value, name: &str) -> Option<MeterNo>

@@ -8,11 +8,11 @@ use crate::json_body::names::{
     base_at, day_at, key_at, meter_at, operator_at, ref_at, steps_at, tariff_at, tender_at,
 };
 use crate::json_body::value::has_count;
+use office_rules::{Meter, MeterNo, Operator, Order, Request, TariffName};
 use serde_json::Value;
 use std::alloc::Global;
 use sts_fields::{Base, Day};
 use tariff::Steps;
-use vend_core::{Meter, MeterNo, Operator, Order, Request, TariffName};
 
 // The request that a value says.
 pub(crate) fn said(alloc: Global, kind: JsonKind, value: &Value) -> Result<Request, BodyFault>

@@ -10,9 +10,9 @@ use crate::reply::outcome::Outcome;
 use crate::reply::pages::{meters_body, sales_body, shifts_body, tariffs_body};
 use crate::reply::sale_text::{change, seconds};
 use book_facts::Found;
+use office_rules::{Answer, Category, Refusal, Sale};
 use papers::{receipt, shift_report};
 use std::alloc::{AllocError, Global};
-use vend_core::{Answer, Category, Refusal, Sale};
 
 // The body for what came of a message.
 pub(crate) fn body_of(alloc: Global, outcome: &Outcome) -> Result<Vec<u8>, AllocError>

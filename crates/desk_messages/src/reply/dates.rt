@@ -5,9 +5,9 @@ ghost use Rattle.sts_fields.specs.Calendar.{IsWithinRanges, civil_at};
 ghost use Rattle.sts_fields.specs.Day.{two_digits};
 ghost use Rattle.desk_messages.specs.reply.Lists.{beginning, day_text};
 
+use office_rules::Moment;
 use std::alloc::AllocError;
 use sts_fields::{Day, civil};
-use vend_core::Moment;
 
 // The seconds of a day.
 const DAY_LENGTH: i64 = 86_400;

@@ -6,7 +6,7 @@ use crate::desk_fault::DeskFault;
 use crate::reply::form::Form;
 use crate::reply::outcome::Outcome;
 use conversation::Method;
-use vend_core::{Category, Refusal};
+use office_rules::{Category, Refusal};
 
 // What the head of a reply says besides the length of the body.
 #[derive(Clone, Copy)]

@@ -5,7 +5,7 @@ ghost use Rattle.sts_fields.specs.Day.{IsDay, IsDayText};
 ghost use Rattle.tariff.specs.Steps.{IsSteps};
 ghost use Rattle.tariff.specs.StepsText.{IsStepsText, steps_text};
 ghost use Rattle.tariff.specs.declared.step.Step.{Step};
-ghost use Rattle.vend_core.specs.Name.{IsMeterNo, IsName, IsOperator};
+ghost use Rattle.office_rules.specs.Name.{IsMeterNo, IsName, IsOperator};
 ghost use Rattle.book_facts.specs.declared.lookup.LaterSteps.{LaterSteps};
 ghost use Rattle.book_facts.specs.declared.lookup.ListedMeter.{ListedMeter};
 ghost use Rattle.book_facts.specs.declared.lookup.ListedShift.{ListedShift};
@@ -14,7 +14,7 @@ ghost use Rattle.desk_messages.specs.reply.Members.{array_of, json_text};
 ghost use Rattle.desk_messages.specs.reply.Body.{sale_data, sale_members};
 ghost use Rattle.desk_messages.specs.reply.Lists.{array_text, day_text, later_data, later_text, list_members, list_text, listed_meter_data, listed_meter_text, listed_shift_data, listed_shift_text, tariff_data, tariff_text};
 ghost use Rattle.desk_messages.specs.reply.SaleText.{IsTellableSale, sale_text};
-ghost use Rattle.vend_core.specs.declared.office.sale.Sale.{Sale};
+ghost use Rattle.office_rules.specs.declared.office.sale.Sale.{Sale};
 
 use sts_fields::{calendar_law, day_law};
 use tariff::steps_text_law;

@@ -2,7 +2,7 @@ use crate::desk_fault::DeskFault;
 use crate::reply::form::Form;
 use book_facts::Found;
 use conversation::MessageFault;
-use vend_core::{Refusal, Reply};
+use office_rules::{Refusal, Reply};
 
 /// What comes of a message, which its reply tells.
 #[derive(Debug, Drop)]

@@ -12,8 +12,8 @@ use crate::reply::dates::put_day;
 use crate::reply::sale_text::{sale_text, seconds};
 use crate::reply::steps_text::put_steps;
 use book_facts::{LaterSteps, ListedMeter, ListedShift, ListedTariff};
+use office_rules::{Moment, Sale};
 use std::alloc::{AllocError, Global};
-use vend_core::{Moment, Sale};
 
 // A page of the tariffs.
 pub(crate) fn tariffs_body(alloc: Global, page: &[ListedTariff]) -> Result<Vec<u8>, AllocError>

@@ -10,7 +10,7 @@ ghost use Rattle.desk_messages.specs.reply.Body.{sale_members};
 
 use arrayvec::ArrayVec;
 use itoa::Buffer;
-use vend_core::{Moment, Sale};
+use office_rules::{Moment, Sale};
 
 // The text of a sale has this room, and needs less.
 pub(crate) const SALE_ROOM: usize = 400;

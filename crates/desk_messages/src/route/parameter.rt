@@ -3,11 +3,11 @@ ghost use Rattle.desk_messages.specs.Reads.{IsFound, ReadsWritten};
 ghost use Rattle.desk_messages.specs.route.Endpoint.{HasParameter, LacksSlash, filled, pattern_of, quote_target, sale_target};
 ghost use Rattle.desk_messages.specs.route.Route.{IsPageStart, IsTargetNumber};
 ghost use Rattle.tariff.specs.Tender.{IsTender};
-ghost use Rattle.vend_core.specs.Name.{IsMeterNo, IsName, IsOperator};
+ghost use Rattle.office_rules.specs.Name.{IsMeterNo, IsName, IsOperator};
 
 use crate::route::endpoint::Endpoint;
+use office_rules::{GREATEST_COUNT, MeterNo, Operator, Ref, TariffName, Tender};
 use std::str;
-use vend_core::{GREATEST_COUNT, MeterNo, Operator, Ref, TariffName, Tender};
 
 // The greatest number that a target may name.
 const GREATEST: u32 = GREATEST_COUNT as u32;

@@ -2,7 +2,7 @@
 use Rattle.std.specs.Prelude.{ℕ}
 use Rattle.sqlite_trees.specs.declared.store.Store.{Ghosts}
 use Rattle.sts_fields.specs.Text.{Text}
-use Rattle.vend_core.specs.declared.decision.request.Request.{Request}
+use Rattle.office_rules.specs.declared.decision.request.Request.{Request}
 use Rattle.office_commands.specs.port.Places.{Places}
 use Rattle.office_commands.specs.office.Served.{IsServedAndTold}
 use Rattle.vend_ports.specs.print.Told.{Outputs}

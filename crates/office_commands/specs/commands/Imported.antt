@@ -5,10 +5,10 @@ use Rattle.papers.specs.File.{AreFileRecords, Fields}
 use Rattle.papers.specs.Import.{IsReading}
 use Rattle.papers.specs.declared.row_fault.RowFault.{RowFault}
 use Rattle.papers.specs.declared.row_fault.RowFault.TheVariants.{At, Memory}
-use Rattle.vend_core.specs.declared.decision.refusal.Refusal.{Refusal}
-use Rattle.vend_core.specs.declared.decision.refusal.Refusal.TheVariants as refusal
-use Rattle.vend_core.specs.declared.decision.request.Request.TheVariants.{Import}
-use Rattle.vend_core.specs.declared.office.row.Row.{Row}
+use Rattle.office_rules.specs.declared.decision.refusal.Refusal.{Refusal}
+use Rattle.office_rules.specs.declared.decision.refusal.Refusal.TheVariants as refusal
+use Rattle.office_rules.specs.declared.decision.request.Request.TheVariants.{Import}
+use Rattle.office_rules.specs.declared.office.row.Row.{Row}
 use Rattle.office_commands.specs.port.Places.{Places}
 use Rattle.vend_ports.specs.port.Texts.{Texts}
 use Rattle.vend_ports.specs.print.Printed.{read_fault_line, refusal_line}

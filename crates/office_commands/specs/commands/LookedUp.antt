@@ -13,11 +13,11 @@ use Rattle.command_line.specs.declared.commands.show.Shown.TheVariants as shown
 use Rattle.command_line.specs.declared.transform.Shipped.TheVariants.{Plain}
 use Rattle.sts_fields.specs.Text.{Text}
 use Rattle.tariff.specs.Purchase.{purchase_of}
-use Rattle.vend_core.specs.Decision.{MeterAccount, account_of}
+use Rattle.office_rules.specs.Decision.{MeterAccount, account_of}
 use Rattle.vend_core.specs.Law.Life.{Life}
-use Rattle.vend_core.specs.Office.{Office}
-use Rattle.vend_core.specs.declared.decision.refusal.Refusal.{Refusal}
-use Rattle.vend_core.specs.declared.decision.refusal.Refusal.TheVariants.{Memory}
+use Rattle.office_rules.specs.Office.{Office}
+use Rattle.office_rules.specs.declared.decision.refusal.Refusal.{Refusal}
+use Rattle.office_rules.specs.declared.decision.refusal.Refusal.TheVariants.{Memory}
 use Rattle.vend_ports.specs.commands.Timed.{IsTimed}
 use Rattle.office_commands.specs.office.Visited.{IsVisited}
 use Rattle.vend_ports.specs.port.Dial.{Dial}

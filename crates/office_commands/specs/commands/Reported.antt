@@ -3,7 +3,7 @@ use Rattle.std.specs.Prelude.{[]}
 use Rattle.sqlite_trees.specs.declared.store.Store.{Ghosts}
 use Rattle.sts_fields.specs.Moment.{first_moment}
 use Rattle.books.specs.Keeps.{Seen}
-use Rattle.vend_core.specs.declared.decision.request.Request.TheVariants.{Reprint, ShiftReport}
+use Rattle.office_rules.specs.declared.decision.request.Request.TheVariants.{Reprint, ShiftReport}
 use Rattle.office_commands.specs.print.Exported.{IsExported}
 use Rattle.vend_ports.specs.print.Printed.{file_line}
 use Rattle.office_commands.specs.port.Places.{Places, where_present}

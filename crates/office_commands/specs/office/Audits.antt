@@ -12,7 +12,7 @@ use Rattle.sqlite_wal.specs.Recovery.{Image}
 use Rattle.one_table.specs.Standing.{tree_in}
 use Rattle.sts_token.specs.Token.{BlockFunction}
 use Rattle.vend_core.specs.Law.Reached.{IsPlausible}
-use Rattle.vend_core.specs.Office.{Office}
+use Rattle.office_rules.specs.Office.{Office}
 use Rattle.book_tables.specs.Holds.{StandsFor, rows_in}
 use Rattle.book_tables.specs.Kept.{shifts_kept}
 use Rattle.audit_rows.specs.declared.finding.AuditFault.{AuditFault}

@@ -3,8 +3,8 @@ use Rattle.std.specs.Prelude.{◌≡◌, ◌⊎◌, ◌↔◌, true, false}
 use Rattle.sqlite.specs.State.{HasCleanDisk}
 use Rattle.books.specs.Failing.{IsToldOfRead}
 use Rattle.books.specs.Keeps.{BooksHaveTables, Seen}
-use Rattle.vend_core.specs.declared.decision.refusal.Refusal.{Refusal}
-use Rattle.vend_core.specs.declared.decision.refusal.Refusal.TheVariants.{Stopped, Store}
+use Rattle.office_rules.specs.declared.decision.refusal.Refusal.{Refusal}
+use Rattle.office_rules.specs.declared.decision.refusal.Refusal.TheVariants.{Stopped, Store}
 
 -- The books are told to be stopped exactly where they were. They are stopped from then on exactly
 -- where that is told, or that the store failed.

@@ -11,7 +11,7 @@ use Rattle.sqlite.specs.State.{HasCleanDisk, IsLive, Opens, State}
 use Rattle.sqlite_trees.specs.Tree.{Trees}
 use Rattle.sts_token.specs.Token.{BlockFunction}
 use Rattle.vend_core.specs.Law.LifeLaws.{opened}
-use Rattle.vend_core.specs.Office.{Office}
+use Rattle.office_rules.specs.Office.{Office}
 
 -- A connection was opened with what another one may have left, and a crash leaves nothing else. No
 -- limit on the steps of a statement is set.

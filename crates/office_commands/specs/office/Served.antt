@@ -5,11 +5,11 @@ use Rattle.books.specs.Keeps.{Seen}
 use Rattle.papers.specs.Receipt.{receipt_of}
 use Rattle.papers.specs.Report.{report_of}
 use Rattle.sts_fields.specs.Text.{Text}
-use Rattle.vend_core.specs.declared.decision.answer.Answer as core
-use Rattle.vend_core.specs.declared.decision.answer.Answer.TheVariants.{Done, Imported, Opened, Closed, Sold, Reprinted, Report}
-use Rattle.vend_core.specs.declared.decision.refusal.Refusal.{Refusal}
-use Rattle.vend_core.specs.declared.decision.refusal.Refusal.TheVariants.{Memory}
-use Rattle.vend_core.specs.declared.decision.request.Request.{Request}
+use Rattle.office_rules.specs.declared.decision.answer.Answer as core
+use Rattle.office_rules.specs.declared.decision.answer.Answer.TheVariants.{Done, Imported, Opened, Closed, Sold, Reprinted, Report}
+use Rattle.office_rules.specs.declared.decision.refusal.Refusal.{Refusal}
+use Rattle.office_rules.specs.declared.decision.refusal.Refusal.TheVariants.{Memory}
+use Rattle.office_rules.specs.declared.decision.request.Request.{Request}
 use Rattle.vend_ports.specs.print.Printed.{added_line, done_line, refusal_line, shift_line}
 use Rattle.vend_ports.specs.print.Told.{Outputs, IsTold}
 use Rattle.vend_ports.specs.declared.command_end.CommandEnd.{CommandEnd}

@@ -9,7 +9,7 @@ use Rattle.book_opening.specs.declared.fault.OpenFault.{OpenFault}
 use Rattle.command_line.specs.Transform.{forward_of, shipped}
 use Rattle.command_line.specs.declared.transform.Shipped.{Shipped}
 use Rattle.vend_core.specs.Law.LifeLaws.{opened}
-use Rattle.vend_core.specs.Office.{Office}
+use Rattle.office_rules.specs.Office.{Office}
 use Rattle.office_commands.specs.port.Places.{Place}
 use Rattle.office_commands.specs.print.Opening.{opening_line}
 use Rattle.vend_ports.specs.print.Told.{Outputs, IsTold}

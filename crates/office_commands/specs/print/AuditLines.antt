@@ -15,7 +15,7 @@ use Rattle.audit_rows.specs.declared.finding.Rule.{Rule}
 use Rattle.audit_rows.specs.declared.finding.Rule.TheVariants as rule
 use Rattle.sts_fields.specs.Base.{year_of}
 use Rattle.sts_fields.specs.Text.{Text}
-use Rattle.vend_core.specs.Name.{IsName}
+use Rattle.office_rules.specs.Name.{IsName}
 use Rattle.vend_ports.specs.print.Printed.{line_of}
 
 -- the file stands for an office: of this format, with so many of each

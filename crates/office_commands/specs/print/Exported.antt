@@ -5,9 +5,9 @@ use Rattle.books.specs.Keeps.{Represents, Seen}
 use Rattle.papers.specs.Export.{export_of}
 use Rattle.sts_fields.specs.Text.{Text}
 use Rattle.vend_core.specs.Law.Life.{Life, present}
-use Rattle.vend_core.specs.declared.decision.refusal.Refusal.{Refusal}
-use Rattle.vend_core.specs.declared.decision.refusal.Refusal.TheVariants.{Memory, Stopped, Store}
-use Rattle.vend_core.specs.declared.office.sale.Sale.{Sale}
+use Rattle.office_rules.specs.declared.decision.refusal.Refusal.{Refusal}
+use Rattle.office_rules.specs.declared.decision.refusal.Refusal.TheVariants.{Memory, Stopped, Store}
+use Rattle.office_rules.specs.declared.office.sale.Sale.{Sale}
 use Rattle.vend_ports.specs.print.Printed.{refusal_line}
 use Rattle.office_commands.specs.office.OnlyRead.{AreOnlyRead}
 use Rattle.office_commands.specs.office.Refused.{RefusesToRead, TellsStopped}

@@ -6,7 +6,7 @@ use Rattle.book_facts.specs.declared.lookup.Found.{Found}
 use Rattle.books.specs.Keeps.{Represents, Seen}
 use Rattle.command_line.specs.declared.commands.list.Listed.{Listed}
 use Rattle.vend_core.specs.Law.Life.{Life, present}
-use Rattle.vend_core.specs.declared.decision.refusal.Refusal.{Refusal}
+use Rattle.office_rules.specs.declared.decision.refusal.Refusal.{Refusal}
 use Rattle.office_commands.specs.office.OnlyRead.{AreOnlyRead}
 use Rattle.office_commands.specs.office.Refused.{TellsStopped}
 use Rattle.office_commands.specs.print.Exported.{IsPageRefusal, export_stop_end, stop_errors}

@@ -5,8 +5,8 @@ use Rattle.book_tables.specs.declared.row.totals.Totals.{Totals}
 use Rattle.books.specs.Keeps.{Represents, Seen}
 use Rattle.books.specs.Totals.{shift_totals}
 use Rattle.vend_core.specs.Law.Life.{Life, present}
-use Rattle.vend_core.specs.declared.decision.refusal.Refusal.{Refusal}
-use Rattle.vend_core.specs.declared.decision.refusal.Refusal.TheVariants.{NoSuchShift}
+use Rattle.office_rules.specs.declared.decision.refusal.Refusal.{Refusal}
+use Rattle.office_rules.specs.declared.decision.refusal.Refusal.TheVariants.{NoSuchShift}
 use Rattle.desk_commands.specs.print.TotalsLine.{totals_line}
 use Rattle.vend_ports.specs.print.Printed.{refusal_line}
 use Rattle.office_commands.specs.office.OnlyRead.{AreOnlyRead}

@@ -12,13 +12,13 @@ use crate::commands::request::ask_at;
 use crate::port::ports::OfficeFile;
 use command_line::{ImportWords, RequestWords};
 use conversation::Clock;
+use office_rules::{Refusal, Request, Rows};
 use papers::{FileKind, RowFault, read_meters, read_tariffs};
 use sqlite::FileStore;
 use sqlite_trees::store::Store;
 use std::alloc::Global;
 use std::io::Write;
 use sts_fields::Moment;
-use vend_core::{Refusal, Request, Rows};
 use vend_ports::{
     CommandEnd, TextFiles, Watched, moment_or_now, put_no_moment, put_read_fault, put_refusal,
 };

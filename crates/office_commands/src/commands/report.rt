@@ -14,12 +14,12 @@ use crate::print::sales::print_sales;
 use crate::print::totals::print_totals;
 use books::Books;
 use command_line::{Paper, ReportWords, Shipped};
+use office_rules::Request;
 use sqlite::{Alter, FileStore};
 use sqlite_trees::store::Store;
 use std::alloc::Global;
 use std::io::Write;
 use sts_fields::Moment;
-use vend_core::Request;
 use vend_ports::{CommandEnd, Watched, put_line};
 
 /// Opens the office where its file is there, prints a paper of it, and closes its file; or tells

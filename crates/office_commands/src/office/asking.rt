@@ -6,12 +6,12 @@ ghost use Rattle.office_commands.specs.office.Served.{IsServedAndTold, TakesRoom
 ghost use Rattle.vend_ports.specs.print.Told.{Takes, outputs, sink};
 
 use books::Books;
+use office_rules::{Answer, Moment, Refusal, Request};
 use papers::{receipt_in_place, shift_report};
 use sqlite::Alter;
 use std::alloc::{AllocError, Global};
 use std::io::Write;
 use sts_token::BlockTransform;
-use vend_core::{Answer, Moment, Refusal, Request};
 use vend_ports::{CommandEnd, Watched, put_added, put_line, put_refusal, put_shift};
 
 /// Asks books for an answer at a moment, and prints it, or tells why it is refused.

@@ -10,11 +10,11 @@ ghost use Rattle.vend_ports.specs.print.Told.{outputs, sink};
 use books::{Books, Lookup};
 use command_line::Listed;
 use desk_commands::put_page;
+use office_rules::{Moment, Refusal};
 use sqlite::Alter;
 use std::alloc::Global;
 use std::io::Write;
 use sts_token::BlockTransform;
-use vend_core::{Moment, Refusal};
 use vend_ports::{CommandEnd, Watched, put_refusal};
 
 /// Prints the pages of a list at a moment, or tells why it stops. Where the output fails it goes no

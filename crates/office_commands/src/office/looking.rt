@@ -8,11 +8,11 @@ use crate::office::listing::list;
 use crate::office::wanted::Wanted;
 use books::{Books, Found, Lookup};
 use desk_commands::put_found;
+use office_rules::{Moment, Refusal};
 use sqlite::Alter;
 use std::alloc::Global;
 use std::io::Write;
 use sts_token::BlockTransform;
-use vend_core::{Moment, Refusal};
 use vend_ports::{CommandEnd, Watched, put_refusal};
 
 /// Prints what is wanted of books at a moment, or tells why it is not there.

@@ -10,10 +10,10 @@ ghost use Rattle.vend_ports.specs.print.Told.{Takes, sink};
 
 use audit::{Audited, Finding, Part, RowKey, Rule};
 use itoa::Buffer;
+use office_rules::Ref;
 use sqlite::Row;
 use sqlite::types::ValueRef;
 use std::io::Write;
-use vend_core::Ref;
 use vend_ports::{Watched, put_line};
 
 /// Prints what a file keeps.

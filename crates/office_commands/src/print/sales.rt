@@ -8,12 +8,13 @@ ghost use Rattle.vend_ports.specs.print.Told.{outputs, sink};
 
 use crate::port::progress::Progress;
 use books::Books;
+use office_rules::{Refusal, store_law};
 use papers::{export, export_law};
 use sqlite::Alter;
 use std::alloc::Global;
 use std::io::Write;
 use sts_token::BlockTransform;
-use vend_core::{Refusal, life_law, store_law};
+use vend_core::life_law;
 use vend_ports::{CommandEnd, Watched, put_refusal};
 
 // How many sales a page has, at most.

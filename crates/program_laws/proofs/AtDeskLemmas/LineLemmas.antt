@@ -2,19 +2,19 @@
 use Rattle.std.proofs.Common.{◌≡◌, ◌≢◌, ◌∙◌, ℕ, ℤ, pos, List, [], ◌∷◌, ◌++◌, Option, None, Some, Ok, Err, inl, inr, refl, sym, ap, subst, append-nil, arith}
 use Rattle.sts_fields.specs.Moment.{IsMoment}
 use Rattle.vend_core.specs.Law.Life.{Life}
-use Rattle.vend_core.specs.declared.decision.refusal.Refusal.TheVariants.{ImportRow}
+use Rattle.office_rules.specs.declared.decision.refusal.Refusal.TheVariants.{ImportRow}
 use Rattle.conversation.specs.Conversation.{Conversation, last_words, messages_of, replies_of}
 use Rattle.conversation.specs.Exchanges.{Exchanged, MessageExchange, Timed, timed}
 use Rattle.conversation.specs.message.Messages.{BeginsMessage, Ending, Message, Messages, ended, finished}
 use Rattle.conversation.proofs.ReadingLemmas.{one_reading}
 use Rattle.desk.specs.Answering.{Comes, answers_by, life_serves, message_refusal_of}
-use Rattle.desk.specs.Meaning.{IsFor, IsIdle}
-use Rattle.desk.specs.declared.desk_fault.DeskFault.{DeskFault}
-use Rattle.desk.specs.declared.desk_fault.DeskFault.TheVariants as faults
-use Rattle.desk.specs.declared.reply.outcome.Outcome.{Outcome}
-use Rattle.desk.specs.declared.reply.outcome.Outcome.TheVariants as outcomes
-use Rattle.desk.specs.declared.route.Route.{Route}
-use Rattle.desk.specs.route.Route.{IsRouted}
+use Rattle.desk_messages.specs.Meaning.{IsFor, IsIdle}
+use Rattle.desk_messages.specs.declared.desk_fault.DeskFault.{DeskFault}
+use Rattle.desk_messages.specs.declared.desk_fault.DeskFault.TheVariants as faults
+use Rattle.desk_messages.specs.declared.reply.outcome.Outcome.{Outcome}
+use Rattle.desk_messages.specs.declared.reply.outcome.Outcome.TheVariants as outcomes
+use Rattle.desk_messages.specs.declared.route.Route.{Route}
+use Rattle.desk_messages.specs.route.Route.{IsRouted}
 use Rattle.desk_client.specs.Asks.{IsAskable, question_message}
 use Rattle.desk_client.specs.Question.{question_text}
 use Rattle.desk_client.specs.declared.question.Question.{Question}

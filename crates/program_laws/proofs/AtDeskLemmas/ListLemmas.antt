@@ -6,18 +6,18 @@ use Rattle.std.specs.Borrow.{Bor}
 use Rattle.sts_fields.specs.Day.{day_at}
 use Rattle.sts_fields.specs.Moment.{IsMoment}
 use Rattle.vend_core.specs.Law.Life.{IsLife, Life, present}
-use Rattle.vend_core.specs.Office.{IsOffice, Office}
-use Rattle.vend_core.specs.declared.decision.refusal.Refusal.{Refusal}
+use Rattle.office_rules.specs.Office.{IsOffice, Office}
+use Rattle.office_rules.specs.declared.decision.refusal.Refusal.{Refusal}
 use Rattle.book_facts.specs.Lookups.{Finds, FindsTariffs}
 use Rattle.book_facts.specs.declared.lookup.Found.{Found}
 use Rattle.book_facts.specs.declared.lookup.Found.TheVariants as found
 use Rattle.books.specs.Looking.{IsFoundAt}
 use Rattle.conversation.specs.Exchanges.{Timed}
-use Rattle.desk.specs.Meaning.{MessageLooks}
-use Rattle.desk.specs.declared.reply.form.Form.TheVariants as forms
-use Rattle.desk.specs.declared.reply.outcome.Outcome.{Outcome}
-use Rattle.desk.specs.declared.reply.outcome.Outcome.TheVariants as outcomes
-use Rattle.desk.specs.reply.Text.{reply_bytes_of}
+use Rattle.desk_messages.specs.Meaning.{MessageLooks}
+use Rattle.desk_messages.specs.declared.reply.form.Form.TheVariants as forms
+use Rattle.desk_messages.specs.declared.reply.outcome.Outcome.{Outcome}
+use Rattle.desk_messages.specs.declared.reply.outcome.Outcome.TheVariants as outcomes
+use Rattle.desk_messages.specs.reply.Text.{reply_bytes_of}
 use Rattle.desk_client.specs.Alike.{TellAlike}
 use Rattle.desk_client.specs.Asks.{IsAskable, question_message}
 use Rattle.desk_client.specs.Page.{AreAlike, IsToldPage}
@@ -34,11 +34,11 @@ use Rattle.desk_client.specs.declared.told.Wanted.TheVariants as wants
 use Rattle.command_line.specs.declared.commands.list.Listed.{Listed}
 use Rattle.command_line.specs.declared.commands.list.Listed.TheVariants as listed
 use Rattle.program_laws.specs.AtDesk.{AreAnsweredOn, IsAnsweredAt, IsPageOrRefusal, PrintsList}
-use Rattle.vend_commands.specs.commands.ListedAtDesk.{IsPageReply, TellPages, page_kind, page_question}
-use Rattle.vend_commands.specs.port.Exchanged.{Round}
-use Rattle.vend_commands.specs.print.ListTexts.{page_text, pages_text}
-use Rattle.vend_commands.specs.print.Listing.{ArePages, list_behind, page_lookup}
-use Rattle.vend_commands.proofs.ListingLemmas.{page_found}
+use Rattle.desk_commands.specs.ListedAtDesk.{IsPageReply, TellPages, page_kind, page_question}
+use Rattle.desk_commands.specs.Exchanged.{Round}
+use Rattle.desk_commands.specs.print.ListTexts.{page_text, pages_text}
+use Rattle.desk_commands.specs.print.Pages.{ArePages, list_behind, page_lookup}
+use Rattle.office_commands.proofs.ListingLemmas.{page_found}
 use Rattle.program_laws.proofs.AtDeskLemmas.MeaningLemmas.{looked}
 use Rattle.program_laws.proofs.AtDeskLemmas.OneLemmas.{DeskLaws, came_of, same_told}
 use Rattle.program_laws.proofs.AtDeskLemmas.PageLemmas.{CanAsk, IsSamePage, behind_askable, page_as_told, page_told, same_page, told_text}

@@ -8,33 +8,33 @@ use Rattle.papers.specs.declared.file_kind.FileKind.TheVariants as files
 use Rattle.papers.specs.declared.row_fault.RowFault.{RowFault}
 use Rattle.papers.specs.declared.row_fault.RowFault.TheVariants as row_faults
 use Rattle.vend_core.specs.Law.Life.{Life}
-use Rattle.vend_core.specs.declared.decision.answer.Answer.{Answer}
-use Rattle.vend_core.specs.declared.decision.refusal.Refusal.{Refusal}
-use Rattle.vend_core.specs.declared.decision.refusal.Refusal.TheVariants.{ImportRow}
-use Rattle.vend_core.specs.declared.decision.request.Request.{Request}
-use Rattle.vend_core.specs.declared.decision.request.Request.TheVariants as requests
-use Rattle.vend_core.specs.declared.decision.row_cause.RowCause.{RowCause}
-use Rattle.vend_core.specs.declared.office.row.Row.{Row}
+use Rattle.office_rules.specs.declared.decision.answer.Answer.{Answer}
+use Rattle.office_rules.specs.declared.decision.refusal.Refusal.{Refusal}
+use Rattle.office_rules.specs.declared.decision.refusal.Refusal.TheVariants.{ImportRow}
+use Rattle.office_rules.specs.declared.decision.request.Request.{Request}
+use Rattle.office_rules.specs.declared.decision.request.Request.TheVariants as requests
+use Rattle.office_rules.specs.declared.decision.row_cause.RowCause.{RowCause}
+use Rattle.office_rules.specs.declared.office.row.Row.{Row}
 use Rattle.book_facts.specs.declared.lookup.Found.{Found}
 use Rattle.book_facts.specs.declared.lookup.Lookup.{Lookup}
 use Rattle.books.specs.Looking.{IsFoundAt}
 use Rattle.conversation.specs.declared.message.method.Method.{Method}
 use Rattle.conversation.specs.message.Messages.{Message}
 use Rattle.desk.specs.Answering.{Comes, LifeReplies, life_serves}
-use Rattle.desk.specs.Asking.{BodyAsks, import_of}
-use Rattle.desk.specs.Meaning.{IsFor, IsIdle, MessageAsks, MessageLooks, sale_form_of}
+use Rattle.desk_messages.specs.Asking.{BodyAsks, import_of}
+use Rattle.desk_messages.specs.Meaning.{IsFor, IsIdle, MessageAsks, MessageLooks, sale_form_of}
 use Rattle.desk.specs.OneConversation.{HasOneMeaning}
-use Rattle.desk.specs.declared.body_fault.BodyFault.{BodyFault}
-use Rattle.desk.specs.declared.body_fault.BodyFault.TheVariants as body_faults
-use Rattle.desk.specs.declared.desk_fault.DeskFault.{DeskFault}
-use Rattle.desk.specs.declared.desk_fault.DeskFault.TheVariants as faults
-use Rattle.desk.specs.declared.reply.form.Form.{Form}
-use Rattle.desk.specs.declared.reply.form.Form.TheVariants as forms
-use Rattle.desk.specs.declared.reply.outcome.Outcome.{Outcome}
-use Rattle.desk.specs.declared.reply.outcome.Outcome.TheVariants as outcomes
-use Rattle.desk.specs.declared.route.Route.{Route}
-use Rattle.desk.specs.declared.route.Route.TheVariants as routes
-use Rattle.desk.specs.route.Route.{IsRouted}
+use Rattle.desk_messages.specs.declared.body_fault.BodyFault.{BodyFault}
+use Rattle.desk_messages.specs.declared.body_fault.BodyFault.TheVariants as body_faults
+use Rattle.desk_messages.specs.declared.desk_fault.DeskFault.{DeskFault}
+use Rattle.desk_messages.specs.declared.desk_fault.DeskFault.TheVariants as faults
+use Rattle.desk_messages.specs.declared.reply.form.Form.{Form}
+use Rattle.desk_messages.specs.declared.reply.form.Form.TheVariants as forms
+use Rattle.desk_messages.specs.declared.reply.outcome.Outcome.{Outcome}
+use Rattle.desk_messages.specs.declared.reply.outcome.Outcome.TheVariants as outcomes
+use Rattle.desk_messages.specs.declared.route.Route.{Route}
+use Rattle.desk_messages.specs.declared.route.Route.TheVariants as routes
+use Rattle.desk_messages.specs.route.Route.{IsRouted}
 
 -- ---- a request, and a look-up
 

@@ -13,25 +13,25 @@ use Rattle.papers.specs.declared.file_kind.FileKind.{FileKind}
 use Rattle.papers.specs.declared.file_kind.FileKind.TheVariants as files
 use Rattle.papers.specs.declared.row_fault.RowFault.{RowFault}
 use Rattle.papers.specs.declared.row_fault.RowFault.TheVariants as row_faults
-use Rattle.vend_core.specs.Decision.Fold.{after, reply, step}
-use Rattle.vend_core.specs.Decision.Requests.{IsStamped}
-use Rattle.vend_core.specs.Law.Handed.{sales_of}
+use Rattle.office_rules.specs.Decision.Fold.{after, reply, step}
+use Rattle.office_rules.specs.Decision.Requests.{IsStamped}
+use Rattle.office_rules.specs.Law.Handed.{sales_of}
 use Rattle.vend_core.specs.Law.Life.{Exchange, IsLife, Life, acknowledges, present}
 use Rattle.vend_core.specs.Law.LifeLaws.{extended_by}
-use Rattle.vend_core.specs.Office.{IsOffice, Office}
-use Rattle.vend_core.specs.declared.decision.answer.Answer.{Answer}
-use Rattle.vend_core.specs.Decision.Refusals.{refusal_category}
-use Rattle.vend_core.specs.declared.decision.category.Category.{Category}
-use Rattle.vend_core.specs.declared.decision.category.Category.TheVariants as categories
-use Rattle.vend_core.specs.declared.decision.refusal.Refusal.{Refusal}
-use Rattle.vend_core.specs.declared.decision.refusal.Refusal.TheVariants.{ImportRow}
-use Rattle.vend_core.specs.declared.decision.row_cause.RowCause.{RowCause}
-use Rattle.vend_core.specs.declared.decision.row_cause.RowCause.TheVariants as causes
-use Rattle.vend_core.specs.declared.decision.request.Request.{Request}
-use Rattle.vend_core.specs.declared.decision.request.Request.TheVariants as requests
-use Rattle.vend_core.specs.declared.decision.request.Stamped.{Stamped}
-use Rattle.vend_core.specs.declared.office.row.Row.{Row}
-use Rattle.vend_core.specs.declared.office.sale.Sale.{Sale}
+use Rattle.office_rules.specs.Office.{IsOffice, Office}
+use Rattle.office_rules.specs.declared.decision.answer.Answer.{Answer}
+use Rattle.office_rules.specs.Decision.Refusals.{refusal_category}
+use Rattle.office_rules.specs.declared.decision.category.Category.{Category}
+use Rattle.office_rules.specs.declared.decision.category.Category.TheVariants as categories
+use Rattle.office_rules.specs.declared.decision.refusal.Refusal.{Refusal}
+use Rattle.office_rules.specs.declared.decision.refusal.Refusal.TheVariants.{ImportRow}
+use Rattle.office_rules.specs.declared.decision.row_cause.RowCause.{RowCause}
+use Rattle.office_rules.specs.declared.decision.row_cause.RowCause.TheVariants as causes
+use Rattle.office_rules.specs.declared.decision.request.Request.{Request}
+use Rattle.office_rules.specs.declared.decision.request.Request.TheVariants as requests
+use Rattle.office_rules.specs.declared.decision.request.Stamped.{Stamped}
+use Rattle.office_rules.specs.declared.office.row.Row.{Row}
+use Rattle.office_rules.specs.declared.office.sale.Sale.{Sale}
 use Rattle.book_facts.specs.declared.lookup.Found.{Found}
 use Rattle.book_facts.specs.declared.lookup.Lookup.{Lookup}
 use Rattle.book_facts.specs.declared.lookup.Lookup.TheVariants as lookups
@@ -41,16 +41,16 @@ use Rattle.conversation.specs.declared.message.method.Method.{Method}
 use Rattle.conversation.specs.message.Messages.{BeginsMessage, Message}
 use Rattle.conversation.proofs.ReadingLemmas.{message_unique}
 use Rattle.desk.specs.Answering.{Comes, LifeReplies, life_serves}
-use Rattle.desk.specs.Meaning.{IsFor, IsIdle, MessageAsks, MessageLooks, lookup_form}
+use Rattle.desk_messages.specs.Meaning.{IsFor, IsIdle, MessageAsks, MessageLooks, lookup_form}
 use Rattle.desk.specs.OneConversation.{HasOneMeaning}
-use Rattle.desk.specs.declared.desk_fault.DeskFault.{DeskFault}
-use Rattle.desk.specs.declared.desk_fault.DeskFault.TheVariants as faults
-use Rattle.desk.specs.declared.reply.form.Form.TheVariants as forms
-use Rattle.desk.specs.declared.reply.outcome.Outcome.{Outcome}
-use Rattle.desk.specs.declared.reply.outcome.Outcome.TheVariants as outcomes
-use Rattle.desk.specs.declared.route.Route.{Route}
-use Rattle.desk.specs.reply.Text.{reply_bytes_of}
-use Rattle.desk.specs.route.Route.{IsRouted}
+use Rattle.desk_messages.specs.declared.desk_fault.DeskFault.{DeskFault}
+use Rattle.desk_messages.specs.declared.desk_fault.DeskFault.TheVariants as faults
+use Rattle.desk_messages.specs.declared.reply.form.Form.TheVariants as forms
+use Rattle.desk_messages.specs.declared.reply.outcome.Outcome.{Outcome}
+use Rattle.desk_messages.specs.declared.reply.outcome.Outcome.TheVariants as outcomes
+use Rattle.desk_messages.specs.declared.route.Route.{Route}
+use Rattle.desk_messages.specs.reply.Text.{reply_bytes_of}
+use Rattle.desk_messages.specs.route.Route.{IsRouted}
 use Rattle.desk_client.specs.Alike.{TellAlike}
 use Rattle.desk_client.specs.Asks.{IsAskable, IsNoMoment, MeansAsked, asked_by, question_message}
 use Rattle.desk_client.specs.Question.{question_text, wanted_by}
@@ -71,13 +71,13 @@ use Rattle.desk_client.proofs.TargetLemmas.{found_imports_meters, found_imports_
 use Rattle.desk_client.proofs.TellsLemmas.{SalesAreTexts, says}
 use Rattle.desk_client.proofs.WordLemmas.{seen_text}
 use Rattle.program_laws.specs.AtDesk.{IsAnsweredAt, IsAskedByOne, PrintsAdded, PrintsAsOnFile, PrintsFound, PrintsImport, PrintsReply, PrintsTotals}
-use Rattle.vend_commands.specs.commands.AskedOfDesk.{SaleNeedsRoom, TellsTold, told_sale_text}
-use Rattle.vend_commands.specs.commands.LookedUp.{TellsFound}
-use Rattle.vend_commands.specs.declared.command_end.CommandEnd.{CommandEnd}
-use Rattle.vend_commands.specs.declared.command_end.CommandEnd.TheVariants.{Refused}
-use Rattle.vend_commands.specs.office.Served.{TellsReply}
-use Rattle.vend_commands.specs.print.Printed.{clock_line}
-use Rattle.vend_commands.specs.print.Told.{IsTold, Outputs}
+use Rattle.desk_commands.specs.AskedOfDesk.{SaleNeedsRoom, TellsTold, told_sale_text}
+use Rattle.office_commands.specs.commands.LookedUp.{TellsFound}
+use Rattle.vend_ports.specs.declared.command_end.CommandEnd.{CommandEnd}
+use Rattle.vend_ports.specs.declared.command_end.CommandEnd.TheVariants.{Refused}
+use Rattle.office_commands.specs.office.Served.{TellsReply}
+use Rattle.vend_ports.specs.print.Printed.{clock_line}
+use Rattle.vend_ports.specs.print.Told.{IsTold, Outputs}
 use Rattle.program_laws.proofs.AtDeskLemmas.MeaningLemmas.{ComesOfRows, IsRead, came_rows, idled, import_route, looked, replied}
 use Rattle.program_laws.proofs.AtDeskLemmas.PrintedLemmas.{prints_last, prints_meter, prints_quote, prints_reply, prints_sale_of_ref, prints_totals, tell_alike}
 use Rattle.program_laws.proofs.AtDeskLemmas.RuleLemmas.{MayReply, by_rules, may_reply, present_before, present_is}

@@ -11,10 +11,10 @@ use Rattle.sts_fields.specs.Day.{day_at}
 use Rattle.sts_fields.specs.Moment.{IsMoment}
 use Rattle.tariff.specs.Steps.{IsSteps}
 use Rattle.tariff.specs.declared.step.Step.{Step}
-use Rattle.vend_core.specs.Office.{IsOffice, Office}
-use Rattle.vend_core.specs.Office.Lookup.{latest, steps_on}
-use Rattle.vend_core.specs.declared.office.sale.Sale.{Sale}
-use Rattle.vend_core.specs.declared.office.shift.Shift.{Shift}
+use Rattle.office_rules.specs.Office.{IsOffice, Office}
+use Rattle.office_rules.specs.Office.Lookup.{latest, steps_on}
+use Rattle.office_rules.specs.declared.office.sale.Sale.{Sale}
+use Rattle.office_rules.specs.declared.office.shift.Shift.{Shift}
 use Rattle.book_facts.specs.Lookups.{Finds, IsListedMeter, IsListedTariff, listed_shift}
 use Rattle.book_facts.specs.declared.lookup.Found.{Found}
 use Rattle.book_facts.specs.declared.lookup.Found.TheVariants as found
@@ -22,9 +22,9 @@ use Rattle.book_facts.specs.declared.lookup.ListedMeter.{ListedMeter}
 use Rattle.book_facts.specs.declared.lookup.ListedShift.{ListedShift}
 use Rattle.book_facts.specs.declared.lookup.ListedTariff.{ListedTariff}
 use Rattle.book_lists.specs.Pages.{page_size}
-use Rattle.desk.specs.reply.Body.{sale_data}
-use Rattle.desk.specs.reply.Lists.{list_members}
-use Rattle.desk.specs.reply.Members.{json_text}
+use Rattle.desk_messages.specs.reply.Body.{sale_data}
+use Rattle.desk_messages.specs.reply.Lists.{list_members}
+use Rattle.desk_messages.specs.reply.Members.{json_text}
 use Rattle.desk_client.specs.Asks.{IsAskable}
 use Rattle.desk_client.specs.Page.{AreAlike, AreTold, IsToldLater, IsToldListedMeter, IsToldEnd, IsToldListedShift, IsToldPage, IsToldTariff, tariff_view}
 use Rattle.desk_client.specs.Page as pages
@@ -34,11 +34,11 @@ use Rattle.desk_client.specs.Sale.{IsTold}
 use Rattle.desk_client.specs.Tells.{as_told}
 use Rattle.command_line.specs.declared.commands.list.Listed.{Listed}
 use Rattle.command_line.specs.declared.commands.list.Listed.TheVariants as listed
-use Rattle.vend_commands.specs.commands.ListedAtDesk.{page_kind, page_question}
+use Rattle.desk_commands.specs.ListedAtDesk.{page_kind, page_question}
 use Rattle.tariff.specs.StepsText.{steps_text}
-use Rattle.vend_commands.specs.print.FoundTexts.{row_of}
-use Rattle.vend_commands.specs.print.ListTexts.{later_line, meter_line, meter_names, page_text, shifts_text, table_text, tariff_names}
-use Rattle.vend_commands.specs.print.Listing.{last_of_full, list_behind, page_lookup}
+use Rattle.vend_ports.specs.print.Printed.{row_of}
+use Rattle.desk_commands.specs.print.ListTexts.{later_line, meter_line, meter_names, page_text, shifts_text, table_text, tariff_names}
+use Rattle.desk_commands.specs.print.Pages.{last_of_full, list_behind, page_lookup}
 use Rattle.program_laws.proofs.AtDeskLemmas.RangeLemmas.{cash_within, count_within, or_keeps, sale_number, shift_number, shift_row, tariff_named, tenths_within, there_is}
 use Rattle.program_laws.proofs.AtDeskLemmas.TellableLemmas.{RangeLaws, sale_told}
 

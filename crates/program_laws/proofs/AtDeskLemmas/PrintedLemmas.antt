@@ -5,14 +5,14 @@ use Rattle.sts_fields.specs.Tid.{fresh_after, minute_of}
 use Rattle.tariff.specs.Purchase.{purchase_of}
 use Rattle.papers.specs.Export.{export_of}
 use Rattle.papers.specs.Receipt.{receipt_of}
-use Rattle.vend_core.specs.Decision.{◌>>=◌, MeterAccount, next_number, or_refusal}
+use Rattle.office_rules.specs.Decision.{◌>>=◌, MeterAccount, next_number, or_refusal}
 use Rattle.vend_core.specs.Law.Life.{Life, present}
-use Rattle.vend_core.specs.declared.decision.answer.Answer.{Answer}
-use Rattle.vend_core.specs.declared.decision.answer.Answer.TheVariants as answers
-use Rattle.vend_core.specs.declared.decision.refusal.Refusal.{Refusal}
-use Rattle.vend_core.specs.declared.decision.refusal.Refusal.TheVariants as refusals
-use Rattle.vend_core.specs.declared.office.meter.Meter.{Meter}
-use Rattle.vend_core.specs.declared.office.sale.Sale.{Sale}
+use Rattle.office_rules.specs.declared.decision.answer.Answer.{Answer}
+use Rattle.office_rules.specs.declared.decision.answer.Answer.TheVariants as answers
+use Rattle.office_rules.specs.declared.decision.refusal.Refusal.{Refusal}
+use Rattle.office_rules.specs.declared.decision.refusal.Refusal.TheVariants as refusals
+use Rattle.office_rules.specs.declared.office.meter.Meter.{Meter}
+use Rattle.office_rules.specs.declared.office.sale.Sale.{Sale}
 use Rattle.book_tables.specs.declared.row.totals.Totals.{Totals}
 use Rattle.book_facts.specs.Lookups.{last_found, meter_found, quote_for, sale_found, totals_found}
 use Rattle.book_facts.specs.Totals.{shift_totals}
@@ -23,9 +23,9 @@ use Rattle.book_facts.specs.declared.lookup.Lookup.TheVariants as lookups
 use Rattle.book_facts.specs.declared.lookup.MeterSummary.{MeterSummary}
 use Rattle.book_facts.specs.declared.lookup.Quote.{Quote}
 use Rattle.books.specs.Looking.{IsFoundAt}
-use Rattle.desk.specs.Meaning.{lookup_form}
-use Rattle.desk.specs.declared.reply.form.Form.{Form}
-use Rattle.desk.specs.declared.reply.form.Form.TheVariants as forms
+use Rattle.desk_messages.specs.Meaning.{lookup_form}
+use Rattle.desk_messages.specs.declared.reply.form.Form.{Form}
+use Rattle.desk_messages.specs.declared.reply.form.Form.TheVariants as forms
 use Rattle.desk_client.specs.Alike.{TellAlike}
 use Rattle.desk_client.specs.Tells.{as_told}
 use Rattle.desk_client.specs.declared.question.Question.{Question}
@@ -35,14 +35,14 @@ use Rattle.desk_client.specs.declared.told.Granted.TheVariants as granted
 use Rattle.desk_client.specs.declared.told.Told.{Told}
 use Rattle.desk_client.specs.declared.told.Told.TheVariants as told
 use Rattle.program_laws.specs.AtDesk.{totals_looked_up}
-use Rattle.vend_commands.specs.commands.AskedOfDesk.{NeedsRoom, SaleNeedsRoom, TellsGranted, TellsTold, granted_output, told_sale_text}
-use Rattle.vend_commands.specs.commands.LookedUp.{TellsFound}
-use Rattle.vend_commands.specs.declared.command_end.CommandEnd.{CommandEnd}
-use Rattle.vend_commands.specs.declared.command_end.CommandEnd.TheVariants.{Done, Refused}
-use Rattle.vend_commands.specs.office.Served.{TellsAnswer, TellsReply}
-use Rattle.vend_commands.specs.print.Printed.{refusal_line}
-use Rattle.vend_commands.specs.print.Told.{IsTold, Outputs}
-use Rattle.vend_commands.specs.print.Totalled.{TellsTotals}
+use Rattle.desk_commands.specs.AskedOfDesk.{NeedsRoom, SaleNeedsRoom, TellsGranted, TellsTold, granted_output, told_sale_text}
+use Rattle.office_commands.specs.commands.LookedUp.{TellsFound}
+use Rattle.vend_ports.specs.declared.command_end.CommandEnd.{CommandEnd}
+use Rattle.vend_ports.specs.declared.command_end.CommandEnd.TheVariants.{Done, Refused}
+use Rattle.office_commands.specs.office.Served.{TellsAnswer, TellsReply}
+use Rattle.vend_ports.specs.print.Printed.{refusal_line}
+use Rattle.vend_ports.specs.print.Told.{IsTold, Outputs}
+use Rattle.office_commands.specs.print.Totalled.{TellsTotals}
 use Rattle.program_laws.proofs.AtDeskLemmas.TellableLemmas.{told_answer, told_look, told_reply, told_sale}
 
 -- ---- the same is told

@@ -6,13 +6,13 @@ use Rattle.std.proofs.lemmas.List.Elements.{All-contains, All-filter, All-weaker
 use Rattle.std.proofs.lemmas.List.Filters.{length-filter_both}
 use Rattle.std.proofs.lemmas.List.Sums.{sum_by-le}
 use Rattle.sts_fields.specs.Amount.{IsRepresentable, greatest_amount}
-use Rattle.vend_core.specs.Law.Cash.{cash_of}
-use Rattle.vend_core.specs.Name.{IsMeterNo, IsName}
-use Rattle.vend_core.specs.Office.{IsOffice, IsSaleRow, IsShiftRow, Office}
-use Rattle.vend_core.specs.Office.Lookup.{sales_of_shift}
-use Rattle.vend_core.specs.declared.office.sale.Sale.{Sale}
-use Rattle.vend_core.specs.declared.office.shift.Shift.{Shift}
-use Rattle.vend_core.proofs.OfficeLemmas.RowLemmas.{found, number_within}
+use Rattle.office_rules.specs.Law.Cash.{cash_of}
+use Rattle.office_rules.specs.Name.{IsMeterNo, IsName}
+use Rattle.office_rules.specs.Office.{IsOffice, IsSaleRow, IsShiftRow, Office}
+use Rattle.office_rules.specs.Office.Lookup.{sales_of_shift}
+use Rattle.office_rules.specs.declared.office.sale.Sale.{Sale}
+use Rattle.office_rules.specs.declared.office.shift.Shift.{Shift}
+use Rattle.office_rules.proofs.OfficeLemmas.RowLemmas.{found, number_within}
 
 -- what is there
 pub there_is : {A : Type 0} (o : Option A) → IsSome o → (x : A) × (o ≡ Some x)

@@ -3,7 +3,7 @@ use Rattle.std.proofs.Common.{◌≡◌, ◌∙◌, ℕ, ℤ, pos, ◌^◌, ◌<
 use Rattle.std.specs.Prelude.{All, IfSome, MatchBool, decimal}
 use Rattle.std.proofs.lemmas.List.Elements.{All-head, All-tail}
 use Rattle.vend_core.specs.Law.Life.{IsLife, Life, present}
-use Rattle.vend_core.specs.Office.{IsOffice}
+use Rattle.office_rules.specs.Office.{IsOffice}
 use Rattle.book_facts.specs.declared.lookup.Found.{Found}
 use Rattle.conversation.specs.Conversation.{Conversation, last_words, messages_of, replies_of}
 use Rattle.conversation.specs.Exchanges.{Exchanged, MessageExchange, Timed, timed}
@@ -27,12 +27,12 @@ use Rattle.desk_client.proofs.HeadLemmas.{one_head}
 use Rattle.desk_client.proofs.TellsLemmas.{says}
 use Rattle.command_line.specs.declared.commands.list.Listed.{Listed}
 use Rattle.desk_client.specs.declared.told.Wanted.TheVariants as wants
-use Rattle.desk.specs.declared.reply.form.Form.TheVariants as forms
-use Rattle.desk.specs.declared.reply.outcome.Outcome.TheVariants as outcomes
+use Rattle.desk_messages.specs.declared.reply.form.Form.TheVariants as forms
+use Rattle.desk_messages.specs.declared.reply.outcome.Outcome.TheVariants as outcomes
 use Rattle.program_laws.specs.AtDesk.{AreAnsweredOn, IsAnsweredAt, IsGivenOn, came_in, sent_in}
-use Rattle.vend_commands.specs.commands.ListedAtDesk.{TellPages, page_question}
-use Rattle.vend_commands.specs.port.Exchanged.{Round}
-use Rattle.vend_commands.specs.print.Listing.{list_behind}
+use Rattle.desk_commands.specs.ListedAtDesk.{TellPages, page_question}
+use Rattle.desk_commands.specs.Exchanged.{Round}
+use Rattle.desk_commands.specs.print.Pages.{list_behind}
 use Rattle.program_laws.proofs.AtDeskLemmas.ListLemmas.{OnePage, looks_up, one_page}
 use Rattle.program_laws.proofs.AtDeskLemmas.OneLemmas.{DeskLaws, reply_length}
 use Rattle.program_laws.proofs.AtDeskLemmas.PageLemmas.{CanAsk, behind_askable}

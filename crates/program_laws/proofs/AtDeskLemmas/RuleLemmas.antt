@@ -13,31 +13,31 @@ use Rattle.sts_fields.specs.declared.fault.TidFault.TheVariants as tids
 use Rattle.sts_token.specs.Token.{BlockFunction, KeepsRange}
 use Rattle.tariff.specs.Purchase.{purchase_of}
 use Rattle.tariff.specs.declared.step.Step.{Step}
-use Rattle.vend_core.specs.Decision.{◌>>=◌, MeterAccount, account_of, add_meter, add_rows, add_steps, add_tariff, at_row, changed, close_shift, decision_of, import, is_earlier, meter_eq, move_base, new_rows, open_a_shift, or_refusal, row_decision, sell_once, set_tariff, steps_eq, unchanged}
-use Rattle.vend_core.specs.Decision.Fold.{after, office_after, replies_to, reply, reply_of, step}
-use Rattle.vend_core.specs.Decision.Requests.{IsStamped}
+use Rattle.office_rules.specs.Decision.{◌>>=◌, MeterAccount, account_of, add_meter, add_rows, add_steps, add_tariff, at_row, changed, close_shift, decision_of, import, is_earlier, meter_eq, move_base, new_rows, open_a_shift, or_refusal, row_decision, sell_once, set_tariff, steps_eq, unchanged}
+use Rattle.office_rules.specs.Decision.Fold.{after, office_after, replies_to, reply, reply_of, step}
+use Rattle.office_rules.specs.Decision.Requests.{IsStamped}
 use Rattle.vend_core.specs.Law.Life.{Exchange, IsLife, Life, acknowledged, acknowledges, present, replies_acknowledged}
 use Rattle.vend_core.specs.Law.LifeLaws.{IsReadingRequest, extended_by}
-use Rattle.vend_core.specs.Office.Lookup.{open_shift, sale_numbered, sale_of_ref, shift_numbered}
-use Rattle.vend_core.specs.Office.{IsOffice, Office, greatest_count}
-use Rattle.vend_core.specs.declared.decision.answer.Answer.{Answer}
-use Rattle.vend_core.specs.declared.decision.answer.Answer.TheVariants as answers
-use Rattle.vend_core.specs.declared.decision.change.Change.{Change}
-use Rattle.vend_core.specs.declared.decision.change.Edit.TheVariants as edits
-use Rattle.vend_core.specs.declared.decision.refusal.Refusal.{Refusal}
-use Rattle.vend_core.specs.declared.decision.refusal.Refusal.TheVariants as refusals
-use Rattle.vend_core.specs.declared.decision.request.Order.{Order}
-use Rattle.vend_core.specs.declared.decision.request.Request.{Request}
-use Rattle.vend_core.specs.declared.decision.request.Request.TheVariants as requests
-use Rattle.vend_core.specs.declared.decision.request.Stamped.{Stamped}
-use Rattle.vend_core.specs.declared.decision.row_cause.RowCause.{RowCause}
-use Rattle.vend_core.specs.declared.decision.row_cause.RowCause.TheVariants as causes
-use Rattle.vend_core.specs.declared.office.meter.Meter.{Meter}
-use Rattle.vend_core.specs.declared.office.row.Row.{Row}
-use Rattle.vend_core.specs.declared.office.row.Row.TheVariants as kinds
-use Rattle.vend_core.specs.declared.office.sale.Sale.{Sale}
-use Rattle.vend_core.specs.declared.office.shift.Shift.{Shift}
-use Rattle.vend_core.proofs.OfficeLemmas.RowLemmas.{found, number_within}
+use Rattle.office_rules.specs.Office.Lookup.{open_shift, sale_numbered, sale_of_ref, shift_numbered}
+use Rattle.office_rules.specs.Office.{IsOffice, Office, greatest_count}
+use Rattle.office_rules.specs.declared.decision.answer.Answer.{Answer}
+use Rattle.office_rules.specs.declared.decision.answer.Answer.TheVariants as answers
+use Rattle.office_rules.specs.declared.decision.change.Change.{Change}
+use Rattle.office_rules.specs.declared.decision.change.Edit.TheVariants as edits
+use Rattle.office_rules.specs.declared.decision.refusal.Refusal.{Refusal}
+use Rattle.office_rules.specs.declared.decision.refusal.Refusal.TheVariants as refusals
+use Rattle.office_rules.specs.declared.decision.request.Order.{Order}
+use Rattle.office_rules.specs.declared.decision.request.Request.{Request}
+use Rattle.office_rules.specs.declared.decision.request.Request.TheVariants as requests
+use Rattle.office_rules.specs.declared.decision.request.Stamped.{Stamped}
+use Rattle.office_rules.specs.declared.decision.row_cause.RowCause.{RowCause}
+use Rattle.office_rules.specs.declared.decision.row_cause.RowCause.TheVariants as causes
+use Rattle.office_rules.specs.declared.office.meter.Meter.{Meter}
+use Rattle.office_rules.specs.declared.office.row.Row.{Row}
+use Rattle.office_rules.specs.declared.office.row.Row.TheVariants as kinds
+use Rattle.office_rules.specs.declared.office.sale.Sale.{Sale}
+use Rattle.office_rules.specs.declared.office.shift.Shift.{Shift}
+use Rattle.office_rules.proofs.OfficeLemmas.RowLemmas.{found, number_within}
 
 -- ---- a life's reply
 

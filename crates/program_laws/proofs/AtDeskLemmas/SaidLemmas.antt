@@ -4,10 +4,10 @@ use Rattle.std.specs.Borrow.{Bor}
 use Rattle.clap.specs.Walk.{Row}
 use Rattle.sts_fields.specs.Text.{Text}
 use Rattle.tariff.specs.Tender.{IsTender}
-use Rattle.vend_core.specs.Name.{IsMeterNo, IsName, IsOperator}
-use Rattle.vend_core.specs.declared.decision.request.Order.{Order}
+use Rattle.office_rules.specs.Name.{IsMeterNo, IsName, IsOperator}
+use Rattle.office_rules.specs.declared.decision.request.Order.{Order}
 use Rattle.conversation.specs.message.Framing.{longest_body}
-use Rattle.desk.specs.route.Route.{IsPageStart, IsTargetNumber}
+use Rattle.desk_messages.specs.route.Route.{IsPageStart, IsTargetNumber}
 use Rattle.desk_client.specs.Asks.{IsAskable, IsAskableOrder}
 use Rattle.command_line.specs.Commands.{IsNumberOrNone, SaysDeskQuestion, SaysListed, SaysOrder, SaysShown}
 use Rattle.command_line.specs.Said.{IsArgument, IsOptionalArgument}
@@ -19,8 +19,8 @@ use Rattle.command_line.specs.declared.commands.list.Listed.TheVariants as liste
 use Rattle.command_line.specs.declared.commands.show.Shown.{Shown}
 use Rattle.command_line.specs.declared.commands.show.Shown.TheVariants as shown
 use Rattle.program_laws.specs.AtDesk.{IsAskedByOne}
-use Rattle.vend_commands.specs.commands.AskedOfDesk.{is_json, question_of, shown_question}
-use Rattle.vend_commands.specs.commands.ListedAtDesk.{page_question}
+use Rattle.desk_commands.specs.AskedOfDesk.{is_json, question_of, shown_question}
+use Rattle.desk_commands.specs.ListedAtDesk.{page_question}
 
 -- an argument keeps the rule of its value
 says_meter : (text : Option Text) (meter : Text) → IsArgument SaysMeterNo text meter → IsMeterNo meter

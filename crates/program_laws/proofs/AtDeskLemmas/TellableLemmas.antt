@@ -17,24 +17,24 @@ use Rattle.tariff.specs.declared.bought.Buy.{Buy}
 use Rattle.tariff.specs.declared.step.Step.{Step}
 use Rattle.papers.specs.Receipt.{receipt_of}
 use Rattle.papers.specs.Report.{report_of}
-use Rattle.vend_core.specs.Decision.{◌>>=◌, MeterAccount, account_of, or_refusal}
-use Rattle.vend_core.specs.Law.Handed.{sales_of}
-use Rattle.vend_core.specs.Name.{IsMeterNo}
-use Rattle.vend_core.specs.Office.{IsOffice, Office, greatest_count}
-use Rattle.vend_core.specs.Office.Lookup.{prior, sale_of_ref, sales_of_shift, shift_numbered}
-use Rattle.vend_core.specs.declared.decision.answer.Answer.{Answer}
-use Rattle.vend_core.specs.declared.decision.answer.Answer.TheVariants as answers
-use Rattle.vend_core.specs.declared.decision.refusal.Refusal.{Refusal}
-use Rattle.vend_core.specs.declared.decision.refusal.Refusal.TheVariants as refusals
-use Rattle.vend_core.specs.declared.decision.request.Order.{Order}
-use Rattle.vend_core.specs.declared.decision.request.Request.{Request}
-use Rattle.vend_core.specs.declared.decision.request.Request.TheVariants as requests
-use Rattle.vend_core.specs.declared.decision.row_cause.RowCause.{RowCause}
-use Rattle.vend_core.specs.declared.decision.row_cause.RowCause.TheVariants as causes
-use Rattle.vend_core.specs.declared.office.meter.Meter.{Meter}
-use Rattle.vend_core.specs.declared.office.row.Row.{Row}
-use Rattle.vend_core.specs.declared.office.sale.Sale.{Sale}
-use Rattle.vend_core.specs.declared.office.shift.Shift.{Shift}
+use Rattle.office_rules.specs.Decision.{◌>>=◌, MeterAccount, account_of, or_refusal}
+use Rattle.office_rules.specs.Law.Handed.{sales_of}
+use Rattle.office_rules.specs.Name.{IsMeterNo}
+use Rattle.office_rules.specs.Office.{IsOffice, Office, greatest_count}
+use Rattle.office_rules.specs.Office.Lookup.{prior, sale_of_ref, sales_of_shift, shift_numbered}
+use Rattle.office_rules.specs.declared.decision.answer.Answer.{Answer}
+use Rattle.office_rules.specs.declared.decision.answer.Answer.TheVariants as answers
+use Rattle.office_rules.specs.declared.decision.refusal.Refusal.{Refusal}
+use Rattle.office_rules.specs.declared.decision.refusal.Refusal.TheVariants as refusals
+use Rattle.office_rules.specs.declared.decision.request.Order.{Order}
+use Rattle.office_rules.specs.declared.decision.request.Request.{Request}
+use Rattle.office_rules.specs.declared.decision.request.Request.TheVariants as requests
+use Rattle.office_rules.specs.declared.decision.row_cause.RowCause.{RowCause}
+use Rattle.office_rules.specs.declared.decision.row_cause.RowCause.TheVariants as causes
+use Rattle.office_rules.specs.declared.office.meter.Meter.{Meter}
+use Rattle.office_rules.specs.declared.office.row.Row.{Row}
+use Rattle.office_rules.specs.declared.office.sale.Sale.{Sale}
+use Rattle.office_rules.specs.declared.office.shift.Shift.{Shift}
 use Rattle.book_tables.specs.Stands.{all_totals}
 use Rattle.book_facts.specs.Lookups.{Finds, FindsMeters, FindsSales, FindsShifts, FindsTariffs, last_found, last_sale, last_under, meter_found, quote_for, sale_found, sale_of_some_tid, totals_found}
 use Rattle.book_facts.specs.declared.lookup.Found.{Found}
@@ -43,10 +43,10 @@ use Rattle.book_facts.specs.declared.lookup.Lookup.{Lookup}
 use Rattle.book_facts.specs.declared.lookup.Lookup.TheVariants as lookups
 use Rattle.books.specs.Looking.{IsFoundAt}
 use Rattle.vend_core.specs.Law.Life.{Life, present}
-use Rattle.desk.specs.Meaning.{lookup_form}
-use Rattle.desk.specs.declared.reply.form.Form.{Form}
-use Rattle.desk.specs.declared.reply.form.Form.TheVariants as forms
-use Rattle.desk.specs.declared.reply.outcome.Outcome.TheVariants as outcomes
+use Rattle.desk_messages.specs.Meaning.{lookup_form}
+use Rattle.desk_messages.specs.declared.reply.form.Form.{Form}
+use Rattle.desk_messages.specs.declared.reply.form.Form.TheVariants as forms
+use Rattle.desk_messages.specs.declared.reply.outcome.Outcome.TheVariants as outcomes
 use Rattle.desk_client.specs.Meter.{IsLastSale}
 use Rattle.desk_client.specs.Page.{page_text}
 use Rattle.desk_client.specs.Sale.{IsTold}
@@ -57,7 +57,7 @@ use Rattle.desk_client.specs.declared.told.Told.{Told}
 use Rattle.desk_client.specs.declared.told.Told.TheVariants as told
 use Rattle.desk_client.specs.declared.told.Wanted.{Wanted}
 use Rattle.desk_client.specs.declared.told.Wanted.TheVariants as wanted
-use Rattle.vend_core.proofs.OfficeLemmas.RowLemmas.{option_map_some}
+use Rattle.office_rules.proofs.OfficeLemmas.RowLemmas.{option_map_some}
 use Rattle.program_laws.proofs.AtDeskLemmas.RangeLemmas.{cash_within, count_within, found_stands, meter_row, or_keeps, sale_number, sale_row, sale_shift, tariff_named, tenths_within}
 use Rattle.program_laws.proofs.AtDeskLemmas.RuleLemmas.{IsRowFrom, MayReply, RefusesOf}
 

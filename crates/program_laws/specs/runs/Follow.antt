@@ -14,15 +14,16 @@ use Rattle.sqlite_wal.specs.Recovery.{Image}
 use Rattle.conversation.specs.declared.clock.Clock as clocks
 use Rattle.sts_fields.specs.Text.{Text}
 use Rattle.vend_commands.specs.Run.{IsProgramRun}
-use Rattle.vend_commands.specs.port.Dial.{dial_of}
-use Rattle.vend_commands.specs.port.Texts.{texts_of}
-use Rattle.vend_commands.specs.port.Places.{Loop, Machine, Way, machine, places_of}
-use Rattle.vend_commands.specs.print.Told.{Outputs}
+use Rattle.vend_ports.specs.port.Dial.{dial_of}
+use Rattle.vend_ports.specs.port.Texts.{texts_of}
+use Rattle.office_commands.specs.port.Places.{places_of}
+use Rattle.vend_commands.specs.port.Machines.{Loop, Machine, Way, machine}
+use Rattle.vend_ports.specs.print.Told.{Outputs}
 use Rattle.program_laws.specs.runs.Uses.{Ending, Use, connected, cut_off, let_go, unconnected, unseen, use_run, with_file}
-use Rattle.vend_commands.specs.declared.command_end.CommandEnd.{CommandEnd}
-use Rattle.vend_commands.specs.declared.port.ports.OfficeFile as file
-use Rattle.vend_commands.specs.declared.port.ports.SaltSource as source
-use Rattle.vend_commands.specs.declared.port.ports.TextFiles as texts
+use Rattle.vend_ports.specs.declared.command_end.CommandEnd.{CommandEnd}
+use Rattle.office_commands.specs.declared.port.ports.OfficeFile as file
+use Rattle.office_commands.specs.declared.port.ports.SaltSource as source
+use Rattle.vend_ports.specs.declared.port.text_files.TextFiles as texts
 
 -- These files, which were found, held what they might hold before, and so does what a crash may
 -- leave of them as they were found.

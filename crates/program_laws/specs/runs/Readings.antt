@@ -9,15 +9,15 @@ use Rattle.command_line.specs.declared.commands.list.Listed.{Listed}
 use Rattle.papers.specs.Export.{export_of}
 use Rattle.sts_fields.specs.Text.{Text}
 use Rattle.vend_core.specs.Law.Life.{Life, present}
-use Rattle.vend_core.specs.declared.decision.refusal.Refusal.{Refusal}
-use Rattle.vend_core.specs.declared.office.sale.Sale.{Sale}
-use Rattle.vend_commands.specs.commands.LookedUp.{IsRead}
-use Rattle.vend_commands.specs.print.Listing.{ArePages}
-use Rattle.vend_commands.specs.print.Told.{Outputs}
+use Rattle.office_rules.specs.declared.decision.refusal.Refusal.{Refusal}
+use Rattle.office_rules.specs.declared.office.sale.Sale.{Sale}
+use Rattle.office_commands.specs.commands.LookedUp.{IsRead}
+use Rattle.desk_commands.specs.print.Pages.{ArePages}
+use Rattle.vend_ports.specs.print.Told.{Outputs}
 use Rattle.program_laws.specs.SalesTold.{sales_found}
-use Rattle.vend_commands.specs.declared.office.wanted.Wanted.{Wanted}
-use Rattle.vend_commands.specs.declared.office.wanted.Wanted.TheVariants.{One, Listing}
-use Rattle.vend_commands.specs.declared.command_end.CommandEnd.{CommandEnd}
+use Rattle.office_commands.specs.declared.office.wanted.Wanted.{Wanted}
+use Rattle.office_commands.specs.declared.office.wanted.Wanted.TheVariants.{One, Listing}
+use Rattle.vend_ports.specs.declared.command_end.CommandEnd.{CommandEnd}
 
 -- something was looked up, and this was found, or was why nothing was; or the pages of a list were
 -- found, and this was left of it; or the sales were exported by this text

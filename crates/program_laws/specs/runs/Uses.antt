@@ -13,15 +13,15 @@ use Rattle.sts_fields.specs.Text.{Text}
 use Rattle.sts_token.specs.Token.{BlockFunction}
 use Rattle.vend_core.specs.Law.Life.{Life}
 use Rattle.vend_core.specs.Law.LifeLaws.{extended_by, opened}
-use Rattle.vend_core.specs.Office.{Office}
-use Rattle.vend_core.specs.declared.decision.answer.Answer.{Answer}
-use Rattle.vend_core.specs.declared.decision.refusal.Refusal.{Refusal}
-use Rattle.vend_core.specs.declared.decision.refusal.Refusal.TheVariants.{Stopped}
-use Rattle.vend_core.specs.declared.decision.request.Request.{Request}
-use Rattle.vend_core.specs.declared.decision.request.Request.TheVariants as requests
-use Rattle.vend_core.specs.declared.decision.request.Stamped.{Stamped}
-use Rattle.vend_core.specs.declared.office.row.Row.{Row}
-use Rattle.vend_core.specs.declared.office.sale.Sale.{Sale}
+use Rattle.office_rules.specs.Office.{Office}
+use Rattle.office_rules.specs.declared.decision.answer.Answer.{Answer}
+use Rattle.office_rules.specs.declared.decision.refusal.Refusal.{Refusal}
+use Rattle.office_rules.specs.declared.decision.refusal.Refusal.TheVariants.{Stopped}
+use Rattle.office_rules.specs.declared.decision.request.Request.{Request}
+use Rattle.office_rules.specs.declared.decision.request.Request.TheVariants as requests
+use Rattle.office_rules.specs.declared.decision.request.Stamped.{Stamped}
+use Rattle.office_rules.specs.declared.office.row.Row.{Row}
+use Rattle.office_rules.specs.declared.office.sale.Sale.{Sale}
 use Rattle.papers.specs.declared.row_fault.RowFault.{RowFault}
 use Rattle.book_facts.specs.declared.lookup.Lookup.TheVariants as lookups
 use Rattle.book_opening.specs.declared.fault.OpenFault.{OpenFault}
@@ -41,35 +41,36 @@ use Rattle.command_line.specs.declared.transform.Shipped.{Shipped}
 use Rattle.command_line.specs.declared.transform.Shipped.TheVariants.{Plain}
 use Rattle.vend_commands.specs.Run.{IsCarriedOut, IsProgramRun}
 use Rattle.vend_commands.specs.Run.IsProgramRun.{answered, bad_word, explained, no_room}
-use Rattle.vend_commands.specs.commands.Asked.{IsAskedAt}
-use Rattle.vend_commands.specs.commands.Audited.{IsAudited}
-use Rattle.vend_commands.specs.commands.Audited.IsAudited.{absent as audit_absent, looked as audit_looked, unopened as audit_unopened}
-use Rattle.vend_commands.specs.commands.Imported.{AreAdded, IsFileImported}
-use Rattle.vend_commands.specs.commands.LookedUp.{IsShownAt, lookup_of}
-use Rattle.vend_commands.specs.commands.LookedUp.IsShownAt.{absent as shown_absent, present as shown_present}
-use Rattle.vend_commands.specs.commands.Reported.{IsReported, PrintsPaper}
-use Rattle.vend_commands.specs.commands.Reported.IsReported.{absent as report_absent, present as report_present}
-use Rattle.vend_commands.specs.commands.Timed.{IsDoneAt}
-use Rattle.vend_commands.specs.office.Served.{IsServedAndTold}
-use Rattle.vend_commands.specs.office.Visited.{IsVisited, seen_in}
-use Rattle.vend_commands.specs.office.Visited.IsVisited.{unopened as visit_unopened, visited as visit_opened}
-use Rattle.vend_commands.specs.office.Lost.{IsUnreopened}
-use Rattle.vend_commands.specs.office.Lost.IsUnreopened.{refused as lost_refused, unsalted as lost_unsalted}
-use Rattle.vend_commands.specs.port.Places.{IsUnopened, Machine, Place, Way, places_of, where_present}
-use Rattle.vend_commands.specs.port.Places.IsUnopened.{unfound, unopened as found_unopened}
-use Rattle.vend_commands.specs.port.Places.IsUnopenedIn.{refused, unsalted}
-use Rattle.vend_commands.specs.print.Told.{Outputs, Sink}
+use Rattle.office_commands.specs.commands.Asked.{IsAskedAt}
+use Rattle.office_commands.specs.commands.Audited.{IsAudited}
+use Rattle.office_commands.specs.commands.Audited.IsAudited.{absent as audit_absent, looked as audit_looked, unopened as audit_unopened}
+use Rattle.office_commands.specs.commands.Imported.{AreAdded, IsFileImported}
+use Rattle.office_commands.specs.commands.LookedUp.{IsShownAt, lookup_of}
+use Rattle.office_commands.specs.commands.LookedUp.IsShownAt.{absent as shown_absent, present as shown_present}
+use Rattle.office_commands.specs.commands.Reported.{IsReported, PrintsPaper}
+use Rattle.office_commands.specs.commands.Reported.IsReported.{absent as report_absent, present as report_present}
+use Rattle.vend_ports.specs.commands.Timed.{IsDoneAt}
+use Rattle.office_commands.specs.office.Served.{IsServedAndTold}
+use Rattle.office_commands.specs.office.Visited.{IsVisited, seen_in}
+use Rattle.office_commands.specs.office.Visited.IsVisited.{unopened as visit_unopened, visited as visit_opened}
+use Rattle.office_commands.specs.office.Lost.{IsUnreopened}
+use Rattle.office_commands.specs.office.Lost.IsUnreopened.{refused as lost_refused, unsalted as lost_unsalted}
+use Rattle.office_commands.specs.port.Places.{IsUnopened, Place, places_of, where_present}
+use Rattle.vend_commands.specs.port.Machines.{Machine, Way}
+use Rattle.office_commands.specs.port.Places.IsUnopened.{unfound, unopened as found_unopened}
+use Rattle.office_commands.specs.port.Places.IsUnopenedIn.{refused, unsalted}
+use Rattle.vend_ports.specs.print.Told.{Outputs, Sink}
 use Rattle.program_laws.specs.runs.Readings.{IsReadIn, IsSaleRead, Reading, exported, reading_of}
 use Rattle.vend_commands.specs.serving.Connections.{AreServed, Service, service}
 use Rattle.program_laws.specs.Courses.{AreLived, Course, IsNext, course}
 use Rattle.vend_commands.specs.serving.Listening.{IsServing}
 use Rattle.vend_commands.specs.serving.Listening.IsServing.{unheard as serve_unheard, unopened as serve_unopened, was_open as serve_open}
 use Rattle.program_laws.specs.SalesTold.{ConnectionsTell}
-use Rattle.vend_commands.specs.declared.office.wanted.Wanted.{Wanted}
-use Rattle.vend_commands.specs.declared.office.wanted.Wanted.TheVariants.{One, Listing}
-use Rattle.vend_commands.specs.declared.command_end.CommandEnd.{CommandEnd}
-use Rattle.vend_commands.specs.declared.port.ports.OfficeFile as file
-use Rattle.vend_commands.specs.declared.port.ports.SaltSource as source
+use Rattle.office_commands.specs.declared.office.wanted.Wanted.{Wanted}
+use Rattle.office_commands.specs.declared.office.wanted.Wanted.TheVariants.{One, Listing}
+use Rattle.vend_ports.specs.declared.command_end.CommandEnd.{CommandEnd}
+use Rattle.office_commands.specs.declared.port.ports.OfficeFile as file
+use Rattle.office_commands.specs.declared.port.ports.SaltSource as source
 
 -- ---- the lives of a run
 

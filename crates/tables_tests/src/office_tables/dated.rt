@@ -2,10 +2,10 @@
 use crate::office_tables::made::batch;
 use book_tables::TableError;
 use book_tables::reading::dated_steps::{first_day_until, latest_steps, steps_from};
+use office_rules::TariffName;
 use sqlite::Connection;
 use std::test::Fail;
 use sts_fields::Day;
-use vend_core::TariffName;
 
 const TABLES: &str = "CREATE TABLE before (day INTEGER PRIMARY KEY, word TEXT); \
     INSERT INTO before VALUES (7, 'a'); \

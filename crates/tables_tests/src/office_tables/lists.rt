@@ -4,11 +4,11 @@ use crate::office_tables::made::batch;
 use crate::office_tables::rows::{ROWS, TABLES};
 use book_tables::TableError;
 use book_tables::reading::tariffs;
+use office_rules::TariffName;
 use sqlite::Connection;
 use std::alloc::Global;
 use std::test::Fail;
 use tariff::{Step, Steps};
-use vend_core::TariffName;
 
 const STEP_TABLE: &str = "\
     CREATE TABLE tariff_steps (tariff TEXT NOT NULL REFERENCES tariffs (name), \

@@ -2,12 +2,12 @@
 use crate::office_tables::made::batch;
 use book_tables::TableError;
 use book_tables::reading::{meters, sales, shifts};
+use office_rules::{Meter, MeterNo, Operator, Ref, Sale, TariffName};
 use sqlite::{Connection, Error, ErrorCode, MemStore};
 use std::alloc::Global;
 use std::test::Fail;
 use sts_fields::{Amount, Base, Moment};
 use tariff::Tender;
-use vend_core::{Meter, MeterNo, Operator, Ref, Sale, TariffName};
 
 pub(crate) const TABLES: &str = "\
     CREATE TABLE before (id INTEGER PRIMARY KEY, number INTEGER NOT NULL) STRICT; \

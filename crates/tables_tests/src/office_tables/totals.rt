@@ -4,10 +4,10 @@ use crate::office_tables::made::batch;
 use book_tables::reading::totals::{tenths_in_month, totals_of_shift};
 use book_tables::writing::totals::{add_tenths, add_to_shift};
 use book_tables::{TableError, Totals};
+use office_rules::MeterNo;
 use sqlite::{Connection, Error, ErrorCode, MemStore};
 use std::alloc::Global;
 use std::test::Fail;
-use vend_core::MeterNo;
 
 // The tables of the totals, between others.
 const TABLES: &str = "CREATE TABLE before (id INTEGER PRIMARY KEY, word TEXT); \

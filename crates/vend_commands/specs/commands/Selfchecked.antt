@@ -5,7 +5,7 @@ use Rattle.books.specs.Asking.{ReplyAt}
 use Rattle.books.specs.Keeps.{Seen}
 use Rattle.desk.specs.Answering.{answers_by, life_serves, message_refusal_of}
 use Rattle.conversation.specs.Exchanges.{Timed}
-use Rattle.desk.specs.reply.Text.{line_end}
+use Rattle.desk_messages.specs.reply.Text.{line_end}
 use Rattle.conversation.specs.Run.{IsAll, IsRun}
 use Rattle.conversation.specs.declared.end.End as conversation
 use Rattle.conversation.specs.declared.end.End.TheVariants.{Closed, WriteFault}
@@ -14,13 +14,13 @@ use Rattle.sts_fields.specs.declared.base.Base.TheVariants.{Y2014}
 use Rattle.sts_token.specs.Token.{BlockFunction}
 use Rattle.vend_core.specs.Law.Life.{Life}
 use Rattle.vend_core.specs.Law.LifeLaws.{extended_by, opened}
-use Rattle.vend_core.specs.Office.{empty_office}
-use Rattle.vend_core.specs.declared.decision.answer.Answer.{Answer}
-use Rattle.vend_core.specs.declared.decision.refusal.Refusal.{Refusal}
-use Rattle.vend_core.specs.declared.decision.refusal.Refusal.TheVariants as refusal
-use Rattle.vend_core.specs.declared.decision.request.Request.{Request}
-use Rattle.vend_core.specs.declared.decision.request.Request.TheVariants.{AddTariff, AddMeter, OpenShift}
-use Rattle.vend_core.specs.declared.decision.request.Stamped.{Stamped}
+use Rattle.office_rules.specs.Office.{empty_office}
+use Rattle.office_rules.specs.declared.decision.answer.Answer.{Answer}
+use Rattle.office_rules.specs.declared.decision.refusal.Refusal.{Refusal}
+use Rattle.office_rules.specs.declared.decision.refusal.Refusal.TheVariants as refusal
+use Rattle.office_rules.specs.declared.decision.request.Request.{Request}
+use Rattle.office_rules.specs.declared.decision.request.Request.TheVariants.{AddTariff, AddMeter, OpenShift}
+use Rattle.office_rules.specs.declared.decision.request.Stamped.{Stamped}
 use Rattle.vend_ports.specs.print.Printed.{net_line, refusal_line, selfcheck_line}
 use Rattle.office_commands.specs.print.Opening.{opening_line}
 use Rattle.vend_ports.specs.port.Sent.{IsSent}

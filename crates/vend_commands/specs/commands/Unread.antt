@@ -1,5 +1,5 @@
 -- How a run ends whose words were not read.
-use Rattle.vend_core.specs.declared.decision.refusal.Refusal.TheVariants as refusal
+use Rattle.office_rules.specs.declared.decision.refusal.Refusal.TheVariants as refusal
 use Rattle.sts_fields.specs.Text.{Text}
 use Rattle.vend_ports.specs.print.Printed.{bad_word_line, refusal_line}
 use Rattle.vend_ports.specs.declared.command_end.CommandEnd.{CommandEnd}

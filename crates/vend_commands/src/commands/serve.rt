@@ -12,11 +12,11 @@ use books::{Books, OpenFault};
 use command_line::{Address, ServeWords, Shipped};
 use desk::{Clock, Desk};
 use office_commands::{OfficeFile, close_office, open_office, put_opening};
+use office_rules::Refusal;
 use sqlite::FileStore;
 use sqlite_trees::store::Store;
 use std::alloc::Global;
 use std::io::Write;
-use vend_core::Refusal;
 use vend_ports::{CommandEnd, Door, Watched, address_text, put_line, put_refusal};
 
 /// Opens the office, serves its connections, and closes its file as it is left. The door is left as

@@ -1,5 +1,5 @@
 use books::OpenFault;
-use vend_core::Refusal;
+use office_rules::Refusal;
 
 /// Why a selfcheck did not find the replies that it looked for.
 #[derive(Clone, Copy, Debug, PartialEq, Eq)]

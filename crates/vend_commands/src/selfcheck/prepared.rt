@@ -5,7 +5,7 @@ ghost use Rattle.sqlite.specs.Steps.{over_memory};
 ghost use Rattle.vend_core.specs.Law.Life.{Life};
 ghost use Rattle.books.specs.Asking.{ReplyAt};
 ghost use Rattle.books.specs.Keeps.{Represents, seen};
-ghost use Rattle.vend_core.specs.declared.decision.refusal.Refusal.TheVariants.{Memory};
+ghost use Rattle.office_rules.specs.declared.decision.refusal.Refusal.TheVariants.{Memory};
 ghost use Rattle.vend_commands.specs.commands.Selfchecked.{AreGranted, IsGranted, IsPrepared, IsUngranted};
 ghost use Rattle.vend_commands.specs.commands.Selfchecked.{IsUnprepared, add_flat, add_selfcheck_meter};
 ghost use Rattle.vend_commands.specs.commands.Selfchecked.{clock_moment, flat_name, open_selfcheck_shift};
@@ -13,12 +13,12 @@ ghost use Rattle.vend_commands.specs.commands.Selfchecked.{preparing};
 
 use crate::selfcheck::fault::SelfcheckFault;
 use books::Books;
+use office_rules::{Meter, MeterNo, Operator, Refusal, Request, TariffName};
 use sqlite::{Alter, MemStore};
 use std::alloc::Global;
 use sts_fields::{Base, Moment};
 use sts_token::BlockTransform;
 use tariff::{Step, Steps};
-use vend_core::{Meter, MeterNo, Operator, Refusal, Request, TariffName};
 
 /// The moment of the office's clock, in Unix seconds: 2014-01-01T00:00:30Z.
 pub(crate) const NOW: i64 = 1_388_534_430;

@@ -9,34 +9,34 @@ use Rattle.std.proofs.lemmas.Slice.Eq.{bytes_eq-Decides}
 use Rattle.std.proofs.lemmas.Bool.Decides.{Decides-eqb}
 use Rattle.tariff.specs.StepsEq.{steps_eq-equiv}
 use Rattle.tariff.specs.declared.step.Step.{Step}
-use Rattle.vend_core.specs.Decision.{◌>>=◌, MeterAccount, at_row, add_meter, add_rows, add_steps, add_tariff, account_of, changed, close_shift, decision_of, import, meter_eq, new_rows, next_number, open_a_shift, report, reprint, row_decision, sell, sell_once, steps_eq, unchanged}
-use Rattle.vend_core.specs.Decision.Edits.{office_after, with_rows}
-use Rattle.vend_core.specs.Decision.Fold.{after, reply, reply_of, step}
-use Rattle.vend_core.specs.Law.Growth.{HaveStayed}
+use Rattle.office_rules.specs.Decision.{◌>>=◌, MeterAccount, at_row, add_meter, add_rows, add_steps, add_tariff, account_of, changed, close_shift, decision_of, import, meter_eq, new_rows, next_number, open_a_shift, report, reprint, row_decision, sell, sell_once, steps_eq, unchanged}
+use Rattle.office_rules.specs.Decision.Edits.{office_after, with_rows}
+use Rattle.office_rules.specs.Decision.Fold.{after, reply, reply_of, step}
+use Rattle.office_rules.specs.Law.Growth.{HaveStayed}
 use Rattle.vend_core.specs.Law.Imports.{ImportsNothing, ChangesNoMeter}
-use Rattle.vend_core.specs.Office.Lookup.{open_shift, sale_numbered, sale_of_ref, sales_of_shift, shift_numbered}
-use Rattle.vend_core.specs.Office.{Office}
-use Rattle.vend_core.specs.declared.decision.answer.Answer.{Answer}
-use Rattle.vend_core.specs.declared.decision.answer.Answer.TheVariants as answers
-use Rattle.vend_core.specs.declared.decision.change.Change.{Change}
-use Rattle.vend_core.specs.declared.decision.change.Edit.{Edit}
-use Rattle.vend_core.specs.declared.decision.change.Edit.TheVariants as edits
-use Rattle.vend_core.specs.declared.office.meter.Meter.{Meter}
-use Rattle.vend_core.specs.declared.decision.refusal.Refusal.{Refusal}
-use Rattle.vend_core.specs.declared.decision.refusal.Refusal.TheVariants as refusals
-use Rattle.vend_core.specs.declared.decision.request.Order.{Order}
-use Rattle.vend_core.specs.declared.decision.request.Request.{Request}
-use Rattle.vend_core.specs.declared.decision.request.Request.TheVariants as requests
-use Rattle.vend_core.specs.declared.decision.request.Stamped.{Stamped}
-use Rattle.vend_core.specs.declared.office.row.Row.{Row}
-use Rattle.vend_core.specs.declared.office.row.Row.TheVariants as kinds
-use Rattle.vend_core.specs.declared.office.sale.Sale.{Sale}
-use Rattle.vend_core.specs.declared.office.shift.Shift.{Shift}
-use Rattle.vend_core.proofs.DecisionLemmas.{after_test, same_Ok, sell_ok}
-use Rattle.vend_core.proofs.DecisionLemmas.ImportLemmas.{after_add, import_keeps, new_rows_keep, takes, taken_office}
-use Rattle.vend_core.proofs.DecisionLemmas.EditLemmas.{base_eq-refl}
-use Rattle.vend_core.proofs.OfficeLemmas.RowLemmas.{both_true}
-use Rattle.vend_core.proofs.LawLemmas.StayLemmas.{stayed_by_meter, stayed_by_row, stayed_by_steps, stayed_by_tariff, still_there, stayed_if, stayed_none, stayed_twice}
+use Rattle.office_rules.specs.Office.Lookup.{open_shift, sale_numbered, sale_of_ref, sales_of_shift, shift_numbered}
+use Rattle.office_rules.specs.Office.{Office}
+use Rattle.office_rules.specs.declared.decision.answer.Answer.{Answer}
+use Rattle.office_rules.specs.declared.decision.answer.Answer.TheVariants as answers
+use Rattle.office_rules.specs.declared.decision.change.Change.{Change}
+use Rattle.office_rules.specs.declared.decision.change.Edit.{Edit}
+use Rattle.office_rules.specs.declared.decision.change.Edit.TheVariants as edits
+use Rattle.office_rules.specs.declared.office.meter.Meter.{Meter}
+use Rattle.office_rules.specs.declared.decision.refusal.Refusal.{Refusal}
+use Rattle.office_rules.specs.declared.decision.refusal.Refusal.TheVariants as refusals
+use Rattle.office_rules.specs.declared.decision.request.Order.{Order}
+use Rattle.office_rules.specs.declared.decision.request.Request.{Request}
+use Rattle.office_rules.specs.declared.decision.request.Request.TheVariants as requests
+use Rattle.office_rules.specs.declared.decision.request.Stamped.{Stamped}
+use Rattle.office_rules.specs.declared.office.row.Row.{Row}
+use Rattle.office_rules.specs.declared.office.row.Row.TheVariants as kinds
+use Rattle.office_rules.specs.declared.office.sale.Sale.{Sale}
+use Rattle.office_rules.specs.declared.office.shift.Shift.{Shift}
+use Rattle.office_rules.proofs.DecisionLemmas.{after_test, same_Ok, sell_ok}
+use Rattle.office_rules.proofs.DecisionLemmas.ImportLemmas.{after_add, import_keeps, new_rows_keep, takes, taken_office}
+use Rattle.office_rules.proofs.DecisionLemmas.EditLemmas.{base_eq-refl}
+use Rattle.office_rules.proofs.OfficeLemmas.RowLemmas.{both_true}
+use Rattle.office_rules.proofs.DecisionLemmas.StayLemmas.{stayed_by_meter, stayed_by_row, stayed_by_steps, stayed_by_tariff, still_there, stayed_if, stayed_none, stayed_twice}
 
 -- whatever is asked but SetTariff and MoveBase, the tariffs and the meters stand
 stayed_by_import : (o : Office) (today : ℕ) (rows : List Row) → HaveStayed o (office_after o (import o today rows))

@@ -7,32 +7,32 @@ use Rattle.sts_fields.specs.declared.base.Base.{Base}
 use Rattle.std.proofs.lemmas.List.Elements.{All-contains_itself, All-cons, All-filter, All-nil, Contains-push}
 use Rattle.sts_token.specs.Token.{KeepsRange}
 use Rattle.tariff.specs.declared.step.Step.{Step}
-use Rattle.vend_core.specs.Decision.{MeterAccount, add_meter, add_rows, add_steps, add_tariff, changed, close_shift, decision_of, import, is_earlier, meter_eq, move_base, new_rows, account_of, next_number, open_a_shift, report, reprint, sell, sell_once, set_tariff, steps_eq, unchanged}
-use Rattle.vend_core.specs.Decision.Edits.{with_row, with_rows}
-use Rattle.vend_core.specs.Decision.Fold.{office_after, reply, reply_of, step}
-use Rattle.vend_core.specs.Law.Handed.{sales_in, sales_of}
-use Rattle.vend_core.specs.Office.Lookup.{open_shift, sale_numbered, sale_of_ref, sales_of_shift, shift_numbered}
-use Rattle.vend_core.specs.Law.NewSale.{IsNewSale}
-use Rattle.vend_core.specs.Office.{IsOffice, Office}
+use Rattle.office_rules.specs.Decision.{MeterAccount, add_meter, add_rows, add_steps, add_tariff, changed, close_shift, decision_of, import, is_earlier, meter_eq, move_base, new_rows, account_of, next_number, open_a_shift, report, reprint, sell, sell_once, set_tariff, steps_eq, unchanged}
+use Rattle.office_rules.specs.Decision.Edits.{with_row, with_rows}
+use Rattle.office_rules.specs.Decision.Fold.{office_after, reply, reply_of, step}
+use Rattle.office_rules.specs.Law.Handed.{sales_in, sales_of}
+use Rattle.office_rules.specs.Office.Lookup.{open_shift, sale_numbered, sale_of_ref, sales_of_shift, shift_numbered}
+use Rattle.office_rules.specs.Law.NewSale.{IsNewSale}
+use Rattle.office_rules.specs.Office.{IsOffice, Office}
 use Rattle.vend_core.specs.Law.OfficeLaws.{SellsOne}
-use Rattle.vend_core.specs.declared.decision.answer.Answer.{Answer}
-use Rattle.vend_core.specs.declared.decision.answer.Answer.TheVariants as answers
-use Rattle.vend_core.specs.declared.decision.change.Change.{Change}
-use Rattle.vend_core.specs.declared.decision.change.Edit.TheVariants as edits
-use Rattle.vend_core.specs.declared.office.meter.Meter.{Meter}
-use Rattle.vend_core.specs.declared.decision.refusal.Refusal.{Refusal}
-use Rattle.vend_core.specs.declared.decision.refusal.Refusal.TheVariants as refusals
-use Rattle.vend_core.specs.declared.decision.request.Order.{Order}
-use Rattle.vend_core.specs.declared.decision.request.Request.{Request}
-use Rattle.vend_core.specs.declared.decision.request.Request.TheVariants as requests
-use Rattle.vend_core.specs.declared.decision.request.Stamped.{Stamped}
-use Rattle.vend_core.specs.declared.office.row.Row.{Row}
-use Rattle.vend_core.specs.declared.office.row.Row.TheVariants as kinds
-use Rattle.vend_core.specs.declared.office.sale.Sale.{Sale}
-use Rattle.vend_core.specs.declared.office.shift.Shift.{Shift}
-use Rattle.vend_core.proofs.DecisionLemmas.{after_test, sale_change, sell_ok}
-use Rattle.vend_core.proofs.DecisionLemmas.NewSaleLemmas.{LowerLaws, granted_sale}
-use Rattle.vend_core.proofs.OfficeLemmas.RowLemmas.{found}
+use Rattle.office_rules.specs.declared.decision.answer.Answer.{Answer}
+use Rattle.office_rules.specs.declared.decision.answer.Answer.TheVariants as answers
+use Rattle.office_rules.specs.declared.decision.change.Change.{Change}
+use Rattle.office_rules.specs.declared.decision.change.Edit.TheVariants as edits
+use Rattle.office_rules.specs.declared.office.meter.Meter.{Meter}
+use Rattle.office_rules.specs.declared.decision.refusal.Refusal.{Refusal}
+use Rattle.office_rules.specs.declared.decision.refusal.Refusal.TheVariants as refusals
+use Rattle.office_rules.specs.declared.decision.request.Order.{Order}
+use Rattle.office_rules.specs.declared.decision.request.Request.{Request}
+use Rattle.office_rules.specs.declared.decision.request.Request.TheVariants as requests
+use Rattle.office_rules.specs.declared.decision.request.Stamped.{Stamped}
+use Rattle.office_rules.specs.declared.office.row.Row.{Row}
+use Rattle.office_rules.specs.declared.office.row.Row.TheVariants as kinds
+use Rattle.office_rules.specs.declared.office.sale.Sale.{Sale}
+use Rattle.office_rules.specs.declared.office.shift.Shift.{Shift}
+use Rattle.office_rules.proofs.DecisionLemmas.{after_test, sale_change, sell_ok}
+use Rattle.office_rules.proofs.DecisionLemmas.NewSaleLemmas.{LowerLaws, granted_sale}
+use Rattle.office_rules.proofs.OfficeLemmas.RowLemmas.{found}
 
 -- each sale that is answered stands in the office after the decision
 abbrev pub AnswersStand : Office → Result Change Refusal → Type 0

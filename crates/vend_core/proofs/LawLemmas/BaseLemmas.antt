@@ -8,19 +8,19 @@ use Rattle.std.proofs.lemmas.Option.{same_Some}
 use Rattle.std.proofs.lemmas.Slice.Eq.{bytes_eq-Decides}
 use Rattle.sts_fields.specs.Base.{base_date, base_eq, year_of}
 use Rattle.sts_fields.specs.declared.base.Base.{Base}
-use Rattle.vend_core.specs.Decision.{changed, decision_of, is_earlier, move_base, unchanged}
-use Rattle.vend_core.specs.Decision.Fold.{office_after, reply, reply_of, step, with_base}
-use Rattle.vend_core.specs.Office.{IsOffice, IsSaleRow, Office}
+use Rattle.office_rules.specs.Decision.{changed, decision_of, is_earlier, move_base, unchanged}
+use Rattle.office_rules.specs.Decision.Fold.{office_after, reply, reply_of, step, with_base}
+use Rattle.office_rules.specs.Office.{IsOffice, IsSaleRow, Office}
 use Rattle.vend_core.specs.Law.OfficeLaws.{IsGreatestBase, IsMoved}
-use Rattle.vend_core.specs.declared.decision.answer.Answer.TheVariants as answers
-use Rattle.vend_core.specs.declared.decision.change.Change.{Change}
-use Rattle.vend_core.specs.declared.decision.change.Edit.TheVariants as edits
-use Rattle.vend_core.specs.declared.office.meter.Meter.{Meter}
-use Rattle.vend_core.specs.declared.decision.refusal.Refusal.{Refusal}
-use Rattle.vend_core.specs.declared.decision.refusal.Refusal.TheVariants as refusals
-use Rattle.vend_core.specs.declared.decision.request.Request.TheVariants as requests
-use Rattle.vend_core.specs.declared.decision.request.Stamped.{Stamped}
-use Rattle.vend_core.proofs.DecisionLemmas.EditLemmas.{base_eq-refl}
+use Rattle.office_rules.specs.declared.decision.answer.Answer.TheVariants as answers
+use Rattle.office_rules.specs.declared.decision.change.Change.{Change}
+use Rattle.office_rules.specs.declared.decision.change.Edit.TheVariants as edits
+use Rattle.office_rules.specs.declared.office.meter.Meter.{Meter}
+use Rattle.office_rules.specs.declared.decision.refusal.Refusal.{Refusal}
+use Rattle.office_rules.specs.declared.decision.refusal.Refusal.TheVariants as refusals
+use Rattle.office_rules.specs.declared.decision.request.Request.TheVariants as requests
+use Rattle.office_rules.specs.declared.decision.request.Stamped.{Stamped}
+use Rattle.office_rules.proofs.DecisionLemmas.EditLemmas.{base_eq-refl}
 
 pub sales_have_bases : (o : Office) → IsOffice o → All (λ s. o.bases s.meter s.base ≡ true) o.sales
 sales_have_bases o office = All-weaker (IsSaleRow o) (λ s. o.bases s.meter s.base ≡ true) (λ s row. row.base) o.sales office.sales

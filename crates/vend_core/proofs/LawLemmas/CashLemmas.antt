@@ -4,16 +4,16 @@ use Rattle.std.specs.Prelude.{◌==◌, All, filter, slice_get, sum_by}
 use Rattle.std.proofs.lemmas.Bool.Decides.{nat_tests}
 use Rattle.std.proofs.lemmas.List.Elements.{All-head, All-tail, All-weaker}
 use Rattle.std.proofs.lemmas.List.Sums.{sum_by-cons}
-use Rattle.vend_core.specs.Law.Cash.{AskForReports, cash_of, cash_of_reports}
-use Rattle.vend_core.specs.Decision.Fold.{reply}
-use Rattle.vend_core.specs.Law.Handed.{sales_of}
-use Rattle.vend_core.specs.Office.Lookup.{sales_of_shift}
-use Rattle.vend_core.specs.Office.{IsOffice, IsSaleRow, Office}
-use Rattle.vend_core.specs.declared.office.sale.Sale.{Sale}
-use Rattle.vend_core.specs.declared.office.shift.Shift.{Shift}
-use Rattle.vend_core.specs.declared.decision.request.Stamped.{Stamped}
+use Rattle.office_rules.specs.Law.Cash.{AskForReports, cash_of, cash_of_reports}
+use Rattle.office_rules.specs.Decision.Fold.{reply}
+use Rattle.office_rules.specs.Law.Handed.{sales_of}
+use Rattle.office_rules.specs.Office.Lookup.{sales_of_shift}
+use Rattle.office_rules.specs.Office.{IsOffice, IsSaleRow, Office}
+use Rattle.office_rules.specs.declared.office.sale.Sale.{Sale}
+use Rattle.office_rules.specs.declared.office.shift.Shift.{Shift}
+use Rattle.office_rules.specs.declared.decision.request.Stamped.{Stamped}
 use Rattle.vend_core.proofs.LawLemmas.{reports_the_shift}
-use Rattle.vend_core.proofs.ListsLemmas.MapLemmas.{all_from_contains}
+use Rattle.office_rules.proofs.OfficeLemmas.MapLemmas.{all_from_contains}
 
 -- a sum of sums
 sum_by_both : {X : Type 0} (f g h : X → ℕ) (xs : List X) → ((x : X) → h x ≡ f x + g x) → sum_by h xs ≡ sum_by f xs + sum_by g xs

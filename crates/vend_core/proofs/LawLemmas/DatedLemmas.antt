@@ -2,7 +2,7 @@
 use Rattle.std.proofs.Common.{◌≡◌, ℕ, zero, suc, ◌<◌, ◌≤◌, ◌↔◌, inl, inr, Bool, true, false, List, [], ◌∷◌, length, Option, Some, None, Result, Ok, Err, is_some, refl, sym, ◌∙◌, ap, subst, arith}
 use Rattle.std.specs.Prelude.{◌&&◌, ◌==◌, All, IsSome, bytes_eq, nat_lt, unwrap_or, if◌then◌else◌}
 use Rattle.std.specs.Option.{option_or}
-use Rattle.std.proofs.lemmas.Bool.{cases_lt, le-ltb, lt-ltb}
+use Rattle.std.proofs.lemmas.Bool.{le-ltb, lt-ltb}
 use Rattle.std.proofs.lemmas.Bool.Decides.{Decides-eqb, nat_tests}
 use Rattle.std.proofs.lemmas.List.Elements.{All-head, All-tail}
 use Rattle.std.proofs.lemmas.Option.{none-some, same_Some}
@@ -13,90 +13,33 @@ use Rattle.sts_fields.specs.declared.base.Base.{Base}
 use Rattle.sts_token.specs.Token.{KeepsRange}
 use Rattle.tariff.specs.StepsEq.{steps_eq-equiv}
 use Rattle.tariff.specs.declared.step.Step.{Step}
-use Rattle.vend_core.specs.Decision.{MeterAccount, account_of, add_meter, add_steps, add_tariff, changed, close_shift, decision_of, import, is_earlier, meter_eq, move_base, next_number, open_a_shift, report, reprint, row_decision, sell, sell_once, set_tariff, steps_eq, unchanged}
-use Rattle.vend_core.specs.Decision.Fold.{after, office_after, reply, reply_of, step}
-use Rattle.vend_core.specs.Office.Lookup.{IsLatest, latest, open_shift, sale_numbered, sale_of_ref, sales_of_shift, shift_numbered, steps_on}
-use Rattle.vend_core.specs.Office.{IsOffice, Office}
-use Rattle.vend_core.specs.Law.OfficeLaws.{AreStepsOn, IsNotBefore, NoneBegun}
-use Rattle.vend_core.specs.Decision.Requests.{IsStamped}
-use Rattle.vend_core.specs.declared.decision.answer.Answer.{Answer}
-use Rattle.vend_core.specs.declared.decision.answer.Answer.TheVariants as answers
-use Rattle.vend_core.specs.declared.decision.change.Change.{Change}
-use Rattle.vend_core.specs.declared.decision.change.Edit.TheVariants as edits
-use Rattle.vend_core.specs.declared.office.meter.Meter.{Meter}
-use Rattle.vend_core.specs.declared.decision.refusal.Refusal.{Refusal}
-use Rattle.vend_core.specs.declared.decision.refusal.Refusal.TheVariants as refusals
-use Rattle.vend_core.specs.declared.decision.request.Order.{Order}
-use Rattle.vend_core.specs.declared.decision.request.Request.{Request}
-use Rattle.vend_core.specs.declared.decision.request.Request.TheVariants as requests
-use Rattle.vend_core.specs.declared.decision.request.Stamped.{Stamped}
-use Rattle.vend_core.specs.declared.office.row.Row.{Row}
-use Rattle.vend_core.specs.declared.office.row.Row.TheVariants as kinds
-use Rattle.vend_core.specs.declared.office.sale.Sale.{Sale}
-use Rattle.vend_core.specs.declared.office.shift.Shift.{Shift}
-use Rattle.vend_core.proofs.DecisionLemmas.{after_test, sell_ok}
+use Rattle.office_rules.specs.Decision.{MeterAccount, account_of, add_meter, add_steps, add_tariff, changed, close_shift, decision_of, import, is_earlier, meter_eq, move_base, next_number, open_a_shift, report, reprint, row_decision, sell, sell_once, set_tariff, steps_eq, unchanged}
+use Rattle.office_rules.specs.Decision.Fold.{after, office_after, reply, reply_of, step}
+use Rattle.office_rules.specs.Office.Lookup.{latest, open_shift, sale_numbered, sale_of_ref, sales_of_shift, shift_numbered, steps_on}
+use Rattle.office_rules.specs.Office.{IsOffice, Office}
+use Rattle.vend_core.specs.Law.OfficeLaws.{AreStepsOn, IsNotBefore}
+use Rattle.office_rules.specs.Decision.Requests.{IsStamped}
+use Rattle.office_rules.specs.declared.decision.answer.Answer.{Answer}
+use Rattle.office_rules.specs.declared.decision.answer.Answer.TheVariants as answers
+use Rattle.office_rules.specs.declared.decision.change.Change.{Change}
+use Rattle.office_rules.specs.declared.decision.change.Edit.TheVariants as edits
+use Rattle.office_rules.specs.declared.office.meter.Meter.{Meter}
+use Rattle.office_rules.specs.declared.decision.refusal.Refusal.{Refusal}
+use Rattle.office_rules.specs.declared.decision.refusal.Refusal.TheVariants as refusals
+use Rattle.office_rules.specs.declared.decision.request.Order.{Order}
+use Rattle.office_rules.specs.declared.decision.request.Request.{Request}
+use Rattle.office_rules.specs.declared.decision.request.Request.TheVariants as requests
+use Rattle.office_rules.specs.declared.decision.request.Stamped.{Stamped}
+use Rattle.office_rules.specs.declared.office.row.Row.{Row}
+use Rattle.office_rules.specs.declared.office.row.Row.TheVariants as kinds
+use Rattle.office_rules.specs.declared.office.sale.Sale.{Sale}
+use Rattle.office_rules.specs.declared.office.shift.Shift.{Shift}
+use Rattle.office_rules.proofs.DecisionLemmas.{after_test, sell_ok}
 use Rattle.vend_core.proofs.LawLemmas.FoldLemmas.{after_grows}
-use Rattle.vend_core.proofs.DecisionLemmas.ImportLemmas.{import_keeps}
-use Rattle.vend_core.proofs.DecisionLemmas.NewSaleLemmas.{LowerLaws}
-use Rattle.vend_core.proofs.OfficeLemmas.RowLemmas.{both_true}
-
-module _ (dated : ℕ → Option (List Step)) where
-  -- what is found for a day: the latest steps that have begun, or that none have
-  abbrev LatestIs : ℕ → Option (List Step) → Type 0
-  LatestIs day (Some steps) = IsLatest dated day steps
-  LatestIs day None = NoneBegun dated day
-
-  latest_at_first : (there : Option (List Step)) → dated zero ≡ there → LatestIs zero there
-  latest_at_first None is = λ first below. let e : first ≡ zero = omega (arith, below) in ap dated e ∙ is
-  latest_at_first (Some steps) is =
-      record { first = zero; not_after = omega arith; there = is; none_between = λ other above below. absurd (omega (arith, above, below)) }
-
-  latest_later : (day : ℕ) (here before : Option (List Step)) → dated (suc day) ≡ here → LatestIs day before → LatestIs (suc day) (option_or here before)
-  latest_later day (Some steps) before is rest =
-      record { first = suc day; not_after = omega arith; there = is; none_between = λ other above below. absurd (omega (arith, above, below)) }
-  latest_later day None None is rest = λ first below. elim (cases_lt first (suc day)) [
-    | inl earlier ↦ rest first (omega (arith, earlier))
-    | inr last ↦ let e : first ≡ suc day = omega (arith, below, last) in ap dated e ∙ is
-  ]
-  latest_later day None (Some steps) is rest = record {
-    first = rest.first;
-    not_after = omega (arith, rest.not_after);
-    there = rest.there;
-    none_between = λ other above below. elim (cases_lt other (suc day)) [
-      | inl earlier ↦ rest.none_between other above (omega (arith, earlier))
-      | inr last ↦ let e : other ≡ suc day = omega (arith, below, last) in ap dated e ∙ is
-    ];
-  }
-
-  latest_is : (day : ℕ) → LatestIs day (latest dated day)
-  unfolding latest
-  latest_is zero = latest_at_first (dated zero) refl
-  latest_is (suc day) = latest_later day (dated (suc day)) (latest dated day) refl (latest_is day)
-
-  one_latest : (day : ℕ) (a b : List Step) → IsLatest dated day a → IsLatest dated day b → a ≡ b
-  one_latest day a b x y = elim (cases_lt x.first y.first) [
-    | inl before ↦ absurd (none-some b (sym (x.none_between y.first before y.not_after) ∙ y.there))
-    | inr not_before ↦ elim (cases_lt y.first x.first) [
-      | inl before ↦ absurd (none-some a (sym (y.none_between x.first before x.not_after) ∙ x.there))
-      | inr not_after ↦
-          let e : x.first ≡ y.first = omega (arith, not_before, not_after) in
-          same_Some a b (sym x.there ∙ ap dated e ∙ y.there)
-    ]
-  ]
-
-  found_latest : (day : ℕ) (steps : List Step) (found : Option (List Step)) → LatestIs day found → IsLatest dated day steps → found ≡ Some steps
-  found_latest day steps (Some other) is latest_steps = ap Some (one_latest day other steps is latest_steps)
-  found_latest day steps None none latest_steps = absurd (none-some steps (sym (none latest_steps.first latest_steps.not_after) ∙ latest_steps.there))
-
-  found_none : (day : ℕ) (found : Option (List Step)) → LatestIs day found → NoneBegun dated day → found ≡ None
-  found_none day None is none = refl
-  found_none day (Some steps) is none = absurd (none-some steps (sym (none is.first is.not_after) ∙ is.there))
-
-  pub latest_steps_are : (day : ℕ) (steps : List Step) → (latest dated day ≡ Some steps) ↔ IsLatest dated day steps
-  latest_steps_are day steps = (λ e. subst (LatestIs day) e (latest_is day), found_latest day steps (latest dated day) (latest_is day))
-
-  pub no_latest_steps : (day : ℕ) → (latest dated day ≡ None) ↔ NoneBegun dated day
-  no_latest_steps day = (λ e. subst (LatestIs day) e (latest_is day), found_none day (latest dated day) (latest_is day))
+use Rattle.office_rules.proofs.DecisionLemmas.ImportLemmas.{import_keeps}
+use Rattle.office_rules.proofs.DecisionLemmas.NewSaleLemmas.{LowerLaws}
+use Rattle.office_rules.proofs.OfficeLemmas.RowLemmas.{both_true}
+use Rattle.office_rules.proofs.StoreLemmas.LatestLemmas.{LatestIs, latest_is, one_latest}
 
 -- the steps of a tariff on a day are one list
 module _ (o : Office) (name : List ℕ) (day : ℕ) where

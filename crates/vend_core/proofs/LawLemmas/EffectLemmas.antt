@@ -4,26 +4,26 @@ use Rattle.std.specs.Prelude.{bytes_eq, if◌then◌else◌, map}
 use Rattle.std.specs.Option.{option_map_or}
 use Rattle.sts_token.specs.Token.{KeepsRange}
 use Rattle.sts_fields.specs.declared.base.Base.{Base}
-use Rattle.vend_core.specs.Decision.{decision}
-use Rattle.vend_core.specs.Decision.Edits.{applied, office_after, with_base, with_row, with_rows, with_tariff}
-use Rattle.vend_core.specs.Decision.Fold.{step}
-use Rattle.vend_core.specs.Decision.Requests.{IsStamped}
-use Rattle.vend_core.specs.Law.Store.{Meets, MeetRows, MeetsRow}
-use Rattle.vend_core.specs.Office.Lookup.{open_shift}
-use Rattle.vend_core.specs.Office.{IsOffice, Office}
-use Rattle.vend_core.specs.declared.decision.change.Change.{Change}
-use Rattle.vend_core.specs.declared.decision.change.Edit.{Edit}
-use Rattle.vend_core.specs.declared.decision.change.Edit.TheVariants as edits
-use Rattle.vend_core.specs.declared.decision.refusal.Refusal.{Refusal}
-use Rattle.vend_core.specs.declared.decision.request.Stamped.{Stamped}
-use Rattle.vend_core.specs.declared.office.meter.Meter.{Meter}
-use Rattle.vend_core.specs.declared.office.row.Row.{Row}
-use Rattle.vend_core.specs.declared.office.row.Row.TheVariants as kinds
-use Rattle.vend_core.specs.declared.office.shift.Shift.{Shift}
-use Rattle.vend_core.proofs.DecisionLemmas.EditLemmas.{closing, set_kept}
-use Rattle.vend_core.proofs.DecisionLemmas.NewSaleLemmas.{LowerLaws}
-use Rattle.vend_core.proofs.LawLemmas.StayLemmas.{put_beside}
-use Rattle.vend_core.proofs.StoreLemmas.MeetsLemmas.{decided_meets}
+use Rattle.office_rules.specs.Decision.{decision}
+use Rattle.office_rules.specs.Decision.Edits.{applied, office_after, with_base, with_row, with_rows, with_tariff}
+use Rattle.office_rules.specs.Decision.Fold.{step}
+use Rattle.office_rules.specs.Decision.Requests.{IsStamped}
+use Rattle.office_rules.specs.Law.Store.{Meets, MeetRows, MeetsRow}
+use Rattle.office_rules.specs.Office.Lookup.{open_shift}
+use Rattle.office_rules.specs.Office.{IsOffice, Office}
+use Rattle.office_rules.specs.declared.decision.change.Change.{Change}
+use Rattle.office_rules.specs.declared.decision.change.Edit.{Edit}
+use Rattle.office_rules.specs.declared.decision.change.Edit.TheVariants as edits
+use Rattle.office_rules.specs.declared.decision.refusal.Refusal.{Refusal}
+use Rattle.office_rules.specs.declared.decision.request.Stamped.{Stamped}
+use Rattle.office_rules.specs.declared.office.meter.Meter.{Meter}
+use Rattle.office_rules.specs.declared.office.row.Row.{Row}
+use Rattle.office_rules.specs.declared.office.row.Row.TheVariants as kinds
+use Rattle.office_rules.specs.declared.office.shift.Shift.{Shift}
+use Rattle.office_rules.proofs.DecisionLemmas.EditLemmas.{closing, set_kept}
+use Rattle.office_rules.proofs.DecisionLemmas.NewSaleLemmas.{LowerLaws}
+use Rattle.office_rules.proofs.DecisionLemmas.StayLemmas.{put_beside}
+use Rattle.office_rules.proofs.StoreLemmas.MeetsLemmas.{decided_meets}
 
 -- what holds of no change, and of each edit that meets its office, holds of a step
 by_edit : (P : Office → Type 0) (o : Office) (edit : Option Edit) → P o

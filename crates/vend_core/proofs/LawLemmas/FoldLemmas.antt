@@ -11,34 +11,34 @@ use Rattle.sts_fields.specs.Day.{day_at}
 use Rattle.sts_fields.specs.declared.base.Base.{Base}
 use Rattle.sts_token.specs.Token.{KeepsRange}
 use Rattle.tariff.specs.declared.step.Step.{Step}
-use Rattle.vend_core.specs.Decision.{MeterAccount, add_meter, add_steps, add_tariff, changed, close_shift, decision_of, import, is_earlier, meter_eq, move_base, account_of, next_number, open_a_shift, report, reprint, row_decision, sell, sell_once, set_tariff, steps_eq, unchanged}
-use Rattle.vend_core.specs.Decision.Fold.{after, applied, closed_at, office_after, step, with_base, with_tariff}
-use Rattle.vend_core.specs.Law.Growth.{HasGrown, HaveStayed, IsSameShift, TariffsStay}
-use Rattle.vend_core.specs.Office.Lookup.{open_shift, sale_numbered, sale_of_ref, sales_of_shift, shift_numbered}
-use Rattle.vend_core.specs.Office.{IsOffice, Office}
-use Rattle.vend_core.specs.Decision.Requests.{IsStamped}
-use Rattle.vend_core.specs.declared.decision.answer.Answer.{Answer}
-use Rattle.vend_core.specs.declared.decision.answer.Answer.TheVariants as answers
-use Rattle.vend_core.specs.declared.decision.change.Change.{Change}
-use Rattle.vend_core.specs.declared.decision.change.Edit.TheVariants as edits
-use Rattle.vend_core.specs.declared.decision.refusal.Refusal.{Refusal}
-use Rattle.vend_core.specs.declared.decision.refusal.Refusal.TheVariants as refusals
-use Rattle.vend_core.specs.declared.office.meter.Meter.{Meter}
-use Rattle.vend_core.specs.declared.decision.request.Order.{Order}
-use Rattle.vend_core.specs.declared.decision.request.Request.{Request}
-use Rattle.vend_core.specs.declared.decision.request.Request.TheVariants as requests
-use Rattle.vend_core.specs.declared.decision.request.Stamped.{Stamped}
-use Rattle.vend_core.specs.declared.office.row.Row.{Row}
-use Rattle.vend_core.specs.declared.office.row.Row.TheVariants as kinds
-use Rattle.vend_core.specs.declared.office.sale.Sale.{Sale}
-use Rattle.vend_core.specs.declared.office.shift.Shift.{Shift}
-use Rattle.vend_core.proofs.DecisionLemmas.{after_test, sell_ok}
-use Rattle.vend_core.proofs.DecisionLemmas.EditLemmas.{closing, more_kept, moved_base, set_kept}
-use Rattle.vend_core.proofs.DecisionLemmas.ImportLemmas.{import_keeps}
-use Rattle.vend_core.proofs.DecisionLemmas.NewSaleLemmas.{LowerLaws}
-use Rattle.vend_core.proofs.OfficeLemmas.{step_keeps_office}
-use Rattle.vend_core.proofs.OfficeLemmas.RowLemmas.{found, same_number}
-use Rattle.vend_core.proofs.LawLemmas.StayLemmas.{stayed_by_meter, stayed_by_steps, stayed_by_tariff, tariffs_stay_twice}
+use Rattle.office_rules.specs.Decision.{MeterAccount, add_meter, add_steps, add_tariff, changed, close_shift, decision_of, import, is_earlier, meter_eq, move_base, account_of, next_number, open_a_shift, report, reprint, row_decision, sell, sell_once, set_tariff, steps_eq, unchanged}
+use Rattle.office_rules.specs.Decision.Fold.{after, applied, closed_at, office_after, step, with_base, with_tariff}
+use Rattle.office_rules.specs.Law.Growth.{HasGrown, HaveStayed, IsSameShift, TariffsStay}
+use Rattle.office_rules.specs.Office.Lookup.{open_shift, sale_numbered, sale_of_ref, sales_of_shift, shift_numbered}
+use Rattle.office_rules.specs.Office.{IsOffice, Office}
+use Rattle.office_rules.specs.Decision.Requests.{IsStamped}
+use Rattle.office_rules.specs.declared.decision.answer.Answer.{Answer}
+use Rattle.office_rules.specs.declared.decision.answer.Answer.TheVariants as answers
+use Rattle.office_rules.specs.declared.decision.change.Change.{Change}
+use Rattle.office_rules.specs.declared.decision.change.Edit.TheVariants as edits
+use Rattle.office_rules.specs.declared.decision.refusal.Refusal.{Refusal}
+use Rattle.office_rules.specs.declared.decision.refusal.Refusal.TheVariants as refusals
+use Rattle.office_rules.specs.declared.office.meter.Meter.{Meter}
+use Rattle.office_rules.specs.declared.decision.request.Order.{Order}
+use Rattle.office_rules.specs.declared.decision.request.Request.{Request}
+use Rattle.office_rules.specs.declared.decision.request.Request.TheVariants as requests
+use Rattle.office_rules.specs.declared.decision.request.Stamped.{Stamped}
+use Rattle.office_rules.specs.declared.office.row.Row.{Row}
+use Rattle.office_rules.specs.declared.office.row.Row.TheVariants as kinds
+use Rattle.office_rules.specs.declared.office.sale.Sale.{Sale}
+use Rattle.office_rules.specs.declared.office.shift.Shift.{Shift}
+use Rattle.office_rules.proofs.DecisionLemmas.{after_test, sell_ok}
+use Rattle.office_rules.proofs.DecisionLemmas.EditLemmas.{closing, more_kept, moved_base, set_kept}
+use Rattle.office_rules.proofs.DecisionLemmas.ImportLemmas.{import_keeps}
+use Rattle.office_rules.proofs.DecisionLemmas.NewSaleLemmas.{LowerLaws}
+use Rattle.office_rules.proofs.OfficeLemmas.{step_keeps_office}
+use Rattle.office_rules.proofs.OfficeLemmas.RowLemmas.{found, same_number}
+use Rattle.office_rules.proofs.DecisionLemmas.StayLemmas.{stayed_by_meter, stayed_by_steps, stayed_by_tariff, tariffs_stay_twice}
 
 -- an office has grown out of itself, and out of what it had grown out of
 same_shift : (s : Shift) → IsSameShift s s

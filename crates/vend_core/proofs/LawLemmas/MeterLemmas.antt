@@ -13,16 +13,15 @@ use Rattle.sts_token.specs.Sold as sold
 use Rattle.sts_token.specs.Token.{IsToken, token_of}
 use Rattle.sts_token.specs.Transform.{IsTransform}
 use Rattle.vend_core.specs.Law.Life.{AreLives, IsHanded, Life}
-use Rattle.vend_core.specs.Law.NewSale.{fields_of}
-use Rattle.vend_core.specs.Office.{IsBefore, IsOffice, IsSaleRow, Office, Rises}
+use Rattle.office_rules.specs.Law.NewSale.{fields_of}
+use Rattle.office_rules.specs.Office.{IsBefore, IsOffice, IsSaleRow, Office, Rises}
 use Rattle.vend_core.specs.Law.SoldTokens.{AreSalesTo, SimMeter, accepted_of, digits_of, has_come, later_sales_come, reads_by, tokens_of}
-use Rattle.vend_core.specs.declared.office.sale.Sale.{Sale}
-use Rattle.vend_core.proofs.LawLemmas.{one_of_number, one_of_tid}
+use Rattle.office_rules.specs.declared.office.sale.Sale.{Sale}
 use Rattle.vend_core.proofs.LifeLemmas.{handed_stands, lives_office}
-use Rattle.vend_core.proofs.ListsLemmas.MapLemmas.{all_from_contains, any_same, count_same, kept_of_map, map_same, map_twice, pairs_map_contained, sum_of_map}
-use Rattle.vend_core.proofs.DecisionLemmas.NewSaleLemmas.{LowerLaws}
+use Rattle.office_rules.proofs.OfficeLemmas.MapLemmas.{all_from_contains, any_same, count_same, kept_of_map, map_same, map_twice, pairs_map_contained, sum_of_map}
+use Rattle.office_rules.proofs.DecisionLemmas.NewSaleLemmas.{LowerLaws}
 use Rattle.vend_core.proofs.LawLemmas.RiseLemmas.{lives_rise}
-use Rattle.vend_core.proofs.OfficeLemmas.RowLemmas.{contains_first, contains_map, kept, kept_from, map_source, related}
+use Rattle.office_rules.proofs.OfficeLemmas.RowLemmas.{contains_first, contains_map, kept, kept_from, map_source, one_of_number, one_of_tid, related}
 use Rattle.vend_core.proofs.LawLemmas.SaleLemmas.{handed_tid}
 
 -- what the meter's law says

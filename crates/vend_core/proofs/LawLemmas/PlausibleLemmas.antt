@@ -21,23 +21,23 @@ use Rattle.tariff.specs.Cost.{cost_of}
 use Rattle.tariff.specs.Purchase.{IsPurchase}
 use Rattle.tariff.specs.declared.bought.Buy.{Buy}
 use Rattle.tariff.specs.declared.step.Step.{Step}
-use Rattle.vend_core.specs.Decision.Edits.{closed_at}
-use Rattle.vend_core.specs.Law.Growth.{HasGrown}
-use Rattle.vend_core.specs.Law.NewSale.{IsNewSale, fields_of}
+use Rattle.office_rules.specs.Decision.Edits.{closed_at}
+use Rattle.office_rules.specs.Law.Growth.{HasGrown}
+use Rattle.office_rules.specs.Law.NewSale.{IsNewSale, fields_of}
 use Rattle.vend_core.specs.Law.OfficeLaws.{AreStepsOn}
 use Rattle.vend_core.specs.Law.Reached.{AreStepsOfOne, HasFreshTid, IsBoughtByOne, IsClosedFirst, IsGrantedAfter, IsInOpenShift, IsInOwnShift, IsUnderPresentBase, sales_alone}
-use Rattle.vend_core.specs.Office.Lookup.{prior, steps_on, used}
-use Rattle.vend_core.specs.Office.{AreNumbered, IsOffice, IsSaleRow, Office}
-use Rattle.vend_core.specs.declared.decision.request.Order.{Order}
-use Rattle.vend_core.specs.declared.decision.request.Stamped.{Stamped}
-use Rattle.vend_core.specs.declared.office.meter.Meter.{Meter}
-use Rattle.vend_core.specs.declared.office.sale.Sale.{Sale}
-use Rattle.vend_core.specs.declared.office.shift.Shift.{Shift}
-use Rattle.vend_core.proofs.DecisionLemmas.EditLemmas.{closing}
+use Rattle.office_rules.specs.Office.Lookup.{prior, steps_on, used}
+use Rattle.office_rules.specs.Office.{AreNumbered, IsOffice, IsSaleRow, Office}
+use Rattle.office_rules.specs.declared.decision.request.Order.{Order}
+use Rattle.office_rules.specs.declared.decision.request.Stamped.{Stamped}
+use Rattle.office_rules.specs.declared.office.meter.Meter.{Meter}
+use Rattle.office_rules.specs.declared.office.sale.Sale.{Sale}
+use Rattle.office_rules.specs.declared.office.shift.Shift.{Shift}
+use Rattle.office_rules.proofs.DecisionLemmas.EditLemmas.{closing}
 use Rattle.vend_core.proofs.LawLemmas.DatedLemmas.{steps_on_are}
 use Rattle.vend_core.proofs.LawLemmas.EffectLemmas.{ShiftsChange}
-use Rattle.vend_core.proofs.ListsLemmas.MapLemmas.{all_from_contains}
-use Rattle.vend_core.proofs.OfficeLemmas.RowLemmas.{all_pairs_map, found, found_none, map_source, pairs_push, parts_true}
+use Rattle.office_rules.proofs.OfficeLemmas.MapLemmas.{all_from_contains}
+use Rattle.office_rules.proofs.OfficeLemmas.RowLemmas.{all_pairs_map, found, found_none, map_source, pairs_push, parts_true}
 
 -- ---- the shifts
 

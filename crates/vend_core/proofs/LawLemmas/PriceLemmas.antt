@@ -7,22 +7,22 @@ use Rattle.sts_fields.specs.Day.{day_at}
 use Rattle.sts_token.specs.Token.{KeepsRange}
 use Rattle.tariff.specs.Cost.{cost_of}
 use Rattle.tariff.specs.declared.step.Step.{Step}
-use Rattle.vend_core.specs.Decision.Fold.{after, reply, step}
-use Rattle.vend_core.specs.Office.Lookup.{prior, sale_of_ref, steps_on}
-use Rattle.vend_core.specs.Law.NewSale.{IsNewSale}
-use Rattle.vend_core.specs.Office.{IsOffice, Office}
+use Rattle.office_rules.specs.Decision.Fold.{after, reply, step}
+use Rattle.office_rules.specs.Office.Lookup.{prior, sale_of_ref, steps_on}
+use Rattle.office_rules.specs.Law.NewSale.{IsNewSale}
+use Rattle.office_rules.specs.Office.{IsOffice, Office}
 use Rattle.vend_core.specs.Law.OfficeLaws.{IsNotBefore, IsPricedBy, KeepsPrice}
-use Rattle.vend_core.specs.Decision.Requests.{IsStamped}
-use Rattle.vend_core.specs.declared.decision.answer.Answer.TheVariants as answers
-use Rattle.vend_core.specs.declared.decision.request.Order.{Order}
-use Rattle.vend_core.specs.declared.decision.request.Request.TheVariants as requests
-use Rattle.vend_core.specs.declared.decision.request.Stamped.{Stamped}
-use Rattle.vend_core.specs.declared.office.sale.Sale.{Sale}
+use Rattle.office_rules.specs.Decision.Requests.{IsStamped}
+use Rattle.office_rules.specs.declared.decision.answer.Answer.TheVariants as answers
+use Rattle.office_rules.specs.declared.decision.request.Order.{Order}
+use Rattle.office_rules.specs.declared.decision.request.Request.TheVariants as requests
+use Rattle.office_rules.specs.declared.decision.request.Stamped.{Stamped}
+use Rattle.office_rules.specs.declared.office.sale.Sale.{Sale}
 use Rattle.vend_core.proofs.LawLemmas.DatedLemmas.{passed_steps_stay}
 use Rattle.vend_core.proofs.LawLemmas.FoldLemmas.{after_grows, stands_on}
 use Rattle.vend_core.proofs.LawLemmas.{new_sale_is}
-use Rattle.vend_core.proofs.DecisionLemmas.NewSaleLemmas.{LowerLaws}
-use Rattle.vend_core.proofs.OfficeLemmas.{step_keeps_office}
+use Rattle.office_rules.proofs.DecisionLemmas.NewSaleLemmas.{LowerLaws}
+use Rattle.office_rules.proofs.OfficeLemmas.{step_keeps_office}
 
 module _ (forward : ℕ → ℕ → ℕ) (o : Office) (at : Stamped) (order : Order) (s : Sale) (new : IsNewSale forward o at order s) where
   -- the new sale costs what the rules say, by its own moment, meter and tenths

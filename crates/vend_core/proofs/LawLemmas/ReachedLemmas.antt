@@ -4,23 +4,23 @@ use Rattle.std.proofs.Common.{◌≡◌, ℕ, ◌≤◌, inl, inr, List, length,
 use Rattle.std.specs.Prelude.{All}
 use Rattle.std.proofs.lemmas.List.Elements.{All-nil, All-push, All-take, All-weaker}
 use Rattle.sts_token.specs.Token.{IsToken, KeepsRange}
-use Rattle.vend_core.specs.Decision.Fold.{after, step}
-use Rattle.vend_core.specs.Decision.Requests.{IsStamped}
-use Rattle.vend_core.specs.Law.Growth.{HasGrown}
+use Rattle.office_rules.specs.Decision.Fold.{after, step}
+use Rattle.office_rules.specs.Decision.Requests.{IsStamped}
+use Rattle.office_rules.specs.Law.Growth.{HasGrown}
 use Rattle.vend_core.specs.Law.Life.{AreLives, Life}
-use Rattle.vend_core.specs.Law.NewSale.{fields_of}
+use Rattle.office_rules.specs.Law.NewSale.{fields_of}
 use Rattle.vend_core.specs.Law.Reached.{EachAfter, HasTokensOf, IsGrantedAfter, IsPlausible, IsWrittenBy}
-use Rattle.vend_core.specs.Office.{IsOffice, IsSaleRow, Office, empty_office}
-use Rattle.vend_core.specs.declared.decision.request.Stamped.{Stamped}
-use Rattle.vend_core.specs.declared.office.sale.Sale.{Sale}
-use Rattle.vend_core.proofs.DecisionLemmas.NewSaleLemmas.{LowerLaws}
+use Rattle.office_rules.specs.Office.{IsOffice, IsSaleRow, Office, empty_office}
+use Rattle.office_rules.specs.declared.decision.request.Stamped.{Stamped}
+use Rattle.office_rules.specs.declared.office.sale.Sale.{Sale}
+use Rattle.office_rules.proofs.DecisionLemmas.NewSaleLemmas.{LowerLaws}
 use Rattle.vend_core.proofs.LawLemmas.AnswerLemmas.{sells_one}
 use Rattle.vend_core.proofs.LawLemmas.EachAfterLemmas.{each_after_none, each_after_push, each_after_weaker}
 use Rattle.vend_core.proofs.LawLemmas.EffectLemmas.{ShiftsChange, KeysStay, keys_by, keys_same, shifts_by, step_by_edit}
 use Rattle.vend_core.proofs.LawLemmas.FoldLemmas.{step_grows}
 use Rattle.vend_core.proofs.LifeLemmas.AlongLemmas.{StepKeepsBy, after_keeps_by, lives_keep_by}
 use Rattle.vend_core.proofs.LawLemmas.PlausibleLemmas.{AmountCodes, granted_stays, new_granted, shifts_go_on}
-use Rattle.vend_core.proofs.OfficeLemmas.{empty_is_office}
+use Rattle.office_rules.proofs.OfficeLemmas.{empty_is_office}
 
 -- ---- a step
 within_shifts : (o : Office) → IsOffice o → All (λ (a : Sale). a.shift ≤ length o.shifts) o.sales

@@ -4,17 +4,17 @@ use Rattle.std.proofs.Common.{ℕ, ◌≤◌, inl, inr, List, sym, subst, arith}
 use Rattle.std.specs.Prelude.{All, AllPairs}
 use Rattle.std.proofs.lemmas.List.Elements.{All-nil, All-push}
 use Rattle.sts_token.specs.Token.{KeepsRange}
-use Rattle.vend_core.specs.Decision.Fold.{after, step}
+use Rattle.office_rules.specs.Decision.Fold.{after, step}
 use Rattle.vend_core.specs.Law.Life.{AreLives, Life}
-use Rattle.vend_core.specs.Office.{IsOffice, Office, Rises}
-use Rattle.vend_core.specs.Decision.Requests.{IsStamped}
-use Rattle.vend_core.specs.declared.decision.request.Stamped.{Stamped}
-use Rattle.vend_core.specs.declared.office.sale.Sale.{Sale}
+use Rattle.office_rules.specs.Office.{IsOffice, Office, Rises}
+use Rattle.office_rules.specs.Decision.Requests.{IsStamped}
+use Rattle.office_rules.specs.declared.decision.request.Stamped.{Stamped}
+use Rattle.office_rules.specs.declared.office.sale.Sale.{Sale}
 use Rattle.vend_core.proofs.LifeLemmas.AlongLemmas.{after_keeps, lives_keep}
 use Rattle.vend_core.proofs.LawLemmas.AnswerLemmas.{sells_one}
-use Rattle.vend_core.proofs.DecisionLemmas.NewSaleLemmas.{LowerLaws}
-use Rattle.vend_core.proofs.OfficeLemmas.{new_rises}
-use Rattle.vend_core.proofs.OfficeLemmas.RowLemmas.{pairs_push}
+use Rattle.office_rules.proofs.DecisionLemmas.NewSaleLemmas.{LowerLaws}
+use Rattle.office_rules.proofs.OfficeLemmas.{new_rises}
+use Rattle.office_rules.proofs.OfficeLemmas.RowLemmas.{pairs_push}
 
 abbrev Rise : Office → Type 0
 Rise o = AllPairs Rises o.sales

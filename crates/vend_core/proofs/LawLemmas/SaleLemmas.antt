@@ -4,20 +4,20 @@ use Rattle.std.specs.Prelude.{All, Contains}
 use Rattle.std.proofs.lemmas.List.Elements.{All-contains, All-head, All-nil, All-push, All-tail}
 use Rattle.sts_fields.specs.Tid.{IsReserved}
 use Rattle.sts_token.specs.Token.{KeepsRange}
-use Rattle.vend_core.specs.Decision.Fold.{after, step}
+use Rattle.office_rules.specs.Decision.Fold.{after, step}
 use Rattle.vend_core.specs.Law.Life.{AreLives, IsHanded, IsLife, LeadTo, Life, MayLeave, acknowledged, present}
-use Rattle.vend_core.specs.Law.NewSale.{IsNewSale}
-use Rattle.vend_core.specs.Office.{IsOffice, Office, empty_office}
-use Rattle.vend_core.specs.Decision.Requests.{IsStamped}
+use Rattle.office_rules.specs.Law.NewSale.{IsNewSale}
+use Rattle.office_rules.specs.Office.{IsOffice, Office, empty_office}
+use Rattle.office_rules.specs.Decision.Requests.{IsStamped}
 use Rattle.vend_core.specs.Law.SoldTokens.{WasWritten}
-use Rattle.vend_core.specs.declared.decision.request.Order.{Order}
-use Rattle.vend_core.specs.declared.decision.request.Stamped.{Stamped}
-use Rattle.vend_core.specs.declared.office.sale.Sale.{Sale}
+use Rattle.office_rules.specs.declared.decision.request.Order.{Order}
+use Rattle.office_rules.specs.declared.decision.request.Stamped.{Stamped}
+use Rattle.office_rules.specs.declared.office.sale.Sale.{Sale}
 use Rattle.vend_core.proofs.LawLemmas.AnswerLemmas.{sells_one}
 use Rattle.vend_core.proofs.LifeLemmas.{acknowledged_stamped, handed_stands, left_office, present_office}
-use Rattle.vend_core.proofs.DecisionLemmas.NewSaleLemmas.{LowerLaws}
-use Rattle.vend_core.proofs.OfficeLemmas.{empty_is_office, step_keeps_office}
-use Rattle.vend_core.proofs.OfficeLemmas.RowLemmas.{contains_first, contains_further}
+use Rattle.office_rules.proofs.DecisionLemmas.NewSaleLemmas.{LowerLaws}
+use Rattle.office_rules.proofs.OfficeLemmas.{empty_is_office, step_keeps_office}
+use Rattle.office_rules.proofs.OfficeLemmas.RowLemmas.{contains_first, contains_further}
 
 module _ (laws : LowerLaws) (P : Sale → Type 0) where
   -- what a transform's new sales keep

@@ -3,21 +3,21 @@
 use Rattle.std.proofs.Common.{◌≡◌, ℕ, inl, inr, Bool, false, cond, List, [], ◌∷◌, ◌++◌, Result, Ok, Err, refl, sym, ◌∙◌, ap, subst}
 use Rattle.std.specs.Prelude.{All, Contains, filter, map}
 use Rattle.std.proofs.lemmas.List.Elements.{All-contains, All-filter, All-head, All-map, All-tail, filter-append}
-use Rattle.vend_core.specs.Decision.Fold.{after, replies_to, reply, step}
-use Rattle.vend_core.specs.Law.Growth.{HaveStayed}
+use Rattle.office_rules.specs.Decision.Fold.{after, replies_to, reply, step}
+use Rattle.office_rules.specs.Law.Growth.{HaveStayed}
 use Rattle.vend_core.specs.Law.Imports.{AsksNoMeterChange, ImportsNothing, ChangesNoMeter}
 use Rattle.vend_core.specs.Law.Life.{AreLives, Exchange, IsLife, LeadTo, Life, MayLeave, StopsAtDoubt, acknowledged, acknowledges, doubts, in_doubt, present}
-use Rattle.vend_core.specs.Office.{Office, empty_office}
-use Rattle.vend_core.specs.declared.decision.answer.Answer.{Answer}
-use Rattle.vend_core.specs.declared.decision.answer.Answer.TheVariants as answers
-use Rattle.vend_core.specs.declared.decision.refusal.Refusal.{Refusal}
-use Rattle.vend_core.specs.declared.decision.refusal.Refusal.TheVariants.{Store, Stopped}
-use Rattle.vend_core.specs.declared.decision.request.Request.TheVariants as requests
-use Rattle.vend_core.specs.declared.decision.request.Stamped.{Stamped}
-use Rattle.vend_core.specs.declared.office.row.Row.{Row}
+use Rattle.office_rules.specs.Office.{Office, empty_office}
+use Rattle.office_rules.specs.declared.decision.answer.Answer.{Answer}
+use Rattle.office_rules.specs.declared.decision.answer.Answer.TheVariants as answers
+use Rattle.office_rules.specs.declared.decision.refusal.Refusal.{Refusal}
+use Rattle.office_rules.specs.declared.decision.refusal.Refusal.TheVariants.{Store, Stopped}
+use Rattle.office_rules.specs.declared.decision.request.Request.TheVariants as requests
+use Rattle.office_rules.specs.declared.decision.request.Stamped.{Stamped}
+use Rattle.office_rules.specs.declared.office.row.Row.{Row}
 use Rattle.vend_core.proofs.LawLemmas.AgainLemmas.{Stands, after_stays, all_stand_still, imports_nothing, rows_stand, step_stays}
-use Rattle.vend_core.proofs.OfficeLemmas.RowLemmas.{contains_first, contains_further}
-use Rattle.vend_core.proofs.LawLemmas.StayLemmas.{stayed_none, stayed_twice}
+use Rattle.office_rules.proofs.OfficeLemmas.RowLemmas.{contains_first, contains_further}
+use Rattle.office_rules.proofs.DecisionLemmas.StayLemmas.{stayed_none, stayed_twice}
 
 abbrev request_of : Exchange → Stamped
 request_of e = e.request

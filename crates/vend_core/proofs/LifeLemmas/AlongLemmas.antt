@@ -4,14 +4,14 @@ use Rattle.std.proofs.Common.{ℕ, inl, inr, List, [], ◌∷◌, get_or, sym, s
 use Rattle.std.specs.Prelude.{All}
 use Rattle.std.proofs.lemmas.List.Elements.{All-contains, All-head, All-tail}
 use Rattle.sts_token.specs.Token.{KeepsRange}
-use Rattle.vend_core.specs.Decision.Fold.{after, step}
+use Rattle.office_rules.specs.Decision.Fold.{after, step}
 use Rattle.vend_core.specs.Law.Life.{AreLives, IsLife, LeadTo, Life, MayLeave, acknowledged, in_doubt, present}
-use Rattle.vend_core.specs.Office.{IsOffice, Office, empty_office}
-use Rattle.vend_core.specs.Decision.Requests.{IsStamped}
-use Rattle.vend_core.specs.declared.decision.request.Stamped.{Stamped}
+use Rattle.office_rules.specs.Office.{IsOffice, Office, empty_office}
+use Rattle.office_rules.specs.Decision.Requests.{IsStamped}
+use Rattle.office_rules.specs.declared.decision.request.Stamped.{Stamped}
 use Rattle.vend_core.proofs.LifeLemmas.{acknowledged_stamped, doubted_stamped, left_office, present_office}
-use Rattle.vend_core.proofs.DecisionLemmas.NewSaleLemmas.{LowerLaws}
-use Rattle.vend_core.proofs.OfficeLemmas.{empty_is_office, step_keeps_office}
+use Rattle.office_rules.proofs.DecisionLemmas.NewSaleLemmas.{LowerLaws}
+use Rattle.office_rules.proofs.OfficeLemmas.{empty_is_office, step_keeps_office}
 
 -- a step of an office under a transform keeps P, and so does one under any transform
 abbrev pub StepKeepsBy : (Office → Type 0) → (ℕ → ℕ → ℕ) → Type 0

@@ -4,21 +4,21 @@ use Rattle.std.specs.Prelude.{All, Contains, filter, map}
 use Rattle.std.proofs.lemmas.List.{append-nil, map-append}
 use Rattle.std.proofs.lemmas.List.Elements.{All-append, All-cons, All-head, All-nil, All-push, All-tail, filter-append}
 use Rattle.sts_token.specs.Token.{KeepsRange}
-use Rattle.vend_core.specs.Decision.Fold.{after, replies_to, reply, step}
+use Rattle.office_rules.specs.Decision.Fold.{after, replies_to, reply, step}
 use Rattle.vend_core.specs.Law.Life.{Exchange, IsLife, Life, MayLeave, StopsAtDoubt, acknowledged, acknowledges, doubts, in_doubt, present, replies_acknowledged}
 use Rattle.vend_core.specs.Law.LifeLaws.{GoesOn, IsRunning, IsReadingRequest, extended, extended_by, opened}
-use Rattle.vend_core.specs.Office.{Office}
-use Rattle.vend_core.specs.Decision.Requests.{IsStamped}
-use Rattle.vend_core.specs.declared.decision.answer.Answer.{Answer}
-use Rattle.vend_core.specs.declared.decision.refusal.Refusal.{Refusal}
-use Rattle.vend_core.specs.declared.decision.refusal.Refusal.TheVariants.{Memory, Store, Stopped}
-use Rattle.vend_core.specs.declared.decision.request.Request.{Request}
-use Rattle.vend_core.specs.declared.decision.request.Request.TheVariants.{Reprint, ShiftReport}
-use Rattle.vend_core.specs.declared.decision.request.Stamped.{Stamped}
+use Rattle.office_rules.specs.Office.{Office}
+use Rattle.office_rules.specs.Decision.Requests.{IsStamped}
+use Rattle.office_rules.specs.declared.decision.answer.Answer.{Answer}
+use Rattle.office_rules.specs.declared.decision.refusal.Refusal.{Refusal}
+use Rattle.office_rules.specs.declared.decision.refusal.Refusal.TheVariants.{Memory, Store, Stopped}
+use Rattle.office_rules.specs.declared.decision.request.Request.{Request}
+use Rattle.office_rules.specs.declared.decision.request.Request.TheVariants.{Reprint, ShiftReport}
+use Rattle.office_rules.specs.declared.decision.request.Stamped.{Stamped}
 use Rattle.vend_core.proofs.LawLemmas.{reports_stay, reprints_stay}
 use Rattle.vend_core.proofs.LifeLemmas.{after-append}
-use Rattle.vend_core.proofs.DecisionLemmas.RefusalLemmas.{own_reply}
-use Rattle.vend_core.proofs.OfficeLemmas.RowLemmas.{contains_cases, contains_first}
+use Rattle.vend_core.proofs.LawLemmas.RefusalLemmas.{own_reply}
+use Rattle.office_rules.proofs.OfficeLemmas.RowLemmas.{contains_cases, contains_first}
 
 abbrev pub Reply : Type 0
 Reply = Result Answer Refusal

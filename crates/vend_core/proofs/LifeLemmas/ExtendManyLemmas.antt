@@ -4,18 +4,18 @@ use Rattle.std.specs.Prelude.{All, Contains, filter, map}
 use Rattle.std.proofs.Math.Seq.{take-length}
 use Rattle.std.proofs.lemmas.List.{append-nil, append_assoc, map-append, take-append-le, take_min}
 use Rattle.std.proofs.lemmas.List.Elements.{All-head, All-tail, Contains-append_left, Contains-push}
-use Rattle.vend_core.specs.Decision.Fold.{after, replies_to, reply, step}
-use Rattle.vend_core.specs.Law.Growth.{HasGrown}
-use Rattle.vend_core.specs.Law.Handed.{sales_of}
+use Rattle.office_rules.specs.Decision.Fold.{after, replies_to, reply, step}
+use Rattle.office_rules.specs.Law.Growth.{HasGrown}
+use Rattle.office_rules.specs.Law.Handed.{sales_of}
 use Rattle.vend_core.specs.Law.Life.{AreLives, Exchange, HandsOut, IsLife, LeadTo, Life, MayLeave, acknowledged}
 use Rattle.vend_core.specs.Law.LifeLaws.{IsRunning, exchanges_of, extended, extended_along, extended_by, opened}
-use Rattle.vend_core.specs.Office.{IsOffice, Office, empty_office}
-use Rattle.vend_core.specs.Decision.Requests.{IsStamped}
-use Rattle.vend_core.specs.declared.decision.request.Stamped.{Stamped}
-use Rattle.vend_core.specs.declared.office.sale.Sale.{Sale}
+use Rattle.office_rules.specs.Office.{IsOffice, Office, empty_office}
+use Rattle.office_rules.specs.Decision.Requests.{IsStamped}
+use Rattle.office_rules.specs.declared.decision.request.Stamped.{Stamped}
+use Rattle.office_rules.specs.declared.office.sale.Sale.{Sale}
 use Rattle.vend_core.proofs.LifeLemmas.{handed_left, left_office, opening_grown}
-use Rattle.vend_core.proofs.DecisionLemmas.NewSaleLemmas.{LowerLaws}
-use Rattle.vend_core.proofs.OfficeLemmas.RowLemmas.{contains_map}
+use Rattle.office_rules.proofs.DecisionLemmas.NewSaleLemmas.{LowerLaws}
+use Rattle.office_rules.proofs.OfficeLemmas.RowLemmas.{contains_map}
 use Rattle.vend_core.proofs.LifeLemmas.ExtendLemmas.{Reply, acknowledged_more, exchange, passes, reply_in, request_of, runs_on}
 
 -- many exchanges are one after another

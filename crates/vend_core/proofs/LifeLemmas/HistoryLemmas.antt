@@ -1,13 +1,12 @@
 -- The laws over lives: handed sales that agree are one, and a reprint is the first token.
 use Rattle.std.proofs.Common.{◌≡◌, List, [], ap}
 use Rattle.vend_core.specs.Law.Life.{Answered, AreLives, IsHanded, Life}
-use Rattle.vend_core.specs.Office.{Office}
-use Rattle.vend_core.specs.declared.decision.answer.Answer.TheVariants as answers
-use Rattle.vend_core.specs.declared.office.sale.Sale.{Sale}
-use Rattle.vend_core.proofs.LawLemmas.{one_of_number, one_of_ref, one_of_tid}
+use Rattle.office_rules.specs.Office.{Office}
+use Rattle.office_rules.specs.declared.decision.answer.Answer.TheVariants as answers
+use Rattle.office_rules.specs.declared.office.sale.Sale.{Sale}
 use Rattle.vend_core.proofs.LifeLemmas.{answered_handed, handed_stands, lives_office}
-use Rattle.vend_core.proofs.DecisionLemmas.NewSaleLemmas.{LowerLaws}
-use Rattle.vend_core.proofs.OfficeLemmas.RowLemmas.{contains_first}
+use Rattle.office_rules.proofs.DecisionLemmas.NewSaleLemmas.{LowerLaws}
+use Rattle.office_rules.proofs.OfficeLemmas.RowLemmas.{contains_first, one_of_number, one_of_ref, one_of_tid}
 
 module _ (laws : LowerLaws) (lives : List Life) (o : Office) where
   pub one_handed_tid : (a b : Sale) → AreLives lives o → IsHanded lives a → IsHanded lives b → a.meter ≡ b.meter → a.base ≡ b.base → a.tid ≡ b.tid → a ≡ b

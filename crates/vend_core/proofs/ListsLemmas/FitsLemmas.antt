@@ -10,27 +10,28 @@ use Rattle.sts_fields.specs.Day.{day_at}
 use Rattle.sts_fields.specs.declared.base.Base.{Base}
 use Rattle.tariff.specs.Purchase.{purchase_of}
 use Rattle.tariff.specs.declared.step.Step.{Step}
-use Rattle.vend_core.specs.Decision.{◌>>=◌, MeterAccount, add_meter, add_rows, add_steps, add_tariff, changed, close_shift, decision, decision_of, import, is_earlier, meter_eq, move_base, new_rows, account_of, next_number, open_a_shift, or_refusal, report, reprint, sell, sell_again, sell_once, set_tariff, steps_eq, unchanged}
-use Rattle.vend_core.specs.Decision.Facts.{IsUnlessMemory}
-use Rattle.vend_core.specs.Lists.{AddsRow, Fits, RowsFit, sets_only}
-use Rattle.vend_core.specs.Office.Lookup.{open_shift, sale_numbered, sale_of_ref, sales_of_shift, shift_numbered}
-use Rattle.vend_core.specs.Office.{Office, greatest_count}
-use Rattle.vend_core.specs.declared.decision.answer.Answer.{Answer}
-use Rattle.vend_core.specs.declared.decision.change.Change.{Change}
-use Rattle.vend_core.specs.declared.decision.change.Edit.{Edit}
-use Rattle.vend_core.specs.declared.office.meter.Meter.{Meter}
-use Rattle.vend_core.specs.declared.decision.refusal.Refusal.{Refusal}
-use Rattle.vend_core.specs.declared.decision.refusal.Refusal.TheVariants as refusals
-use Rattle.vend_core.specs.declared.decision.request.Order.{Order}
-use Rattle.vend_core.specs.declared.decision.request.Request.{Request}
-use Rattle.vend_core.specs.declared.decision.request.Request.TheVariants.{AddTariff, AddSteps, AddMeter, Import, SetTariff, MoveBase, OpenShift, CloseShift, Sell, Reprint, ShiftReport}
-use Rattle.vend_core.specs.declared.decision.request.Stamped.{Stamped}
-use Rattle.vend_core.specs.declared.decision.answer.Answer.TheVariants as answers
-use Rattle.vend_core.specs.declared.decision.change.Edit.TheVariants as edits
-use Rattle.vend_core.specs.declared.office.row.Row.{Row}
-use Rattle.vend_core.specs.declared.office.sale.Sale.{Sale}
-use Rattle.vend_core.specs.declared.office.shift.Shift.{Shift}
-use Rattle.vend_core.proofs.DecisionLemmas.ImportLemmas.{new_rows_fit}
+use Rattle.office_rules.specs.Decision.{◌>>=◌, MeterAccount, add_meter, add_rows, add_steps, add_tariff, changed, close_shift, decision, decision_of, import, is_earlier, meter_eq, move_base, new_rows, account_of, next_number, open_a_shift, or_refusal, report, reprint, sell, sell_again, sell_once, set_tariff, steps_eq, unchanged}
+use Rattle.office_rules.specs.Decision.Facts.{IsUnlessMemory}
+use Rattle.vend_core.specs.Lists.{AddsRow, Fits, sets_only}
+use Rattle.office_rules.specs.Decision.Edits.{RowsFit}
+use Rattle.office_rules.specs.Office.Lookup.{open_shift, sale_numbered, sale_of_ref, sales_of_shift, shift_numbered}
+use Rattle.office_rules.specs.Office.{Office, greatest_count}
+use Rattle.office_rules.specs.declared.decision.answer.Answer.{Answer}
+use Rattle.office_rules.specs.declared.decision.change.Change.{Change}
+use Rattle.office_rules.specs.declared.decision.change.Edit.{Edit}
+use Rattle.office_rules.specs.declared.office.meter.Meter.{Meter}
+use Rattle.office_rules.specs.declared.decision.refusal.Refusal.{Refusal}
+use Rattle.office_rules.specs.declared.decision.refusal.Refusal.TheVariants as refusals
+use Rattle.office_rules.specs.declared.decision.request.Order.{Order}
+use Rattle.office_rules.specs.declared.decision.request.Request.{Request}
+use Rattle.office_rules.specs.declared.decision.request.Request.TheVariants.{AddTariff, AddSteps, AddMeter, Import, SetTariff, MoveBase, OpenShift, CloseShift, Sell, Reprint, ShiftReport}
+use Rattle.office_rules.specs.declared.decision.request.Stamped.{Stamped}
+use Rattle.office_rules.specs.declared.decision.answer.Answer.TheVariants as answers
+use Rattle.office_rules.specs.declared.decision.change.Edit.TheVariants as edits
+use Rattle.office_rules.specs.declared.office.row.Row.{Row}
+use Rattle.office_rules.specs.declared.office.sale.Sale.{Sale}
+use Rattle.office_rules.specs.declared.office.shift.Shift.{Shift}
+use Rattle.office_rules.proofs.DecisionLemmas.ImportLemmas.{new_rows_fit}
 
 -- the edit of a granted request, where there is one, fits
 abbrev pub EditFits : Office → Result Change Refusal → Type 0

@@ -6,17 +6,8 @@ use Rattle.std.proofs.lemmas.List.Sums.{sum_by-append}
 use Rattle.std.proofs.lemmas.Option.{same_Some}
 use Rattle.std.specs.Option.{ForSome, option_or}
 use Rattle.tariff.specs.declared.step.Step.{Step}
-use Rattle.vend_core.specs.Office.Lookup.{greatest_of, latest}
-
--- the greatest of some numbers and one more at the end
-pub greatest_of-push : (ns : List ℕ) (n : ℕ) → greatest_of (ns ++ n ∷ []) ≡ Some (max (unwrap_or (greatest_of ns) 0) n)
-greatest_of-push [] n = ap (λ (k : ℕ). let o : Option ℕ = Some k in o) (omega arith)
-greatest_of-push (m ∷ ns) n =
-    let more : greatest_of (ns ++ n ∷ []) ≡ Some (max (unwrap_or (greatest_of ns) 0) n) = greatest_of-push ns n in
-    rw more (ap (λ (k : ℕ). let o : Option ℕ = Some k in o) (grouped m (unwrap_or (greatest_of ns) 0) n))
-  where
-    grouped : (a b c : ℕ) → max a (max b c) ≡ max (max a b) c
-    grouped a b c = omega arith
+use Rattle.office_rules.specs.Office.Lookup.{greatest_of, latest}
+use Rattle.office_rules.proofs.StoreLemmas.SumLemmas.{greatest_of-push}
 
 module _ {X : Type 0} (f : X → ℕ) (p : X → Bool) (xs : List X) (i : ℕ) (x : X) (below : i < length xs) (read : x ≡ get_or xs i x) where
   -- what passes so far, and the next element where that passes

@@ -6,15 +6,14 @@ use Rattle.std.proofs.lemmas.Option.{same_Some, none-some}
 use Rattle.std.proofs.lemmas.Slice.Eq.{bytes_eq-Decides}
 use Rattle.sts_fields.specs.declared.base.Base.{Base}
 use Rattle.tariff.specs.declared.step.Step.{Step}
-use Rattle.vend_core.specs.Decision.Edits.{set_meter, with_rows}
-use Rattle.vend_core.specs.Lists.{RowsFit}
+use Rattle.office_rules.specs.Decision.Edits.{RowsFit, set_meter, with_rows}
 use Rattle.vend_core.specs.Lists.PlainRows.{HaveTariffs, base_row, bases_of, dated_steps_of, meters_of, office_of_rows, row_of, tariffs_of}
-use Rattle.vend_core.specs.declared.office.meter.Meter.{Meter}
-use Rattle.vend_core.specs.declared.office.row.Row.{Row}
-use Rattle.vend_core.specs.declared.office.row.Row.TheVariants as kinds
-use Rattle.vend_core.specs.declared.office.sale.Sale.{Sale}
-use Rattle.vend_core.specs.declared.office.shift.Shift.{Shift}
-use Rattle.vend_core.proofs.DecisionLemmas.EditLemmas.{put_cases, some_put}
+use Rattle.office_rules.specs.declared.office.meter.Meter.{Meter}
+use Rattle.office_rules.specs.declared.office.row.Row.{Row}
+use Rattle.office_rules.specs.declared.office.row.Row.TheVariants as kinds
+use Rattle.office_rules.specs.declared.office.sale.Sale.{Sale}
+use Rattle.office_rules.specs.declared.office.shift.Shift.{Shift}
+use Rattle.office_rules.proofs.DecisionLemmas.EditLemmas.{put_cases, some_put}
 
 -- a meter's row that is set, where it has this number
 abbrev pub row_set : List ℕ → (Meter → Meter) → (List ℕ × Meter) → (List ℕ × Meter)

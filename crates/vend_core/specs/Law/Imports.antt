@@ -1,13 +1,13 @@
 -- An import that comes again.
 use Rattle.std.specs.Prelude.{◌≡◌, Ok}
 use Rattle.sts_token.specs.Token.{BlockFunction}
-use Rattle.vend_core.specs.Decision.Fold.{reply, step}
+use Rattle.office_rules.specs.Decision.Fold.{reply, step}
 use Rattle.vend_core.specs.Law.Life.{Exchange}
-use Rattle.vend_core.specs.Office.{Office}
-use Rattle.vend_core.specs.declared.decision.answer.Answer.TheVariants.{Imported}
-use Rattle.vend_core.specs.declared.decision.request.Request.{Request}
-use Rattle.vend_core.specs.declared.decision.request.Request.TheVariants.{SetTariff, MoveBase}
-use Rattle.vend_core.specs.declared.decision.request.Stamped.{Stamped}
+use Rattle.office_rules.specs.Office.{Office}
+use Rattle.office_rules.specs.declared.decision.answer.Answer.TheVariants.{Imported}
+use Rattle.office_rules.specs.declared.decision.request.Request.{Request}
+use Rattle.office_rules.specs.declared.decision.request.Request.TheVariants.{SetTariff, MoveBase}
+use Rattle.office_rules.specs.declared.decision.request.Stamped.{Stamped}
 
 -- a request other than SetTariff and MoveBase
 abbrev pub IsNoMeterChange : Request → Type 0

@@ -2,15 +2,15 @@
 -- and one life after another.
 use Rattle.std.specs.Prelude.{◌≡◌, ℕ, ◌⊎◌, Bool, true, false, List, [], ◌∷◌, map, filter, take, Result, Ok, Err, All, Contains}
 use Rattle.sts_token.specs.Token.{KeepsRange, BlockFunction}
-use Rattle.vend_core.specs.Decision.Fold.{after, replies_to, reply, step}
-use Rattle.vend_core.specs.Law.Handed.{sales_of}
-use Rattle.vend_core.specs.Office.{Office, empty_office}
-use Rattle.vend_core.specs.Decision.Requests.{IsStamped}
-use Rattle.vend_core.specs.declared.decision.answer.Answer.{Answer}
-use Rattle.vend_core.specs.declared.decision.refusal.Refusal.{Refusal}
-use Rattle.vend_core.specs.declared.decision.refusal.Refusal.TheVariants.{Memory, Store, Stopped}
-use Rattle.vend_core.specs.declared.decision.request.Stamped.{Stamped}
-use Rattle.vend_core.specs.declared.office.sale.Sale.{Sale}
+use Rattle.office_rules.specs.Decision.Fold.{after, replies_to, reply, step}
+use Rattle.office_rules.specs.Law.Handed.{sales_of}
+use Rattle.office_rules.specs.Office.{Office, empty_office}
+use Rattle.office_rules.specs.Decision.Requests.{IsStamped}
+use Rattle.office_rules.specs.declared.decision.answer.Answer.{Answer}
+use Rattle.office_rules.specs.declared.decision.refusal.Refusal.{Refusal}
+use Rattle.office_rules.specs.declared.decision.refusal.Refusal.TheVariants.{Memory, Store, Stopped}
+use Rattle.office_rules.specs.declared.decision.request.Stamped.{Stamped}
+use Rattle.office_rules.specs.declared.office.sale.Sale.{Sale}
 
 -- a request and its reply
 pub record Exchange : Type 0 where

@@ -2,13 +2,13 @@
 use Rattle.std.specs.Prelude.{◌≡◌, ◌≢◌, List, [], ◌∷◌, ◌++◌, Result, Err, All}
 use Rattle.sts_token.specs.Token.{BlockFunction}
 use Rattle.vend_core.specs.Law.Life.{Exchange, IsLife, Life, present}
-use Rattle.vend_core.specs.Office.{Office}
-use Rattle.vend_core.specs.declared.decision.answer.Answer.{Answer}
-use Rattle.vend_core.specs.declared.decision.refusal.Refusal.{Refusal}
-use Rattle.vend_core.specs.declared.decision.refusal.Refusal.TheVariants.{Store, Stopped}
-use Rattle.vend_core.specs.declared.decision.request.Request.{Request}
-use Rattle.vend_core.specs.declared.decision.request.Request.TheVariants.{Reprint, ShiftReport}
-use Rattle.vend_core.specs.declared.decision.request.Stamped.{Stamped}
+use Rattle.office_rules.specs.Office.{Office}
+use Rattle.office_rules.specs.declared.decision.answer.Answer.{Answer}
+use Rattle.office_rules.specs.declared.decision.refusal.Refusal.{Refusal}
+use Rattle.office_rules.specs.declared.decision.refusal.Refusal.TheVariants.{Store, Stopped}
+use Rattle.office_rules.specs.declared.decision.request.Request.{Request}
+use Rattle.office_rules.specs.declared.decision.request.Request.TheVariants.{Reprint, ShiftReport}
+use Rattle.office_rules.specs.declared.decision.request.Stamped.{Stamped}
 
 -- the life that has just opened an office
 abbrev pub opened : BlockFunction → Office → Life

@@ -1,5 +1,5 @@
 -- What the office's laws say of single requests, of the bases of meters and of the steps of days.
-use Rattle.std.specs.Prelude.{◌≡◌, ◌⊎◌, ◌++◌, ◌∷◌, [], ℕ, ◌≤◌, true, List, Option, Some, None, Ok, Contains}
+use Rattle.std.specs.Prelude.{◌≡◌, ◌⊎◌, ◌++◌, ◌∷◌, [], ℕ, ◌≤◌, true, List, Some, Ok, Contains}
 use Rattle.sts_fields.specs.Base.{year_of}
 use Rattle.sts_fields.specs.Calendar.{month_at}
 use Rattle.sts_fields.specs.Day.{day_at}
@@ -7,17 +7,17 @@ use Rattle.sts_fields.specs.declared.base.Base.{Base}
 use Rattle.sts_token.specs.Token.{BlockFunction}
 use Rattle.tariff.specs.Cost.{cost_of}
 use Rattle.tariff.specs.declared.step.Step.{Step}
-use Rattle.vend_core.specs.Decision.Fold.{reply, step, with_base}
-use Rattle.vend_core.specs.Office.Lookup.{IsLatest, prior, steps_on}
-use Rattle.vend_core.specs.Law.NewSale.{IsNewSale}
-use Rattle.vend_core.specs.Office.{Office}
-use Rattle.vend_core.specs.Law.Store.{IsUnderRef}
-use Rattle.vend_core.specs.declared.decision.answer.Answer.TheVariants as answers
-use Rattle.vend_core.specs.declared.office.meter.Meter.{Meter}
-use Rattle.vend_core.specs.declared.decision.request.Order.{Order}
-use Rattle.vend_core.specs.declared.decision.request.Request.TheVariants as requests
-use Rattle.vend_core.specs.declared.decision.request.Stamped.{Stamped}
-use Rattle.vend_core.specs.declared.office.sale.Sale.{Sale}
+use Rattle.office_rules.specs.Decision.Fold.{reply, step, with_base}
+use Rattle.office_rules.specs.Office.Lookup.{IsLatest, NoneBegun, prior, steps_on}
+use Rattle.office_rules.specs.Law.NewSale.{IsNewSale}
+use Rattle.office_rules.specs.Office.{Office}
+use Rattle.office_rules.specs.Law.Store.{IsUnderRef}
+use Rattle.office_rules.specs.declared.decision.answer.Answer.TheVariants as answers
+use Rattle.office_rules.specs.declared.office.meter.Meter.{Meter}
+use Rattle.office_rules.specs.declared.decision.request.Order.{Order}
+use Rattle.office_rules.specs.declared.decision.request.Request.TheVariants as requests
+use Rattle.office_rules.specs.declared.decision.request.Stamped.{Stamped}
+use Rattle.office_rules.specs.declared.office.sale.Sale.{Sale}
 
 -- the order was served before, by this sale: the operator and the ref are its own
 abbrev pub WasSold : Office → Order → Sale → Type 0
@@ -47,10 +47,6 @@ pub record IsMoved (forward : BlockFunction) (o : Office) (at : Stamped) (number
   pub answered : reply forward o at ≡ Ok answers.Done
   pub present : (step forward o at).meters number ≡ Some (with_base base m)
   pub had : (step forward o at).bases number base ≡ true
-
--- no further steps begin on the day or before it
-abbrev pub NoneBegun : (ℕ → Option (List Step)) → ℕ → Type 0
-NoneBegun dated day = (first : ℕ) → first ≤ day → dated first ≡ None
 
 -- the steps of a tariff on a day, in a rule: the latest that have begun, or the first ones where
 -- none have

@@ -9,12 +9,12 @@ use Rattle.sts_token.specs.Reading.{IsOfClassZero}
 use Rattle.sts_token.specs.Token.{BlockFunction, IsToken}
 use Rattle.tariff.specs.Purchase.{IsPurchase}
 use Rattle.tariff.specs.declared.step.Step.{Step}
-use Rattle.vend_core.specs.Law.NewSale.{fields_of}
-use Rattle.vend_core.specs.Office.Lookup.{prior, used}
-use Rattle.vend_core.specs.Office.{Office, empty_office}
-use Rattle.vend_core.specs.declared.office.meter.Meter.{Meter}
-use Rattle.vend_core.specs.declared.office.sale.Sale.{Sale}
-use Rattle.vend_core.specs.declared.office.shift.Shift.{Shift}
+use Rattle.office_rules.specs.Law.NewSale.{fields_of}
+use Rattle.office_rules.specs.Office.Lookup.{prior, used}
+use Rattle.office_rules.specs.Office.{Office, empty_office}
+use Rattle.office_rules.specs.declared.office.meter.Meter.{Meter}
+use Rattle.office_rules.specs.declared.office.sale.Sale.{Sale}
+use Rattle.office_rules.specs.declared.office.shift.Shift.{Shift}
 
 -- each row is so after the rows before it
 abbrev pub EachAfter : {Row : Type 0} → (List Row → Row → Type 0) → List Row → Type 0

@@ -8,8 +8,8 @@ use Rattle.sts_token.specs.Reading.{reading_of}
 use Rattle.sts_token.specs.Token.{IsToken, BlockFunction}
 use Rattle.sts_token.specs.Transform.{IsTransform}
 use Rattle.vend_core.specs.Law.Life.{IsHanded, Life}
-use Rattle.vend_core.specs.Law.NewSale.{fields_of}
-use Rattle.vend_core.specs.declared.office.sale.Sale.{Sale}
+use Rattle.office_rules.specs.Law.NewSale.{fields_of}
+use Rattle.office_rules.specs.declared.office.sale.Sale.{Sale}
 
 -- the sale's token was written in one of the lives: under its transform, and a key
 pub record WasWritten (lives : List Life) (s : Sale) : Type 0 where

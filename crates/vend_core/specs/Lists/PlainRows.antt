@@ -6,12 +6,12 @@ use Rattle.sts_fields.specs.Base.{base_eq}
 use Rattle.sts_fields.specs.declared.base.Base.{Base}
 use Rattle.sts_fields.specs.Tid.{last_tid}
 use Rattle.tariff.specs.declared.step.Step.{Step}
-use Rattle.vend_core.specs.Office.{Office, greatest_count}
-use Rattle.vend_core.specs.declared.office.meter.Meter.{Meter}
-use Rattle.vend_core.specs.declared.office.row.Row.{Row}
-use Rattle.vend_core.specs.declared.office.row.Row.TheVariants as kinds
-use Rattle.vend_core.specs.declared.office.sale.Sale.{Sale}
-use Rattle.vend_core.specs.declared.office.shift.Shift.{Shift}
+use Rattle.office_rules.specs.Office.{Office, greatest_count}
+use Rattle.office_rules.specs.declared.office.meter.Meter.{Meter}
+use Rattle.office_rules.specs.declared.office.row.Row.{Row}
+use Rattle.office_rules.specs.declared.office.row.Row.TheVariants as kinds
+use Rattle.office_rules.specs.declared.office.sale.Sale.{Sale}
+use Rattle.office_rules.specs.declared.office.shift.Shift.{Shift}
 
 -- what the first row under a name has
 abbrev pub row_of : {X : Type 0} → List (List ℕ × X) → List ℕ → Option X

@@ -1,16 +1,16 @@
 ghost use Rattle.std.specs.Prelude.{◌≡◌, ◌⊎◌, ◌↔◌, ◌++◌, ◌∷◌, [], List, Result, Err, All, Contains, length};
 ghost use Rattle.sts_token.specs.Token.{KeepsRange, BlockFunction};
-ghost use Rattle.vend_core.specs.Decision.Fold.{after, replies_to, reply, step};
-ghost use Rattle.vend_core.specs.Law.Growth.{HasGrown};
-ghost use Rattle.vend_core.specs.Law.Handed.{sales_of};
+ghost use Rattle.office_rules.specs.Decision.Fold.{after, replies_to, reply, step};
+ghost use Rattle.office_rules.specs.Law.Growth.{HasGrown};
+ghost use Rattle.office_rules.specs.Law.Handed.{sales_of};
 ghost use Rattle.vend_core.specs.Law.Life.{HandsOut, IsLife, Life, MayLeave};
 ghost use Rattle.vend_core.specs.Law.LifeLaws.{IsRunning, IsReadingRequest, extended_along, extended_by, opened};
-ghost use Rattle.vend_core.specs.Office.{IsOffice, Office};
-ghost use Rattle.vend_core.specs.Decision.Requests.{IsStamped};
-ghost use Rattle.vend_core.specs.declared.decision.answer.Answer.{Answer};
-ghost use Rattle.vend_core.specs.declared.decision.refusal.Refusal.{Refusal};
-ghost use Rattle.vend_core.specs.declared.decision.request.Stamped.{Stamped};
-ghost use Rattle.vend_core.specs.declared.office.sale.Sale.{Sale};
+ghost use Rattle.office_rules.specs.Office.{IsOffice, Office};
+ghost use Rattle.office_rules.specs.Decision.Requests.{IsStamped};
+ghost use Rattle.office_rules.specs.declared.decision.answer.Answer.{Answer};
+ghost use Rattle.office_rules.specs.declared.decision.refusal.Refusal.{Refusal};
+ghost use Rattle.office_rules.specs.declared.decision.request.Stamped.{Stamped};
+ghost use Rattle.office_rules.specs.declared.office.sale.Sale.{Sale};
 
 use sts_fields::fresh_law;
 use sts_token::token_law;

@@ -1,11 +1,11 @@
 ghost use Rattle.std.specs.Prelude.{◌≡◌, List, All};
 ghost use Rattle.sts_token.specs.Token.{KeepsRange, BlockFunction};
-ghost use Rattle.vend_core.specs.Decision.Fold.{after, step};
+ghost use Rattle.office_rules.specs.Decision.Fold.{after, step};
 ghost use Rattle.vend_core.specs.Law.Life.{AreLives, Life};
 ghost use Rattle.vend_core.specs.Law.Reached.{HasTokensOf, IsPlausible};
-ghost use Rattle.vend_core.specs.Office.{IsOffice, Office, empty_office};
-ghost use Rattle.vend_core.specs.Decision.Requests.{IsStamped};
-ghost use Rattle.vend_core.specs.declared.decision.request.Stamped.{Stamped};
+ghost use Rattle.office_rules.specs.Office.{IsOffice, Office, empty_office};
+ghost use Rattle.office_rules.specs.Decision.Requests.{IsStamped};
+ghost use Rattle.office_rules.specs.declared.decision.request.Stamped.{Stamped};
 
 use sts_fields::{amount_law, fresh_law};
 use sts_token::token_law;

@@ -1,16 +1,14 @@
 ghost use Rattle.std.specs.Prelude.{◌≡◌, ◌==◌, ◌≤◌, ◌<◌, IfOk, IsOk, OnOk, OnErr, IsSome, List, ℕ, true, if◌then◌else◌, length, map, [], ◌∷◌, ◌++◌};
 ghost use Rattle.sts_fields.specs.Tid.{last_tid};
-ghost use Rattle.vend_core.specs.Decision.Edits.{set_meter, with_base};
-ghost use Rattle.vend_core.specs.Decision.Fold.{applied, closed_at};
-ghost use Rattle.vend_core.specs.Lists.{Fits, RowsFit, recorded, sets_only};
-ghost use Rattle.vend_core.specs.Office.{greatest_count};
+ghost use Rattle.office_rules.specs.Decision.Edits.{RowsFit, set_meter, with_base};
+ghost use Rattle.office_rules.specs.Decision.Fold.{applied, closed_at};
+ghost use Rattle.vend_core.specs.Lists.{Fits, recorded, sets_only};
+ghost use Rattle.office_rules.specs.Office.{greatest_count};
 ghost use Rattle.vend_core.specs.Lists.PlainRows.{base_row, dated_steps_of, meters_of, row_put, tariffs_of};
 
-use crate::decision::Edit;
 use crate::lists::look_up;
 use crate::lists::records::Records;
-use crate::name::{MeterNo, TariffName};
-use crate::office::{Meter, Row, Rows, Sale, Shift};
+use office_rules::{Edit, Meter, MeterNo, Row, Rows, Sale, Shift, TariffName};
 use std::alloc::{AllocError, Global};
 use sts_fields::{Base, Day, Moment};
 use tariff::Steps;

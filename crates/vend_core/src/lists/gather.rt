@@ -1,20 +1,19 @@
 ghost use Rattle.std.specs.Prelude.{◌≡◌, ℕ, IfOk, IsNone, IsSome, List, OnErr, Err, Some, is_some, length, true};
 ghost use Rattle.std.specs.Option.{option_copied};
-ghost use Rattle.vend_core.specs.Decision.{account_of, row_decision};
-ghost use Rattle.vend_core.specs.Decision.Facts.{AreDatedFacts, AreFacts, AreMeterFacts, AreNewSaleFacts, AreOpeningFacts, AreRowsFacts, AreSaleFacts, AreSettingFacts, report_of, row_facts};
+ghost use Rattle.office_rules.specs.Decision.{account_of, row_decision};
+ghost use Rattle.office_rules.specs.Decision.Facts.{AreDatedFacts, AreFacts, AreMeterFacts, AreNewSaleFacts, AreOpeningFacts, AreRowsFacts, AreSaleFacts, AreSettingFacts, report_of, row_facts};
 ghost use Rattle.vend_core.specs.Lists.{CopiesList, recorded};
-ghost use Rattle.vend_core.specs.Office.Lookup.{open_shift, sale_of_ref, steps_on};
-ghost use Rattle.vend_core.specs.Office.{Office};
-ghost use Rattle.vend_core.specs.declared.decision.row_facts.RowFacts.{RowFacts};
+ghost use Rattle.office_rules.specs.Office.Lookup.{open_shift, sale_of_ref, steps_on};
+ghost use Rattle.office_rules.specs.Office.{Office};
+ghost use Rattle.office_rules.specs.declared.decision.row_facts.RowFacts.{RowFacts};
 
-use crate::decision::additions::{same_meter, same_steps};
-use crate::decision::{
-    Facts, ImportFacts, MeterAccount, Order, Refusal, Request, RowFacts, Stamped,
-};
 use crate::lists::look_up;
 use crate::lists::records::Records;
-use crate::name::{MeterNo, Operator, TariffName};
-use crate::office::{Meter, Row, Rows};
+use office_decisions::{same_meter, same_steps};
+use office_rules::{
+    Facts, ImportFacts, Meter, MeterAccount, MeterNo, Operator, Order, Refusal, Request, Row,
+    RowFacts, Rows, Stamped, TariffName,
+};
 use std::alloc::{AllocError, Global};
 use sts_fields::{Day, Moment, day_of, month_of};
 use tariff::Steps;

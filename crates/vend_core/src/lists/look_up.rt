@@ -3,12 +3,11 @@ ghost use Rattle.std.specs.Option.{ForSome, option_copied};
 ghost use Rattle.sts_fields.specs.Calendar.{month_at};
 ghost use Rattle.sts_fields.specs.Tid.{last_tid};
 ghost use Rattle.sts_fields.specs.Base.{base_eq};
-ghost use Rattle.vend_core.specs.Office.Lookup.{greatest_of, latest};
-ghost use Rattle.vend_core.specs.Office.{greatest_count};
+ghost use Rattle.office_rules.specs.Office.Lookup.{greatest_of, latest};
+ghost use Rattle.office_rules.specs.Office.{greatest_count};
 ghost use Rattle.vend_core.specs.Lists.PlainRows.{row_of, steps_from};
 
-use crate::name::{MeterNo, Operator, Ref, TariffName};
-use crate::office::{Meter, Sale, Sales, Shift};
+use office_rules::{Meter, MeterNo, Operator, Ref, Sale, Sales, Shift, TariffName};
 use std::alloc::{AllocError, Global};
 use sts_fields::{Base, Day, amount_law, month_of};
 use tariff::Steps;

@@ -1,7 +1,6 @@
 ghost use Rattle.vend_core.specs.Lists.PlainRows.{AreSales, HaveTariffs};
 
-use crate::name::{MeterNo, TariffName};
-use crate::office::{Meter, Sale, Shift};
+use office_rules::{Meter, MeterNo, Sale, Shift, TariffName};
 use std::alloc::Global;
 use sts_fields::{Base, Day};
 use tariff::Steps;
@@ -28,7 +27,7 @@ pub(crate) struct Records {
 impl Records {
     ghost use Rattle.std.specs.Prelude.{◌≡◌};
     ghost use Rattle.vend_core.specs.Lists.{recorded};
-    ghost use Rattle.vend_core.specs.Office.{empty_office};
+    ghost use Rattle.office_rules.specs.Office.{empty_office};
 
     /// Those of the empty office.
     pub(crate) fn new(alloc: Global) -> Records

@@ -2,7 +2,7 @@
 use Rattle.std.specs.Prelude.{[], Option, Some, None}
 use Rattle.sts_fields.specs.Text.{Text}
 use Rattle.tariff.specs.declared.bought.Buy.{Buy}
-use Rattle.vend_core.specs.declared.decision.refusal.Refusal.TheVariants.{TooLittle}
+use Rattle.office_rules.specs.declared.decision.refusal.Refusal.TheVariants.{TooLittle}
 use Rattle.tariff.specs.Purchase.{purchase_of}
 use Rattle.vend_ports.specs.print.Printed.{quote_line, refusal_line}
 use Rattle.vend_ports.specs.print.Told.{Outputs, IsTold}

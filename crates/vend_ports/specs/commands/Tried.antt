@@ -2,8 +2,8 @@
 use Rattle.std.specs.Prelude.{ℕ, List, [], Option, Some, None, map}
 use Rattle.std.specs.List.{concat}
 use Rattle.sts_fields.specs.Text.{Text}
-use Rattle.vend_core.specs.Decision.{refusal_of}
-use Rattle.vend_core.specs.declared.decision.refusal.Refusal.TheVariants as refusal
+use Rattle.office_rules.specs.Decision.{refusal_of}
+use Rattle.office_rules.specs.declared.decision.refusal.Refusal.TheVariants as refusal
 use Rattle.vend_ports.specs.print.Printed.{amount_line, refusal_line, token_line}
 use Rattle.vend_ports.specs.print.Told.{Outputs, IsTold}
 use Rattle.vend_ports.specs.commands.Trial.{IsTrial}

@@ -6,10 +6,10 @@ use Rattle.sim_meter.specs.declared.answer.Answer.TheVariants.{Accepted, Used, O
 use Rattle.sts_fields.specs.Text.{Text}
 use Rattle.sts_token.specs.TokenFault.{token_fault_name, token_fault_number}
 use Rattle.tariff.specs.declared.bought.Buy.{Buy}
-use Rattle.vend_core.specs.Decision.Refusals.{refusal_name, refusal_number}
-use Rattle.vend_core.specs.Decision.RowCauses.{cause_text}
-use Rattle.vend_core.specs.declared.decision.refusal.Refusal.{Refusal}
-use Rattle.vend_core.specs.declared.decision.refusal.Refusal.TheVariants.{ImportRow, Memory, Store}
+use Rattle.office_rules.specs.Decision.Refusals.{refusal_name, refusal_number}
+use Rattle.office_rules.specs.Decision.RowCauses.{cause_text}
+use Rattle.office_rules.specs.declared.decision.refusal.Refusal.{Refusal}
+use Rattle.office_rules.specs.declared.decision.refusal.Refusal.TheVariants.{ImportRow, Memory, Store}
 use Rattle.command_line.specs.declared.address.Address.{Address}
 use Rattle.vend_ports.specs.declared.port.file_fault.FileFault.{FileFault}
 use Rattle.vend_ports.specs.declared.port.file_fault.FileFault.TheVariants as read

@@ -5,9 +5,9 @@ use crate::command_end::CommandEnd;
 use crate::print::lines::{put_quote, put_refusal};
 use crate::print::watched::Watched;
 use command_line::QuoteWords;
+use office_rules::Refusal;
 use std::io::Write;
 use tariff::buy;
-use vend_core::Refusal;
 
 /// Prints the tenths, the price and the change, or why nothing is bought.
 pub fn run<O: Write, E: Write>(

@@ -13,10 +13,10 @@ use crate::print::watched::Watched;
 use crate::trials::{TrialFault, trial};
 use command_line::TrialWords;
 use conversation::Clock;
+use office_rules::Refusal;
 use std::alloc::Global;
 use std::io::Write;
 use sts_fields::Moment;
-use vend_core::Refusal;
 
 /// Sells at the moment of the words or else of the clock, and prints each token, then why it
 /// stopped.

@@ -1,6 +1,6 @@
 //! The lines that the program prints (`specs/print/Printed.antt`). None takes memory.
 ghost use Rattle.std.specs.Prelude.{◌≡◌, ◌≢◌, ℕ, IfOk, map, string_bytes};
-ghost use Rattle.vend_core.specs.Decision.RowCauses.{cause_text};
+ghost use Rattle.office_rules.specs.Decision.RowCauses.{cause_text};
 ghost use Rattle.vend_ports.specs.print.Printed.{added_line, address_text, answer_line, clock_line};
 ghost use Rattle.vend_ports.specs.print.Printed.{credit_line, host_text, joined_line, line_of, open_line};
 ghost use Rattle.vend_ports.specs.print.Printed.{opened_line, pair_text, progress_line, quote_line};
@@ -13,11 +13,11 @@ use crate::print::watched::Watched;
 use arrayvec::ArrayVec;
 use command_line::Address;
 use itoa::Buffer;
+use office_rules::{Refusal, RowCause};
 use sim_meter::Answer;
 use std::alloc::{AllocError, Global};
 use std::io::Write;
 use tariff::Buy;
-use vend_core::{Refusal, RowCause};
 
 // Room for any line that the program prints: a longer one would only take more than one write.
 const LINE_ROOM: usize = 128;

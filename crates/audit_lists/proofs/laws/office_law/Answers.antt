@@ -1,5 +1,5 @@
 use Rattle.std.proofs.Common.{List, sym, subst}
-use Rattle.vend_core.specs.declared.office.sale.Sale.{Sale}
+use Rattle.office_rules.specs.declared.office.sale.Sale.{Sale}
 use Rattle.book_tables.specs.Stands.{AreTotalsOf}
 use Rattle.audit_rows.specs.Entries.{rows_of}
 use Rattle.audit_lists.specs.Told.{rules_of}

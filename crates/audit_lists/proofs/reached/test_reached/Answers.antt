@@ -1,6 +1,6 @@
 use Rattle.std.proofs.Common.{List, subst}
 use Rattle.std.proofs.lemmas.Result.{IfErr-weaker, on_ok_weaker}
-use Rattle.vend_core.specs.declared.office.shift.Shift.{Shift}
+use Rattle.office_rules.specs.declared.office.shift.Shift.{Shift}
 use Rattle.audit_lists.specs.Ties.{IsKept}
 use Rattle.audit_lists.specs.reached.Finds.{TellsUnreached, closed_first}
 use Rattle.audit_lists.specs.reached.Walk.{TellsSale, TellsShift}

@@ -2,7 +2,7 @@ use Rattle.std.proofs.Common.{◌≡◌, ◌≢◌, ℕ, Ok, true, false, eqb, a
 use Rattle.std.proofs.lemmas.Bool.{false≢true}
 use Rattle.std.proofs.lemmas.Bool.Decides.{nat_tests}
 use Rattle.sts_token.specs.Fields.{TokenFields}
-use Rattle.vend_core.specs.Law.NewSale.{fields_of}
+use Rattle.office_rules.specs.Law.NewSale.{fields_of}
 use Rattle.audit_lists.proofs.TokenLemmas.{fields_same, same_fields}
 use Rattle.audit_lists.proofs.tokens.is_token_of.Goals.{then-read-sale, else-read-sale}
 use Rattle.audit_lists.proofs.tokens.is_token_of.Goals as goal

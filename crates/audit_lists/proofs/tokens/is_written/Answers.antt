@@ -4,7 +4,7 @@ use Rattle.std.proofs.lemmas.Bool.{false≢true}
 use Rattle.std.proofs.lemmas.Option.{same_Some}
 use Rattle.book_tables.specs.declared.reading.pages.MeterRow.{MeterRow}
 use Rattle.sts_token.specs.Token.{IsToken}
-use Rattle.vend_core.specs.Law.NewSale.{fields_of}
+use Rattle.office_rules.specs.Law.NewSale.{fields_of}
 use Rattle.audit_lists.specs.Keys.{Key}
 use Rattle.audit_lists.specs.RowKeys.{meter_key, name_key}
 use Rattle.audit_lists.proofs.EachLemmas.{row_at}

@@ -3,8 +3,8 @@ use Rattle.std.specs.Prelude.{IsTrue, slice_get}
 use Rattle.std.proofs.lemmas.Bool.{false≢true}
 use Rattle.std.proofs.lemmas.Option.{slice_get_within}
 use Rattle.vend_core.specs.Law.Reached.{IsWrittenBy}
-use Rattle.vend_core.specs.Office.{IsSaleRow}
-use Rattle.vend_core.specs.declared.office.sale.Sale.{Sale}
+use Rattle.office_rules.specs.Office.{IsSaleRow}
+use Rattle.office_rules.specs.declared.office.sale.Sale.{Sale}
 use Rattle.book_tables.specs.declared.reading.pages.MeterRow.{MeterRow}
 use Rattle.audit_rows.specs.declared.finding.Rule.TheVariants as rule
 use Rattle.audit_lists.specs.RowKeys.{meter_key}

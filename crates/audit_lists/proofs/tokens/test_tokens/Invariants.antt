@@ -1,5 +1,5 @@
 use Rattle.vend_core.specs.Law.Reached.{IsWrittenBy}
-use Rattle.vend_core.specs.Office.{Office}
+use Rattle.office_rules.specs.Office.{Office}
 use Rattle.audit_lists.specs.Ties.{EachBelow}
 use Rattle.audit_lists.specs.reached.Finds.{AreRowsOfOffice}
 use Rattle.audit_lists.proofs.tokens.test_tokens.Given as goal

@@ -1,6 +1,6 @@
 use Rattle.std.proofs.Common.{◌≡◌, ◌++◌, List, refl, subst}
 use Rattle.one_table.proofs.ChangeLemmas.{if_err, on_ok, told_as}
-use Rattle.vend_core.specs.declared.office.sale.Sale.{Sale}
+use Rattle.office_rules.specs.declared.office.sale.Sale.{Sale}
 use Rattle.audit_rows.specs.declared.office_rows.OfficeRows.{OfficeRows}
 use Rattle.audit_rows.specs.declared.rows.LastId.{LastId}
 use Rattle.audit_rows.specs.declared.rows.MonthTenths.{MonthTenths}

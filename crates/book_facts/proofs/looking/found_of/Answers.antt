@@ -1,6 +1,6 @@
 use Rattle.std.proofs.Common.{ap, refl, Ok, Result, ℕ}
 use Rattle.sqlite.specs.Held.{state}
-use Rattle.vend_core.specs.declared.decision.refusal.Refusal.{Refusal}
+use Rattle.office_rules.specs.declared.decision.refusal.Refusal.{Refusal}
 use Rattle.book_facts.specs.declared.lookup.Found.{Found}
 use Rattle.book_facts.specs.declared.lookup.Found.TheVariants.{SaleCount}
 use Rattle.book_facts.proofs.LooksLemmas.{looks_same, looks_weaker}

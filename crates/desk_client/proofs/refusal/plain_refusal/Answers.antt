@@ -1,7 +1,7 @@
 use Rattle.std.proofs.Common.{◌∙◌, List, ℕ, [], ◌∷◌, codes, refl, ap, sym, arith}
 use Rattle.std.specs.Prelude.{decimal}
-use Rattle.vend_core.specs.Decision.Refusals.{refusal_name, refusal_number}
-use Rattle.vend_core.specs.declared.decision.refusal.Refusal.{Refusal}
+use Rattle.office_rules.specs.Decision.Refusals.{refusal_name, refusal_number}
+use Rattle.office_rules.specs.declared.decision.refusal.Refusal.{Refusal}
 use Rattle.desk_client.specs.Refusal.{plain_ends}
 use Rattle.desk_client.specs.Text.{LackStops}
 use Rattle.desk_client.proofs.FoundLemmas.{first_values, no_value, read_value}

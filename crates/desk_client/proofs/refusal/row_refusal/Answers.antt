@@ -1,7 +1,7 @@
 use Rattle.std.proofs.Common.{List, ℕ, [], ◌∷◌, codes, refl, arith}
 use Rattle.std.specs.Prelude.{decimal}
-use Rattle.vend_core.specs.Decision.RowCauses.{cause_text}
-use Rattle.vend_core.specs.declared.decision.row_cause.RowCause.{RowCause}
+use Rattle.office_rules.specs.Decision.RowCauses.{cause_text}
+use Rattle.office_rules.specs.declared.decision.row_cause.RowCause.{RowCause}
 use Rattle.desk_client.specs.Refusal.{IsRow, row_ends}
 use Rattle.desk_client.specs.Text.{LackStops}
 use Rattle.desk_client.proofs.FoundLemmas.{first_values, no_value, read_value}

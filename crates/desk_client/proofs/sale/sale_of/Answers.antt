@@ -1,6 +1,6 @@
 use Rattle.std.proofs.Common.{◌≡◌, ◌∙◌, ◌-◌, map, refl, ap, arith}
 use Rattle.std.specs.Prelude.{decimal}
-use Rattle.vend_core.specs.declared.office.sale.Sale.{Sale}
+use Rattle.office_rules.specs.declared.office.sale.Sale.{Sale}
 use Rattle.desk_client.specs.Sale.{IsTold, sale_values}
 use Rattle.desk_client.specs.Text.{now}
 use Rattle.papers.specs.Text.{change_of}

@@ -1,7 +1,7 @@
 use Rattle.std.proofs.Common.{rules, [], slice_index_or, refl}
 use Rattle.csv.specs.Records.{fields_of}
 use Rattle.papers.specs.File.{IsTariffText}
-use Rattle.vend_core.specs.Name.{IsName}
+use Rattle.office_rules.specs.Name.{IsName}
 use Rattle.papers.proofs.ImportLemmas.{steps-outside, steps-take}
 use Rattle.papers.proofs.read_row.read_steps.Goals as goal
 

@@ -1,5 +1,5 @@
 use Rattle.std.proofs.Common.{◌≡◌, ◌*◌, ◌≤◌, ◌^◌, take}
-use Rattle.vend_core.specs.Law.Cash.{cash_of}
+use Rattle.office_rules.specs.Law.Cash.{cash_of}
 use Rattle.papers.proofs.reports.cash.Given as goal
 
 -- what the sales so far come to, each below 2 ^ 32

@@ -4,7 +4,7 @@ use Rattle.sqlite.specs.State.{HasCleanDisk}
 use Rattle.sts_token.specs.Token.{BlockFunction}
 use Rattle.vend_core.specs.Law.Life.{AreLives, Life}
 use Rattle.vend_core.specs.Law.Reached.{HasTokensOf}
-use Rattle.vend_core.specs.Office.{Office}
+use Rattle.office_rules.specs.Office.{Office}
 use Rattle.audit.specs.Fails.{AreWritten}
 use Rattle.program_laws.proofs.laws.broken_law.Goals as goal
 

@@ -1,4 +1,4 @@
-use Rattle.vend_commands.specs.port.Places.{loop_of, way}
+use Rattle.vend_commands.specs.port.Machines.{loop_of, way}
 use Rattle.program_laws.specs.runs.Follow.{here_of}
 use Rattle.program_laws.proofs.AgainLemmas.{OrderLaws}
 use Rattle.program_laws.proofs.DeskLemmas.{HandingLaws}

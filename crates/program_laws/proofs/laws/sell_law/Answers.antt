@@ -1,5 +1,5 @@
 use Rattle.sqlite.specs.Files.{over_files}
-use Rattle.vend_commands.specs.port.Places.{places_of}
+use Rattle.office_commands.specs.port.Places.{places_of}
 use Rattle.program_laws.proofs.SellLemmas.{ends_sold, sale_told}
 use Rattle.program_laws.proofs.laws.sell_law.Goals as goal
 

@@ -1,5 +1,5 @@
-use Rattle.vend_commands.specs.port.Places.{way}
-use Rattle.vend_commands.specs.office.Visited.{seen_in}
+use Rattle.vend_commands.specs.port.Machines.{way}
+use Rattle.office_commands.specs.office.Visited.{seen_in}
 use Rattle.program_laws.proofs.CourseLemmas.{live_on}
 use Rattle.program_laws.proofs.laws.serve_law.Goals as goal
 

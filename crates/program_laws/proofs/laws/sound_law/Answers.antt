@@ -1,4 +1,4 @@
-use Rattle.vend_commands.specs.port.Places.{places_of}
+use Rattle.office_commands.specs.port.Places.{places_of}
 use Rattle.program_laws.proofs.SoundLemmas.{ends_sound}
 use Rattle.program_laws.proofs.laws.sound_law.Goals as goal
 

@@ -1,6 +1,6 @@
 use Rattle.std.proofs.Common.{◌≡◌, ◌<◌, ◌+◌, ◌∙◌, Some, ap, arith, length, max, min, subst, sym}
 use Rattle.std.proofs.lemmas.Option.{slice_get-get_or}
-use Rattle.vend_core.specs.declared.office.shift.Shift.{Shift}
+use Rattle.office_rules.specs.declared.office.shift.Shift.{Shift}
 use Rattle.audit_lists.specs.reached.Lasts.{AreLasts}
 use Rattle.audit_lists.proofs.ReachedLemmas.LastLemmas.{lasts_more}
 use Rattle.audit_lists.proofs.reached.lasts.add_shifts.Goals as goal

@@ -1,5 +1,5 @@
 use Rattle.std.proofs.Common.{List, length, subst, sym}
-use Rattle.vend_core.specs.Office.{Office}
+use Rattle.office_rules.specs.Office.{Office}
 use Rattle.audit_rows.specs.declared.rows.DatedStepRow.{DatedStepRow}
 use Rattle.audit_rows.specs.declared.rows.StepRow.{StepRow}
 use Rattle.audit_lists.specs.RowKeys.{dated_key, step_key}

@@ -2,7 +2,7 @@ use Rattle.std.proofs.Common.{◌≡◌, ◌∙◌, ap, arith, rules}
 use Rattle.std.specs.Prelude.{unwrap_or}
 use Rattle.sts_fields.specs.Calendar.{month_at}
 use Rattle.vend_core.specs.Law.Reached.{sales_alone}
-use Rattle.vend_core.specs.Office.Lookup.{prior}
+use Rattle.office_rules.specs.Office.Lookup.{prior}
 use Rattle.book_tables.specs.Stands.{sales_in_month}
 use Rattle.audit_lists.proofs.ReachedLemmas.PriceLemmas.{bought_or, prior_within, tenths_or}
 use Rattle.audit_lists.proofs.reached.prices.is_bought.Goals as goal

@@ -2,7 +2,7 @@ use Rattle.std.proofs.Common.{◌≡◌, ◌≢◌, ◌∙◌, ◌++◌, ◌∷�
 use Rattle.std.specs.Prelude.{All, Any, cond, filter}
 use Rattle.std.proofs.lemmas.List.Elements.{filter_more}
 use Rattle.vend_core.specs.Law.Reached.{IsClosedFirst}
-use Rattle.vend_core.specs.declared.office.shift.Shift.{Shift}
+use Rattle.office_rules.specs.declared.office.shift.Shift.{Shift}
 use Rattle.audit_lists.proofs.EachLemmas.{each_more, row_at}
 use Rattle.audit_lists.proofs.ReachedLemmas.ShiftLemmas.{closed_all, is_open, not_all_closed}
 use Rattle.audit_lists.proofs.reached.shifts.test_shifts.Goals as goal

@@ -1,7 +1,7 @@
 use Rattle.std.proofs.Common.{◌≡◌, ◌<◌, ◌^◌, ◌∙◌, ◌++◌, ◌∷◌, [], List, Some, ap, arith, length, subst, rules, sym, take}
 use Rattle.std.specs.Prelude.{slice_get}
-use Rattle.vend_core.specs.declared.office.sale.Sale.{Sale}
-use Rattle.vend_core.specs.declared.office.shift.Shift.{Shift}
+use Rattle.office_rules.specs.declared.office.sale.Sale.{Sale}
+use Rattle.office_rules.specs.declared.office.shift.Shift.{Shift}
 use Rattle.std.proofs.lemmas.Option.{slice_get_within}
 use Rattle.audit_lists.specs.reached.Prices.{AreListed}
 use Rattle.audit_lists.specs.reached.Walk.{IsWalked, TellsSale}

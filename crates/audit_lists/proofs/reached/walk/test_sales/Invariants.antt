@@ -1,4 +1,4 @@
-use Rattle.vend_core.specs.Office.{Office}
+use Rattle.office_rules.specs.Office.{Office}
 use Rattle.audit_lists.specs.reached.Finds.{AreRowsOfOffice}
 use Rattle.audit_lists.proofs.ReachedLemmas.WalkLemmas.{IsFront}
 use Rattle.audit_lists.proofs.reached.walk.test_sales.Given as goal

@@ -1,8 +1,8 @@
 use Rattle.std.proofs.Common.{List, [], length, ap, arith, IfErr, subst}
 use Rattle.sqlite.specs.Held.{state}
 use Rattle.tariff.specs.declared.step.Step.{Step}
-use Rattle.vend_core.specs.declared.decision.change.Edit.TheVariants as edits
-use Rattle.vend_core.specs.declared.office.row.Row.{Row}
+use Rattle.office_rules.specs.declared.decision.change.Edit.TheVariants as edits
+use Rattle.office_rules.specs.declared.office.row.Row.{Row}
 use Rattle.one_table.proofs.ChangeLemmas.{if_err}
 use Rattle.book_tables.proofs.WritingLemmas.CauseLemmas.{came_here, of_store}
 use Rattle.book_tables.specs.writing.Failing.{FailsToWriteAll}

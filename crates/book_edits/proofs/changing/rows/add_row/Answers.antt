@@ -1,7 +1,7 @@
 use Rattle.std.proofs.Common.{List, length, ap, arith, subst}
 use Rattle.sqlite.specs.Held.{state}
 use Rattle.tariff.specs.declared.step.Step.{Step}
-use Rattle.vend_core.specs.declared.office.row.Row.TheVariants as kinds
+use Rattle.office_rules.specs.declared.office.row.Row.TheVariants as kinds
 use Rattle.book_tables.specs.writing.Failing.{End, FailsToWriteAll}
 use Rattle.book_tables.specs.writing.Writes.{steps_writes, tariff_writes}
 use Rattle.book_edits.proofs.ChangeLemmas.{makes_meter_row, makes_steps_row, makes_tariff_row, on_ok, row_ends}

@@ -8,7 +8,7 @@ use Rattle.book_tables.specs.writing.Failing.{FailsToWriteAll}
 use Rattle.book_tables.specs.writing.Writes.{AreCarriedOut, Write, row_writes}
 use Rattle.book_tables.proofs.WritingLemmas.CauseLemmas.{came_by, came_here, ends_off, of_later, written_then}
 use Rattle.book_tables.proofs.WritingLemmas.TurnLemmas.{rest_after, with_next}
-use Rattle.vend_core.specs.declared.office.row.Row.{Row}
+use Rattle.office_rules.specs.declared.office.row.Row.{Row}
 use Rattle.book_states.specs.Changing.{MakesRows}
 use Rattle.book_edits.proofs.ChangeLemmas.{makes_more, still_has, writes_more}
 use Rattle.book_edits.proofs.changing.rows.add_rows.Goals as goal

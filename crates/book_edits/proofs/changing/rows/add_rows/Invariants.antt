@@ -2,7 +2,7 @@ use Rattle.std.proofs.Common.{◌≡◌, ◌∷◌, Ok, take}
 use Rattle.std.specs.List.{flat_map}
 use Rattle.sqlite.specs.State.{HasCleanDisk}
 use Rattle.sqlite.specs.Held.{state}
-use Rattle.vend_core.specs.declared.office.row.Row.{Row}
+use Rattle.office_rules.specs.declared.office.row.Row.{Row}
 use Rattle.one_table.specs.InTransaction.{IsUnderWay, KeepsTransaction}
 use Rattle.book_tables.specs.writing.Writes.{AreCarriedOut, row_writes}
 use Rattle.book_tables.specs.reading.Reading.{HasAllTables}

@@ -1,7 +1,7 @@
 use Rattle.std.proofs.Common.{arith, inr}
 use Rattle.sqlite.specs.Held.{state}
 use Rattle.one_table.proofs.ChangeLemmas.{told_as, transaction_off}
-use Rattle.vend_core.specs.declared.decision.change.Edit.TheVariants.{AddSale}
+use Rattle.office_rules.specs.declared.decision.change.Edit.TheVariants.{AddSale}
 use Rattle.book_states.specs.Failing.{FailsToMake}
 use Rattle.book_edits.proofs.ChangeLemmas.{sold_refused}
 use Rattle.book_edits.proofs.changing.sales.add_counted.Goals as goal

@@ -5,9 +5,9 @@ use Rattle.one_table.proofs.ReadsOnlyLemmas.{read_on}
 use Rattle.sts_fields.specs.Base.{base_eq}
 use Rattle.sts_fields.specs.Calendar.{month_at}
 use Rattle.sts_fields.specs.Tid.{last_tid}
-use Rattle.vend_core.specs.Decision.{MeterAccount}
-use Rattle.vend_core.specs.Office.Lookup.{greatest_of, prior, used}
-use Rattle.vend_core.specs.declared.office.sale.Sale.{Sale}
+use Rattle.office_rules.specs.Decision.{MeterAccount}
+use Rattle.office_rules.specs.Office.Lookup.{greatest_of, prior, used}
+use Rattle.office_rules.specs.declared.office.sale.Sale.{Sale}
 use Rattle.book_tables.specs.declared.error.TableError.TheVariants.{RowOfNoOffice}
 use Rattle.book_tables.proofs.OfficeTableLemmas.{last_ids_in, month_tenths_in, read_in_office}
 use Rattle.book_facts.proofs.facts.accounts.account_at.Goals.{then-unwrap_or-gt-LAST_TID-via-then-unwrap_or-gt-LAST_TID, then-unwrap_or-gt-LAST_TID-via-else-unwrap_or-gt-LAST_TID+then-prior-gt-MAX_PRIOR}

@@ -4,9 +4,9 @@ use Rattle.std.proofs.lemmas.List.{drop_all}
 use Rattle.sqlite.specs.Held.{state}
 use Rattle.sqlite.specs.declared.error.Error.TheVariants.{SqliteFailure}
 use Rattle.sqlite.specs.declared.error.ErrorCode.TheVariants.{OutOfMemory}
-use Rattle.vend_core.specs.Decision.Facts.{AreRowsFacts}
-use Rattle.vend_core.specs.declared.office.row.Row.{Row}
-use Rattle.vend_core.specs.declared.decision.row_facts.RowFacts.{RowFacts}
+use Rattle.office_rules.specs.Decision.Facts.{AreRowsFacts}
+use Rattle.office_rules.specs.declared.office.row.Row.{Row}
+use Rattle.office_rules.specs.declared.decision.row_facts.RowFacts.{RowFacts}
 use Rattle.book_tables.specs.declared.error.TableError.TheVariants.{Database}
 use Rattle.book_states.specs.FactsSeen.{AreRowsSeen, IsPassedBy, IsRefusedFor}
 use Rattle.book_facts.proofs.FactsLemmas.{members_after, rows_more, was_clean}

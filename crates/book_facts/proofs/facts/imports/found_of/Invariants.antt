@@ -1,9 +1,9 @@
 use Rattle.std.proofs.Common.{ℕ, ◌++◌, List, drop}
 use Rattle.sqlite.specs.Held.{state}
 use Rattle.sqlite.specs.State.{HasCleanDisk}
-use Rattle.vend_core.specs.Decision.Facts.{AreRowsFacts}
-use Rattle.vend_core.specs.Office.{IsOffice, Office}
-use Rattle.vend_core.specs.declared.decision.row_facts.RowFacts.{RowFacts}
+use Rattle.office_rules.specs.Decision.Facts.{AreRowsFacts}
+use Rattle.office_rules.specs.Office.{IsOffice, Office}
+use Rattle.office_rules.specs.declared.decision.row_facts.RowFacts.{RowFacts}
 use Rattle.book_tables.specs.reading.Reading.{HasAllTables}
 use Rattle.book_states.specs.FactsSeen.{AreRowsSeen}
 use Rattle.book_states.specs.Members.{HasMembers}

@@ -1,9 +1,9 @@
 use Rattle.std.proofs.Common.{List, Option, Some, ap, subst}
 use Rattle.sqlite.specs.Held.{state}
 use Rattle.one_table.proofs.ReadsOnlyLemmas.{read_on}
-use Rattle.vend_core.specs.Decision.Facts.{AreRowsFacts}
-use Rattle.vend_core.specs.declared.decision.row_facts.RowFacts.{RowFacts}
-use Rattle.vend_core.specs.declared.office.row.Row.{Row}
+use Rattle.office_rules.specs.Decision.Facts.{AreRowsFacts}
+use Rattle.office_rules.specs.declared.decision.row_facts.RowFacts.{RowFacts}
+use Rattle.office_rules.specs.declared.office.row.Row.{Row}
 use Rattle.book_states.specs.FactsSeen.{AreRowsSeen}
 use Rattle.book_facts.proofs.LooksLemmas.{looks_on}
 use Rattle.book_facts.proofs.facts.imports.import_facts.Goals as goal

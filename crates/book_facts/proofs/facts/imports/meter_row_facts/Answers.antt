@@ -1,9 +1,9 @@
 use Rattle.std.proofs.Common.{Bool, Option, ap, is_some, sym, ◌∙◌, subst}
 use Rattle.sqlite.specs.Held.{state}
 use Rattle.one_table.proofs.ReadsOnlyLemmas.{read_on}
-use Rattle.vend_core.specs.Decision.Facts.{meter_found}
-use Rattle.vend_core.specs.declared.office.meter.Meter.{Meter}
-use Rattle.vend_core.specs.declared.decision.row_facts.RowFacts.TheVariants.{NoMeter}
+use Rattle.office_rules.specs.Decision.Facts.{meter_found}
+use Rattle.office_rules.specs.declared.office.meter.Meter.{Meter}
+use Rattle.office_rules.specs.declared.decision.row_facts.RowFacts.TheVariants.{NoMeter}
 use Rattle.book_tables.proofs.OfficeTableLemmas.{meters_in, tariffs_in, read_in_office}
 use Rattle.book_tables.specs.reading.Questions.{the_meter}
 use Rattle.book_tables.specs.reading.Seen.{ShowsFirst}

@@ -3,13 +3,13 @@ use Rattle.std.proofs.lemmas.Result.{IfOk-weaker}
 use Rattle.sqlite.specs.Held.{state}
 use Rattle.one_table.proofs.ReadsOnlyLemmas.{read_on}
 use Rattle.tariff.specs.declared.step.Step.{Step}
-use Rattle.vend_core.specs.Office.{Office}
-use Rattle.vend_core.specs.declared.decision.row_facts.RowFacts.{RowFacts}
+use Rattle.office_rules.specs.Office.{Office}
+use Rattle.office_rules.specs.declared.decision.row_facts.RowFacts.{RowFacts}
 use Rattle.book_tables.proofs.OfficeTableLemmas.{steps_in, read_in_office}
 use Rattle.book_facts.proofs.FactsLemmas.{office_told}
 use Rattle.book_facts.proofs.PassedLemmas.{passed_none}
 use Rattle.book_facts.proofs.LooksLemmas.{looks_on, first_shown, looks_weaker}
-use Rattle.vend_core.specs.declared.decision.row_facts.RowFacts.TheVariants as found
+use Rattle.office_rules.specs.declared.decision.row_facts.RowFacts.TheVariants as found
 use Rattle.book_facts.proofs.facts.imports.row_facts.Goals as goal
 
 pub returns-in_err-steps-in-Tariff : goal.returns-in_err-steps-in-Tariff

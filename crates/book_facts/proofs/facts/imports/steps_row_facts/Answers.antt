@@ -1,6 +1,6 @@
 use Rattle.sqlite.specs.Held.{state}
 use Rattle.one_table.proofs.ReadsOnlyLemmas.{read_on}
-use Rattle.vend_core.specs.Office.{Office}
+use Rattle.office_rules.specs.Office.{Office}
 use Rattle.book_tables.proofs.OfficeTableLemmas.{dated_steps_in, tariffs_in, read_in_office}
 use Rattle.book_facts.proofs.FactsLemmas.{office_told, tariff_told, was_clean}
 use Rattle.book_facts.proofs.PassedLemmas.{passed, passed_none, read_after, clean_before}

@@ -1,10 +1,10 @@
 use Rattle.std.proofs.Common.{List, Option, Some, ap, filter, find, option_map, sym, ◌==◌, ◌∙◌, subst}
 use Rattle.sqlite.specs.Held.{state}
 use Rattle.one_table.proofs.ReadsOnlyLemmas.{read_on}
-use Rattle.vend_core.specs.Office.Lookup.{sales_of_shift}
-use Rattle.vend_core.specs.declared.decision.facts.Facts.{Facts}
-use Rattle.vend_core.specs.declared.office.sale.Sale.{Sale}
-use Rattle.vend_core.specs.declared.office.shift.Shift.{Shift}
+use Rattle.office_rules.specs.Office.Lookup.{sales_of_shift}
+use Rattle.office_rules.specs.declared.decision.facts.Facts.{Facts}
+use Rattle.office_rules.specs.declared.office.sale.Sale.{Sale}
+use Rattle.office_rules.specs.declared.office.shift.Shift.{Shift}
 use Rattle.book_tables.proofs.OfficeTableLemmas.{sales_in, shifts_in, read_in_office}
 use Rattle.book_tables.specs.reading.Questions.{the_sales_of_shift, the_shift}
 use Rattle.book_tables.specs.reading.Seen.{ShowsAll, ShowsFirst}

@@ -1,9 +1,9 @@
 use Rattle.std.proofs.Common.{List, Option, Some, ap, false, find, is_none, option_map, rules, true, ◌==◌, ◌∙◌, ◌≡◌, subst, sym}
 use Rattle.sqlite.specs.Held.{state}
 use Rattle.one_table.proofs.ReadsOnlyLemmas.{read_on}
-use Rattle.vend_core.specs.Office.Lookup.{sales_of_shift}
-use Rattle.vend_core.specs.declared.office.sale.Sale.{Sale}
-use Rattle.vend_core.specs.declared.office.shift.Shift.{Shift}
+use Rattle.office_rules.specs.Office.Lookup.{sales_of_shift}
+use Rattle.office_rules.specs.declared.office.sale.Sale.{Sale}
+use Rattle.office_rules.specs.declared.office.shift.Shift.{Shift}
 use Rattle.book_tables.specs.Stands.{all_totals, sales_in_shift}
 use Rattle.book_tables.specs.declared.row.totals.Totals.{Totals}
 use Rattle.book_tables.proofs.OfficeTableLemmas.{shift_totals_in, shifts_in, read_in_office}

@@ -1,7 +1,7 @@
 use Rattle.std.proofs.Common.{rules, subst, ◌≡◌}
 use Rattle.sqlite.specs.Held.{state}
 use Rattle.one_table.proofs.ReadsOnlyLemmas.{read_on}
-use Rattle.vend_core.specs.Office.{Office}
+use Rattle.office_rules.specs.Office.{Office}
 use Rattle.book_tables.proofs.OfficeTableLemmas.{dated_steps_in, tariffs_in, read_in_office}
 use Rattle.book_states.specs.FactsSeen.{IsTariffSeen}
 use Rattle.book_facts.proofs.FactsLemmas.{office_told, tariff_told, was_clean}

@@ -4,8 +4,8 @@ use Rattle.std.specs.Option.{option_or}
 use Rattle.sqlite.specs.Held.{state}
 use Rattle.one_table.proofs.ReadsOnlyLemmas.{read_on}
 use Rattle.tariff.specs.declared.step.Step.{Step}
-use Rattle.vend_core.specs.Office.Lookup.{latest}
-use Rattle.vend_core.specs.Office.{Office}
+use Rattle.office_rules.specs.Office.Lookup.{latest}
+use Rattle.office_rules.specs.Office.{Office}
 use Rattle.book_tables.proofs.OfficeTableLemmas.{dated_steps_in, steps_in, read_in_office}
 use Rattle.book_facts.proofs.FactsLemmas.{begun_alone, begun_or_first, office_told, office_told_of, tables_of}
 use Rattle.book_facts.proofs.PassedLemmas.{clean_before, passed, passed_none, read_after}

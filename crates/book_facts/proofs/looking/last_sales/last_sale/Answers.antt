@@ -4,7 +4,7 @@ use Rattle.std.specs.Option.{option_or}
 use Rattle.sqlite.specs.Held.{state}
 use Rattle.one_table.proofs.ReadsOnlyLemmas.{read_on}
 use Rattle.sts_fields.specs.declared.base.Base.TheVariants.{Y1993, Y2014}
-use Rattle.vend_core.specs.declared.office.sale.Sale.{Sale}
+use Rattle.office_rules.specs.declared.office.sale.Sale.{Sale}
 use Rattle.book_facts.specs.Lookups.{last_under}
 use Rattle.book_facts.proofs.FactsLemmas.{begun_alone, begun_or_first, members_after, was_clean, tables_of}
 use Rattle.book_facts.proofs.PassedLemmas.{clean_before, passed, passed_after, read_after}

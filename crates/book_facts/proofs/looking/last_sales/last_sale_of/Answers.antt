@@ -1,8 +1,8 @@
 use Rattle.std.proofs.Common.{Option, ap, rules, is_none, true, false, ◌∙◌, ◌≡◌, None}
 use Rattle.sqlite.specs.Held.{state}
 use Rattle.one_table.proofs.ReadsOnlyLemmas.{read_on}
-use Rattle.vend_core.specs.declared.office.meter.Meter.{Meter}
-use Rattle.vend_core.specs.declared.office.sale.Sale.{Sale}
+use Rattle.office_rules.specs.declared.office.meter.Meter.{Meter}
+use Rattle.office_rules.specs.declared.office.sale.Sale.{Sale}
 use Rattle.book_tables.proofs.OfficeTableLemmas.{meters_in, read_in_office}
 use Rattle.book_facts.specs.Lookups.{last_found, last_sale, sale_found}
 use Rattle.book_facts.proofs.FactsLemmas.{members_after, meter_told, none_if, was_clean}

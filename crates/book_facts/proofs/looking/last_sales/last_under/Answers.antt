@@ -3,8 +3,8 @@ use Rattle.std.specs.Prelude.{bytes_eq}
 use Rattle.sqlite.specs.Held.{state}
 use Rattle.one_table.proofs.ReadsOnlyLemmas.{read_on}
 use Rattle.sts_fields.specs.Base.{base_eq}
-use Rattle.vend_core.specs.Office.Lookup.{greatest_of}
-use Rattle.vend_core.specs.declared.office.sale.Sale.{Sale}
+use Rattle.office_rules.specs.Office.Lookup.{greatest_of}
+use Rattle.office_rules.specs.declared.office.sale.Sale.{Sale}
 use Rattle.book_tables.specs.declared.error.TableError.TheVariants.{RowOfNoOffice}
 use Rattle.book_tables.proofs.OfficeTableLemmas.{last_ids_in, sales_in, read_in_office}
 use Rattle.book_tables.specs.reading.Questions.{the_last_id, the_sale_of_tid}

@@ -5,7 +5,7 @@ use Rattle.sqlite.specs.Held.{state}
 use Rattle.sqlite.specs.declared.error.Error.TheVariants.{SqliteFailure}
 use Rattle.sqlite.specs.declared.error.ErrorCode.TheVariants.{OutOfMemory}
 use Rattle.one_table.proofs.ReadsOnlyLemmas.{read_on}
-use Rattle.vend_core.specs.Office.{Office}
+use Rattle.office_rules.specs.Office.{Office}
 use Rattle.book_tables.specs.declared.error.TableError.TheVariants.{Database, RowOfNoOffice}
 use Rattle.book_tables.proofs.OfficeTableLemmas.{dated_steps_in, read_in_office}
 use Rattle.book_tables.specs.reading.Questions.{the_steps_from}

@@ -2,7 +2,7 @@ use Rattle.std.proofs.Common.{◌-◌, ◌++◌, List}
 use Rattle.sqlite.specs.Held.{state}
 use Rattle.sqlite.specs.State.{HasCleanDisk}
 use Rattle.sts_fields.specs.Day.{last_day}
-use Rattle.vend_core.specs.Office.{IsOffice, Office}
+use Rattle.office_rules.specs.Office.{IsOffice, Office}
 use Rattle.book_tables.specs.reading.Reading.{HasAllTables}
 use Rattle.book_states.specs.Members.{HasMembers}
 use Rattle.book_facts.specs.LookupsSeen.{AreLaterSeen}

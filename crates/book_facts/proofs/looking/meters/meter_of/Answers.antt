@@ -4,9 +4,9 @@ use Rattle.std.proofs.lemmas.Bool.{false≢true}
 use Rattle.sqlite.specs.Held.{state}
 use Rattle.one_table.proofs.ReadsOnlyLemmas.{read_on}
 use Rattle.sts_fields.specs.Calendar.{month_at}
-use Rattle.vend_core.specs.Office.Lookup.{prior}
-use Rattle.vend_core.specs.declared.office.meter.Meter.{Meter}
-use Rattle.vend_core.specs.declared.office.sale.Sale.{Sale}
+use Rattle.office_rules.specs.Office.Lookup.{prior}
+use Rattle.office_rules.specs.declared.office.meter.Meter.{Meter}
+use Rattle.office_rules.specs.declared.office.sale.Sale.{Sale}
 use Rattle.book_tables.proofs.OfficeTableLemmas.{meters_in, month_tenths_in, read_in_office}
 use Rattle.book_tables.specs.reading.Questions.{the_meter}
 use Rattle.book_tables.specs.reading.Seen.{ShowsFirst}

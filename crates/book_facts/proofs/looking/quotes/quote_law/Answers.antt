@@ -1,6 +1,6 @@
 use Rattle.std.proofs.Common.{length}
-use Rattle.vend_core.specs.Decision.{account_of}
-use Rattle.vend_core.specs.Office.Lookup.{open_shift}
+use Rattle.office_rules.specs.Decision.{account_of}
+use Rattle.office_rules.specs.Office.Lookup.{open_shift}
 use Rattle.book_facts.proofs.LookupLemmas.{sale_quoted}
 use Rattle.book_facts.proofs.looking.quotes.quote_law.Goals as goal
 

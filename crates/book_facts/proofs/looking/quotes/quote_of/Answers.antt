@@ -2,8 +2,8 @@ use Rattle.std.proofs.Common.{Option, ℕ, Result, ap, rules, sym, subst, ◌∙
 use Rattle.std.specs.Prelude.{IfErr}
 use Rattle.std.specs.Option.{option_copied}
 use Rattle.one_table.proofs.ReadsOnlyLemmas.{read_on}
-use Rattle.vend_core.specs.Decision.{MeterAccount, account_of}
-use Rattle.vend_core.specs.declared.decision.refusal.Refusal.{Refusal}
+use Rattle.office_rules.specs.Decision.{MeterAccount, account_of}
+use Rattle.office_rules.specs.declared.decision.refusal.Refusal.{Refusal}
 use Rattle.book_facts.specs.Lookups.{IsOfRules, quote_for}
 use Rattle.book_facts.specs.declared.lookup.Found.{Found}
 use Rattle.book_facts.proofs.LookupLemmas.{quote_rules}

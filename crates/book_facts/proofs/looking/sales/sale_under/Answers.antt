@@ -2,7 +2,7 @@ use Rattle.std.proofs.Common.{Option, ap, find, ◌&&◌, ◌∙◌}
 use Rattle.std.specs.Prelude.{bytes_eq}
 use Rattle.sqlite.specs.Held.{state}
 use Rattle.one_table.proofs.ReadsOnlyLemmas.{read_on}
-use Rattle.vend_core.specs.declared.office.sale.Sale.{Sale}
+use Rattle.office_rules.specs.declared.office.sale.Sale.{Sale}
 use Rattle.book_tables.proofs.OfficeTableLemmas.{sales_in, read_in_office}
 use Rattle.book_facts.specs.Lookups.{sale_found}
 use Rattle.book_facts.proofs.FactsLemmas.{sales_told}

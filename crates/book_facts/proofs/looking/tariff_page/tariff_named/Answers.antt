@@ -1,7 +1,7 @@
 use Rattle.std.proofs.Common.{refl, sym, ◌∙◌, subst}
 use Rattle.sqlite.specs.Held.{state}
 use Rattle.one_table.proofs.ReadsOnlyLemmas.{read_on}
-use Rattle.vend_core.specs.Office.Lookup.{latest}
+use Rattle.office_rules.specs.Office.Lookup.{latest}
 use Rattle.book_states.specs.FactsSeen.{AreStepsSeenOn}
 use Rattle.book_facts.proofs.FactsLemmas.{members_after, was_clean}
 use Rattle.book_facts.proofs.ListedLemmas.{none_told, steps_told}

@@ -3,8 +3,8 @@ use Rattle.sqlite.specs.Held.{state}
 use Rattle.sqlite.specs.State.{HasCleanDisk, State}
 use Rattle.one_table.proofs.ChangeLemmas.{transaction_off, transaction_on, transaction_then}
 use Rattle.sts_fields.specs.Calendar.{month_at}
-use Rattle.vend_core.specs.Office.Lookup.{greatest_of}
-use Rattle.vend_core.specs.declared.office.sale.Sale.{Sale}
+use Rattle.office_rules.specs.Office.Lookup.{greatest_of}
+use Rattle.office_rules.specs.declared.office.sale.Sale.{Sale}
 use Rattle.book_tables.specs.Stands.{sales_under}
 use Rattle.book_tables.specs.writing.Writing.{AddsTenths, AddsToShift, MayAddTenths, MayAddToShift}
 use Rattle.book_tables.specs.declared.error.TableError.TheVariants.{RowOfNoOffice}

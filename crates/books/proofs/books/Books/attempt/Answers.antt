@@ -1,7 +1,7 @@
 use Rattle.std.proofs.Common.{None, Option, Some, inl, inr, refl, subst, sym}
 use Rattle.sqlite.specs.Held.{state}
-use Rattle.vend_core.specs.Office.{IsOffice}
-use Rattle.vend_core.specs.declared.decision.change.Edit.{Edit}
+use Rattle.office_rules.specs.Office.{IsOffice}
+use Rattle.office_rules.specs.declared.decision.change.Edit.{Edit}
 use Rattle.books.specs.Keeps.{Seen, seen}
 use Rattle.books.specs.Serving.{IsDecidedFor, IsMade}
 use Rattle.books.proofs.AttemptLemmas.{committed_ends, failed_ends, handed_on, is_applied, is_decision, refused_ends, unchanged_ends}

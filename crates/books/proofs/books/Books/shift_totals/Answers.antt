@@ -1,6 +1,6 @@
 use Rattle.std.proofs.Common.{◌≡◌, refl}
 use Rattle.sqlite.specs.Held.{state}
-use Rattle.vend_core.specs.declared.decision.refusal.Refusal.TheVariants.{NoSuchShift}
+use Rattle.office_rules.specs.declared.decision.refusal.Refusal.TheVariants.{NoSuchShift}
 use Rattle.books.specs.Keeps.{seen}
 use Rattle.books.proofs.ReadLemmas.{read_stopped, was_read}
 use Rattle.books.proofs.books.Books.shift_totals.Goals as goal

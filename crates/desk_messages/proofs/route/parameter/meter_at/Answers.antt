@@ -1,5 +1,5 @@
 use Rattle.std.specs.List.{after_first, before_first}
-use Rattle.vend_core.specs.Name.{IsMeterNo}
+use Rattle.office_rules.specs.Name.{IsMeterNo}
 use Rattle.desk_messages.specs.route.Endpoint.{closes, opens, pattern_of}
 use Rattle.desk_messages.proofs.ParameterLemmas.{reads_between, reads_name}
 use Rattle.desk_messages.proofs.route.parameter.meter_at.Goals as goal

@@ -1,6 +1,6 @@
 use Rattle.std.proofs.Common.{codes, decimal, None, Some}
 use Rattle.tariff.specs.Tender.{IsTender}
-use Rattle.vend_core.specs.Name.{IsMeterNo}
+use Rattle.office_rules.specs.Name.{IsMeterNo}
 use Rattle.desk_messages.proofs.ParameterLemmas.{are_read, digits_lack, no_first, no_second, reads_name}
 use Rattle.desk_messages.proofs.route.parameter.quote_at.Goals as goal
 

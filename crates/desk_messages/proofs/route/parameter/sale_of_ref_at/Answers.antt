@@ -1,5 +1,5 @@
 use Rattle.std.proofs.Common.{codes, None}
-use Rattle.vend_core.specs.Name.{IsName, IsOperator}
+use Rattle.office_rules.specs.Name.{IsName, IsOperator}
 use Rattle.desk_messages.proofs.ParameterLemmas.{letters_lack, no_first, no_second, reads_name}
 use Rattle.desk_messages.proofs.route.parameter.sale_of_ref_at.Goals as goal
 

@@ -1,5 +1,5 @@
 use Rattle.vend_core.specs.Law.LifeLaws.{opened}
-use Rattle.vend_core.specs.Office.{empty_office}
+use Rattle.office_rules.specs.Office.{empty_office}
 use Rattle.vend_commands.proofs.selfcheck.prepared.prepare.Goals as goal
 
 pub returns-in-Ok-ready-clause-prepared : goal.returns-in-Ok-ready-clause-prepared

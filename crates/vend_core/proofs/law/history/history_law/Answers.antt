@@ -5,7 +5,7 @@ use Rattle.vend_core.proofs.LifeLemmas.ExtendManyLemmas.{lives_go_on}
 use Rattle.vend_core.proofs.LifeLemmas.HistoryLemmas.{one_handed_number, one_handed_ref, one_handed_tid, same_digits}
 use Rattle.vend_core.proofs.LifeLemmas.{handed_stands, lives_office}
 use Rattle.vend_core.proofs.LawLemmas.MeterLemmas.{MeterLaws, accepted_is, bound_above, credit_is, credit_within, first_entry_is, in_order_is}
-use Rattle.vend_core.proofs.DecisionLemmas.NewSaleLemmas.{LowerLaws}
+use Rattle.office_rules.proofs.DecisionLemmas.NewSaleLemmas.{LowerLaws}
 use Rattle.vend_core.proofs.LawLemmas.RiseLemmas.{lives_rise, lives_sell_some}
 use Rattle.vend_core.proofs.LawLemmas.SaleLemmas.{handed_tid, handed_token}
 use Rattle.vend_core.specs.Law.SoldTokens.{reads_by}

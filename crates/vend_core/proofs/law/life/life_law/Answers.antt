@@ -1,6 +1,6 @@
 use Rattle.vend_core.proofs.LifeLemmas.ExtendLemmas.{doubted_leaves, fails_at, opens_running, read_leaves, running_leaves, runs_on, runs_on_without_memory, stopped_is_life, stopped_stays}
 use Rattle.vend_core.proofs.LifeLemmas.ExtendManyLemmas.{along_none, along_one, handed_is, hands_out_present, hands_out_reply, hands_out_still, left_is, runs_along}
-use Rattle.vend_core.proofs.DecisionLemmas.NewSaleLemmas.{LowerLaws}
+use Rattle.office_rules.proofs.DecisionLemmas.NewSaleLemmas.{LowerLaws}
 use Rattle.vend_core.proofs.law.life.life_law.Goals as goal
 
 -- the laws that the body calls

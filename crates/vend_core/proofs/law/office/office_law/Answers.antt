@@ -1,17 +1,18 @@
 use Rattle.std.proofs.Common.{refl}
-use Rattle.vend_core.specs.Office.Lookup.{used}
-use Rattle.vend_core.specs.declared.decision.refusal.Refusal.TheVariants.{Memory, Store, Stopped}
+use Rattle.office_rules.specs.Office.Lookup.{used}
+use Rattle.office_rules.specs.declared.decision.refusal.Refusal.TheVariants.{Memory, Store, Stopped}
 use Rattle.vend_core.proofs.LawLemmas.AgainLemmas.{imported_again, step_stays}
 use Rattle.vend_core.proofs.LawLemmas.AnswerLemmas.{answered_stand, sells_one}
 use Rattle.vend_core.proofs.LawLemmas.BaseLemmas.{moves, moves_not_back, moves_not_before, moves_once, present_is_greatest, sales_have_bases}
 use Rattle.vend_core.proofs.LawLemmas.CashLemmas.{cash_adds_up}
 use Rattle.vend_core.proofs.LawLemmas.DatedLemmas.{adds_no_passed_steps, adds_steps, adds_steps_once, passed_steps_stay, steps_on_are}
 use Rattle.vend_core.proofs.LawLemmas.FoldLemmas.{after_grows, after_keeps_office}
-use Rattle.vend_core.proofs.LawLemmas.{new_sale_is, one_of_tid, reports_the_shift, reprints_the_sale, sold_again}
-use Rattle.vend_core.proofs.DecisionLemmas.NewSaleLemmas.{LowerLaws, greatest_is_last}
-use Rattle.vend_core.proofs.OfficeLemmas.{step_keeps_office}
+use Rattle.vend_core.proofs.LawLemmas.{new_sale_is, reports_the_shift, reprints_the_sale, sold_again}
+use Rattle.office_rules.proofs.OfficeLemmas.RowLemmas.{one_of_tid}
+use Rattle.office_rules.proofs.DecisionLemmas.NewSaleLemmas.{LowerLaws, greatest_is_last}
+use Rattle.office_rules.proofs.OfficeLemmas.{step_keeps_office}
 use Rattle.vend_core.proofs.LawLemmas.PriceLemmas.{keeps_price}
-use Rattle.vend_core.proofs.DecisionLemmas.RefusalLemmas.{never_answers}
+use Rattle.vend_core.proofs.LawLemmas.RefusalLemmas.{never_answers}
 use Rattle.vend_core.proofs.LawLemmas.RiseLemmas.{after_rises, after_sells_some}
 use Rattle.vend_core.proofs.law.office.office_law.Goals as goal
 

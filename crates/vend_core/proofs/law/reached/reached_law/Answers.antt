@@ -1,4 +1,4 @@
-use Rattle.vend_core.proofs.DecisionLemmas.NewSaleLemmas.{LowerLaws}
+use Rattle.office_rules.proofs.DecisionLemmas.NewSaleLemmas.{LowerLaws}
 use Rattle.vend_core.proofs.LawLemmas.PlausibleLemmas.{AmountCodes}
 use Rattle.vend_core.proofs.LawLemmas.ReachedLemmas.{after_plausible, after_writes, empty_plausible, lives_plausible, lives_write, step_plausible, step_writes}
 use Rattle.vend_core.proofs.law.reached.reached_law.Goals as goal

@@ -1,6 +1,6 @@
 use Rattle.std.proofs.Common.{sym, subst, inl, inr}
 use Rattle.vend_core.specs.Lists.{office_of}
-use Rattle.vend_core.specs.Office.{IsOffice}
+use Rattle.office_rules.specs.Office.{IsOffice}
 use Rattle.vend_core.proofs.lists.Lists.serve.Goals as goal
 
 pub returns-clause-office : goal.returns-clause-office

@@ -2,7 +2,7 @@ use Rattle.std.proofs.Common.{◌∙◌, ap, sym, subst, ◌++◌, List, ℕ, ma
 use Rattle.sts_fields.specs.declared.base.Base.{Base}
 use Rattle.tariff.specs.declared.step.Step.{Step}
 use Rattle.vend_core.specs.Lists.PlainRows.{HaveTariffs, base_row, bases_of, meters_of, office_of_rows, tariffs_of}
-use Rattle.vend_core.specs.declared.office.meter.Meter.{Meter}
+use Rattle.office_rules.specs.declared.office.meter.Meter.{Meter}
 use Rattle.vend_core.proofs.ListsLemmas.PlainRowLemmas.{have_tariffs-rows, office_with_rows}
 use Rattle.vend_core.proofs.lists.apply.add_rows.Goals as goal
 

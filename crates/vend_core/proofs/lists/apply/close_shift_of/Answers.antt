@@ -1,7 +1,7 @@
 use Rattle.std.proofs.Common.{◌==◌, if◌then◌else◌, sym, ◌∙◌, ap, arith, set}
 use Rattle.std.proofs.lemmas.List.Edits.{map_over_more}
-use Rattle.vend_core.specs.Decision.Fold.{closed_at}
-use Rattle.vend_core.specs.declared.office.shift.Shift.{Shift}
+use Rattle.office_rules.specs.Decision.Fold.{closed_at}
+use Rattle.office_rules.specs.declared.office.shift.Shift.{Shift}
 use Rattle.vend_core.proofs.lists.apply.close_shift_of.Goals as goal
 
 pub loop-shift-preserved : goal.loop-shift-preserved

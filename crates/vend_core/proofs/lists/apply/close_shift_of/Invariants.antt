@@ -1,5 +1,5 @@
 use Rattle.std.proofs.Common.{◌≡◌, ◌++◌, ◌==◌, if◌then◌else◌, drop, map, take}
-use Rattle.vend_core.specs.Decision.Fold.{closed_at}
+use Rattle.office_rules.specs.Decision.Fold.{closed_at}
 use Rattle.vend_core.proofs.lists.apply.close_shift_of.Given as goal
 
 abbrev pub invariant-loop-shift : goal.invariant-loop-shift

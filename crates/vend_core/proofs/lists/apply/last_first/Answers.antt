@@ -2,8 +2,8 @@ use Rattle.std.proofs.Common.{◌∙◌, ap, sym, ◌++◌, ◌∷◌, [], Optio
 use Rattle.std.proofs.lemmas.List.{append-nil}
 use Rattle.std.specs.Option.{option_to_list}
 use Rattle.vend_core.specs.Lists.PlainRows.{dated_steps_of, meters_of, tariffs_of}
-use Rattle.vend_core.specs.declared.office.row.Row.{Row}
-use Rattle.vend_core.specs.declared.office.row.Row.TheVariants as kinds
+use Rattle.office_rules.specs.declared.office.row.Row.{Row}
+use Rattle.office_rules.specs.declared.office.row.Row.TheVariants as kinds
 use Rattle.vend_core.proofs.ListsLemmas.PlainRowLemmas.{dated_steps_of-push, meters_of-push, moved, tariffs_of-push}
 use Rattle.vend_core.proofs.lists.apply.last_first.Goals as goal
 

@@ -1,8 +1,8 @@
 use Rattle.std.proofs.Common.{◌≡◌, ◌∙◌, ap, sym, subst, List, ℕ, Some, None}
 use Rattle.vend_core.proofs.ListsLemmas.PlainRowLemmas.{have_tariffs-set, row_of-set, set_known, set_unknown}
-use Rattle.vend_core.specs.Decision.Edits.{with_base}
+use Rattle.office_rules.specs.Decision.Edits.{with_base}
 use Rattle.vend_core.specs.Lists.PlainRows.{HaveTariffs, office_of_rows, row_of}
-use Rattle.vend_core.specs.declared.office.meter.Meter.{Meter}
+use Rattle.office_rules.specs.declared.office.meter.Meter.{Meter}
 use Rattle.vend_core.proofs.lists.apply.set_base.Goals as goal
 
 pub invariant_of-records : goal.invariant_of-records

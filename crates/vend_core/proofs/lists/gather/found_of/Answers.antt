@@ -1,9 +1,9 @@
 use Rattle.std.proofs.Common.{[], List, sym, subst}
 use Rattle.std.proofs.lemmas.List.{append-nil, drop_all}
-use Rattle.vend_core.specs.Decision.Facts.{AreRowsFacts}
+use Rattle.office_rules.specs.Decision.Facts.{AreRowsFacts}
 use Rattle.vend_core.specs.Lists.{recorded}
-use Rattle.vend_core.specs.declared.office.row.Row.{Row}
-use Rattle.vend_core.specs.declared.decision.row_facts.RowFacts.{RowFacts}
+use Rattle.office_rules.specs.declared.office.row.Row.{Row}
+use Rattle.office_rules.specs.declared.decision.row_facts.RowFacts.{RowFacts}
 use Rattle.vend_core.proofs.lists.gather.found_of.Goals as goal
 
 pub returns : goal.returns

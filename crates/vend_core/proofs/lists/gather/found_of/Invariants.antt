@@ -1,7 +1,7 @@
 use Rattle.std.proofs.Common.{ℕ, ◌++◌, List, drop}
-use Rattle.vend_core.specs.Decision.Facts.{AreRowsFacts}
+use Rattle.office_rules.specs.Decision.Facts.{AreRowsFacts}
 use Rattle.vend_core.specs.Lists.{recorded}
-use Rattle.vend_core.specs.declared.decision.row_facts.RowFacts.{RowFacts}
+use Rattle.office_rules.specs.declared.decision.row_facts.RowFacts.{RowFacts}
 use Rattle.vend_core.proofs.lists.gather.found_of.Given as goal
 
 -- what is found for the other rows is, behind what is found so far, found for all

@@ -2,7 +2,7 @@ use Rattle.std.proofs.Common.{◌≡◌, ◌≤◌, ◌&&◌, sym, ◌∙◌, ap
 use Rattle.std.specs.Option.{ForSome}
 use Rattle.sts_fields.specs.Tid.{last_tid}
 use Rattle.sts_fields.specs.Base.{base_eq}
-use Rattle.vend_core.specs.declared.office.sale.Sale.{Sale}
+use Rattle.office_rules.specs.declared.office.sale.Sale.{Sale}
 use Rattle.vend_core.proofs.ListsLemmas.LookUpLemmas.{greatest_more_in, greatest_more_out, greatest_within}
 use Rattle.vend_core.proofs.lists.look_up.last_tid.Goals as goal
 use Rattle.vend_core.proofs.lists.look_up.last_tid.Goals.{then-is_under, else-is_under}

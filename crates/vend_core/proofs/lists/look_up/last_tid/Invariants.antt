@@ -2,7 +2,7 @@ use Rattle.std.proofs.Common.{◌≡◌, ◌≤◌, ◌&&◌, filter, map, take,
 use Rattle.std.specs.Option.{ForSome}
 use Rattle.sts_fields.specs.Tid.{last_tid}
 use Rattle.sts_fields.specs.Base.{base_eq}
-use Rattle.vend_core.specs.Office.Lookup.{greatest_of}
+use Rattle.office_rules.specs.Office.Lookup.{greatest_of}
 use Rattle.vend_core.proofs.lists.look_up.last_tid.Given as goal
 
 abbrev pub invariant-loop-sale : goal.invariant-loop-sale

@@ -1,6 +1,6 @@
 use Rattle.std.proofs.Common.{◌≡◌, ◌∙◌, ap, sym, arith, None}
 use Rattle.std.specs.Option.{option_copied}
-use Rattle.vend_core.specs.Office.Lookup.{latest}
+use Rattle.office_rules.specs.Office.Lookup.{latest}
 use Rattle.vend_core.specs.Lists.PlainRows.{steps_from}
 use Rattle.vend_core.proofs.ListsLemmas.LookUpLemmas.{latest-before, latest-first, latest-here}
 use Rattle.vend_core.proofs.lists.look_up.latest_steps.Goals as goal

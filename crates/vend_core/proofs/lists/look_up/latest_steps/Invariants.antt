@@ -1,5 +1,5 @@
 use Rattle.std.proofs.Common.{◌≡◌}
-use Rattle.vend_core.specs.Office.Lookup.{latest}
+use Rattle.office_rules.specs.Office.Lookup.{latest}
 use Rattle.vend_core.specs.Lists.PlainRows.{steps_from}
 use Rattle.vend_core.proofs.lists.look_up.latest_steps.Given as goal
 

@@ -1,6 +1,6 @@
 use Rattle.std.proofs.Common.{◌≡◌, ◌≤◌, ◌&&◌, ◌==◌, sym, ◌∙◌, arith, bytes_eq}
 use Rattle.sts_fields.specs.Calendar.{month_at}
-use Rattle.vend_core.specs.declared.office.sale.Sale.{Sale}
+use Rattle.office_rules.specs.declared.office.sale.Sale.{Sale}
 use Rattle.vend_core.proofs.ListsLemmas.LookUpLemmas.{sum_more_in, sum_more_out}
 use Rattle.vend_core.proofs.lists.look_up.prior.Goals as goal
 use Rattle.vend_core.proofs.lists.look_up.prior.Goals.{then-is_in_month, else-is_in_month}

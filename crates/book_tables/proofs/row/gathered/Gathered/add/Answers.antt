@@ -3,7 +3,7 @@ use Rattle.std.specs.Prelude.{◌==◌}
 use Rattle.std.specs.Ordering.{nat_cmp}
 use Rattle.sts_fields.specs.Calendar.{month_at}
 use Rattle.sts_fields.specs.declared.base.Base.{Base}
-use Rattle.vend_core.specs.Office.Lookup.{greatest_of}
+use Rattle.office_rules.specs.Office.Lookup.{greatest_of}
 use Rattle.book_tables.specs.row.Gathered.{HoldsAt, IsInWords, IsOfWords, key_cmp, own_place}
 use Rattle.book_tables.specs.Stands.{sales_in_month, sales_in_shift, sales_under, tenths_of, totals_of}
 use Rattle.book_tables.specs.writing.Writing.{is_in_month, no_totals, one_more, put_under}

@@ -1,6 +1,6 @@
 use Rattle.std.proofs.Common.{◌<◌, ◌∙◌, ◌^◌, List, [], ◌∷◌, ◌++◌, append-nil, append_assoc, ap, arith, length, subst, sym, take}
 use Rattle.std.proofs.lemmas.List.{length-append, length-take-le, take_all, take_more}
-use Rattle.vend_core.specs.declared.office.sale.Sale.{Sale}
+use Rattle.office_rules.specs.declared.office.sale.Sale.{Sale}
 use Rattle.book_tables.specs.row.Gathered.{IsGathered}
 use Rattle.book_tables.proofs.row.gathered.Gathered.add_all.Goals as goal
 

@@ -1,5 +1,5 @@
 use Rattle.std.proofs.Common.{◌≤◌, ◌+◌, ◌^◌, List, ◌++◌, length, take}
-use Rattle.vend_core.specs.declared.office.sale.Sale.{Sale}
+use Rattle.office_rules.specs.declared.office.sale.Sale.{Sale}
 use Rattle.book_tables.specs.row.Gathered.{IsGathered}
 use Rattle.book_tables.proofs.row.gathered.Gathered.add_all.Given as goal
 

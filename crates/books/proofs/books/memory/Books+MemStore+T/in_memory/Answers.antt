@@ -1,6 +1,6 @@
 use Rattle.std.proofs.Common.{◌∙◌}
 use Rattle.sqlite.proofs.Callers.{memory_is_clean}
-use Rattle.vend_core.specs.Office.{empty_office}
+use Rattle.office_rules.specs.Office.{empty_office}
 use Rattle.books.proofs.FreshLemmas.{memory_stands, store_or_memory}
 use Rattle.books.proofs.books.memory.Books+MemStore+T.in_memory.Goals as goal
 

@@ -1,0 +1,2 @@
+pub mod ImportWalkLemmas
+pub mod TakenLemmas

@@ -1,0 +1,21 @@
+use Rattle.std.proofs.Common.{◌≡◌, ◌≤◌, ◌+◌, drop, length}
+use Rattle.office_rules.specs.Decision.{new_rows}
+use Rattle.office_rules.specs.Decision.Edits.{with_rows}
+use Rattle.office_rules.specs.Decision.Facts.{AreRowsFacts}
+use Rattle.office_rules.specs.Law.Growth.{HaveStayed}
+use Rattle.office_rules.specs.Office.{Office}
+use Rattle.office_rules.proofs.DecisionLemmas.ImportLemmas.{ahead}
+use Rattle.office_decisions.proofs.ImportWalkLemmas.{SeesNew}
+use Rattle.office_decisions.proofs.decision.import.new_rows.Given as goal
+
+-- the new rows of all are those taken, and the new ones of the rest in the office with them
+abbrev pub invariant-loop-row : goal.invariant-loop-row
+invariant-loop-row l = record {
+  numbered : l.number ≡ l.row-index;
+  few : length l.taken.rows.items ≤ l.row-index;
+  stayed : (o : Office) → AreRowsFacts o l.today l.rows l.found → HaveStayed o (with_rows l.taken.rows.items o);
+  facts : (o : Office) → AreRowsFacts o l.today l.rows l.found → AreRowsFacts o l.today (drop l.row-index l.rows) (drop l.row-index l.found);
+  seen : (o : Office) → AreRowsFacts o l.today l.rows l.found → SeesNew o l.today l.rows l.taken.rows.items l.row-index;
+  rest : (o : Office) → AreRowsFacts o l.today l.rows l.found
+      → new_rows o l.today 1 l.rows ≡ ahead l.taken.rows.items (new_rows (with_rows l.taken.rows.items o) l.today (l.row-index + 1) (drop l.row-index l.rows));
+}

@@ -1,0 +1,6 @@
+//! How a vending office decides a request, by the rules that `office_rules` defines.
+#![tactic(auto)]
+
+mod decision;
+
+pub use decision::{decide, same_meter, same_steps};

@@ -1,0 +1,4 @@
+pub mod DecisionLemmas
+pub mod NameLemmas
+pub mod OfficeLemmas
+pub mod StoreLemmas

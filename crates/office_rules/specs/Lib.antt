@@ -1,0 +1,4 @@
+pub mod Decision
+pub mod Law
+pub mod Name
+pub mod Office

@@ -1,0 +1,67 @@
+-- What is looked up in an office.
+use Rattle.std.specs.Prelude.{◌≡◌, ℕ, zero, suc, ◌<◌, ◌≤◌, ◌&&◌, ◌==◌, List, [], ◌∷◌, map, filter, find, sum_by, max, Option, Some, None, is_none, unwrap_or, bytes_eq}
+use Rattle.std.specs.Option.{option_or}
+use Rattle.sts_fields.specs.Base.{base_eq}
+use Rattle.sts_fields.specs.Calendar.{month_at}
+use Rattle.sts_fields.specs.declared.base.Base.{Base}
+use Rattle.tariff.specs.declared.step.Step.{Step}
+use Rattle.office_rules.specs.Office.{Office}
+use Rattle.office_rules.specs.declared.office.sale.Sale.{Sale}
+use Rattle.office_rules.specs.declared.office.shift.Shift.{Shift}
+
+-- the identifiers sold to a meter under a base
+abbrev pub used : Office → List ℕ → Base → List ℕ
+used o meter base = map (λ s. s.tid)
+    (filter (λ s. bytes_eq s.meter meter && base_eq s.base base) o.sales)
+
+-- the tenths sold to a meter in a month, under any base
+abbrev pub prior : Office → List ℕ → ℕ → ℕ
+prior o meter month =
+    sum_by (λ s. s.tenths)
+    (filter (λ s. bytes_eq s.meter meter && (month_at s.moment == month)) o.sales)
+
+-- of further steps by first day, those with the greatest first day that is not after a day
+unfoldable pub latest : (ℕ → Option (List Step)) → ℕ → Option (List Step)
+latest dated zero = dated zero
+latest dated (suc day) = option_or (dated (suc day)) (latest dated day)
+
+-- the same in a rule: they begin on a day that is not after the day, and none begin between
+pub record IsLatest (dated : ℕ → Option (List Step)) (day : ℕ) (steps : List Step) : Type 0 where
+  pub first : ℕ
+  pub not_after : first ≤ day
+  pub there : dated first ≡ Some steps
+  pub none_between : (other : ℕ) → first < other → other ≤ day → dated other ≡ None
+
+-- no further steps begin on the day or before it
+abbrev pub NoneBegun : (ℕ → Option (List Step)) → ℕ → Type 0
+NoneBegun dated day = (first : ℕ) → first ≤ day → dated first ≡ None
+
+-- the steps of a tariff, which an office has, on a day: the latest that have begun, else the first
+abbrev pub steps_on : Office → List ℕ → ℕ → List Step
+steps_on o name day =
+    unwrap_or (option_or (latest (o.dated_steps name) day) (o.tariffs name)) []
+
+-- the open shift of an operator
+abbrev pub open_shift : Office → List ℕ → Option Shift
+open_shift o operator = find (λ s. bytes_eq s.operator operator && is_none s.closed) o.shifts
+
+-- the sale that an operator made under a ref
+abbrev pub sale_of_ref : Office → List ℕ → List ℕ → Option Sale
+sale_of_ref o operator order_ref =
+    find (λ s. bytes_eq s.operator operator && bytes_eq s.order_ref order_ref) o.sales
+
+-- the sale and the shift of a number
+abbrev pub sale_numbered : Office → ℕ → Option Sale
+sale_numbered o n = find (λ s. s.number == n) o.sales
+
+abbrev pub shift_numbered : Office → ℕ → Option Shift
+shift_numbered o n = find (λ s. s.number == n) o.shifts
+
+-- the sales of a shift, by number
+abbrev pub sales_of_shift : Office → ℕ → List Sale
+sales_of_shift o n = filter (λ s. s.shift == n) o.sales
+
+-- the greatest of some numbers
+abbrev pub greatest_of : List ℕ → Option ℕ
+greatest_of [] = None
+greatest_of (n ∷ ns) = Some (max n (unwrap_or (greatest_of ns) 0))
