@@ -15,7 +15,7 @@ use Rattle.audit_rows.specs.AllRows.{HasAllRows, IsReadAs, KeepRules, with_total
 use Rattle.audit_rows.specs.Entries.{rows_of}
 use Rattle.audit_rows.specs.Order.{AreKeptInOrder, HaveAllColumns}
 use Rattle.audit_rows.specs.declared.office_rows.OfficeRows.{OfficeRows}
-use Rattle.audit_lists.specs.Told.{IsBroken, ShowOffice}
+use Rattle.audit_lists.specs.Told.{BreaksOffice, ShowOffice}
 use Rattle.audit_lists.specs.Ties.{Says}
 use Rattle.audit_lists.specs.declared.fault.OfficeFault.{OfficeFault}
 use Rattle.audit_lists.specs.declared.fault.OfficeFault.TheVariants as office
@@ -71,10 +71,10 @@ office_rows_of n db rows sound told shows order stored only = record {
 -- what is known of rows of which one is no office's
 abbrev OfficeLaw : Type 0
 OfficeLaw = (n : ℕ) (db : Database) (rows : OfficeRows) (f : Finding) (o : Office) → 1 ≤ n → n ≤ present_format → HasOfficeOf n db.schema
-    → IsReadAs n db (rows_of rows) → IsBroken n rows f → StandsFor db o → ⊥
+    → IsReadAs n db (rows_of rows) → BreaksOffice n rows f → StandsFor db o → ⊥
 
 -- rows that were read, and did not pass
-pub office_stops : (n : ℕ) (rows : OfficeRows) {old new : State} (fault : OfficeFault) → Says (IsBroken n rows) fault → IsToldAs n old.now rows → OfficeLaw
+pub office_stops : (n : ℕ) (rows : OfficeRows) {old new : State} (fault : OfficeFault) → Says (BreaksOffice n rows) fault → IsToldAs n old.now rows → OfficeLaw
     → IsUnchanged old new → StopsBy IsNoOffices old new (fault_of fault)
 office_stops n rows {old} (office.Found f) broken told law same =
     (by_lists n rows told broken (λ o. law n old.now rows f o told.own.some told.own.known told.own.has told.read broken), same)

@@ -27,8 +27,8 @@ use Rattle.audit_rows.specs.declared.finding.AuditFault.TheVariants.{Failed, Fou
 use Rattle.audit_rows.specs.declared.finding.Finding.{Finding}
 use Rattle.audit_rows.specs.declared.office_rows.OfficeRows.{OfficeRows}
 use Rattle.audit_lists.specs.Ties.{IsFirst}
-use Rattle.audit_lists.specs.Tokens.{TellsUnwritten, written}
-use Rattle.audit_lists.specs.reached.Finds.{AreRowsOfOffice, Finds}
+use Rattle.audit_lists.specs.Tokens.{TellsUnwritten, written_tie}
+use Rattle.audit_lists.specs.reached.Finds.{AreRowsOfOffice, FindsByRequests}
 use Rattle.audit_lists.specs.declared.fault.OfficeFault.{OfficeFault}
 use Rattle.audit_lists.specs.declared.fault.OfficeFault.TheVariants as office
 use Rattle.audit.specs.Audited.{IsAuditOf, IsSound, count_in, counted, no_tables}
@@ -134,8 +134,8 @@ module _ {T : Type 0} (forwards : T → BlockFunction) (transform : Option (Bor 
 
 -- a row is found that no requests lead to, or a sale whose token the transform did not write
 pub forged_stops : (given : Option BlockFunction) (n : ℕ) (rows : OfficeRows) {old new : State} (fault : OfficeFault) → TellsForged given rows fault
-    → AreOfficeRows n old.now rows → ((o : Office) (f : Finding) → IsPlausible o → Finds o f → ⊥)
-    → ((forward : BlockFunction) (o : Office) (f : Finding) → HasTokensOf forward o → IsFirst (written forward o) f → ⊥) → IsUnchanged old new
+    → AreOfficeRows n old.now rows → ((o : Office) (f : Finding) → IsPlausible o → FindsByRequests o f → ⊥)
+    → ((forward : BlockFunction) (o : Office) (f : Finding) → HasTokensOf forward o → IsFirst (written_tie forward o) f → ⊥) → IsUnchanged old new
     → StopsBy (Denies given) old new (fault_of fault)
 forged_stops given n rows (office.Found f) (inl finds) are honest tokens same =
     (by_requests n rows are finds (λ o stands plausible. honest o f plausible (finds o (are.only o stands))), same)

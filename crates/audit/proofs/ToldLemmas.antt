@@ -24,7 +24,7 @@ use Rattle.audit_rows.specs.AllRows.{HasTablesOf, IsReadAs}
 use Rattle.audit_rows.specs.Breaks.{Breaks}
 use Rattle.audit_rows.specs.Tables.{tables_of}
 use Rattle.audit_rows.specs.Entries.{rows_of}
-use Rattle.audit_rows.specs.Fails.{FailsToRead, HasNoFormat, IsKnown}
+use Rattle.audit_rows.specs.Fails.{FailsToReadTables, HasNoFormat, IsKnown}
 use Rattle.audit_rows.specs.declared.finding.AuditFault.{AuditFault}
 use Rattle.audit_rows.specs.declared.finding.AuditFault.TheVariants.{Failed, Found, NoOffice}
 use Rattle.audit_rows.specs.declared.finding.Finding.{Finding}
@@ -99,7 +99,7 @@ FormatLaw = (db : Database) (o : Office) → HasNoFormat db → StandsFor db o �
 
 module _ (n : ℕ) (some : 1 ≤ n) (known : n ≤ present_format) (old mid new : State) (r : Result OfficeRows AuditFault)
     (first : ReadsOnly {T = Unit {0}} (IsSoundOfFormat n) IsUnchanged (StopsBy (λ _ _. ⊥)) old mid (Ok tt))
-    (shut : mid.is_clean ≡ false → mid.is_open ≡ false) (then : ReadsOnly (IsKnown (HasTablesOf n)) IsUnchanged (FailsToRead (tables_of n)) mid new r)
+    (shut : mid.is_clean ≡ false → mid.is_open ≡ false) (then : ReadsOnly (IsKnown (HasTablesOf n)) IsUnchanged (FailsToReadTables (tables_of n)) mid new r)
     (tells : HasCleanDisk mid → IsSoundOfFormat n old → HasFormat old.now n) where
   there : IsSoundOfFormat n old → IsKnown (HasTablesOf n) mid
   there has runs =
@@ -110,7 +110,7 @@ module _ (n : ℕ) (some : 1 ≤ n) (known : n ≤ present_format) (old mid new 
   own clean has = record { some = some; known = known; has = (has (first.same clean has).0.was_open).1; tells = tells clean has }
 
   as_read : RowLaw → FormatLaw → HasCleanDisk mid → IsSoundOfFormat n old → IsUnchanged old mid → Survives old mid (λ _. ⊥) → (e : AuditFault)
-      → FailsToRead (tables_of n) mid new e → StopsBy IsNoOffices old new e
+      → FailsToReadTables (tables_of n) mid new e → StopsBy IsNoOffices old new e
   as_read row none clean has same survives (Found f) why =
       let breaks = subst (Breaks (tables_of n) f) same.0.now_is why.0 in
       (by_row n (own clean has) breaks (λ o. row n f old.now o breaks), unchanged_then old mid new same why.1)

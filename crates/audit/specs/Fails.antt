@@ -22,10 +22,10 @@ use Rattle.audit_rows.specs.declared.finding.AuditFault.{AuditFault}
 use Rattle.audit_rows.specs.declared.finding.AuditFault.TheVariants.{Failed, Found, NoOffice}
 use Rattle.audit_rows.specs.declared.finding.Finding.{Finding}
 use Rattle.audit_rows.specs.declared.office_rows.OfficeRows.{OfficeRows}
-use Rattle.audit_lists.specs.Told.{IsBroken}
+use Rattle.audit_lists.specs.Told.{BreaksOffice}
 use Rattle.audit_lists.specs.Ties.{IsFirst}
-use Rattle.audit_lists.specs.Tokens.{TellsUnwritten, written}
-use Rattle.audit_lists.specs.reached.Finds.{AreRowsOfOffice, Finds, TellsUnreached}
+use Rattle.audit_lists.specs.Tokens.{TellsUnwritten, written_tie}
+use Rattle.audit_lists.specs.reached.Finds.{AreRowsOfOffice, FindsByRequests, TellsUnreached}
 use Rattle.audit_lists.specs.declared.fault.OfficeFault.{OfficeFault}
 use Rattle.audit_lists.specs.declared.fault.OfficeFault.TheVariants as office
 use Rattle.audit.specs.Shown.{AreOfficeRows, IsToldAs, TellsOwn}
@@ -57,7 +57,7 @@ StandsForNone db = (o : Office) → ¬ StandsFor db o
 pub data IsNoOffices (f : Finding) (db : Database) : Type 0 where
   by_row : (n : ℕ) → TellsOwn n db → Breaks (tables_of n) f db → StandsForNone db
       → IsNoOffices f db
-  by_lists : (n : ℕ) (rows : OfficeRows) → IsToldAs n db rows → IsBroken n rows f
+  by_lists : (n : ℕ) (rows : OfficeRows) → IsToldAs n db rows → BreaksOffice n rows f
       → StandsForNone db → IsNoOffices f db
 
 -- the way of a transform, where one is given
@@ -75,11 +75,11 @@ AreWritten given o = IfSome given (λ forward. HasTokensOf forward o)
 pub data Denies (given : Option BlockFunction) (f : Finding) (db : Database) : Type 0 where
   by_rows : IsNoOffices f db → Denies given f db
   by_requests : (n : ℕ) (rows : OfficeRows) → AreOfficeRows n db rows
-      → ((o : Office) → AreRowsOfOffice rows o → Finds o f)
+      → ((o : Office) → AreRowsOfOffice rows o → FindsByRequests o f)
       → ((o : Office) → StandsFor db o → ¬ IsPlausible o) → Denies given f db
   by_transform : (forward : BlockFunction) → given ≡ Some forward
       → (n : ℕ) (rows : OfficeRows) → AreOfficeRows n db rows
-      → ((o : Office) → AreRowsOfOffice rows o → IsPlausible o × IsFirst (written forward o) f)
+      → ((o : Office) → AreRowsOfOffice rows o → IsPlausible o × IsFirst (written_tie forward o) f)
       → ((o : Office) → StandsFor db o → ¬ HasTokensOf forward o) → Denies given f db
 
 -- what is told of rows that are an office's: that no requests lead to it, or that they do, and the

@@ -20,7 +20,7 @@ use Rattle.audit_rows.specs.declared.rows.DatedStepRow.{DatedStepRow}
 use Rattle.audit_rows.specs.declared.rows.StepRow.{StepRow}
 use Rattle.audit_lists.specs.Keys.{HasKey, IsNew, Key}
 use Rattle.audit_lists.specs.RowKeys.{base_key, dated_before_key, dated_key, meter_key, name_key, open_key, place_key, ref_key, step_before_key, step_key, tid_key}
-use Rattle.audit_lists.specs.Rules.{IsInShift, IsOfMeter, dated_rules, dated_step_of, meter_rules, sale_rules, shift_rules, step_of, tariff_rules, tie_rules}
+use Rattle.audit_lists.specs.Rules.{IsInShift, IsOfMeter, dated_rules, dated_step_of, meter_rules, sale_rules, shift_rules, row_step, tariff_rules, tie_rules}
 use Rattle.audit_lists.specs.Steps.{AreSteps, HasStepAt, at_place}
 use Rattle.audit_lists.specs.Ties.{AreKept, Each}
 use Rattle.book_tables.proofs.RowLemmas.RecordLemmas.{one_base}
@@ -86,14 +86,14 @@ module _ (r : OfficeRows) (totals : stored.Rows) (o : Office) (m : AreMembersOf 
   step_to : (i : ℕ) (row : StepRow) → slice_get r.steps.items i ≡ Some row → HasStep o (step_entry row)
   step_to i row there = (m.steps (step_entry row)).1 (contains_map step_entry r.steps.items i row there)
 
-  step_from : (name : List ℕ) (s : List Step) (p : ℕ) (x : Step) → o.tariffs name ≡ Some s → slice_get s p ≡ Some x → HasStepAt step_of step_key r.steps.items (place_key name 0 p) x
+  step_from : (name : List ℕ) (s : List Step) (p : ℕ) (x : Step) → o.tariffs name ≡ Some s → slice_get s p ≡ Some x → HasStepAt row_step step_key r.steps.items (place_key name 0 p) x
   step_from name s p x e at =
       let entry : stored.StepRow = record { tariff = name; place = p; step = x } in
       let f = map_contains step_entry r.steps.items entry ((m.steps entry).0 (s, e, at)) in
       (f.0, f.1, f.2, ap (λ (y : stored.StepRow). place_key y.tariff 0 y.place) f.3, ap (λ (y : stored.StepRow). y.step) f.3)
 
-  tariff_steps : Each (λ _ row. HasKey step_key r.steps.items (step_before_key row)) r.steps.items × ((name : List ℕ) (s : List Step) → o.tariffs name ≡ Some s → IsSteps s → AreSteps step_of step_key r.steps.items (name_key name))
-  tariff_steps = steps_kept step_of step_key step_before_key r.steps.items (λ row. row.tariff) (λ row. row.place) name_key (λ row. refl) (λ row. refl) (λ a b p q e. (ap (λ (k : Key). k.0) e, ap (λ (k : Key). k.3) e)) o.tariffs step_to step_from
+  tariff_steps : Each (λ _ row. HasKey step_key r.steps.items (step_before_key row)) r.steps.items × ((name : List ℕ) (s : List Step) → o.tariffs name ≡ Some s → IsSteps s → AreSteps row_step step_key r.steps.items (name_key name))
+  tariff_steps = steps_kept row_step step_key step_before_key r.steps.items (λ row. row.tariff) (λ row. row.place) name_key (λ row. refl) (λ row. refl) (λ a b p q e. (ap (λ (k : Key). k.0) e, ap (λ (k : Key). k.3) e)) o.tariffs step_to step_from
 
   -- ---- steps from a day on
 

@@ -9,7 +9,7 @@ use Rattle.std.proofs.lemmas.Bool.{false≢true}
 use Rattle.std.proofs.lemmas.Bool.Decides.{nat_tests}
 use Rattle.std.proofs.lemmas.Map.Text.{is_eq-slice_cmp}
 use Rattle.std.proofs.lemmas.Slice.Eq.{bytes_eq-Decides}
-use Rattle.audit_lists.specs.Keys.{Key, LentKey, key_cmp, told, under}
+use Rattle.audit_lists.specs.Keys.{Key, LentKey, lent_key_cmp, owned_key, place_under}
 
 abbrev pub same_key : Key → Key → Bool
 same_key a b = ((bytes_eq a.0 b.0 && bytes_eq a.1 b.1) && (a.2 == b.2)) && (a.3 == b.3)
@@ -23,7 +23,7 @@ both_equal Greater b = refl
 abbrev pub lend : Key → LentKey
 lend q = (record { ref_ptr = (0, 0); now = q.0 }, record { ref_ptr = (0, 0); now = q.1 }, q.2, q.3)
 
-tied : (a b : Key) → is_eq (key_cmp a (lend b)) ≡ same_key a b
+tied : (a b : Key) → is_eq (lent_key_cmp a (lend b)) ≡ same_key a b
 tied a b =
     both_equal (ordering_then (ordering_then (slice_cmp nat_cmp a.0 b.0) (slice_cmp nat_cmp a.1 b.1)) (nat_cmp a.2 b.2)) (nat_cmp a.3 b.3)
     ∙ ap (λ (x : Bool). x && is_eq (nat_cmp a.3 b.3)) (both_equal (ordering_then (slice_cmp nat_cmp a.0 b.0) (slice_cmp nat_cmp a.1 b.1)) (nat_cmp a.2 b.2))
@@ -74,8 +74,8 @@ pub key_same : (a b : Key) → a ≡ b → same_key a b ≡ true
 key_same a b e = ap (λ (k : Key). same_key a k) (sym e) ∙ key_itself a
 
 abbrev pub lent_cmp : LentKey → LentKey → Ordering
-lent_cmp a b = key_cmp (told a) b
+lent_cmp a b = lent_key_cmp (owned_key a) b
 
 -- what is under each key where a place was put
-pub put_place : (m n : BTreeMap LentKey ℕ) (k : LentKey) (at : ℕ) → Updates lent_cmp m n k (Some at) → (q : Key) → under n q ≡ cond (same_key (told k) q) (Some at) (under m q)
-put_place m n k at put q = put.0 (lend q) ∙ ap (λ (b : Bool). cond b (Some at) (under m q)) (tied (told k) q)
+pub put_place : (m n : BTreeMap LentKey ℕ) (k : LentKey) (at : ℕ) → Updates lent_cmp m n k (Some at) → (q : Key) → place_under n q ≡ cond (same_key (owned_key k) q) (Some at) (place_under m q)
+put_place m n k at put q = put.0 (lend q) ∙ ap (λ (b : Bool). cond b (Some at) (place_under m q)) (tied (owned_key k) q)

@@ -25,7 +25,7 @@ use Rattle.audit_rows.specs.declared.rows.DatedStepRow.{DatedStepRow}
 use Rattle.audit_rows.specs.declared.rows.StepRow.{StepRow}
 use Rattle.audit_lists.specs.Keys.{HasKey, IsNew, Key}
 use Rattle.audit_lists.specs.RowKeys.{base_key, dated_before_key, dated_first_key, dated_key, meter_key, name_key, place_key, step_before_key, step_key, open_key, ref_key, tid_key}
-use Rattle.audit_lists.specs.Rules.{dated_rules, dated_step_of, meter_rules, sale_rules, shift_rules, step_of, tariff_rules, tie_rules}
+use Rattle.audit_lists.specs.Rules.{dated_rules, dated_step_of, meter_rules, sale_rules, shift_rules, row_step, tariff_rules, tie_rules}
 use Rattle.audit_lists.specs.Steps.{HasStepAt, at_place}
 use Rattle.audit_lists.specs.Ties.{AreKept, Each}
 use Rattle.book_tables.proofs.RowLemmas.RecordLemmas.{one_base}
@@ -74,8 +74,8 @@ shift_place operator number = (operator, [], number, 0)
 module _ (r : OfficeRows) (of_tariffs : AreKept (tariff_rules r.tariffs.items r.steps.items)) (of_dated : AreKept (dated_rules r.tariffs.items r.dated_steps.items)) (of_meters : AreKept (meter_rules r.tariffs.items r.meters.items r.bases.items)) (of_shifts : AreKept (shift_rules r.shifts.items)) (of_sales : AreKept (sale_rules (length r.shifts.items) r.bases.items r.sales.items)) where
   -- ---- the office
 
-  tariff_steps : StepsHad step_of step_key r.steps.items name_key r.tariffs.items
-  tariff_steps = steps_had step_of step_key step_before_key r.steps.items of_tariffs.1.0 of_tariffs.1.1.1.0 step_is_before name_key r.tariffs.items of_tariffs.1.1.1.1.0
+  tariff_steps : StepsHad row_step step_key r.steps.items name_key r.tariffs.items
+  tariff_steps = steps_had row_step step_key step_before_key r.steps.items of_tariffs.1.0 of_tariffs.1.1.1.0 step_is_before name_key r.tariffs.items of_tariffs.1.1.1.1.0
 
   dated_steps : StepsHad dated_step_of dated_key r.dated_steps.items dated_first_key r.dated_steps.items
   dated_steps = steps_had dated_step_of dated_key dated_before_key r.dated_steps.items of_dated.0 of_dated.1.1.0 dated_is_before dated_first_key r.dated_steps.items of_dated.1.1.1.0

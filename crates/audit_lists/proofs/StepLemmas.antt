@@ -6,7 +6,7 @@ use Rattle.std.proofs.lemmas.Option.{same_Some, slice_get_within}
 use Rattle.tariff.specs.Steps.{IsSteps}
 use Rattle.tariff.specs.declared.step.Step.{Step}
 use Rattle.audit_lists.specs.Keys.{HasKey, IsNew, Key}
-use Rattle.audit_lists.specs.Steps.{AreFirst, AreSteps, HasStepAt, IsLong, at_place}
+use Rattle.audit_lists.specs.Steps.{AreFirstUnder, AreSteps, HasStepAt, IsLong, at_place}
 use Rattle.audit_lists.specs.Ties.{Each}
 use Rattle.audit_lists.proofs.EachLemmas.{row_below}
 use Rattle.audit_lists.proofs.FindLemmas.{had, had_from, had_to}
@@ -26,7 +26,7 @@ module _ {T : Type 0} (step : T → Step) (key : T → Key) (rows : List T) (apa
   one_step : (q : Key) (s t : Step) → HasStepAt step key rows q s → HasStepAt step key rows q t → s ≡ t
   one_step q s t a b = sym a.4 ∙ ap step (one_row key rows apart a.0 b.0 a.1 b.1 a.2 b.2 (a.3 ∙ sym b.3)) ∙ b.4
 
-  no_longer : (q : Key) (xs ys : List Step) → AreFirst step key rows q xs → AreFirst step key rows q ys → (IsLong xs → length ys ≤ length xs) → length ys ≤ length xs
+  no_longer : (q : Key) (xs ys : List Step) → AreFirstUnder step key rows q xs → AreFirstUnder step key rows q ys → (IsLong xs → length ys ≤ length xs) → length ys ≤ length xs
   no_longer q xs ys a b long = elim (cases_lt (length xs) (length ys)) [
     | inr least ↦ least
     | inl more ↦ elim a.ended [
@@ -39,7 +39,7 @@ module _ {T : Type 0} (step : T → Step) (key : T → Key) (rows : List T) (apa
   ]
 
   -- the first steps under a key are the only ones, where they are those of a tariff
-  pub same_first : (q : Key) (xs ys : List Step) → AreFirst step key rows q xs → AreFirst step key rows q ys → IsSteps ys → xs ≡ ys
+  pub same_first : (q : Key) (xs ys : List Step) → AreFirstUnder step key rows q xs → AreFirstUnder step key rows q ys → IsSteps ys → xs ≡ ys
   same_first q xs ys a b priced =
       let few = priced.count.1 in
       let low = no_longer q xs ys a b (λ long. omega (arith, long, few)) in

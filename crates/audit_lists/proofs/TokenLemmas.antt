@@ -16,9 +16,9 @@ use Rattle.audit_rows.specs.declared.finding.Rule.{Rule}
 use Rattle.audit_rows.specs.declared.office_rows.OfficeRows.{OfficeRows}
 use Rattle.audit_lists.specs.Keys.{IsNew, Key}
 use Rattle.audit_lists.specs.RowKeys.{meter_key, name_key}
-use Rattle.audit_lists.specs.Tables.{meters_of}
+use Rattle.audit_lists.specs.Tables.{listed_meters}
 use Rattle.audit_lists.specs.Ties.{Each, IsFirst, Says, once}
-use Rattle.audit_lists.specs.Tokens.{TellsUnwritten, written}
+use Rattle.audit_lists.specs.Tokens.{TellsUnwritten, written_tie}
 use Rattle.audit_lists.specs.declared.fault.OfficeFault.{OfficeFault}
 use Rattle.audit_lists.specs.declared.fault.OfficeFault.TheVariants as fault
 use Rattle.audit_lists.specs.reached.Finds.{AreRowsOfOffice}
@@ -66,10 +66,10 @@ module _ (r : OfficeRows) (o : Office) (are : AreRowsOfOffice r o) where
 
 -- two meters of one number are not found
 pub tells_twice : (forward : BlockFunction) (r : OfficeRows) (rule : Rule) (e : OfficeFault) → 1 ≤ length r.sales.items
-    → Says (IsFirst (once (meters_of r.meters.items) rule meter_key)) e → TellsUnwritten forward r e
+    → Says (IsFirst (once (listed_meters r.meters.items) rule meter_key)) e → TellsUnwritten forward r e
 tells_twice forward r rule (fault.Found f) some (place, row, first, named) = λ o are. absurd (first.breaks (meters_new r o are place row first.there))
 tells_twice forward r rule fault.Memory some says = some
 
 -- of an office whose tokens are written nothing is found
-pub none_unwritten : (forward : BlockFunction) (o : Office) (f : Finding) → HasTokensOf forward o → IsFirst (written forward o) f → ⊥
+pub none_unwritten : (forward : BlockFunction) (o : Office) (f : Finding) → HasTokensOf forward o → IsFirst (written_tie forward o) f → ⊥
 none_unwritten forward o f has (place, s, first, named) = first.breaks (all_at (IsWrittenBy forward o) o.sales has place s first.there)

@@ -13,12 +13,12 @@ use Rattle.audit_rows.specs.declared.rows.DatedStepRow.{DatedStepRow}
 use Rattle.audit_rows.specs.declared.rows.StepRow.{StepRow}
 use Rattle.audit_lists.specs.RowKeys.{base_key, dated_before_key, dated_first_key, dated_key, dated_tariff_key, meter_base_key, meter_key, meter_tariff_key, name_key, open_key, ref_key, sale_base_key, step_before_key, step_key, step_tariff_key, tid_key}
 use Rattle.audit_lists.specs.Steps.{AreSteps}
-use Rattle.audit_lists.specs.Tables.{bases_of, dated_steps_of, meters_of, sales_of, shifts_of, steps_of, tariffs_of}
+use Rattle.audit_lists.specs.Tables.{listed_bases, listed_dated_steps, listed_meters, listed_sales, shifts_of, steps_of, listed_tariffs}
 use Rattle.audit_lists.specs.Ties.{Tie, each, few, names, numbered, once}
 
 -- the step of a row
-abbrev pub step_of : StepRow → Step
-step_of r = r.step
+abbrev pub row_step : StepRow → Step
+row_step r = r.step
 
 abbrev pub dated_step_of : DatedStepRow → Step
 dated_step_of r = r.step
@@ -37,20 +37,20 @@ IsInShift count s = (1 ≤ s.shift) × (s.shift ≤ count)
 -- and the steps of each name those that a tariff may have
 abbrev pub tariff_rules : List (List ℕ) → List StepRow → List Tie
 tariff_rules tariffs steps =
-    once (tariffs_of tariffs) rule.Twice name_key
+    once (listed_tariffs tariffs) rule.Twice name_key
     ∷ once (steps_of steps) rule.Twice step_key
     ∷ names (steps_of steps) rule.Missing step_tariff_key name_key tariffs
     ∷ names (steps_of steps) rule.Steps step_before_key step_key steps
-    ∷ each (tariffs_of tariffs) rule.Steps (λ name. AreSteps step_of step_key steps (name_key name))
+    ∷ each (listed_tariffs tariffs) rule.Steps (λ name. AreSteps row_step step_key steps (name_key name))
     ∷ []
 
 -- the same of the steps of a tariff from a day on
 abbrev pub dated_rules : List (List ℕ) → List DatedStepRow → List Tie
 dated_rules tariffs steps =
-    once (dated_steps_of steps) rule.Twice dated_key
-    ∷ names (dated_steps_of steps) rule.Missing dated_tariff_key name_key tariffs
-    ∷ names (dated_steps_of steps) rule.Steps dated_before_key dated_key steps
-    ∷ each (dated_steps_of steps) rule.Steps
+    once (listed_dated_steps steps) rule.Twice dated_key
+    ∷ names (listed_dated_steps steps) rule.Missing dated_tariff_key name_key tariffs
+    ∷ names (listed_dated_steps steps) rule.Steps dated_before_key dated_key steps
+    ∷ each (listed_dated_steps steps) rule.Steps
     (λ row. AreSteps dated_step_of dated_key steps (dated_first_key row))
     ∷ []
 
@@ -58,11 +58,11 @@ dated_rules tariffs steps =
 -- are there, and no base a later one
 abbrev pub meter_rules : List (List ℕ) → List MeterRow → List BaseRow → List Tie
 meter_rules tariffs meters bases =
-    once (meters_of meters) rule.Twice meter_key
-    ∷ once (bases_of bases) rule.Twice base_key
-    ∷ names (meters_of meters) rule.Missing meter_tariff_key name_key tariffs
-    ∷ names (meters_of meters) rule.Base meter_base_key base_key bases
-    ∷ each (bases_of bases) rule.Base (IsOfMeter meters)
+    once (listed_meters meters) rule.Twice meter_key
+    ∷ once (listed_bases bases) rule.Twice base_key
+    ∷ names (listed_meters meters) rule.Missing meter_tariff_key name_key tariffs
+    ∷ names (listed_meters meters) rule.Base meter_base_key base_key bases
+    ∷ each (listed_bases bases) rule.Base (IsOfMeter meters)
     ∷ []
 
 -- shifts: no more than an office holds, numbered, and of each operator one that is open at most
@@ -78,12 +78,12 @@ shift_rules shifts =
 -- meter had
 abbrev pub sale_rules : ℕ → List BaseRow → List Sale → List Tie
 sale_rules shifts bases sales =
-    few (sales_of sales)
-    ∷ numbered (sales_of sales) (λ s. s.number)
-    ∷ once (sales_of sales) rule.Twice tid_key
-    ∷ once (sales_of sales) rule.Twice ref_key
-    ∷ each (sales_of sales) rule.Missing (IsInShift shifts)
-    ∷ names (sales_of sales) rule.Base sale_base_key base_key bases
+    few (listed_sales sales)
+    ∷ numbered (listed_sales sales) (λ s. s.number)
+    ∷ once (listed_sales sales) rule.Twice tid_key
+    ∷ once (listed_sales sales) rule.Twice ref_key
+    ∷ each (listed_sales sales) rule.Missing (IsInShift shifts)
+    ∷ names (listed_sales sales) rule.Base sale_base_key base_key bases
     ∷ []
 
 -- all of them

@@ -18,7 +18,7 @@ abbrev pub IsLong : List Step → Type 0
 IsLong steps = 9 ≤ length steps
 
 -- the steps at the first places, up to one that has none, and nine at the most
-pub record AreFirst {T : Type 0} (step : T → Step) (key : T → Key) (rows : List T) (q : Key)
+pub record AreFirstUnder {T : Type 0} (step : T → Step) (key : T → Key) (rows : List T) (q : Key)
     (steps : List Step) : Type 0 where
   pub there : (place : ℕ) (s : Step) → slice_get steps place ≡ Some s
       → HasStepAt step key rows (at_place q place) s
@@ -28,5 +28,5 @@ pub record AreFirst {T : Type 0} (step : T → Step) (key : T → Key) (rows : L
 pub record AreSteps {T : Type 0} (step : T → Step) (key : T → Key) (rows : List T) (q : Key)
     : Type 0 where
   pub steps : List Step
-  pub first : AreFirst step key rows q steps
+  pub first : AreFirstUnder step key rows q steps
   pub priced : IsSteps steps

@@ -44,8 +44,8 @@ pub record Tie : Type 1 where
   pub Keeps : ℕ → Row → Type 0
   pub finding : ℕ → Row → Finding
 
-abbrev pub IsKept : Tie → Type 0
-IsKept tie = Each tie.Keeps tie.rows
+abbrev pub IsTieKept : Tie → Type 0
+IsTieKept tie = Each tie.Keeps tie.rows
 
 -- the finding is of the first row that does not keep it
 abbrev pub IsFirst : Tie → Finding → Type 0
@@ -101,12 +101,12 @@ few {T} list = record {
 -- all of them are kept
 abbrev pub AreKept : List Tie → Type 0
 AreKept [] = ⊤
-AreKept (tie ∷ more) = IsKept tie × AreKept more
+AreKept (tie ∷ more) = IsTieKept tie × AreKept more
 
 -- the finding is of the first row that does not keep the first of them that is not kept
 abbrev pub FindsFirst : List Tie → Finding → Type 0
 FindsFirst [] f = ⊥
-FindsFirst (tie ∷ more) f = IsFirst tie f ⊎ (IsKept tie × FindsFirst more f)
+FindsFirst (tie ∷ more) f = IsFirst tie f ⊎ (IsTieKept tie × FindsFirst more f)
 
 -- what is said of a finding, where there was memory
 abbrev pub Says : (Finding → Type 0) → OfficeFault → Type 0

@@ -27,5 +27,5 @@ rules_of (suc zero) r = tie_rules r
 rules_of (suc (suc n)) r = tie_rules r ++ total_rules r
 
 -- the finding is of the first row that breaks one of them
-abbrev pub IsBroken : ℕ → OfficeRows → Finding → Type 0
-IsBroken n r f = FindsFirst (rules_of n r) f
+abbrev pub BreaksOffice : ℕ → OfficeRows → Finding → Type 0
+BreaksOffice n r f = FindsFirst (rules_of n r) f

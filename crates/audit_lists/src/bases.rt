@@ -5,8 +5,8 @@ ghost use Rattle.audit_rows.specs.declared.finding.Rule.TheVariants as rule;
 ghost use Rattle.audit_lists.specs.Keys.{ArePlaces, IsNew};
 ghost use Rattle.audit_lists.specs.RowKeys.{meter_key};
 ghost use Rattle.audit_lists.specs.Rules.{IsOfMeter};
-ghost use Rattle.audit_lists.specs.Tables.{bases_of};
-ghost use Rattle.audit_lists.specs.Ties.{Each, IsFirst, IsKept, each};
+ghost use Rattle.audit_lists.specs.Tables.{listed_bases};
+ghost use Rattle.audit_lists.specs.Ties.{Each, IsFirst, IsTieKept, each};
 
 use crate::fault::found;
 use crate::places::{Places, place_of};
@@ -37,7 +37,7 @@ pub(crate) fn test_bases<'a>(
     requires apart { Each (IsNew meter_key meters.now) meters.now }
     ensures passes { OnOk result (Each (λ _ base. IsOfMeter meters.now base) bases.now) }
     ensures found { IfErr result
-        (IsFirst (each (bases_of bases.now) rule.Base (IsOfMeter meters.now))) }
+        (IsFirst (each (listed_bases bases.now) rule.Base (IsOfMeter meters.now))) }
 {
     'bases: for at in 0..bases.len() {
         if !is_of_meter(&bases[at], meters, places) {

@@ -3,7 +3,7 @@
 ghost use Rattle.std.specs.Prelude.{◌≡◌};
 ghost use Rattle.office_rules.specs.declared.office.sale.Sale.{Sale};
 ghost use Rattle.office_rules.specs.declared.office.shift.Shift.{Shift};
-ghost use Rattle.audit_lists.specs.Keys.{Key, told};
+ghost use Rattle.audit_lists.specs.Keys.{Key, owned_key};
 ghost use Rattle.audit_lists.specs.RowKeys.{base_key, dated_before_key, dated_first_key, dated_key, dated_tariff_key, meter_base_key, meter_key, meter_tariff_key, name_key, open_key, ref_key, sale_base_key, step_before_key, step_key, step_tariff_key, tid_key};
 
 use audit_rows::{BaseRow, DatedStepRow, MeterRow, StepRow};
@@ -18,7 +18,7 @@ pub(crate) trait KeyOf<T> {
     ghost key: { T → Key };
 
     fn of<'a>(row: &'a T) -> LentKey<'a>
-        ensures { told result ≡ key row.now };
+        ensures { owned_key result ≡ key row.now };
 }
 
 /// A tariff by its name.
@@ -152,12 +152,12 @@ impl KeyOf<Shift> for Open {
 }
 
 /// A sale by its identifier, under its meter and base.
-pub(crate) struct Tid;
+pub(crate) struct Identifier;
 
 /// A sale by its ref, under its operator.
 pub(crate) struct OrderRef;
 
-impl KeyOf<Sale> for Tid {
+impl KeyOf<Sale> for Identifier {
     ghost key = { tid_key };
 
     fn of<'a>(row: &'a Sale) -> LentKey<'a> {

@@ -9,7 +9,7 @@ ghost use Rattle.audit_rows.specs.AllRows.{IsReadAs};
 ghost use Rattle.audit_rows.specs.Entries.{rows_of};
 ghost use Rattle.audit_rows.specs.declared.finding.Finding.{Finding};
 ghost use Rattle.audit_rows.specs.declared.office_rows.OfficeRows.{OfficeRows};
-ghost use Rattle.audit_lists.specs.Told.{IsBroken};
+ghost use Rattle.audit_lists.specs.Told.{BreaksOffice};
 
 use audit_rows::stored_law;
 
@@ -17,7 +17,7 @@ use audit_rows::stored_law;
 pub fn office_law()
     ensures { (n : ℕ) (db : Database) (rows : OfficeRows) (f : Finding) (o : Office)
         → 1 ≤ n → n ≤ present_format → HasOfficeOf n db.schema → IsReadAs n db (rows_of rows)
-        → IsBroken n rows f → StandsFor db o → ⊥ }
+        → BreaksOffice n rows f → StandsFor db o → ⊥ }
 {
     stored_law();
 }

@@ -1,7 +1,7 @@
 //! Rows that are numbered 1, 2, 3 and on.
 
 ghost use Rattle.std.specs.Prelude.{◌≡◌, IfErr, OnOk};
-ghost use Rattle.audit_lists.specs.Ties.{IsFirst, IsKept, few, listed, numbered};
+ghost use Rattle.audit_lists.specs.Ties.{IsFirst, IsTieKept, few, listed, numbered};
 
 use crate::fault::found_number;
 use audit_rows::{Finding, Named, Rule};
@@ -38,7 +38,7 @@ impl Numbered for Sale {
 /// # Errors
 /// A finding.
 pub(crate) fn test_numbers<T: Named + Numbered>(rows: &[T]) -> Result<(), Finding>
-    ensures passes { OnOk result (IsKept (numbered (listed T.name T.key rows.now) T.number)) }
+    ensures passes { OnOk result (IsTieKept (numbered (listed T.name T.key rows.now) T.number)) }
     ensures found { IfErr result (IsFirst (numbered (listed T.name T.key rows.now) T.number)) }
 {
     'rows: for at in 0..rows.len() {
@@ -55,7 +55,7 @@ pub(crate) fn test_numbers<T: Named + Numbered>(rows: &[T]) -> Result<(), Findin
 /// # Errors
 /// A finding.
 pub(crate) fn test_count<T: Named>(rows: &[T]) -> Result<(), Finding>
-    ensures passes { OnOk result (IsKept (few (listed T.name T.key rows.now))) }
+    ensures passes { OnOk result (IsTieKept (few (listed T.name T.key rows.now))) }
     ensures found { IfErr result (IsFirst (few (listed T.name T.key rows.now))) }
 {
     if rows.len() as u64 <= GREATEST_COUNT {

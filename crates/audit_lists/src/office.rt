@@ -5,7 +5,7 @@ ghost use Rattle.sqlite.specs.Effect.{Database};
 ghost use Rattle.audit_rows.specs.AllRows.{IsReadAs};
 ghost use Rattle.audit_rows.specs.Entries.{rows_of};
 ghost use Rattle.audit_lists.specs.Ties.{Says};
-ghost use Rattle.audit_lists.specs.Told.{IsBroken, ShowOffice};
+ghost use Rattle.audit_lists.specs.Told.{BreaksOffice, ShowOffice};
 
 use crate::fault::OfficeFault;
 use crate::rules::test_rules;
@@ -21,7 +21,7 @@ use std::alloc::Global;
 pub fn test_office(alloc: Global, format: u32, rows: &OfficeRows) -> Result<(), OfficeFault>
     ensures passes { OnOk result ((db : Database) → IsReadAs format db (rows_of rows.now)
         → ShowOffice format (rows_of rows.now)) }
-    ensures found { IfErr result (Says (IsBroken format rows.now)) }
+    ensures found { IfErr result (Says (BreaksOffice format rows.now)) }
 {
     test_rules(alloc, rows)?;
     if format < 2 {

@@ -1,7 +1,7 @@
 //! The places of rows under their keys.
 
 ghost use Rattle.std.specs.Prelude.{◌≡◌, ℕ, IfErr, IfOk, IfSome, IsNone, OnOk, length};
-ghost use Rattle.audit_lists.specs.Keys.{ArePlaces, HasKey, IsNew, told, under};
+ghost use Rattle.audit_lists.specs.Keys.{ArePlaces, HasKey, IsNew, owned_key, place_under};
 ghost use Rattle.audit_lists.specs.Ties.{Each, IsFirst, IsFirstBut, Says, listed, names, once};
 
 use crate::fault::{OfficeFault, found};
@@ -15,7 +15,7 @@ pub(crate) type Places<'a> = BTreeMap<LentKey<'a>, usize>;
 
 /// The place under a key.
 pub(crate) fn place_of<'a>(places: &Places<'a>, key: LentKey<'a>) -> Option<usize>
-    ensures { result ≡ under places.now (told key.entry) }
+    ensures { result ≡ place_under places.now (owned_key key.entry) }
 {
     places.get(&key).copied()
 }

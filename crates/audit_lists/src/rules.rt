@@ -5,12 +5,12 @@ ghost use Rattle.audit_rows.specs.declared.finding.Rule.TheVariants as rule;
 ghost use Rattle.audit_lists.specs.Keys.{ArePlaces};
 ghost use Rattle.audit_lists.specs.RowKeys.{base_key, name_key};
 ghost use Rattle.audit_lists.specs.Rules.{IsInShift, dated_rules, meter_rules, sale_rules, shift_rules, tariff_rules, tie_rules};
-ghost use Rattle.audit_lists.specs.Tables.{sales_of};
+ghost use Rattle.audit_lists.specs.Tables.{listed_sales};
 ghost use Rattle.audit_lists.specs.Ties.{AreKept, Each, FindsFirst, IsFirst, Says, each};
 
 use crate::bases::test_bases;
 use crate::fault::{OfficeFault, found};
-use crate::key::{Before, First, Name, Number, Open, OrderRef, Place, Tariff, Tid, UnderBase};
+use crate::key::{Before, First, Name, Number, Open, OrderRef, Place, Tariff, Identifier, UnderBase};
 use crate::numbers::{test_count, test_numbers};
 use crate::places::{Places, places_of, test_names};
 use crate::steps::test_steps;
@@ -92,7 +92,7 @@ fn test_shifts(alloc: Global, shifts: &[Shift]) -> Result<(), OfficeFault>
 fn test_in_shifts(sales: &[Sale], shifts: usize) -> Result<(), Finding>
     ensures passes { OnOk result (Each (λ _ sale. IsInShift shifts sale) sales.now) }
     ensures found { IfErr result
-        (IsFirst (each (sales_of sales.now) rule.Missing (IsInShift shifts))) }
+        (IsFirst (each (listed_sales sales.now) rule.Missing (IsInShift shifts))) }
 {
     'sales: for at in 0..sales.len() {
         let shift = sales[at].shift as usize;
@@ -117,7 +117,7 @@ fn test_sales<'a>(
 {
     test_count(sales)?;
     test_numbers(sales)?;
-    places_of::<Sale, Tid>(alloc, sales, Rule::Twice)?;
+    places_of::<Sale, Identifier>(alloc, sales, Rule::Twice)?;
     places_of::<Sale, OrderRef>(alloc, sales, Rule::Twice)?;
     test_in_shifts(sales, shifts)?;
     test_names::<Sale, UnderBase, BaseRow, UnderBase>(sales, bases, places, Rule::Base)?;

@@ -2,8 +2,8 @@
 
 ghost use Rattle.std.specs.Prelude.{◌≡◌, ◌↔◌, IfErr, IfOk, IsTrue, OnOk, length};
 ghost use Rattle.audit_rows.specs.declared.finding.Rule.TheVariants as rule;
-ghost use Rattle.audit_lists.specs.Keys.{ArePlaces, IsNew, told};
-ghost use Rattle.audit_lists.specs.Steps.{AreFirst, AreSteps};
+ghost use Rattle.audit_lists.specs.Keys.{ArePlaces, IsNew, owned_key};
+ghost use Rattle.audit_lists.specs.Steps.{AreFirstUnder, AreSteps};
 ghost use Rattle.audit_lists.specs.Ties.{Each, IsFirst, Says, each, listed};
 
 use crate::fault::{OfficeFault, found};
@@ -47,7 +47,7 @@ pub(crate) fn first_steps<'a, T: HasStep, K: KeyOf<T>>(
     key: LentKey<'a>,
 ) -> Result<Vec<Step>, AllocError>
     requires { ArePlaces K.key places.now rows.now (length rows.now) }
-    ensures { IfOk result (λ steps. AreFirst T.step K.key rows.now (told key.entry) steps.items) }
+    ensures { IfOk result (λ steps. AreFirstUnder T.step K.key rows.now (owned_key key.entry) steps.items) }
 {
     let (text, more, number, _) = key;
     let mut steps = Vec::new(alloc);
@@ -69,7 +69,7 @@ fn are_steps<'a, T: HasStep, K: KeyOf<T>>(
 ) -> Result<bool, AllocError>
     requires places { ArePlaces K.key places.now rows.now (length rows.now) }
     requires apart { Each (IsNew K.key rows.now) rows.now }
-    ensures { IfOk result (λ are. IsTrue are ↔ AreSteps T.step K.key rows.now (told key.entry)) }
+    ensures { IfOk result (λ are. IsTrue are ↔ AreSteps T.step K.key rows.now (owned_key key.entry)) }
 {
     let steps = first_steps::<T, K>(alloc, rows, places, key)?;
     match Steps::read(alloc, &steps) {

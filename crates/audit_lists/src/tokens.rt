@@ -11,7 +11,7 @@ ghost use Rattle.audit_rows.specs.declared.finding.Finding.{Finding};
 ghost use Rattle.audit_lists.specs.Keys.{ArePlaces};
 ghost use Rattle.audit_lists.specs.RowKeys.{meter_key};
 ghost use Rattle.audit_lists.specs.Ties.{IsFirst};
-ghost use Rattle.audit_lists.specs.Tokens.{TellsUnwritten, written};
+ghost use Rattle.audit_lists.specs.Tokens.{TellsUnwritten, written_tie};
 ghost use Rattle.audit_lists.specs.reached.Finds.{AreRowsOfOffice};
 
 use crate::fault::{OfficeFault, found};
@@ -88,10 +88,10 @@ pub fn test_tokens<T: BlockTransform>(
 /// Of an office whose tokens one transform wrote no sale is ever found.
 pub fn tokens_law()
     ensures none { (forward : BlockFunction) (o : Office) (f : Finding) → HasTokensOf forward o
-        → IsFirst (written forward o) f → ⊥ }
+        → IsFirst (written_tie forward o) f → ⊥ }
     ensures lives { (forward : BlockFunction) (lives : List Life) (o : Office) (f : Finding)
         → AreLives lives o → All (λ life. life.forward ≡ forward) lives
-        → IsFirst (written forward o) f → ⊥ }
+        → IsFirst (written_tie forward o) f → ⊥ }
 {
     reached_law();
 }

@@ -3,7 +3,7 @@
 ghost use Rattle.std.specs.Prelude.{◌≡◌, ◌≤◌, IfErr, IfOk, IsSome, OnOk, Some, length};
 ghost use Rattle.office_rules.specs.Office.{greatest_count};
 ghost use Rattle.book_tables.specs.row.Gathered.{IsGathered};
-ghost use Rattle.audit_lists.specs.Ties.{AreKept, FindsFirst, IsFirst, IsKept, Says, each, listed};
+ghost use Rattle.audit_lists.specs.Ties.{AreKept, FindsFirst, IsFirst, IsTieKept, Says, each, listed};
 ghost use Rattle.audit_lists.specs.totals.Rules.{sum_rules, total_rules};
 ghost use Rattle.audit_rows.specs.declared.finding.Rule.TheVariants as rule;
 
@@ -76,7 +76,7 @@ fn test_table<T: Summed>(
 // Nothing where the sales have the key of each row; or the first whose key none has.
 fn test_keys<T: Summed>(sales: &[Sale], rows: &[T], gathered: &Gathered) -> Result<(), Finding>
     requires { IsGathered sales.now gathered.now }
-    ensures passes { OnOk result (IsKept (each (listed T.name T.key rows.now) rule.Surplus
+    ensures passes { OnOk result (IsTieKept (each (listed T.name T.key rows.now) rule.Surplus
         (λ row. IsSome (T.has sales.now row)))) }
     ensures found { IfErr result (IsFirst (each (listed T.name T.key rows.now) rule.Surplus
         (λ row. IsSome (T.has sales.now row)))) }
@@ -92,7 +92,7 @@ fn test_keys<T: Summed>(sales: &[Sale], rows: &[T], gathered: &Gathered) -> Resu
 // Nothing where each row tells what the sales of its key come to; or the first that does not.
 fn test_told<T: Summed>(sales: &[Sale], rows: &[T], gathered: &Gathered) -> Result<(), Finding>
     requires { IsGathered sales.now gathered.now }
-    ensures passes { OnOk result (IsKept (each (listed T.name T.key rows.now) rule.Total
+    ensures passes { OnOk result (IsTieKept (each (listed T.name T.key rows.now) rule.Total
         (λ row. T.has sales.now row ≡ Some (T.told row)))) }
     ensures found { IfErr result (IsFirst (each (listed T.name T.key rows.now) rule.Total
         (λ row. T.has sales.now row ≡ Some (T.told row)))) }

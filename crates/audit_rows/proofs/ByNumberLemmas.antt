@@ -20,7 +20,7 @@ use Rattle.book_tables.specs.Holds.{rows_in}
 use Rattle.book_tables.specs.Kept.{Kept}
 use Rattle.book_tables.specs.row.Rows.{number}
 use Rattle.audit_rows.specs.Listing.{list_query, list_query_by, order_of}
-use Rattle.audit_rows.specs.Whole.{IsListing, all_columns, columns_of, places}
+use Rattle.audit_rows.specs.Whole.{IsTableListing, all_columns, columns_of, places}
 
 one_each : {X Y : Type 0} (f : X → Y) (xs : List X) → flat_map (λ x. f x ∷ []) xs ≡ map f xs
 one_each f [] = refl
@@ -96,7 +96,7 @@ order_is : (k : Kept) → k.is_numbered ≡ true → order_of k ≡ rising 0
 order_is k numbered = rw numbered refl
 
 -- an answer is a listing
-pub answer_lists : (k : Kept) (db : Database) (answer : List Row) → IsAnswer (list_query k (tree_in db.schema k.table.name)) db.trees [] answer → IsListing k db answer
+pub answer_lists : (k : Kept) (db : Database) (answer : List Row) → IsAnswer (list_query k (tree_in db.schema k.table.name)) db.trees [] answer → IsTableListing k db answer
 answer_lists k db answer is = record {
   same = IsPermutation-sym (all_columns k db) answer (all_answered k (order_of k) db answer is);
   rises = λ numbered. rows_rise k numbered db answer (subst (λ (o : List (Term × Key)). IsAnswer (list_query_by k o (tree_in db.schema k.table.name)) db.trees [] answer) (order_is k numbered) is);

@@ -5,11 +5,11 @@ use Rattle.sqlite.specs.Order.{Row, column}
 use Rattle.sqlite.specs.declared.types.Value.TheVariants.{Null}
 use Rattle.office_rules.specs.declared.decision.request.Order.{Order}
 use Rattle.book_tables.specs.row.Rows.{number}
-use Rattle.audit_rows.specs.Parts.{entry_columns, order_columns, shown_entry, shown_order, shown_token, token_columns}
+use Rattle.audit_rows.specs.Parts.{sale_entry_columns, sale_order_columns, shown_sale_entry, shown_sale_order, shown_sale_token, sale_token_columns}
 use Rattle.audit_rows.specs.Sales.{shown_sale_row}
-use Rattle.audit_rows.specs.declared.sale_row.Entry.{Entry}
+use Rattle.audit_rows.specs.declared.sale_row.SaleEntry.{SaleEntry}
 use Rattle.audit_rows.specs.declared.sale_row.SaleRow.{SaleRow}
-use Rattle.audit_rows.specs.declared.sale_row.Token.{Token}
+use Rattle.audit_rows.specs.declared.sale_row.SaleToken.{SaleToken}
 
 -- so many columns of a row, from one on
 abbrev columns_from : Row → ℕ → ℕ → Row
@@ -28,7 +28,7 @@ all_columns : (r : Row) → length r ≡ 14 → columns_from r 0 14 ≡ r
 all_columns r e = columns_to_the_end r 0 14 (sym e)
 
 -- the row of these parts
-abbrev pub row_from : Entry → Order → Token → ℕ → SaleRow
+abbrev pub row_from : SaleEntry → Order → SaleToken → ℕ → SaleRow
 row_from entry order token price = record {
   sale = record {
     number = entry.number;
@@ -48,25 +48,25 @@ row_from entry order token price = record {
   month = entry.month;
 }
 
-abbrev pub entry_in : SaleRow → Entry
+abbrev pub entry_in : SaleRow → SaleEntry
 entry_in s = record { number = s.sale.number; moment = s.sale.moment; month = s.month; shift = s.sale.shift }
 
 abbrev pub order_in : SaleRow → Order
 order_in s = record { operator = s.sale.operator; order_ref = s.sale.order_ref; meter = s.sale.meter; tender = s.sale.tender }
 
-abbrev pub token_in : SaleRow → Token
+abbrev pub token_in : SaleRow → SaleToken
 token_in s = record { base = s.sale.base; tid = s.sale.tid; rnd = s.sale.rnd; tenths = s.sale.tenths; digits = s.sale.digits }
 
-pub shows_row : (r : Row) (entry : Entry) (order : Order) (token : Token) (price : ℕ) → length r ≡ 14 → shown_entry entry ≡ entry_columns r → shown_order order ≡ order_columns r → shown_token token ≡ token_columns r → number price ≡ column r 11 → shown_sale_row (row_from entry order token price) ≡ r
+pub shows_row : (r : Row) (entry : SaleEntry) (order : Order) (token : SaleToken) (price : ℕ) → length r ≡ 14 → shown_sale_entry entry ≡ sale_entry_columns r → shown_sale_order order ≡ sale_order_columns r → shown_sale_token token ≡ sale_token_columns r → number price ≡ column r 11 → shown_sale_row (row_from entry order token price) ≡ r
 shows_row r entry order token price count e o t p =
     let columns : shown_sale_row (row_from entry order token price) ≡ columns_from r 0 14 = cc in
     columns ∙ all_columns r count
 
-pub shows_entry : (r : Row) (s : SaleRow) → shown_sale_row s ≡ r → shown_entry (entry_in s) ≡ entry_columns r
-shows_entry r s e = ap entry_columns e
+pub shows_entry : (r : Row) (s : SaleRow) → shown_sale_row s ≡ r → shown_sale_entry (entry_in s) ≡ sale_entry_columns r
+shows_entry r s e = ap sale_entry_columns e
 
-pub shows_order : (r : Row) (s : SaleRow) → shown_sale_row s ≡ r → shown_order (order_in s) ≡ order_columns r
-shows_order r s e = ap order_columns e
+pub shows_order : (r : Row) (s : SaleRow) → shown_sale_row s ≡ r → shown_sale_order (order_in s) ≡ sale_order_columns r
+shows_order r s e = ap sale_order_columns e
 
-pub shows_token : (r : Row) (s : SaleRow) → shown_sale_row s ≡ r → shown_token (token_in s) ≡ token_columns r
-shows_token r s e = ap token_columns e
+pub shows_token : (r : Row) (s : SaleRow) → shown_sale_row s ≡ r → shown_sale_token (token_in s) ≡ sale_token_columns r
+shows_token r s e = ap sale_token_columns e

@@ -20,7 +20,7 @@ use Rattle.one_table.proofs.AnswerLemmas.{left_then}
 use Rattle.one_table.proofs.ReadsOnlyLemmas.{read_so}
 use Rattle.book_tables.specs.Holds.{IsKept}
 use Rattle.audit_rows.specs.Breaks.{Breaks, HasTrueRows}
-use Rattle.audit_rows.specs.Fails.{FailsToRead, HasNoFormat, HaveTables, IsKnown}
+use Rattle.audit_rows.specs.Fails.{FailsToReadTables, HasNoFormat, HaveTables, IsKnown}
 use Rattle.audit_rows.specs.Listing.{FailsToList}
 use Rattle.audit_rows.specs.Tables.{kept_of}
 use Rattle.audit_rows.specs.declared.finding.AuditFault.{AuditFault}
@@ -103,13 +103,13 @@ module _ (xs ys : List TableName) where
 
   -- ---- the first read fails
 
-  fails_first : (old new : State) (e : AuditFault) → FailsToRead xs old new e → FailsToRead (xs ++ ys) old new e
+  fails_first : (old new : State) (e : AuditFault) → FailsToReadTables xs old new e → FailsToReadTables (xs ++ ys) old new e
   fails_first old new (Found f) why = (breaks_first f old.now why.0, why.1)
   fails_first old new NoOffice why = why
   fails_first old new (Failed e) why = why
 
-  pub read_first : {T U : Type 0} {old new : State} (e : AuditFault) → ReadsOnly {T = T} (IsKnown (HaveTables xs)) IsUnchanged (FailsToRead xs) old new (Err e)
-      → ReadsOnly {T = U} (IsKnown (HaveTables (xs ++ ys))) IsUnchanged (FailsToRead (xs ++ ys)) old new (Err e)
+  pub read_first : {T U : Type 0} {old new : State} (e : AuditFault) → ReadsOnly {T = T} (IsKnown (HaveTables xs)) IsUnchanged (FailsToReadTables xs) old new (Err e)
+      → ReadsOnly {T = U} (IsKnown (HaveTables (xs ++ ys))) IsUnchanged (FailsToReadTables (xs ++ ys)) old new (Err e)
   read_first {old = old} {new} e this = record {
     same = λ _ _. tt;
     kept = λ clean known. this.kept clean (λ runs. have_first xs ys old.now (known runs));
@@ -120,8 +120,8 @@ module _ (xs ys : List TableName) where
 
   -- ---- the first read succeeds
 
-  module _ {T U : Type 0} {x : T} {old mid new : State} (first : ReadsOnly (IsKnown (HaveTables xs)) IsUnchanged (FailsToRead xs) old mid (Ok x)) (shut : mid.is_clean ≡ false → mid.is_open ≡ false)
-      {r : Result U AuditFault} (second : ReadsOnly (IsKnown (HaveTables ys)) IsUnchanged (FailsToRead ys) mid new r) where
+  module _ {T U : Type 0} {x : T} {old mid new : State} (first : ReadsOnly (IsKnown (HaveTables xs)) IsUnchanged (FailsToReadTables xs) old mid (Ok x)) (shut : mid.is_clean ≡ false → mid.is_open ≡ false)
+      {r : Result U AuditFault} (second : ReadsOnly (IsKnown (HaveTables ys)) IsUnchanged (FailsToReadTables ys) mid new r) where
     pub known_first : IsKnown (HaveTables (xs ++ ys)) old → IsKnown (HaveTables xs) old
     known_first known runs = have_first xs ys old.now (known runs)
 
@@ -136,11 +136,11 @@ module _ (xs ys : List TableName) where
     pub same_between : IsKnown (HaveTables (xs ++ ys)) old → HasCleanDisk new → IsUnchanged old mid
     same_between known clean = first.same (clean_between known clean) (known_first known)
 
-    fails_after : All (HasTrueRows old.now) xs → IsUnchanged old mid → Survives old mid (λ _. ⊥) → (e : AuditFault) → FailsToRead ys mid new e → FailsToRead (xs ++ ys) old new e
+    fails_after : All (HasTrueRows old.now) xs → IsUnchanged old mid → Survives old mid (λ _. ⊥) → (e : AuditFault) → FailsToReadTables ys mid new e → FailsToReadTables (xs ++ ys) old new e
     fails_after whole same survives (Found f) why = (breaks_after f old.now whole (subst (Breaks ys f) same.0.now_is why.0), unchanged_then old mid new same why.1)
     fails_after whole same survives NoOffice why = (subst HasNoFormat same.0.now_is why.0, unchanged_then old mid new same why.1)
     fails_after whole same survives (Failed e) why = lists_after old mid new same survives e why
 
     -- both reads, where each row of the first tables shows a record
-    pub read_after : (HasCleanDisk mid → IsKnown (HaveTables xs) old → All (HasTrueRows old.now) xs) → ReadsOnly (IsKnown (HaveTables (xs ++ ys))) IsUnchanged (FailsToRead (xs ++ ys)) old new r
-    read_after whole = reads_then {A = FailsToRead xs} {x = x} (read_so known_first first) known_between r second (λ was known same survives e why. fails_after (whole was (known_first known)) same survives e why)
+    pub read_after : (HasCleanDisk mid → IsKnown (HaveTables xs) old → All (HasTrueRows old.now) xs) → ReadsOnly (IsKnown (HaveTables (xs ++ ys))) IsUnchanged (FailsToReadTables (xs ++ ys)) old new r
+    read_after whole = reads_then {A = FailsToReadTables xs} {x = x} (read_so known_first first) known_between r second (λ was known same survives e why. fails_after (whole was (known_first known)) same survives e why)

@@ -17,13 +17,13 @@ use Rattle.book_tables.specs.Kept.{Kept, bases_kept, dated_steps_kept, last_ids_
 use Rattle.book_tables.specs.declared.reading.pages.MeterRow.{MeterRow}
 use Rattle.book_tables.specs.row.Rows.{DatedStepRow, Rows, StepRow, base_columns, dated_columns, last_id_columns, meter_columns, month_columns, sale_columns, shown_shift, step_columns, tariff_columns, totals_columns}
 use Rattle.book_tables.specs.row.Values.{AreMeterValues, AreSaleValues, AreShiftValues, AreStepValues}
-use Rattle.audit_rows.specs.Fails.{FailsToRead, HaveTables, IsKnown}
+use Rattle.audit_rows.specs.Fails.{FailsToReadTables, HaveTables, IsKnown}
 use Rattle.audit_rows.specs.declared.finding.AuditFault.{AuditFault}
 use Rattle.audit_rows.specs.Records.{shown_base, shown_dated_step, shown_last_id, shown_meter_row, shown_month, shown_shift_totals, shown_step_row}
 use Rattle.audit_rows.specs.Sales.{AreBookedValues, shown_sale_row}
 use Rattle.audit_rows.specs.Tables.{tables_of}
 use Rattle.audit_rows.specs.Values.{AreBaseValues, AreDatedStepValues, AreLastIdValues, AreMeterRowValues, AreMonthValues, AreShiftTotalsValues, AreStepRowValues}
-use Rattle.audit_rows.specs.Whole.{AreListed, IsListing}
+use Rattle.audit_rows.specs.Whole.{AreListed, IsTableListing}
 use Rattle.audit_rows.specs.declared.rows.BaseRow.{BaseRow}
 use Rattle.audit_rows.specs.declared.rows.DatedStepRow.{DatedStepRow as DatedStepRead}
 use Rattle.audit_rows.specs.declared.rows.LastId.{LastId}
@@ -55,7 +55,7 @@ in_months (r ∷ rs) all =
 
 -- the rows are those of the entries
 listed_as : {T X : Type 0} {shown : T → Row} {keeps : T → Type 0} (columns : X → Row) (entry : T → X) (k : Kept) (db : Database) (xs : List T) → map columns (map entry xs) ≡ map shown xs → AreListed shown keeps k db xs → HasRowsOf columns k db (map entry xs)
-listed_as columns entry k db xs same are = subst (IsListing k db) (sym same) are.listed
+listed_as columns entry k db xs same are = subst (IsTableListing k db) (sym same) are.listed
 
 has_rows : {T X : Type 0} {shown : T → Row} {keeps : T → Type 0} (columns : X → Row) (entry : T → X) (k : Kept) → ((t : T) → columns (entry t) ≡ shown t) → (db : Database) (xs : List T) → AreListed shown keeps k db xs → HasRowsOf columns k db (map entry xs)
 has_rows {shown = shown} columns entry k same db xs are = listed_as columns entry k db xs (shows_entry shown columns entry same xs) are
@@ -200,6 +200,6 @@ module _ (tables : List TableName) (n format : ℕ) (reads : tables ≡ tables_o
   pub known_tables : (s : State) → IsKnown (HasTablesOf format) s → IsKnown (HaveTables tables) s
   known_tables s known runs = subst (λ (ts : List TableName). HaveTables ts s.now) (sym same_tables) (have_tables format s.now (known runs))
 
-  pub of_format : {T : Type 0} {old new : State} (r : Result T AuditFault) → ReadsOnly (IsKnown (HaveTables tables)) IsUnchanged (FailsToRead tables) old new r → ReadsOnly (IsKnown (HasTablesOf format)) IsUnchanged (FailsToRead (tables_of format)) old new r
-  of_format {old = old} {new} r this = subst (λ (ts : List TableName). ReadsOnly (IsKnown (HasTablesOf format)) IsUnchanged (FailsToRead ts) old new r) same_tables
+  pub of_format : {T : Type 0} {old new : State} (r : Result T AuditFault) → ReadsOnly (IsKnown (HaveTables tables)) IsUnchanged (FailsToReadTables tables) old new r → ReadsOnly (IsKnown (HasTablesOf format)) IsUnchanged (FailsToReadTables (tables_of format)) old new r
+  of_format {old = old} {new} r this = subst (λ (ts : List TableName). ReadsOnly (IsKnown (HasTablesOf format)) IsUnchanged (FailsToReadTables ts) old new r) same_tables
       (read_where r (known_tables old) this (λ clean known. this.faults clean (known_tables old known)))

@@ -21,8 +21,8 @@ use Rattle.one_table.proofs.ReadsOnlyLemmas.{read_into, read_so}
 use Rattle.book_tables.specs.Holds.{IsKept}
 use Rattle.book_tables.specs.reading.Reading.{ShowsRecord}
 use Rattle.audit_rows.specs.Breaks.{Breaks, BreaksByItself, HasTrueRows, IsBroken, IsFirstFalse, ShowsOf}
-use Rattle.audit_rows.specs.Fails.{FailsToRead, HaveTables, IsKnown}
-use Rattle.audit_rows.specs.Whole.{AreListed, IsListing, Sees, all_columns}
+use Rattle.audit_rows.specs.Fails.{FailsToReadTables, HaveTables, IsKnown}
+use Rattle.audit_rows.specs.Whole.{AreListed, IsTableListing, Sees, all_columns}
 use Rattle.audit_rows.specs.declared.finding.AuditFault.{AuditFault}
 use Rattle.audit_rows.specs.declared.finding.AuditFault.TheVariants.{Failed, Found}
 use Rattle.audit_rows.specs.declared.finding.Finding.{Finding}
@@ -78,14 +78,14 @@ module _ {T : Type 0} (shown : T → Row) (keeps : T → Type 0) where
     listed_true db xs are = All-cons (HasTrueRows db) t [] (All-permutation (ShowsOf t) (map shown xs) (all_columns (kept_of t) db) are.listed.same (all_show xs are.kept)) (All-nil (HasTrueRows db))
 
     module _ (old new : State) (there : IsKept old.now.schema (kept_of t)) (all : List (Seen T)) (given : GivesAll (Sees shown keeps) (list_of t) [] old new all) where
-      listing : IsListing (kept_of t) old.now given.rows
+      listing : IsTableListing (kept_of t) old.now given.rows
       listing = answer_lists (kept_of t) old.now given.rows (read.answer_is (lists t).asks (kept_of t) (lists t).stands old new there given.rows given.shown)
 
       -- all that was seen are records
       pub are_listed : (xs : List T) → all ≡ map seen.Whole xs → AreListed shown keeps (kept_of t) old.now xs
       are_listed xs is =
           let records = all_records given.rows xs (subst (AllZip (Sees shown keeps) given.rows) is given.read) in
-          record { listed = subst (IsListing (kept_of t) old.now) (sym records.0) listing; kept = records.1 }
+          record { listed = subst (IsTableListing (kept_of t) old.now) (sym records.0) listing; kept = records.1 }
 
       -- or the first is told that is none
       pub is_broken : (before : List T) (row : Row) (after : List (Seen T)) → all ≡ map seen.Whole before ++ (seen.False row ∷ after) → (f : Finding) → (¬ ShowsOf t row → IsBroken t row f) → Breaks (t ∷ []) f old.now
@@ -94,7 +94,7 @@ module _ {T : Type 0} (shown : T → Row) (keeps : T → Type 0) where
           let none : ¬ ShowsOf t row = λ s. found.3 ((shows row).1 s) in
           let told = broken none in
           let first : IsFirstFalse t old.now row =
-          record { before = map shown before; after = found.0; listed = subst (IsListing (kept_of t) old.now) (sym found.1) listing; shown = all_show before found.2; shows_none = none } in
+          record { before = map shown before; after = found.0; listed = subst (IsTableListing (kept_of t) old.now) (sym found.1) listing; shown = all_show before found.2; shows_none = none } in
           record {
             before = [];
             after = [];
@@ -122,7 +122,7 @@ module _ (t : TableName) (sql : List ℕ) (is : sql ≡ list_of t) (old new : St
 
   -- one that fails
   pub list_stops : {T U : Type 0} (why : ReadFault) (e : Error) → e ≡ cause_of why → ReadsOnly {T = T} (OnlyAsks sql) IsUnchanged (FailsToAnswer (λ _. ⊤) sql []) old new (Err why)
-      → ReadsOnly {T = U} (IsKnown (HaveTables (t ∷ []))) IsUnchanged (FailsToRead (t ∷ [])) old new (Err (Failed e))
+      → ReadsOnly {T = U} (IsKnown (HaveTables (t ∷ []))) IsUnchanged (FailsToReadTables (t ∷ [])) old new (Err (Failed e))
   list_stops why e told this = record {
     same = λ _ _. tt;
     kept = λ clean known. this.kept clean (asks_by known);
@@ -133,8 +133,8 @@ module _ (t : TableName) (sql : List ℕ) (is : sql ≡ list_of t) (old new : St
 
   -- one that succeeds
   module _ {V : Type 0} {v : V} (this : ReadsOnly (OnlyAsks sql) IsUnchanged (FailsToAnswer (λ _. ⊤) sql []) old new (Ok v)) where
-    pub list_passes : {U : Type 0} (r : Result U AuditFault) → (HasCleanDisk new → IsKnown (HaveTables (t ∷ [])) old → IsUnchanged old new → IfErr r (FailsToRead (t ∷ []) old new))
-        → ReadsOnly (IsKnown (HaveTables (t ∷ []))) IsUnchanged (FailsToRead (t ∷ [])) old new r
+    pub list_passes : {U : Type 0} (r : Result U AuditFault) → (HasCleanDisk new → IsKnown (HaveTables (t ∷ [])) old → IsUnchanged old new → IfErr r (FailsToReadTables (t ∷ []) old new))
+        → ReadsOnly (IsKnown (HaveTables (t ∷ []))) IsUnchanged (FailsToReadTables (t ∷ [])) old new r
     list_passes r why = read_into {A = FailsToAnswer (λ _. ⊤) sql []} {x = v} r (read_so asks_by this) (λ clean known. why clean known (this.same clean (asks_by known)))
 
     module _ {T : Type 0} (shown : T → Row) (keeps : T → Type 0) (shows : (row : Row) → ShowsRecord shown keeps row ↔ ShowsOf t row) (all : List (Seen T)) (gives : HasCleanDisk new → OnlyAsks sql old → GivesAll (Sees shown keeps) sql [] old new all) (clean : HasCleanDisk new) (known : IsKnown (HaveTables (t ∷ [])) old) where
@@ -150,5 +150,5 @@ module _ (t : TableName) (sql : List ℕ) (is : sql ≡ list_of t) (old new : St
       pub table_true : (xs : List T) → all ≡ map seen.Whole xs → All (HasTrueRows old.now) (t ∷ [])
       table_true xs are = listed_true shown keeps t shows old.now xs (table_listed xs are)
 
-      pub table_broken : (before : List T) (row : Row) (after : List (Seen T)) → all ≡ map seen.Whole before ++ (seen.False row ∷ after) → (f : Finding) → (¬ ShowsOf t row → IsBroken t row f) → FailsToRead (t ∷ []) old new (Found f)
+      pub table_broken : (before : List T) (row : Row) (after : List (Seen T)) → all ≡ map seen.Whole before ++ (seen.False row ∷ after) → (f : Finding) → (¬ ShowsOf t row → IsBroken t row f) → FailsToReadTables (t ∷ []) old new (Found f)
       table_broken before row after are f broken = (is_broken shown keeps t shows old new (there known same.0.was_open) all given before row after are f broken, same)

@@ -9,12 +9,12 @@ use Rattle.book_tables.specs.Kept.{Kept, bases_kept, dated_steps_kept, last_ids_
 use Rattle.book_tables.specs.row.Rows.{Rows, base_columns, dated_columns, last_id_columns, meter_columns, month_columns, sale_columns, shift_columns, step_columns, tariff_columns, totals_columns}
 use Rattle.book_tables.specs.row.Values.{AreMeterValues, AreSaleValues, AreShiftValues, AreStepValues}
 use Rattle.book_tables.specs.Stands.{IsOfFormat}
-use Rattle.audit_rows.specs.Whole.{IsListing}
+use Rattle.audit_rows.specs.Whole.{IsTableListing}
 
 -- the table has the rows of these records and no other: in some order, or by their numbers where
 -- they have any
 abbrev pub HasRowsOf : {X : Type 0} → (X → Row) → Kept → Database → List X → Type 0
-HasRowsOf columns k db xs = IsListing k db (map columns xs)
+HasRowsOf columns k db xs = IsTableListing k db (map columns xs)
 
 -- each table of a format has these rows: those without numbers of their own in some order; and what
 -- the format lacks is what it would have

@@ -11,7 +11,7 @@ use Rattle.audit_rows.specs.Records.{shown_base, shown_dated_step, shown_last_id
 use Rattle.audit_rows.specs.Sales.{AreBookedValues, AreSaleRowValues, IsInItsMonth, shown_sale_row}
 use Rattle.audit_rows.specs.Tables.{kept_of}
 use Rattle.audit_rows.specs.Values.{AreBaseValues, AreDatedStepValues, AreLastIdValues, AreMeterRowValues, AreMonthValues, AreShiftTotalsValues, AreStepRowValues}
-use Rattle.audit_rows.specs.Whole.{IsListing, all_columns}
+use Rattle.audit_rows.specs.Whole.{IsTableListing, all_columns}
 use Rattle.audit_rows.specs.declared.finding.Finding.{Finding}
 use Rattle.audit_rows.specs.declared.finding.RowKey.{RowKey}
 use Rattle.audit_rows.specs.declared.finding.RowKey.TheVariants as key
@@ -44,7 +44,7 @@ HasTrueRows db t = All (ShowsOf t) (all_columns (kept_of t) db)
 pub record IsFirstFalse (t : TableName) (db : Database) (row : Row) : Type 0 where
   pub before : List Row
   pub after : List Row
-  pub listed : IsListing (kept_of t) db (before ++ (row ∷ after))
+  pub listed : IsTableListing (kept_of t) db (before ++ (row ∷ after))
   pub shown : All (ShowsOf t) before
   pub shows_none : ¬ ShowsOf t row
 

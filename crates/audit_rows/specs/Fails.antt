@@ -26,7 +26,7 @@ HasNoFormat db = (n : ℕ) → n ≤ present_format → HasOfficeOf n db.schema 
 
 -- of these tables the finding names the first row that by itself is none of an office's, or the
 -- tables are of no format, and all is as it was; or a table is not read
-abbrev pub FailsToRead : List TableName → State → State → AuditFault → Type 0
-FailsToRead tables old new (Found f) = Breaks tables f old.now × IsUnchanged old new
-FailsToRead tables old new NoOffice = HasNoFormat old.now × IsUnchanged old new
-FailsToRead tables old new (Failed e) = FailsToList old new e
+abbrev pub FailsToReadTables : List TableName → State → State → AuditFault → Type 0
+FailsToReadTables tables old new (Found f) = Breaks tables f old.now × IsUnchanged old new
+FailsToReadTables tables old new NoOffice = HasNoFormat old.now × IsUnchanged old new
+FailsToReadTables tables old new (Failed e) = FailsToList old new e

@@ -34,7 +34,7 @@ all_columns k db = map (columns_of k) (rows_in db k.table.name)
 
 -- these are the columns of all rows of the table, in some order: by their numbers where they have
 -- any
-pub record IsListing (k : Kept) (db : Database) (rows : List Row) : Type 0 where
+pub record IsTableListing (k : Kept) (db : Database) (rows : List Row) : Type 0 where
   pub same : IsPermutation rows (all_columns k db)
   pub rises : k.is_numbered ≡ true
       → IsSorted (λ a b. value_cmp (column a 0) (column b 0)) rows
@@ -47,7 +47,7 @@ module _ {T : Type 0} (shown : T → Row) (keeps : T → Type 0) where
 
   -- the rows of the table are those of these records, and the values of each keep their rules
   pub record AreListed (k : Kept) (db : Database) (xs : List T) : Type 0 where
-    pub listed : IsListing k db (map shown xs)
+    pub listed : IsTableListing k db (map shown xs)
     pub kept : All keeps xs
 
 -- what is made of the rows that were seen: all are records, or this one is the first that is none

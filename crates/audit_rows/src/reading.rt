@@ -6,7 +6,7 @@ ghost use Rattle.one_table.specs.Over.{Over};
 ghost use Rattle.one_table.specs.ReadsOnly.{ReadsOnly};
 ghost use Rattle.book_tables.specs.row.Rows.{present_format};
 ghost use Rattle.audit_rows.specs.Tables.{tables_of};
-ghost use Rattle.audit_rows.specs.Fails.{FailsToRead, IsKnown};
+ghost use Rattle.audit_rows.specs.Fails.{FailsToReadTables, IsKnown};
 ghost use Rattle.audit_rows.specs.AllRows.{HasTablesOf, IsReadAs};
 ghost use Rattle.audit_rows.specs.Entries.{rows_of};
 
@@ -27,7 +27,7 @@ fn read_as<S: Alter, R: Tables<S> + Drop>(
         → IsKnown (HasTablesOf format) old
         → IfOk result (λ r. IsReadAs format old.now (rows_of r))) }
     ensures reads { Over S.Store conn (λ old new. ReadsOnly (IsKnown (HasTablesOf format))
-        IsUnchanged (FailsToRead (tables_of format)) old new result) }
+        IsUnchanged (FailsToReadTables (tables_of format)) old new result) }
 {
     let read = R::read(alloc, conn)?;
     match read.into_rows(alloc) {
@@ -52,7 +52,7 @@ pub fn read_office_rows<S: Alter>(
         → IsKnown (HasTablesOf format) old
         → IfOk result (λ r. IsReadAs format old.now (rows_of r))) }
     ensures reads { Over S.Store conn (λ old new. ReadsOnly (IsKnown (HasTablesOf format))
-        IsUnchanged (FailsToRead (tables_of format)) old new result) }
+        IsUnchanged (FailsToReadTables (tables_of format)) old new result) }
 {
     if format == 1 {
         return read_as::<S, First>(alloc, conn, format);

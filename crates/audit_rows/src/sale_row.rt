@@ -4,7 +4,7 @@ ghost use Rattle.std.specs.Prelude.{◌≡◌, ◌==◌};
 ghost use Rattle.sts_fields.specs.Calendar.{month_at};
 ghost use Rattle.office_rules.specs.Decision.Requests.{IsOrder};
 ghost use Rattle.book_tables.specs.row.ReadBack.{ReadsBack};
-ghost use Rattle.audit_rows.specs.Parts.{AreEntryValues, AreTokenValues, entry_columns, order_columns, shown_entry, shown_order, shown_token, token_columns};
+ghost use Rattle.audit_rows.specs.Parts.{AreSaleEntryValues, AreSaleTokenValues, sale_entry_columns, sale_order_columns, shown_sale_entry, shown_sale_order, shown_sale_token, sale_token_columns};
 ghost use Rattle.audit_rows.specs.Sales.{AreBookedValues, AreSaleRowValues, shown_sale_row};
 
 use book_tables::{Record, cells};
@@ -23,17 +23,17 @@ pub struct SaleRow {
 
 // What the row says of the sale as an entry in the books.
 #[derive(Clone, Copy)]
-struct Entry {
+struct SaleEntry {
     number: u32,
     moment: Moment,
     month: u32,
     shift: u32,
 }
 
-fn entry_of(row: &Row) -> Option<Entry>
-    ensures { ReadsBack shown_entry AreEntryValues (entry_columns row.now) result }
+fn entry_of(row: &Row) -> Option<SaleEntry>
+    ensures { ReadsBack shown_sale_entry AreSaleEntryValues (sale_entry_columns row.now) result }
 {
-    Some(Entry {
+    Some(SaleEntry {
         number: cells::number_at(row, 0)?,
         moment: cells::moment_at(row, 1)?,
         month: cells::word_at(row, 2)?,
@@ -42,7 +42,7 @@ fn entry_of(row: &Row) -> Option<Entry>
 }
 
 fn order_of(row: &Row) -> Option<Order>
-    ensures { ReadsBack shown_order IsOrder (order_columns row.now) result }
+    ensures { ReadsBack shown_sale_order IsOrder (sale_order_columns row.now) result }
 {
     Some(Order {
         operator: cells::operator_at(row, 4)?,
@@ -54,7 +54,7 @@ fn order_of(row: &Row) -> Option<Order>
 
 // What the row says of the sale's token.
 #[derive(Clone, Copy)]
-struct Token {
+struct SaleToken {
     base: Base,
     tid: u32,
     rnd: u8,
@@ -62,10 +62,10 @@ struct Token {
     digits: [u8; 20],
 }
 
-fn token_of(row: &Row) -> Option<Token>
-    ensures { ReadsBack shown_token AreTokenValues (token_columns row.now) result }
+fn token_of(row: &Row) -> Option<SaleToken>
+    ensures { ReadsBack shown_sale_token AreSaleTokenValues (sale_token_columns row.now) result }
 {
-    Some(Token {
+    Some(SaleToken {
         base: cells::base_at(row, 7)?,
         tid: cells::tid_at(row, 8)?,
         rnd: cells::nibble_at(row, 9)?,

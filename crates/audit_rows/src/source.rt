@@ -5,7 +5,7 @@ ghost use Rattle.sqlite.specs.State.{HasCleanDisk, IsUnchanged};
 ghost use Rattle.one_table.specs.Over.{Over};
 ghost use Rattle.one_table.specs.ReadsOnly.{ReadsOnly};
 ghost use Rattle.audit_rows.specs.Breaks.{HasTrueRows};
-ghost use Rattle.audit_rows.specs.Fails.{FailsToRead, HaveTables, IsKnown};
+ghost use Rattle.audit_rows.specs.Fails.{FailsToReadTables, HaveTables, IsKnown};
 ghost use Rattle.audit_rows.specs.Listing.{cause_of};
 ghost use Rattle.audit_rows.specs.Tables.{kept_of};
 ghost use Rattle.audit_rows.specs.Whole.{AreListed, IsMadeOf};
@@ -35,7 +35,7 @@ pub(crate) trait Source<S: Alter>: Sized {
         ensures whole { Over S.Store conn (λ old new. HasCleanDisk new
             → IsKnown (HaveTables tables) old → OnOk result (All (HasTrueRows old.now) tables)) }
         ensures reads { Over S.Store conn (λ old new. ReadsOnly (IsKnown (HaveTables tables))
-            IsUnchanged (FailsToRead tables) old new result) };
+            IsUnchanged (FailsToReadTables tables) old new result) };
 }
 
 // What is told of a reader's fault.

@@ -36,7 +36,7 @@ use Rattle.book_tables.specs.declared.row.totals.SaleTotals.{SaleTotals}
 use Rattle.book_tables.specs.writing.Keeping.{AreInOrder, KeepsRows, Keys}
 use Rattle.book_tables.proofs.WritingLemmas.KeepingLemmas.{keeps_then}
 use Rattle.book_states.specs.Changing.{IsCounted, MakesAsComputed, MakesEdit, MakesRows, edit_keys, row_keys}
-use Rattle.book_states.specs.Failing.{FailsToMake}
+use Rattle.book_states.specs.Failing.{FailsToMakeEdit}
 use Rattle.book_states.specs.Others.{SameOthers}
 
 -- the rows after an edit that its office decided are the members of the office after it
@@ -240,13 +240,13 @@ made_by (Err e) found edit prior old new is did makes = tt
 -- ---- why an edit is not made
 
 -- where its tables are there
-pub told_where : {A : Type 0} (edit : Edit) (prior : ℕ) (old new : State) (r : Result A TableError) → (HasAllTables old → IfErr r (FailsToMake edit prior old new)) → IfErr r (λ e. HasAllTables old → FailsToMake edit prior old new e)
+pub told_where : {A : Type 0} (edit : Edit) (prior : ℕ) (old new : State) (r : Result A TableError) → (HasAllTables old → IfErr r (FailsToMakeEdit edit prior old new)) → IfErr r (λ e. HasAllTables old → FailsToMakeEdit edit prior old new e)
 told_where edit prior old new (Ok x) told = tt
 told_where edit prior old new (Err e) told = told
 
 -- where it is this one
-pub refused_by : {A : Type 0} (r : Result A TableError) (found edit : Edit) (prior : ℕ) (old new : State) → found ≡ edit → IfErr r (FailsToMake edit prior old new) → IfErr r (FailsToMake found prior old new)
-refused_by r found edit prior old new is why = subst (λ (e : Edit). IfErr r (FailsToMake e prior old new)) (sym is) why
+pub refused_by : {A : Type 0} (r : Result A TableError) (found edit : Edit) (prior : ℕ) (old new : State) → found ≡ edit → IfErr r (FailsToMakeEdit edit prior old new) → IfErr r (FailsToMakeEdit found prior old new)
+refused_by r found edit prior old new is why = subst (λ (e : Edit). IfErr r (FailsToMakeEdit e prior old new)) (sym is) why
 
 all_err : {A E : Type 0} {P : E → Type 0} (r : Result A E) → ((e : E) → P e) → IfErr r P
 all_err (Ok x) f = tt
@@ -261,12 +261,12 @@ pub row_ends : {A : Type 0} (r : Result A TableError) (found row : Row) (old new
 row_ends r found row old new is ends = subst (λ (x : Row). End FailsToWriteAll (row_writes x) old new r) (sym is) ends
 
 -- where its writes fail
-pub edit_refused : {A : Type 0} (r : Result A TableError) (found edit : Edit) (prior : ℕ) (old new : State) → found ≡ edit → (HasAllTables old → IfErr r (FailsToWriteAll (writes_of edit) old new)) → IfErr r (λ e. HasAllTables old → FailsToMake found prior old new e)
+pub edit_refused : {A : Type 0} (r : Result A TableError) (found edit : Edit) (prior : ℕ) (old new : State) → found ≡ edit → (HasAllTables old → IfErr r (FailsToWriteAll (writes_of edit) old new)) → IfErr r (λ e. HasAllTables old → FailsToMakeEdit found prior old new e)
 edit_refused r found edit prior old new is why =
     told_where found prior old new r (λ has. if_err r (λ e fails. inl (subst (λ (x : Edit). FailsToWriteAll (writes_of x) old new e) (sym is) fails)) (why has))
 
 -- no office has an import of no rows to add
-pub rows_refused : {A : Type 0} (r : Result A TableError) (rows listed : List Row) (prior : ℕ) (old new : State) → listed ≡ rows → (1 ≤ length listed → IfErr r (FailsToWriteAll (flat_map row_writes listed) old new)) → IfErr r (FailsToMake (edits.AddRows rows) prior old new)
+pub rows_refused : {A : Type 0} (r : Result A TableError) (rows listed : List Row) (prior : ℕ) (old new : State) → listed ≡ rows → (1 ≤ length listed → IfErr r (FailsToWriteAll (flat_map row_writes listed) old new)) → IfErr r (FailsToMakeEdit (edits.AddRows rows) prior old new)
 rows_refused r rows listed prior old new same why = elim (cases_order 0 (length listed)) [
   | inl none ↦ all_err r (λ e. inr (inl (λ is_open o office meets held. omega (arith, meets.0, none, ap length same))))
   | inr (inl some) ↦ if_err r (λ e fails. inl (subst (λ (l : List Row). FailsToWriteAll (flat_map row_writes l) old new e) same fails)) (why (omega arith))
@@ -274,7 +274,7 @@ rows_refused r rows listed prior old new same why = elim (cases_order 0 (length 
 ]
 
 -- totals that are told to be no office's show that there is none that the sale meets
-pub sold_refused : (s : Sale) (prior : ℕ) (old new : State) (e : TableError) → IsUnderWay old → HasCleanDisk new → FailsToMergeAll (sale_writes s) old new e → FindsNoFalseRow {T = SaleTotals} (MayAddSold s) old new (Err e) → FailsToMake (edits.AddSale s) prior old new e
+pub sold_refused : (s : Sale) (prior : ℕ) (old new : State) (e : TableError) → IsUnderWay old → HasCleanDisk new → FailsToMergeAll (sale_writes s) old new e → FindsNoFalseRow {T = SaleTotals} (MayAddSold s) old new (Err e) → FailsToMakeEdit (edits.AddSale s) prior old new e
 sold_refused s prior old new e way clean (inl fails) never = inl fails
 sold_refused s prior old new e way clean (inr is) never =
     inr (inl (λ is_open o office meets held. never clean way present_format held.0 (λ _. held.1) (refl, (o, office, meets, held.2)) (ap (λ e. Err e) is)))

@@ -3,7 +3,7 @@
 ghost use Rattle.std.specs.Prelude.{⊤};
 ghost use Rattle.book_tables.specs.reading.Reading.{HasAllTables};
 ghost use Rattle.book_states.specs.Changing.{MakesAsComputed};
-ghost use Rattle.book_states.specs.Failing.{FailsToMake};
+ghost use Rattle.book_states.specs.Failing.{FailsToMakeEdit};
 
 use book_tables::writing::additions::{add_meter, add_shift, add_tariff};
 use book_tables::writing::bases::move_base;
@@ -35,7 +35,7 @@ impl<S: Alter> Change<S> for Editing<'_> {
     ghost tells = { λ _ _ _. ⊤ };
 
     ghost fails = { λ change old new error.
-        HasAllTables old → FailsToMake change.edit.now change.prior old new error };
+        HasAllTables old → FailsToMakeEdit change.edit.now change.prior old new error };
 
     fn make(&self, tx: &mut Transaction<'_, S>) -> Result<(), TableError> {
         members_law();

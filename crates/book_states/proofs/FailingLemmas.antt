@@ -17,7 +17,7 @@ use Rattle.book_tables.specs.writing.Writes.{writes_of}
 use Rattle.book_tables.specs.reading.Reading.{FailsToRead, HasAllTables}
 use Rattle.book_tables.specs.declared.error.TableError.{TableError}
 use Rattle.book_tables.specs.declared.error.TableError.TheVariants as fails
-use Rattle.book_states.specs.Failing.{EditHasFailed, FailsToMake, HasFailedAt, HasFalseRows, IsToldOfRead, refusal_for}
+use Rattle.book_states.specs.Failing.{EditHasFailed, FailsToMakeEdit, HasFailedAt, HasFalseRows, IsToldOfRead, refusal_for}
 
 -- a read that is answered as a failure of the store has one of its causes, where a row of no office
 -- is told only for this
@@ -58,7 +58,7 @@ module _ {S : Type 0} (g : Ghosts S) (edit : Edit) (prior : ℕ) (old left : Hel
   refused_before : (e : Error) → IsRefused (writes_of edit) (state g begun) e → IsRefused (writes_of edit) (state g old) e
   refused_before e it = record { before = it.before; tried = it.tried; after = it.after; among = it.among; db = it.db; made = it.made; refused = it.refused }
 
-  by_cause : (e : TableError) → refusal_for e ≡ Store → FailsToMake edit prior (state g begun) (state g left) e → EditHasFailed edit prior e (state g old) new
+  by_cause : (e : TableError) → refusal_for e ≡ Store → FailsToMakeEdit edit prior (state g begun) (state g left) e → EditHasFailed edit prior e (state g old) new
   by_cause (fails.Database e) is (inl (inl none)) = absurd (let told = rw none at is in cc)
   by_cause (fails.Database e) is (inl (inr (inl more))) = inl (omega (arith, more, later.counts))
   by_cause (fails.Database e) is (inl (inr (inr (inl shut)))) = inr (inl shut)
@@ -67,5 +67,5 @@ module _ {S : Type 0} (g : Ghosts S) (edit : Edit) (prior : ℕ) (old left : Hel
   by_cause e is (inr (inl none)) = inr (inr (inr (inl none)))
   by_cause e is (inr (inr told)) = inr (inr (inr (inr told)))
 
-  pub edit_failed : (e : TableError) → refusal_for e ≡ Store → HasAllTables (state g old) → (HasAllTables (state g begun) → FailsToMake edit prior (state g begun) (state g left) e) → EditHasFailed edit prior e (state g old) new
+  pub edit_failed : (e : TableError) → refusal_for e ≡ Store → HasAllTables (state g old) → (HasAllTables (state g begun) → FailsToMakeEdit edit prior (state g begun) (state g left) e) → EditHasFailed edit prior e (state g old) new
   edit_failed e is has why = by_cause e is (why has)

@@ -12,7 +12,7 @@ use Rattle.office_rules.specs.declared.office.row.Row.{Row}
 use Rattle.office_rules.specs.declared.office.row.Row.TheVariants as kinds
 use Rattle.office_rules.specs.declared.office.sale.Sale.{Sale}
 use Rattle.book_tables.specs.Holds.{HasOffice, HoldsMembers, table_names}
-use Rattle.book_tables.specs.writing.Keeping.{AreInOrder, KeepsRows, Keys, base_key, dated_keys, meter_key, sale_key, shift_key, tariff_keys, totals_keys}
+use Rattle.book_tables.specs.writing.Keeping.{AreInOrder, KeepsRows, Keys, base_keys, dated_keys, meter_keys, sale_key, shift_keys, tariff_keys, totals_keys}
 use Rattle.book_tables.specs.writing.Writing.{AreSaleTotals, TellsSold}
 use Rattle.book_tables.specs.declared.row.totals.SaleTotals.{SaleTotals}
 use Rattle.book_states.specs.Others.{SameOthers}
@@ -21,17 +21,17 @@ use Rattle.book_states.specs.Others.{SameOthers}
 abbrev pub row_keys : Row → Keys
 row_keys (kinds.Tariff name steps) = tariff_keys name
 row_keys (kinds.Steps name day steps) = dated_keys name day
-row_keys (kinds.Meter number m) = meter_key number ++ base_key number m.base
+row_keys (kinds.Meter number m) = meter_keys number ++ base_keys number m.base
 
 abbrev pub edit_keys : Edit → Keys
 edit_keys (AddTariff name steps) = tariff_keys name
 edit_keys (AddSteps name day steps) = dated_keys name day
-edit_keys (AddMeter number m) = meter_key number ++ base_key number m.base
+edit_keys (AddMeter number m) = meter_keys number ++ base_keys number m.base
 edit_keys (AddRows rows) = flat_map row_keys rows
-edit_keys (SetTariff number name) = meter_key number
-edit_keys (MoveBase number base) = meter_key number ++ base_key number base
-edit_keys (OpenShift s) = shift_key s.number
-edit_keys (CloseShift number moment) = shift_key number
+edit_keys (SetTariff number name) = meter_keys number
+edit_keys (MoveBase number base) = meter_keys number ++ base_keys number base
+edit_keys (OpenShift s) = shift_keys s.number
+edit_keys (CloseShift number moment) = shift_keys number
 edit_keys (AddSale s) = sale_key s.number ++ totals_keys s
 
 -- A database of an office has the members of the office after the edit, the same tables, and the

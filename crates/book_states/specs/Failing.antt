@@ -97,8 +97,8 @@ RefusesUnchanged forward at next old new refusal =
 -- Why an edit fails inside its transaction: one of its writes does, for a cause; or while the connection was
 -- open its rows were those of no office that the edit meets; or the tables told other tenths of a
 -- sale's month than those that were read and its own.
-abbrev pub FailsToMake : Edit → ℕ → State → State → TableError → Type 0
-FailsToMake edit prior old new e =
+abbrev pub FailsToMakeEdit : Edit → ℕ → State → State → TableError → Type 0
+FailsToMakeEdit edit prior old new e =
     FailsToWriteAll (writes_of edit) old new e
     ⊎ ((IsTrue old.is_open → (o : Office) → IsOffice o → Meets edit o → ¬ HoldsMembers old.now o)
     ⊎ IsMiscounted edit prior old.now)

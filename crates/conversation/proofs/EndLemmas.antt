@@ -8,7 +8,7 @@ use Rattle.conversation.specs.declared.end.End.TheVariants.{Closed, BadMessage, 
 use Rattle.conversation.specs.declared.message.message_fault.MessageFault.{MessageFault}
 use Rattle.conversation.specs.Conversation.{messages_of, Conversation, Progress, IsCutOff, IsGivenUp}
 use Rattle.conversation.specs.Exchanges.{MessageExchange, Timed, timed, GaveUp}
-use Rattle.conversation.specs.message.Messages.{Stop, ended, Message, BeginsMessage, IsRefused, finished, closing, refused}
+use Rattle.conversation.specs.message.Messages.{Stop, ended, Message, BeginsMessage, IsMessageRefused, finished, closing, refused}
 use Rattle.conversation.specs.message.Next.{IsRefusedEver}
 use Rattle.conversation.specs.Parts.{EndsEarly, EndsHere, ReplyIsWritten, RefusalIsWritten}
 use Rattle.conversation.specs.Run.{IsAll, IsRun}
@@ -88,13 +88,13 @@ memory_end step old rest = record { rest = rest; mid = old; before = progress_no
 
 -- the refusal of the front of an input that ends there
 refused_conversation : {O : Type 0} (step : Step O) (refusal : MessageFault → List ℕ) (old : Timed O) (stop : Stop) (rest : List ℕ)
-    (fault : MessageFault) → IsRefused stop rest fault
+    (fault : MessageFault) → IsMessageRefused stop rest fault
     → Conversation (timed step) refusal stop rest old (refusal fault) (refused fault) old
 refused_conversation step refusal old stop rest fault is =
     record { exchanges = []; messages = is; served = refl; text_is = refl }
 
 refused_cut_off : {O : Type 0} (step : Step O) (refusal : MessageFault → List ℕ) (old : Timed O) (rest : List ℕ)
-    (fault : MessageFault) (part : ℕ) → IsRefused ended rest fault → part < length (refusal fault)
+    (fault : MessageFault) (part : ℕ) → IsMessageRefused ended rest fault → part < length (refusal fault)
     → IsCutOff (timed step) refusal rest old (take part (refusal fault)) old
 refused_cut_off step refusal old rest fault part is short = record {
   rest = rest;
@@ -126,7 +126,7 @@ told_end step refusal old held holds rest fault Memory ever k =
 
 -- a message that is refused where the input ended
 pub told_here : {O : Type 0} (step : Step O) (refusal : MessageFault → List ℕ) (old : Timed O) (held holds : Output)
-    (rest : List ℕ) (fault : MessageFault) (end : End) → IsRefused ended rest fault → RefusalIsWritten held holds (refusal fault) end
+    (rest : List ℕ) (fault : MessageFault) (end : End) → IsMessageRefused ended rest fault → RefusalIsWritten held holds (refusal fault) end
     → Written end held holds (λ text. EndsHere step refusal old text old rest end)
 told_here step refusal old held holds rest fault Closed is x = absurd x
 told_here step refusal old held holds rest fault ReadFault is x = absurd x

@@ -3,7 +3,7 @@ use Rattle.std.proofs.Common.{◌≡◌, ◌⊎◌, ℕ, inl, inr, List, [], ◌
 use Rattle.conversation.specs.declared.end.End.{End}
 use Rattle.conversation.specs.declared.end.End.TheVariants.{Closed, BadMessage, ReadFault, WriteFault, Memory}
 use Rattle.conversation.specs.declared.message.message_fault.MessageFault.{MessageFault}
-use Rattle.conversation.specs.Conversation.{Conversation, Progress, IsCutOff, IsGivenUp, IsReply, IsRefusal}
+use Rattle.conversation.specs.Conversation.{Conversation, Progress, IsCutOff, IsGivenUp, IsMessageReply, IsRefusal}
 use Rattle.conversation.specs.Exchanges.{MessageExchange, Exchanged, Timed, timed, GaveUp}
 use Rattle.conversation.specs.message.Messages.{Stop, Message, BeginsMessage, Ending}
 use Rattle.conversation.specs.Run.{IsRun, IsSaid}
@@ -57,7 +57,7 @@ module _ {O L : Type 0} (step : Step O) (live : Step L) (IsOf : L → O → Type
 
   -- the last text of a run whose writer failed
   abbrev Last : {M : Type 0} → Step M → (MessageFault → List ℕ) → List ℕ → Timed M → List ℕ → Timed M → Type 0
-  Last move refusal rest mid last new = IsReply (timed move) rest mid last new ⊎ IsRefusal refusal rest mid last new
+  Last move refusal rest mid last new = IsMessageReply (timed move) rest mid last new ⊎ IsRefusal refusal rest mid last new
 
   well_before_last : (refusal : MessageFault → List ℕ) (rest : List ℕ) (mid : Timed O) (last : List ℕ) (new : Timed O)
       → Last step refusal rest mid last new → Well new.0 → Well mid.0

@@ -22,7 +22,7 @@ use Rattle.conversation.specs.declared.message.method.Method.TheVariants.{Get, P
 use Rattle.conversation.specs.declared.message.method.Method.{Method}
 use Rattle.conversation.specs.message.Front.{IsHeadAt}
 use Rattle.conversation.specs.message.Heads.{BeginsWithHead, NeverHasHead}
-use Rattle.conversation.specs.message.Messages.{Stop, ended, failed, BeginsMessage, BeginsFaulty, IsRefused}
+use Rattle.conversation.specs.message.Messages.{Stop, ended, failed, BeginsMessage, BeginsFaulty, IsMessageRefused}
 use Rattle.conversation.specs.message.Next.{IsRefusedEver}
 
 -- a head stands at the front whatever follows
@@ -126,7 +126,7 @@ framed_fits head f =
     (body_len (values_of (codes "content-length") fields)) f (body_fits (values_of (codes "content-length") fields))
 
 refused_for : (stop : Stop) (input : List ℕ) (fault : MessageFault) → fault ≢ Head → BeginsFaulty input fault
-    → IsRefused stop input fault
+    → IsMessageRefused stop input fault
 refused_for stop input Head other faulty = absurd (other refl)
 refused_for stop input faults.Method other faulty = faulty
 refused_for stop input Host other faulty = faulty

@@ -13,7 +13,7 @@ use Rattle.conversation.specs.message.Heads.{BeginsWithHead, HasNoHead, NeverHas
 use Rattle.conversation.specs.declared.message.next.Next.{Next}
 use Rattle.conversation.specs.declared.message.next.Next.TheVariants.{Whole, Refused, NeedHead, NeedBody}
 use Rattle.conversation.specs.message.Next.{message_of, IsRefusedEver, BeginsAs, FindsNext}
-use Rattle.conversation.specs.message.Messages.{Stop, ended, failed, Message, BeginsMessage, BeginsFaulty, BeginsNoHead, LacksBody, IsCutMessage, IsRefused, Ending, finished, closing, broken, refused, EndsAs, Messages, IsEither, AgreeBy}
+use Rattle.conversation.specs.message.Messages.{Stop, ended, failed, Message, BeginsMessage, BeginsFaulty, BeginsNoHead, LacksBody, IsCutMessage, IsMessageRefused, Ending, finished, closing, broken, refused, EndsAs, Messages, IsEither, AgreeBy}
 
 -- two fronts of one length
 fronts_same : (a b r q : List ℕ) → a ++ r ≡ b ++ q → length a ≡ length b → (a ≡ b) × (r ≡ q)
@@ -93,7 +93,7 @@ no_head : (stop : Stop) (input : List ℕ) → BeginsNoHead stop input → NoHea
 no_head ended input x = record { word = refl; none = x.1; some = λ _. x.0 }
 no_head failed input x = record { word = refl; none = never_none input x; some = λ e. absurd (cc) }
 
-refused_cases : (stop : Stop) (input : List ℕ) (fault : MessageFault) → IsRefused stop input fault
+refused_cases : (stop : Stop) (input : List ℕ) (fault : MessageFault) → IsMessageRefused stop input fault
     → BeginsFaulty input fault ⊎ NoHead stop input fault
 refused_cases stop input Head x = inr (no_head stop input x)
 refused_cases stop input Method x = inl x
@@ -209,7 +209,7 @@ cut_once input a b x y =
 refused_now : (input : List ℕ) (fault : MessageFault) → IsRefusedEver input fault
     → BeginsFaulty input fault ⊎ NoHead ended input fault
 refused_now input fault ever =
-    refused_cases ended input fault (subst (λ bytes. IsRefused ended bytes fault) (append-nil input) (ever ended []))
+    refused_cases ended input fault (subst (λ bytes. IsMessageRefused ended bytes fault) (append-nil input) (ever ended []))
 
 faulty_or_headless : (input : List ℕ) (fault : MessageFault) → HasNoHead input
     → BeginsFaulty input fault ⊎ NoHead ended input fault → fault ≡ Head

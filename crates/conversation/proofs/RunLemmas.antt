@@ -11,7 +11,7 @@ use Rattle.conversation.specs.declared.message.message_fault.MessageFault.TheVar
 use Rattle.conversation.specs.declared.wants.Wants.{Wants}
 use Rattle.conversation.specs.declared.wants.Wants.TheVariants.{Head, Body}
 use Rattle.conversation.specs.Conversation.{Conversation, Progress}
-use Rattle.conversation.specs.Ends.{AsksOnce, IsRead, Output, Writes, WritesLast, WritesWhole}
+use Rattle.conversation.specs.Ends.{AsksOnce, IsInputRead, Output, Writes, WritesLast, WritesWhole}
 use Rattle.conversation.specs.Exchanges.{Timed, timed}
 use Rattle.conversation.specs.message.Heads.{longest_head}
 use Rattle.conversation.specs.message.Messages.{failed as failing, EndsAs, broken}
@@ -59,7 +59,7 @@ failed_run step refusal old new unread left held holds taken rest text w c writt
 
 -- a read that failed, or had no room
 pub read_run : {O : Type 0} (step : Step O) (refusal : MessageFault → List ℕ) (old new : Timed O) (told tells : Option (List Use)) (a b c held holds : Option (List ℕ))
-    (wanted : ℕ) (taken rest after text : List ℕ) (w : Wants) (end : End) → Consumes a b taken → IsRead told tells b c wanted rest after (Err end)
+    (wanted : ℕ) (taken rest after text : List ℕ) (w : Wants) (end : End) → Consumes a b taken → IsInputRead told tells b c wanted rest after (Err end)
     → Appends held holds text → Progress (timed step) taken rest old text new → IsAwaited rest w
     → IsRun step refusal old new a c held holds end
 read_run step refusal old new told tells a b c held holds wanted taken rest after text w Closed before is written p awaited = absurd is
@@ -164,7 +164,7 @@ paced step old told tells unread left held holds end uses used ends = (uses, use
 module _ {O : Type 0} (step : Step O) (old new : Timed O) (told mid tells : Option (List Use)) (unread left now held holds : Option (List ℕ)) (uses : List Use) (rest : List ℕ) where
   -- a read that failed, or had no room
   pub paced_read : (after : List ℕ) (w : Wants) (wanted : ℕ) (end : End) → wanted ≡ count_of w → Used step old told mid unread left held holds uses → AreOpen uses
-      → Progress (timed step) (received uses) rest old (written uses) new → IsAwaited rest w → IsRead mid tells left now wanted rest after (Err end)
+      → Progress (timed step) (received uses) rest old (written uses) new → IsAwaited rest w → IsInputRead mid tells left now wanted rest after (Err end)
       → Paced step old told tells unread now held holds end
   paced_read after w wanted ReadFault all used opened answered awaited (kept, same, asks) =
       let read = used_read step old new told mid tells unread left now held holds uses rest w wanted failed all used opened answered awaited asks
@@ -186,7 +186,7 @@ module _ {O : Type 0} (step : Step O) (old new : Timed O) (told mid tells : Opti
 
   -- a read that was interrupted
   pub interrupted_read : (after : List ℕ) (w : Wants) (wanted : ℕ) → wanted ≡ count_of w → Used step old told mid unread left held holds uses → AreOpen uses
-      → Progress (timed step) (received uses) rest old (written uses) new → IsAwaited rest w → IsRead mid tells left now wanted rest after (Ok None)
+      → Progress (timed step) (received uses) rest old (written uses) new → IsAwaited rest w → IsInputRead mid tells left now wanted rest after (Ok None)
       → (all : List Use) × Used step old told tells unread now held holds all × AreOpen all
       × Progress (timed step) (received all) after old (written all) new × IsAwaited after w × (reads_in all ≡ suc (reads_in uses))
   interrupted_read after w wanted all used opened answered awaited (kept, same, asks) =
@@ -206,7 +206,7 @@ module _ {O : Type 0} (step : Step O) (old new : Timed O) (told mid tells : Opti
   -- a read that was not interrupted
   module _ (after : List ℕ) (w : Wants) (wanted count : ℕ) (all_wanted : wanted ≡ count_of w) (used : Used step old told mid unread left held holds uses) (opened : AreOpen uses)
       (answered : Progress (timed step) (received uses) rest old (written uses) new) (awaited : IsAwaited rest w)
-      (read : IsRead mid tells left now wanted rest after (Ok (Some count))) where
+      (read : IsInputRead mid tells left now wanted rest after (Ok (Some count))) where
     abbrev made : List Use
     made = uses ++ asked read.5.0 (moved read.0) ∷ []
 

@@ -11,9 +11,9 @@ use Rattle.std.proofs.lemmas.Grind.{flat_map-append}
 use Rattle.std.specs.Io.KnownBytes.{Appends, Keeps}
 use Rattle.conversation.specs.declared.end.End.{End}
 use Rattle.conversation.specs.declared.end.End.TheVariants.{Closed, BadMessage, ReadFault, WriteFault, Memory}
-use Rattle.conversation.specs.Ends.{AreSends, IsPart, IsSent, Output, SendsEnd, Writes, WritesLast, WritesWhole}
+use Rattle.conversation.specs.Ends.{AreSends, IsPart, IsOutputSent, Output, SendsEnd, Writes, WritesLast, WritesWhole}
 use Rattle.conversation.specs.Exchanges.{Timed}
-use Rattle.conversation.specs.Uses.{Use, asked, sent, Passed, moved, interrupted, failed, AreInTurn, AreOpen, AreSound, EndsBy, EndsWith, EndsWriting, GoesOn, Grows, IsOpen, IsSound, Stops, bytes_in, came_by, interrupts, most_tries, passed_of, reads_in, received, taken_by, writes_in, written}
+use Rattle.conversation.specs.Uses.{Use, asked, sent, Passed, moved, interrupted, failed, AreInTurn, AreOpen, AreSound, EndsBy, UsesEndWith, EndsWriting, GoesOn, Grows, IsOpen, IsSoundUse, Stops, bytes_in, came_by, interrupts, most_tries, passed_of, reads_in, received, taken_by, writes_in, written}
 use Rattle.conversation.proofs.ProgressLemmas.{Step}
 
 pub Grows-nil : (a : Option (List Use)) → Grows a a []
@@ -40,7 +40,7 @@ pub AreSound-append : (xs ys : List Use) → AreSound xs → AreSound ys → Are
 AreSound-append [] ys p q = q
 AreSound-append (x ∷ xs) ys p q = (p.0, AreSound-append xs ys p.1 q)
 
-open_sound : (x : Use) → IsOpen x → IsSound x
+open_sound : (x : Use) → IsOpen x → IsSoundUse x
 open_sound (asked count (moved bytes)) p = tt
 open_sound (asked count interrupted) p = tt
 open_sound (asked count failed) p = absurd p
@@ -78,7 +78,7 @@ sends_read_none (asked count passed ∷ xs) p = absurd p
 sends_read_none (sent passed ∷ xs) (inl (on, p)) = sends_read_none xs p
 sends_read_none (sent passed ∷ xs) (inr (stops, none)) = ap reads_in none
 
-ends_with_after : (xs ys : List Use) (last : Use) → EndsWith ys last → EndsWith (xs ++ ys) last
+ends_with_after : (xs ys : List Use) (last : Use) → UsesEndWith ys last → UsesEndWith (xs ++ ys) last
 ends_with_after xs ys last (before, is) =
     (xs ++ before, ap (λ l. xs ++ l) is ∙ sym (append_assoc xs before (last ∷ [])))
 
@@ -187,7 +187,7 @@ whole_part a b c text rest n m is x y =
 
 -- where writing ends behind the first n bytes of a text
 pub sent_before : (A : Type 0) (a b c : Output) (text rest : List ℕ) (n : ℕ) (end : End) → n < length text → WritesWhole a b (take n text)
-    → IsPart b c rest (Err end) → IsSent {A = A} a c text (Err end)
+    → IsPart b c rest (Err end) → IsOutputSent {A = A} a c text (Err end)
 sent_before A a b c text rest n Closed short x is = absurd is
 sent_before A a b c text rest n BadMessage short x is = absurd is
 sent_before A a b c text rest n ReadFault short x is = absurd is

@@ -4,7 +4,7 @@ use Rattle.std.specs.Prelude.{◌≡◌, ℕ, ◌<◌, ◌⊎◌, List, [], ◌+
 use Rattle.std.specs.List.{flat_map}
 use Rattle.conversation.specs.declared.message.message_fault.MessageFault.{MessageFault}
 use Rattle.conversation.specs.Exchanges.{MessageExchange, Exchanged, BeginsMessages}
-use Rattle.conversation.specs.message.Messages.{Stop, ended, Message, BeginsMessage, IsRefused, Ending, finished, closing, broken, refused, Messages}
+use Rattle.conversation.specs.message.Messages.{Stop, ended, Message, BeginsMessage, IsMessageRefused, Ending, finished, closing, broken, refused, Messages}
 
 abbrev pub messages_of : List MessageExchange → List Message
 messages_of xs = map (λ x. x.message) xs
@@ -40,7 +40,7 @@ pub record Progress
   pub text_is : text ≡ replies_of exchanges
 
 -- the text is the reply to the message at the front of the input
-pub record IsReply
+pub record IsMessageReply
     {O : Type 0} (step : O → MessageExchange → O → Type 0)
     (input : List ℕ) (old : O) (text : List ℕ) (new : O) : Type 0 where
   pub exchange : MessageExchange
@@ -54,7 +54,7 @@ pub record IsRefusal
     {O : Type 0} (refusal : MessageFault → List ℕ)
     (input : List ℕ) (old : O) (text : List ℕ) (new : O) : Type 0 where
   pub fault : MessageFault
-  pub is_refused : IsRefused ended input fault
+  pub is_refused : IsMessageRefused ended input fault
   pub text_is : text ≡ refusal fault
   pub same : new ≡ old
 
@@ -67,7 +67,7 @@ pub record IsCutOff
   pub mid : O
   pub before : Progress step input rest old whole mid
   pub last : List ℕ
-  pub is_last : IsReply step rest mid last new ⊎ IsRefusal refusal rest mid last new
+  pub is_last : IsMessageReply step rest mid last new ⊎ IsRefusal refusal rest mid last new
   pub part : ℕ
   pub short : part < length last
   pub written_is : written ≡ whole ++ take part last

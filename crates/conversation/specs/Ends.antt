@@ -49,10 +49,10 @@ IsBeginning old new text =
     (part : ℕ) × (part < length text) × WritesLast WriteFault old new (take part text)
 
 -- the text was written whole, or the writer failed after a beginning of it
-abbrev pub IsSent : {A : Type 0} → Output → Output → List ℕ → Result A End → Type 0
-IsSent old new text (Ok _) = WritesWhole old new text
-IsSent old new text (Err WriteFault) = IsBeginning old new text
-IsSent old new text (Err end) = ⊥
+abbrev pub IsOutputSent : {A : Type 0} → Output → Output → List ℕ → Result A End → Type 0
+IsOutputSent old new text (Ok _) = WritesWhole old new text
+IsOutputSent old new text (Err WriteFault) = IsBeginning old new text
+IsOutputSent old new text (Err end) = ⊥
 
 -- so many bytes stand at the front of what was read, none only at the end; or nothing was read
 abbrev pub ReadsAt : {E : Type 0} → Option (List ℕ) → Option (List ℕ) → List ℕ → Result ℕ E → Type 0
@@ -67,18 +67,18 @@ AsksOnce told tells wanted passed =
 
 -- bytes were read behind what was there, none only at the end of the input; or the read was
 -- interrupted, and nothing was read; or nothing was, for that end
-abbrev pub IsRead : (told tells : Option (List Use)) → Option (List ℕ) → Option (List ℕ)
+abbrev pub IsInputRead : (told tells : Option (List Use)) → Option (List ℕ) → Option (List ℕ)
     → (wanted : ℕ) → List ℕ → List ℕ → Result (Option ℕ) End → Type 0
-IsRead told tells old new wanted before after (Ok (Some count)) =
+IsInputRead told tells old new wanted before after (Ok (Some count)) =
     (bytes : List ℕ) × (length bytes ≡ count) × (after ≡ before ++ bytes)
     × Consumes old new bytes × (count ≡ 0 → IsAtEnd new) × AsksOnce told tells wanted (moved bytes)
-IsRead told tells old new wanted before after (Ok None) =
+IsInputRead told tells old new wanted before after (Ok None) =
     Keeps old new × (after ≡ before) × AsksOnce told tells wanted interrupted
-IsRead told tells old new wanted before after (Err ReadFault) =
+IsInputRead told tells old new wanted before after (Err ReadFault) =
     Keeps old new × (after ≡ before) × AsksOnce told tells wanted failed
-IsRead told tells old new wanted before after (Err Memory) =
+IsInputRead told tells old new wanted before after (Err Memory) =
     Keeps old new × (after ≡ before) × Grows told tells []
-IsRead told tells old new wanted before after (Err end) = ⊥
+IsInputRead told tells old new wanted before after (Err end) = ⊥
 
 -- the writer took some bytes of a text; or writing ended, and it took none
 abbrev pub IsPart : Output → Output → List ℕ → Result ℕ End → Type 0

@@ -9,7 +9,7 @@ use Rattle.conversation.specs.declared.message.message_fault.MessageFault.TheVar
 use Rattle.conversation.specs.Conversation.{Conversation, Progress, IsCutOff, IsGivenUp}
 use Rattle.conversation.specs.Ends.{IsBeginning, Output, WritesLast, WritesWhole}
 use Rattle.conversation.specs.Exchanges.{MessageExchange, Timed, timed, GaveUp}
-use Rattle.conversation.specs.message.Messages.{Stop, ended, Message, EndsAs, IsRefused, finished, closing, refused}
+use Rattle.conversation.specs.message.Messages.{Stop, ended, Message, EndsAs, IsMessageRefused, finished, closing, refused}
 use Rattle.conversation.specs.Wants.{IsAwaited}
 
 -- an end that was written as this text, whatever follows the input and however that stops
@@ -49,7 +49,7 @@ RefusalIsWritten held holds text end = ⊥
 abbrev pub IsOver : (MessageFault → List ℕ) → List ℕ → Output → Output → End → Type 0
 IsOver refusal rest held holds Closed = EndsAs ended rest finished × WritesWhole held holds []
 IsOver refusal rest held holds end =
-    IsRefused ended rest Head × RefusalIsWritten held holds (refusal Head) end
+    IsMessageRefused ended rest Head × RefusalIsWritten held holds (refusal Head) end
 
 -- all whole messages of the input were answered, and this is left and awaited; or the end came
 abbrev pub RepliesAreWritten : {O : Type 0} → (O → MessageExchange → O → Type 0)

@@ -79,14 +79,14 @@ abbrev pub Stops : Passed → Type 0
 Stops passed = ¬ GoesOn passed
 
 -- nothing failed by this use
-abbrev pub IsSound : Use → Type 0
-IsSound (asked count (moved bytes)) = ⊤
-IsSound (asked count interrupted) = ⊤
-IsSound (asked count failed) = ⊥
-IsSound (sent passed) = GoesOn passed
+abbrev pub IsSoundUse : Use → Type 0
+IsSoundUse (asked count (moved bytes)) = ⊤
+IsSoundUse (asked count interrupted) = ⊤
+IsSoundUse (asked count failed) = ⊥
+IsSoundUse (sent passed) = GoesOn passed
 
 abbrev pub AreSound : List Use → Type 0
-AreSound uses = AllByRecursion IsSound uses
+AreSound uses = AllByRecursion IsSoundUse uses
 
 -- nor did the input end
 abbrev pub IsOpen : Use → Type 0
@@ -140,8 +140,8 @@ pub record IsPaced
   pub writes : Appends held holds (written uses)
 
 -- this was the last use
-abbrev pub EndsWith : List Use → Use → Type 0
-EndsWith uses last = (before : List Use) × (uses ≡ before ++ last ∷ [])
+abbrev pub UsesEndWith : List Use → Use → Type 0
+UsesEndWith uses last = (before : List Use) × (uses ≡ before ++ last ∷ [])
 
 -- how many of the uses are reads
 abbrev pub reads_in : List Use → ℕ
@@ -162,7 +162,7 @@ most_tries = 18446744073709551615
 -- By these uses writing ends: the last of them is a write that failed or took no byte, and was not
 -- interrupted; or none failed, and so many were made that no more are.
 abbrev pub EndsWriting : List Use → Type 0
-EndsWriting uses = ((passed : Passed) × Stops passed × EndsWith uses (sent passed))
+EndsWriting uses = ((passed : Passed) × Stops passed × UsesEndWith uses (sent passed))
     ⊎ (AreSound uses × (most_tries ≤ writes_in uses))
 
 -- By these uses a run ends so: with a read fault where the last of them is a read that failed and
@@ -170,7 +170,7 @@ EndsWriting uses = ((passed : Passed) × Stops passed × EndsWith uses (sent pas
 -- writing ends; and else where nothing failed.
 abbrev pub EndsBy : End → List Use → Type 0
 EndsBy ReadFault uses =
-    ((count : ℕ) × EndsWith uses (asked count failed))
+    ((count : ℕ) × UsesEndWith uses (asked count failed))
     ⊎ (AreOpen uses × (reads_in uses ≡ most_tries))
 EndsBy WriteFault uses = EndsWriting uses
 EndsBy Closed uses = AreSound uses

@@ -1,7 +1,7 @@
 //! A text that is handed to a writer, by as many writes as it takes.
 
 ghost use Rattle.std.specs.Prelude.{◌<◌, length};
-ghost use Rattle.conversation.specs.Ends.{IsPart, IsSent};
+ghost use Rattle.conversation.specs.Ends.{IsPart, IsOutputSent};
 
 use crate::end::End;
 use crate::line::{Line, is_interrupted};
@@ -13,7 +13,7 @@ pub(crate) fn send<L: Line<R, W>, R: Read, W: Write>(
     writer: &mut W,
     text: &[u8],
 ) -> Result<(), End>
-    ensures { IsSent (W.contents writer.old, L.uses line.old)
+    ensures { IsOutputSent (W.contents writer.old, L.uses line.old)
         (W.contents writer.new, L.uses line.new) text.now result }
 {
     let mut rest = text;

@@ -1,5 +1,5 @@
 ghost use Rattle.std.specs.Prelude.{◌≡◌, ◌∷◌, ◌+◌, ◌<◌, ◌≤◌, [], length, take, drop, IfOk, vec_len};
-ghost use Rattle.conversation.specs.Ends.{AsksOnce, IsRead, ReadsAt};
+ghost use Rattle.conversation.specs.Ends.{AsksOnce, IsInputRead, ReadsAt};
 ghost use Rattle.conversation.specs.Uses.{Grows, asked, longest_message, passed_of};
 
 use crate::end::End;
@@ -49,7 +49,7 @@ impl Unanswered {
     ) -> Result<Option<usize>, End>
         requires some { 0 < wanted }
         requires room { vec_len self.old.bytes + wanted ≤ longest_message }
-        ensures { IsRead (L.uses line.old) (L.uses line.new) (R.remaining reader.old)
+        ensures { IsInputRead (L.uses line.old) (L.uses line.new) (R.remaining reader.old)
             (R.remaining reader.new) wanted self.old.bytes.items self.new.bytes.items result }
     {
         let came = read_behind(line, reader, &mut self.bytes, wanted, self.window)?;
@@ -126,7 +126,7 @@ fn read_behind<L: Line<R, W>, R: Read, W: Write>(
     requires some { 0 < wanted }
     requires open { 0 < window }
     requires room { vec_len buffer.old + wanted ≤ longest_message }
-    ensures read { IsRead (L.uses line.old) (L.uses line.new) (R.remaining reader.old)
+    ensures read { IsInputRead (L.uses line.old) (L.uses line.new) (R.remaining reader.old)
         (R.remaining reader.new) wanted buffer.old.items buffer.new.items result }
     ensures within { vec_len buffer.new ≤ longest_message }
 {

@@ -21,15 +21,15 @@ use Rattle.office_rules.specs.declared.decision.row_cause.RowCause.{RowCause}
 use Rattle.office_rules.specs.declared.decision.row_cause.RowCause.TheVariants as causes
 use Rattle.office_rules.specs.declared.office.sale.Sale.{Sale}
 use Rattle.desk_client.specs.Alike.{GrantAlike, TellAlike}
-use Rattle.desk_client.specs.Meter.{IsLastSale, IsToldMeter, last_sale_text, meter_ends, meter_text, meter_values}
-use Rattle.desk_client.specs.Quote.{IsToldQuote, quote_ends, quote_text, quote_values}
-use Rattle.desk_client.specs.Refusal.{IsCause, IsPlain, IsRow, plain_ends, plain_text, row_ends, row_text}
+use Rattle.desk_client.specs.Meter.{IsLastSaleNumber, IsToldMeter, last_number_text, meter_ends, meter_text, meter_values}
+use Rattle.desk_client.specs.Quote.{IsToldQuote, quote_ends, quote_as_read, quote_values}
+use Rattle.desk_client.specs.Refusal.{IsCause, IsPlain, IsRowCause, plain_ends, plain_text, row_ends, row_text}
 use Rattle.desk_client.specs.Reply.{IsRefusing, IsReply}
-use Rattle.desk_client.specs.Sale.{IsTold, sale_ends, sale_text, sale_values}
+use Rattle.desk_client.specs.Sale.{IsSaleTold, sale_ends, sale_as_read, sale_values}
 use Rattle.desk_client.specs.Start.{category_start}
 use Rattle.desk_client.specs.Text.{LackStops}
 use Rattle.desk_client.specs.Told.{IsAnswer, IsTellable, IsTellableRefusal, granted_start, granted_text, refusal_text, told_start, told_text, wanted_of}
-use Rattle.desk_client.specs.Totals.{IsToldTotals, totals_ends, totals_text, totals_values}
+use Rattle.desk_client.specs.Totals.{IsToldTotals, totals_ends, totals_as_read, totals_values}
 use Rattle.desk_client.specs.declared.told.Granted.{Granted}
 use Rattle.desk_client.specs.declared.told.Granted.TheVariants as granted
 use Rattle.desk_client.specs.declared.told.Told.{Told}
@@ -75,7 +75,7 @@ not_null n small e =
     let first = digit_at (decimal n) 0 (decimal_is_IsNumeral n small).0.1 (omega (arith, ap length e)) in
     omega (arith, first.1, ap (λ (text : List ℕ). get_or text 0 0) e)
 
-same_last_sale : (a b : Option ℕ) → IsLastSale a → IsLastSale b → last_sale_text a ≡ last_sale_text b → a ≡ b
+same_last_sale : (a b : Option ℕ) → IsLastSaleNumber a → IsLastSaleNumber b → last_number_text a ≡ last_number_text b → a ≡ b
 same_last_sale None None small few e = refl
 same_last_sale None (Some n) small few e = absurd (not_null n (omega (arith, few)) e)
 same_last_sale (Some m) None small few e = absurd (not_null m (omega (arith, small)) (sym e))
@@ -96,10 +96,10 @@ same_count front m n small few e =
     decimal_injective m n (omega (arith, small)) (omega (arith, few)) digits.0
 
 -- the texts of two sales are one only where the sales are
-pub same_sale : ((t : ℕ) → IsRepresentable t → t ≤ greatest_amount) → (s t : Sale) → IsTold s → IsTold t → sale_text s ≡ sale_text t → s ≡ t
+pub same_sale : ((t : ℕ) → IsRepresentable t → t ≤ greatest_amount) → (s t : Sale) → IsSaleTold s → IsSaleTold t → sale_as_read s ≡ sale_as_read t → s ≡ t
 same_sale most s t is are e =
     let same : sale_values s ≡ sale_values t =
-    one_reading (sale_text s) (codes "{\"base\":") (sale_values s) (sale_values t) sale_ends (omega arith) refl
+    one_reading (sale_as_read s) (codes "{\"base\":") (sale_values s) (sale_values t) sale_ends (omega arith) refl
     (refl, (refl, (refl, (refl, (refl, (refl, (refl, (refl, (refl, (refl, (refl, (refl, (refl, tt)))))))))))))
     (plain_sale most s is) (plain_sale most t are) refl e in
     let at = λ (i : ℕ). value_at (sale_values s) (sale_values t) i same in
@@ -147,10 +147,10 @@ same_meter m n is are e =
     λ i. record { number = number i; base = base i; tariff = tariff i; tenths = tenths i; last_sale = last_sale i }
 
 -- nor are those of two quotes: what would be given back follows from the rest
-same_quote : ((t : ℕ) → IsRepresentable t → t ≤ greatest_amount) → (p q : Quote) → IsToldQuote p → IsToldQuote q → quote_text p ≡ quote_text q → p ≡ q
+same_quote : ((t : ℕ) → IsRepresentable t → t ≤ greatest_amount) → (p q : Quote) → IsToldQuote p → IsToldQuote q → quote_as_read p ≡ quote_as_read q → p ≡ q
 same_quote most p q is are e =
     let same : quote_values p ≡ quote_values q =
-    one_reading (quote_text p) (codes "{\"change\":") (quote_values p) (quote_values q) quote_ends (omega arith) refl
+    one_reading (quote_as_read p) (codes "{\"change\":") (quote_values p) (quote_values q) quote_ends (omega arith) refl
     (refl, (refl, (refl, (refl, (refl, (refl, tt)))))) (plain_quote most p is) (plain_quote most q are) refl e in
     let at = λ (i : ℕ). value_at (quote_values p) (quote_values q) i same in
     let meter : p.meter ≡ q.meter = at 1 in
@@ -161,10 +161,10 @@ same_quote most p q is are e =
     λ i. record { meter = meter i; tariff = tariff i; tender = tender i; tenths = tenths i; price = price i }
 
 -- nor are those of the totals of two shifts
-same_totals : (m n : ℕ) (t u : Totals) → IsToldTotals m t → IsToldTotals n u → totals_text m t ≡ totals_text n u → (m ≡ n) × (t ≡ u)
+same_totals : (m n : ℕ) (t u : Totals) → IsToldTotals m t → IsToldTotals n u → totals_as_read m t ≡ totals_as_read n u → (m ≡ n) × (t ≡ u)
 same_totals m n t u is are e =
     let same : totals_values m t ≡ totals_values n u =
-    one_reading (totals_text m t) (codes "{\"cash\":") (totals_values m t) (totals_values n u) totals_ends (omega arith) refl
+    one_reading (totals_as_read m t) (codes "{\"cash\":") (totals_values m t) (totals_values n u) totals_ends (omega arith) refl
     (refl, (refl, (refl, (refl, tt)))) (plain_totals m t is) (plain_totals n u are) refl e in
     let at = λ (i : ℕ). value_at (totals_values m t) (totals_values n u) i same in
     let cash : t.cash ≡ u.cash = decimal_injective t.cash u.cash is.cash are.cash (at 0) in
@@ -201,10 +201,10 @@ same_cause causes.DayPast causes.DayPast is are e = refl
 same_cause a b is are e =
     absurd (omega (arith, ap (λ (text : List ℕ). get_or text 0 0) e, ap (λ (text : List ℕ). get_or text 1 0) e))
 
-row_plain : (row : ℕ) (cause : RowCause) → IsRow row cause → LackStops (cause_text cause ∷ decimal row ∷ [])
+row_plain : (row : ℕ) (cause : RowCause) → IsRowCause row cause → LackStops (cause_text cause ∷ decimal row ∷ [])
 row_plain row cause is = (plain_cause cause is.1, (plain_number row (omega (arith, is.0)), tt))
 
-same_row : (m n : ℕ) (a b : RowCause) → IsRow m a → IsRow n b → row_text m a ≡ row_text n b → ImportRow m a ≡ ImportRow n b
+same_row : (m n : ℕ) (a b : RowCause) → IsRowCause m a → IsRowCause n b → row_text m a ≡ row_text n b → ImportRow m a ≡ ImportRow n b
 same_row m n a b is are e =
     let same : cause_text a ∷ decimal m ∷ [] ≡ cause_text b ∷ decimal n ∷ [] =
     one_reading (row_text m a) (codes "{\"cause\":\"") (cause_text a ∷ decimal m ∷ []) (cause_text b ∷ decimal n ∷ []) row_ends (omega arith) refl

@@ -8,7 +8,7 @@ use Rattle.conversation.proofs.HeadLemmas.{front_within}
 use Rattle.office_rules.specs.Decision.Refusals.{refusal_category}
 use Rattle.office_rules.specs.declared.decision.category.Category.{Category}
 use Rattle.office_rules.specs.declared.decision.category.Category.TheVariants as categories
-use Rattle.desk_client.specs.Reply.{IsRefusing, IsReply, head_bytes, longest_body, longest_head}
+use Rattle.desk_client.specs.Reply.{IsRefusing, IsReply, head_bytes, longest_reply_body, longest_reply_head}
 use Rattle.desk_client.specs.Start.{category_start, head_end, start_text}
 use Rattle.desk_client.specs.Told.{IsStart, IsTellable, granted_start, told_start, told_text}
 use Rattle.desk_client.specs.declared.start.Start.{Start}
@@ -78,7 +78,7 @@ reply_behind asked s n r more t small reply =
 
 -- the body of a whole reply is no longer than its head says, and that no longer than any
 pub reply_lengths : (asked : Wanted) (s : Start) (n : ℕ) (r more : List ℕ) (t : Told) → n < 2 ^ 64 → IsReply asked (head_bytes s n r ++ more) t
-    → (n ≤ longest_body) × (length r + length more ≡ n)
+    → (n ≤ longest_reply_body) × (length r + length more ≡ n)
 reply_lengths asked s n r more t small reply =
     let is = reply_behind asked s n r more t small reply in
     (omega (arith, is.1, reply.short), omega (arith, is.1, ap length is.2, length-append r more))
@@ -127,7 +127,7 @@ short_start Unable = omega arith
 abbrev front : Start → ℕ → List ℕ
 front s n = start_text s ++ (decimal n ++ head_end)
 
-short_front : (s : Start) (n : ℕ) → n ≤ longest_body → length (front s n) ≤ longest_head
+short_front : (s : Start) (n : ℕ) → n ≤ longest_reply_body → length (front s n) ≤ longest_reply_head
 short_front s n h =
     omega (
       arith,
@@ -141,7 +141,7 @@ behind_front : (s d r : List ℕ) → s ++ (d ++ 13 ∷ 10 ∷ 13 ∷ 10 ∷ r) 
 behind_front s d r = simp (append_assoc, cons-append)
 
 -- where no head is found in as many bytes as any has, no reply begins so
-pub no_reply : (asked : Wanted) (input : List ℕ) → longest_head ≤ length input
+pub no_reply : (asked : Wanted) (input : List ℕ) → longest_reply_head ≤ length input
     → ((s : Start) (n : ℕ) (r : List ℕ) → IsStart asked s → n < 2 ^ 64 → input ≢ head_bytes s n r)
     → (more : List ℕ) (t : Told) → ¬ IsReply asked (input ++ more) t
 no_reply asked input long none more t reply =

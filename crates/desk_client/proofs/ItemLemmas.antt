@@ -5,7 +5,7 @@ use Rattle.std.specs.Prelude.{All, slice_index}
 use Rattle.std.specs.List.{AllByRecursion, join_with_byte}
 use Rattle.std.proofs.lemmas.List.{append_cancel_left, map-append}
 use Rattle.std.proofs.lemmas.List.Elements.{All-push}
-use Rattle.desk_client.specs.Items.{AreReadInOneWay, IsFront, closed_text}
+use Rattle.desk_client.specs.Items.{AreReadInOneWay, IsFrontItem, closed_list_text}
 
 -- each text with a comma behind it, and then the rest
 abbrev pub led : List (List ℕ) → List ℕ → List ℕ
@@ -17,11 +17,11 @@ abbrev pub behind_first : List (List ℕ) → List ℕ → List ℕ
 behind_first [] rest = 93 ∷ rest
 behind_first (t ∷ ts) rest = 44 ∷ (t ++ behind_first ts rest)
 
-pub closed-first : (t : List ℕ) (ts : List (List ℕ)) (rest : List ℕ) → closed_text (t ∷ ts) ++ rest ≡ t ++ behind_first ts rest
+pub closed-first : (t : List ℕ) (ts : List (List ℕ)) (rest : List ℕ) → closed_list_text (t ∷ ts) ++ rest ≡ t ++ behind_first ts rest
 closed-first t [] rest = append_assoc t (93 ∷ []) rest
 closed-first t (u ∷ ts) rest =
     ap (λ (b : List ℕ). b ++ rest) (append_assoc t (44 ∷ join_with_byte 44 (u ∷ ts)) (93 ∷ []))
-    ∙ append_assoc t (44 ∷ closed_text (u ∷ ts)) rest
+    ∙ append_assoc t (44 ∷ closed_list_text (u ∷ ts)) rest
     ∙ ap (λ (b : List ℕ). t ++ (44 ∷ b)) (closed-first u ts rest)
 
 -- one item more
@@ -35,18 +35,18 @@ led-first u [] t rest = refl
 led-first u (v ∷ ts) t rest = ap (λ (b : List ℕ). u ++ (44 ∷ b)) (led-first v ts t rest)
 
 -- the last item
-pub led-closed : (ts : List (List ℕ)) (t rest : List ℕ) → led ts (t ++ (93 ∷ rest)) ≡ closed_text (ts ++ t ∷ []) ++ rest
+pub led-closed : (ts : List (List ℕ)) (t rest : List ℕ) → led ts (t ++ (93 ∷ rest)) ≡ closed_list_text (ts ++ t ∷ []) ++ rest
 led-closed [] t rest = sym (closed-first t [] rest)
 led-closed (u ∷ ts) t rest = led-first u ts t rest ∙ sym (closed-first u (ts ++ t ∷ []) rest)
 
 -- what was found at the front of a text
 pub front_found : {A : Type 0} (is_told : A → Type 0) (text_of : A → List ℕ) (text : List ℕ) (r : Option (A × Bor (List ℕ))) (item : A) (behind : Bor (List ℕ))
-    → r ≡ Some (item, behind) → IsFront is_told text_of text r → is_told item × (text ≡ text_of item ++ behind.now)
-front_found is_told text_of text r item behind is found = subst (IsFront is_told text_of text) is found
+    → r ≡ Some (item, behind) → IsFrontItem is_told text_of text r → is_told item × (text ≡ text_of item ++ behind.now)
+front_found is_told text_of text r item behind is found = subst (IsFrontItem is_told text_of text) is found
 
 pub none_found : {A : Type 0} (is_told : A → Type 0) (text_of : A → List ℕ) (text : List ℕ) (r : Option (A × Bor (List ℕ))) → r ≡ None
-    → IsFront is_told text_of text r → (item : A) (rest : List ℕ) → is_told item → text ≢ text_of item ++ rest
-none_found is_told text_of text r is found = subst (IsFront is_told text_of text) is found
+    → IsFrontItem is_told text_of text r → (item : A) (rest : List ℕ) → is_told item → text ≢ text_of item ++ rest
+none_found is_told text_of text r is found = subst (IsFrontItem is_told text_of text) is found
 
 -- a byte, where a text of one was found at the front
 pub begins_with : (b : ℕ) (text p rest : List ℕ) → p ≡ b ∷ [] → text ≡ p ++ rest → text ≡ b ∷ rest
@@ -72,10 +72,10 @@ module _ {A : Type 0} (text_of : A → List ℕ) where
       ∙ led-more (map text_of xs) (text_of x) next ∙ ap (λ (ts : List (List ℕ)). led ts next) (texts-push xs x pushed is)
 
   pub closed_by : (text rest behind after : List ℕ) (xs : List A) (x : A) (pushed : List A) → pushed ≡ xs ++ x ∷ []
-      → text ≡ led (map text_of xs) rest → rest ≡ text_of x ++ behind → behind ≡ 93 ∷ after → text ≡ closed_text (map text_of pushed) ++ after
+      → text ≡ led (map text_of xs) rest → rest ≡ text_of x ++ behind → behind ≡ 93 ∷ after → text ≡ closed_list_text (map text_of pushed) ++ after
   closed_by text rest behind after xs x pushed is so found bracket =
       so ∙ ap (led (map text_of xs)) (found ∙ ap (λ (b : List ℕ). text_of x ++ b) bracket)
-      ∙ led-closed (map text_of xs) (text_of x) after ∙ ap (λ (ts : List (List ℕ)). closed_text ts ++ after) (texts-push xs x pushed is)
+      ∙ led-closed (map text_of xs) (text_of x) after ∙ ap (λ (ts : List (List ℕ)). closed_list_text ts ++ after) (texts-push xs x pushed is)
 
 -- a list behind a front, and what follows it
 pub listed_so : (text p front rest list behind more : List ℕ) → p ≡ front → text ≡ p ++ rest → rest ≡ list ++ behind → behind ≡ more
@@ -133,7 +133,7 @@ module _ {A : Type 0} (is_told : A → Type 0) (text_of : A → List ℕ) (way :
 
   -- a text begins with one list, and one thing follows it
   pub one_list : (xs ys : List A) (r q : List ℕ) → AllByRecursion is_told xs → AllByRecursion is_told ys
-      → closed_text (map text_of xs) ++ r ≡ closed_text (map text_of ys) ++ q → (map text_of xs ≡ map text_of ys) × (r ≡ q)
+      → closed_list_text (map text_of xs) ++ r ≡ closed_list_text (map text_of ys) ++ q → (map text_of xs ≡ map text_of ys) × (r ≡ q)
   one_list [] [] r q tx ty e = (refl, tails 93 93 r q e)
   one_list [] (y ∷ ys) r q tx ty e =
       absurd (no_bracket y r (behind_first (map text_of ys) q) ty.0 (e ∙ closed-first (text_of y) (map text_of ys) q))
@@ -147,7 +147,7 @@ module _ {A : Type 0} (is_told : A → Type 0) (text_of : A → List ℕ) (way :
   pub no_list : (text : List ℕ) (xs : List A) (rest : List ℕ) → AllByRecursion is_told xs → text ≡ led (map text_of xs) rest
       → ((r : List ℕ) → text ≢ 93 ∷ r)
       → ((v : A) (vs : List A) (more : List ℕ) → is_told v → rest ≢ text_of v ++ behind_first (map text_of vs) more)
-      → (us : List A) (more : List ℕ) → AllByRecursion is_told us → text ≢ closed_text (map text_of us) ++ more
+      → (us : List A) (more : List ℕ) → AllByRecursion is_told us → text ≢ closed_list_text (map text_of us) ++ more
   no_list text xs rest tx is closed none [] more tu e = closed more e
   no_list text xs rest tx is closed none (u ∷ us) more tu e =
       let found = left xs rest u us more tx tu.0 tu.1 (sym is ∙ e ∙ closed-first (text_of u) (map text_of us) more) in
@@ -163,8 +163,8 @@ module _ {A : Type 0} (is_told : A → Type 0) (text_of : A → List ℕ) (way :
 
   -- a text has one list behind its front, and one thing follows it
   pub listed : (text p front rest after : List ℕ) (xs ys : List A) {more : List ℕ} → p ≡ front → text ≡ p ++ rest
-      → rest ≡ closed_text (map text_of xs) ++ after → AllByRecursion is_told xs → AllByRecursion is_told ys
-      → text ≡ front ++ (closed_text (map text_of ys) ++ more) → (map text_of xs ≡ map text_of ys) × (after ≡ more)
+      → rest ≡ closed_list_text (map text_of xs) ++ after → AllByRecursion is_told xs → AllByRecursion is_told ys
+      → text ≡ front ++ (closed_list_text (map text_of ys) ++ more) → (map text_of xs ≡ map text_of ys) × (after ≡ more)
   listed text p front rest after xs ys {more} is whole found tx ty other =
       one_list xs ys after more tx ty
-      (sym found ∙ append_cancel_left front rest (closed_text (map text_of ys) ++ more) (ap (λ (f : List ℕ). f ++ rest) (sym is) ∙ sym whole ∙ other))
+      (sym found ∙ append_cancel_left front rest (closed_list_text (map text_of ys) ++ more) (ap (λ (f : List ℕ). f ++ rest) (sym is) ∙ sym whole ∙ other))

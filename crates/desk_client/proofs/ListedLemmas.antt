@@ -10,15 +10,15 @@ use Rattle.desk_messages.specs.reply.Members.{some_number}
 use Rattle.serde_json.proofs.OnLiterals.{serde_json_on_literals}
 use Rattle.serde_json.specs.Written.{compact_text}
 use Rattle.office_rules.specs.Name.{IsOperator}
-use Rattle.desk_client.specs.ListedMeter.{listed_meter_ends, listed_meter_text, listed_meter_values}
-use Rattle.desk_client.specs.ListedShift.{end_text, listed_shift_ends, listed_shift_text, listed_shift_values}
+use Rattle.desk_client.specs.ListedMeter.{listed_meter_ends, listed_meter_as_read, listed_meter_values}
+use Rattle.desk_client.specs.ListedShift.{closing_text, listed_shift_ends, listed_shift_as_read, listed_shift_values}
 use Rattle.desk_client.specs.Page.{IsToldEnd, IsToldListedMeter, IsToldListedShift}
 use Rattle.desk_client.specs.Text.{LackStops, LacksStop}
 use Rattle.desk_client.proofs.AlikeLemmas.{not_null, same_base, value_at}
 use Rattle.desk_client.proofs.PlainLemmas.{plain_digits, plain_letters, plain_name, plain_number, plain_year}
 use Rattle.desk_client.proofs.WovenLemmas.{one_reading}
 
-plain_end : (end : Option ℕ) → IsToldEnd end → LacksStop (end_text end)
+plain_end : (end : Option ℕ) → IsToldEnd end → LacksStop (closing_text end)
 plain_end None told = (refl, (refl, (refl, (refl, tt))))
 plain_end (Some moment) told = plain_number moment (omega (arith, told))
 
@@ -49,10 +49,10 @@ plain_listed_shift l told = (
 )
 
 -- a meter is the one that its values tell
-pub same_listed_meter : (m n : ListedMeter) → IsToldListedMeter m → IsToldListedMeter n → listed_meter_text m ≡ listed_meter_text n → m ≡ n
+pub same_listed_meter : (m n : ListedMeter) → IsToldListedMeter m → IsToldListedMeter n → listed_meter_as_read m ≡ listed_meter_as_read n → m ≡ n
 same_listed_meter m n is are e =
     let same : listed_meter_values m ≡ listed_meter_values n =
-    one_reading (listed_meter_text m) (codes "{\"base\":") (listed_meter_values m) (listed_meter_values n) listed_meter_ends (omega arith) refl
+    one_reading (listed_meter_as_read m) (codes "{\"base\":") (listed_meter_values m) (listed_meter_values n) listed_meter_ends (omega arith) refl
     (refl, (refl, (refl, tt))) (plain_listed_meter m is) (plain_listed_meter n are) refl e in
     let at = λ (i : ℕ). value_at (listed_meter_values m) (listed_meter_values n) i same in
     let base : m.base ≡ n.base = same_base m.base n.base (at 0) in
@@ -60,17 +60,17 @@ same_listed_meter m n is are e =
     let tariff : m.tariff ≡ n.tariff = at 2 in
     λ i. record { number = number i; base = base i; tariff = tariff i }
 
-same_end : (a b : Option ℕ) → IsToldEnd a → IsToldEnd b → end_text a ≡ end_text b → a ≡ b
+same_end : (a b : Option ℕ) → IsToldEnd a → IsToldEnd b → closing_text a ≡ closing_text b → a ≡ b
 same_end None None is are e = refl
 same_end None (Some n) is are e = absurd (not_null n (omega (arith, are)) e)
 same_end (Some m) None is are e = absurd (not_null m (omega (arith, is)) (sym e))
 same_end (Some m) (Some n) is are e = ap Some (decimal_injective m n (omega (arith, is)) (omega (arith, are)) e)
 
 -- and so is a shift
-pub same_listed_shift : (l m : ListedShift) → IsToldListedShift l → IsToldListedShift m → listed_shift_text l ≡ listed_shift_text m → l ≡ m
+pub same_listed_shift : (l m : ListedShift) → IsToldListedShift l → IsToldListedShift m → listed_shift_as_read l ≡ listed_shift_as_read m → l ≡ m
 same_listed_shift l m is are e =
     let same : listed_shift_values l ≡ listed_shift_values m =
-    one_reading (listed_shift_text l) (codes "{\"cash\":") (listed_shift_values l) (listed_shift_values m) listed_shift_ends (omega arith) refl
+    one_reading (listed_shift_as_read l) (codes "{\"cash\":") (listed_shift_values l) (listed_shift_values m) listed_shift_ends (omega arith) refl
     (refl, (refl, (refl, (refl, (refl, (refl, (refl, tt))))))) (plain_listed_shift l is) (plain_listed_shift m are) refl e in
     let at = λ (i : ℕ). value_at (listed_shift_values l) (listed_shift_values m) i same in
     let cash : l.totals.cash ≡ m.totals.cash = decimal_injective l.totals.cash m.totals.cash is.cash are.cash (at 0) in
@@ -89,14 +89,14 @@ same_listed_shift l m is are e =
 
 -- ---- as a desk writes them
 
-closed-text : (closed : Option ℕ) → compact_text (some_number closed) ≡ end_text closed
+closed-text : (closed : Option ℕ) → compact_text (some_number closed) ≡ closing_text closed
 unfolding serde_json_on_literals
 closed-text None = refl
 closed-text (Some moment) = refl
 
 -- a shift, from what a desk writes of one
 pub shift-written : ((l : ListedShift) → IsOperator l.shift.operator → compact_text (listed_shift_data l) ≡ lists.listed_shift_text l)
-    → (l : ListedShift) → IsToldListedShift l → compact_text (listed_shift_data l) ≡ listed_shift_text l
+    → (l : ListedShift) → IsToldListedShift l → compact_text (listed_shift_data l) ≡ listed_shift_as_read l
 shift-written written l told =
     written l told.operator
     ∙ ap (λ (closed : List ℕ). codes "{\"cash\":" ++ (decimal l.totals.cash ++ (codes ",\"closed\":" ++ (closed

@@ -17,11 +17,11 @@ use Rattle.serde_json.specs.Data.{Data}
 use Rattle.serde_json.specs.Written.{compact_text}
 use Rattle.office_rules.specs.Name.{IsName, is_name_byte}
 use Rattle.office_rules.specs.declared.office.sale.Sale.{Sale}
-use Rattle.desk_client.specs.Items.{AreReadInOneWay, closed_text}
-use Rattle.desk_client.specs.ListedMeter.{listed_meter_text}
-use Rattle.desk_client.specs.ListedShift.{listed_shift_text}
-use Rattle.desk_client.specs.Page.{AreAlike, AreTold, IsToldListedMeter, IsToldListedShift, IsToldPage, IsToldTariff, page_text, tariff_view}
-use Rattle.desk_client.specs.Sale.{IsTold, sale_text}
+use Rattle.desk_client.specs.Items.{AreReadInOneWay, closed_list_text}
+use Rattle.desk_client.specs.ListedMeter.{listed_meter_as_read}
+use Rattle.desk_client.specs.ListedShift.{listed_shift_as_read}
+use Rattle.desk_client.specs.Page.{AreAlike, AreTold, IsToldListedMeter, IsToldListedShift, IsToldPage, IsToldTariff, page_as_read, tariff_view}
+use Rattle.desk_client.specs.Sale.{IsSaleTold, sale_as_read}
 use Rattle.desk_client.specs.declared.page.PageKind.{PageKind}
 use Rattle.desk_client.specs.declared.page.PageKind.TheVariants.{Tariffs, Meters, Shifts, Sales}
 use Rattle.desk_client.proofs.ItemLemmas.{one_list}
@@ -34,7 +34,7 @@ ListsAreTexts = (name : List ℕ) (items : List Data) → IsName name → json_t
 
 -- the text of a page whose list has this name
 abbrev pub page_of : (name : List ℕ) → List (List ℕ) → List ℕ
-page_of name texts = codes "{\"" ++ (name ++ (codes "\":[" ++ (closed_text texts ++ codes "}")))
+page_of name texts = codes "{\"" ++ (name ++ (codes "\":[" ++ (closed_list_text texts ++ codes "}")))
 
 each_written : {A : Type 0} (Rule : A → Type 0) (data_of : A → Data) (text_of : A → List ℕ) → ((a : A) → Rule a → compact_text (data_of a) ≡ text_of a)
     → (xs : List A) → All Rule xs → map compact_text (map data_of xs) ≡ map text_of xs
@@ -107,7 +107,7 @@ by_shifts P such (found.Meters items) told = absurd told
 by_shifts P such (found.Shifts items) told = such items told
 by_shifts P such (found.Sales items) told = absurd told
 
-pub by_sales : (P : Found → Type 0) → ((items : Vec Sale Global) → AreTold IsTold items.items → P (found.Sales items))
+pub by_sales : (P : Found → Type 0) → ((items : Vec Sale Global) → AreTold IsSaleTold items.items → P (found.Sales items))
     → (page : Found) → IsToldPage Sales page → P page
 by_sales P such (found.SaleCount n) told = absurd told
 by_sales P such (found.Meter m) told = absurd told
@@ -150,7 +150,7 @@ module _ {A : Type 0} (Rule : A → Type 0) (data_of : A → Data) (text_of : A 
       let ry = recursion_from_All Rule ys ty.each in
       let texts = sym (page_written Rule data_of text_of name is lists written xs tx.each) ∙ e
       ∙ page_written Rule data_of text_of name is lists written ys ty.each in
-      let behind = append_cancel_left (codes "\":[") (closed_text (map text_of xs) ++ codes "}") (closed_text (map text_of ys) ++ codes "}")
+      let behind = append_cancel_left (codes "\":[") (closed_list_text (map text_of xs) ++ codes "}") (closed_list_text (map text_of ys) ++ codes "}")
       (append_cancel_left name _ _ (append_cancel_left (codes "{\"") _ _ texts)) in
       alike Rule text_of view one xs ys rx ry (one_list Rule text_of way xs ys (codes "}") (codes "}") rx ry behind).0
 
@@ -172,27 +172,27 @@ these_members {A} Rule data_of text_of name is lists by xs ys tx ty e =
 
 -- two told pages of one kind that have one text are alike
 pub one_page : ListsAreTexts → AreByText IsToldTariff tariff_data tariff_text tariff_view
-    → AreByText IsToldListedMeter listed_meter_data listed_meter_text (λ (m : ListedMeter). m)
-    → AreByText IsToldListedShift listed_shift_data listed_shift_text (λ (l : ListedShift). l)
-    → AreByText IsTold sale_data sale_text (λ (s : Sale). s)
-    → (kind : PageKind) (page other : Found) → IsToldPage kind page → IsToldPage kind other → page_text page ≡ page_text other → AreAlike page other
+    → AreByText IsToldListedMeter listed_meter_data listed_meter_as_read (λ (m : ListedMeter). m)
+    → AreByText IsToldListedShift listed_shift_data listed_shift_as_read (λ (l : ListedShift). l)
+    → AreByText IsSaleTold sale_data sale_as_read (λ (s : Sale). s)
+    → (kind : PageKind) (page other : Found) → IsToldPage kind page → IsToldPage kind other → page_as_read page ≡ page_as_read other → AreAlike page other
 one_page lists tariffs meters shifts sales Tariffs page other told also =
-    by_tariffs (λ p. page_text p ≡ page_text other → AreAlike p other) (λ items are.
-    by_tariffs (λ o. page_text (found.Tariffs items) ≡ page_text o → AreAlike (found.Tariffs items) o) (λ others too.
+    by_tariffs (λ p. page_as_read p ≡ page_as_read other → AreAlike p other) (λ items are.
+    by_tariffs (λ o. page_as_read (found.Tariffs items) ≡ page_as_read o → AreAlike (found.Tariffs items) o) (λ others too.
     same_members IsToldTariff tariff_data tariff_text (codes "tariffs") tariffs-named lists tariffs.written tariff_view tariffs.way tariffs.one
     items.items others.items are too) other also) page told
 one_page lists tariffs meters shifts sales Meters page other told also =
-    by_meters (λ p. page_text p ≡ page_text other → AreAlike p other) (λ items are.
-    by_meters (λ o. page_text (found.Meters items) ≡ page_text o → AreAlike (found.Meters items) o) (λ others too.
-    these_members IsToldListedMeter listed_meter_data listed_meter_text (codes "meters") meters-named lists meters items.items others.items are too)
+    by_meters (λ p. page_as_read p ≡ page_as_read other → AreAlike p other) (λ items are.
+    by_meters (λ o. page_as_read (found.Meters items) ≡ page_as_read o → AreAlike (found.Meters items) o) (λ others too.
+    these_members IsToldListedMeter listed_meter_data listed_meter_as_read (codes "meters") meters-named lists meters items.items others.items are too)
     other also) page told
 one_page lists tariffs meters shifts sales Shifts page other told also =
-    by_shifts (λ p. page_text p ≡ page_text other → AreAlike p other) (λ items are.
-    by_shifts (λ o. page_text (found.Shifts items) ≡ page_text o → AreAlike (found.Shifts items) o) (λ others too.
-    these_members IsToldListedShift listed_shift_data listed_shift_text (codes "shifts") shifts-named lists shifts items.items others.items are too)
+    by_shifts (λ p. page_as_read p ≡ page_as_read other → AreAlike p other) (λ items are.
+    by_shifts (λ o. page_as_read (found.Shifts items) ≡ page_as_read o → AreAlike (found.Shifts items) o) (λ others too.
+    these_members IsToldListedShift listed_shift_data listed_shift_as_read (codes "shifts") shifts-named lists shifts items.items others.items are too)
     other also) page told
 one_page lists tariffs meters shifts sales Sales page other told also =
-    by_sales (λ p. page_text p ≡ page_text other → AreAlike p other) (λ items are.
-    by_sales (λ o. page_text (found.Sales items) ≡ page_text o → AreAlike (found.Sales items) o) (λ others too.
-    these_members IsTold sale_data sale_text (codes "sales") sales-named lists sales items.items others.items are too)
+    by_sales (λ p. page_as_read p ≡ page_as_read other → AreAlike p other) (λ items are.
+    by_sales (λ o. page_as_read (found.Sales items) ≡ page_as_read o → AreAlike (found.Sales items) o) (λ others too.
+    these_members IsSaleTold sale_data sale_as_read (codes "sales") sales-named lists sales items.items others.items are too)
     other also) page told

@@ -10,7 +10,7 @@ use Rattle.office_rules.specs.declared.decision.row_cause.RowCause.{RowCause}
 use Rattle.office_rules.specs.declared.decision.row_cause.RowCause.TheVariants.{Header, Columns, Field, TooManyRows}
 use Rattle.office_rules.specs.declared.decision.row_cause.RowCause.TheVariants as causes
 use Rattle.std.proofs.lemmas.List.{append_cancel_left}
-use Rattle.desk_client.specs.Refusal.{IsCause, IsPlain, IsRow, IsWord, plain_text, row_text}
+use Rattle.desk_client.specs.Refusal.{IsCause, IsPlain, IsRowCause, IsWord, plain_text, row_text}
 use Rattle.desk_client.specs.Text.{IsFound, LacksStop}
 use Rattle.desk_client.specs.Told.{IsTellableRefusal, refusal_text}
 use Rattle.desk_client.proofs.NumberLemmas.{same_number}
@@ -139,7 +139,7 @@ told_plainly NotLater plain = (tt, refl)
 told_plainly refusals.DayPast plain = (tt, refl)
 
 -- what tells the refusal of no row, nor that of one, tells none
-neither_tells : (text : List ℕ) → ((found : ℕ × RowCause) → ¬ (IsRow found.0 found.1 × (text ≡ row_text found.0 found.1)))
+neither_tells : (text : List ℕ) → ((found : ℕ × RowCause) → ¬ (IsRowCause found.0 found.1 × (text ≡ row_text found.0 found.1)))
     → ((refusal : Refusal) → ¬ (IsPlain refusal × (text ≡ plain_text refusal)))
     → (refusal : Refusal) → ¬ (IsTellableRefusal refusal × (text ≡ refusal_text refusal))
 neither_tells text rows plain RefReused h = plain RefReused ((λ row cause e. cc), h.1)
@@ -162,7 +162,7 @@ neither_tells text rows plain Stopped h = plain Stopped ((λ row cause e. cc), h
 neither_tells text rows plain NotLater h = plain NotLater ((λ row cause e. cc), h.1)
 neither_tells text rows plain refusals.DayPast h = plain refusals.DayPast ((λ row cause e. cc), h.1)
 
-pub read_of_either : (text : List ℕ) (r : Option Refusal) → ((found : ℕ × RowCause) → ¬ (IsRow found.0 found.1 × (text ≡ row_text found.0 found.1)))
+pub read_of_either : (text : List ℕ) (r : Option Refusal) → ((found : ℕ × RowCause) → ¬ (IsRowCause found.0 found.1 × (text ≡ row_text found.0 found.1)))
     → IsFound (λ refusal. IsPlain refusal × (text ≡ plain_text refusal)) r
     → IsFound (λ refusal. IsTellableRefusal refusal × (text ≡ refusal_text refusal)) r
 read_of_either text (Some refusal) rows found =

@@ -8,7 +8,7 @@ use Rattle.papers.specs.Text.{change_of}
 use Rattle.serde_json.specs.Written.{compact_text}
 use Rattle.sts_fields.specs.Amount.{IsRepresentable, greatest_amount}
 use Rattle.office_rules.specs.declared.office.sale.Sale.{Sale}
-use Rattle.desk_client.specs.Sale.{IsTold, sale_ends, sale_text, sale_values}
+use Rattle.desk_client.specs.Sale.{IsSaleTold, sale_ends, sale_as_read, sale_values}
 use Rattle.desk_client.specs.Text.{IsFound, LackStops, now, woven}
 use Rattle.desk_client.proofs.FoundLemmas.{found_by}
 use Rattle.desk_client.proofs.PlainLemmas.{plain_digits, plain_letters, plain_name, plain_number, plain_year}
@@ -24,7 +24,7 @@ same_values a b c d e f g h i j k l m a2 b2 c2 d2 e2 f2 g2 h2 i2 j2 k2 l2 m2 p1 
     rw (p1, p2, p3, p4, p5, p6, p7, p8, p9, p10, p11, p12, p13) refl
 
 -- no value of a sale has a stop in it
-pub plain_sale : ((t : ℕ) → IsRepresentable t → t ≤ greatest_amount) → (s : Sale) → IsTold s → LackStops (sale_values s)
+pub plain_sale : ((t : ℕ) → IsRepresentable t → t ≤ greatest_amount) → (s : Sale) → IsSaleTold s → LackStops (sale_values s)
 plain_sale most s told = (
   plain_year s.base,
   (
@@ -69,10 +69,10 @@ plain_sale most s told = (
 -- the values of a text that has thirteen are those of the sale that it tells
 pub read_of_values : ((t : ℕ) → IsRepresentable t → t ≤ greatest_amount) → (text : List ℕ) (of : List (Bor (List ℕ))) (r : Option Sale) → length of ≡ 13
     → LackStops (map now of) → text ≡ (123 ∷ 34 ∷ 98 ∷ 97 ∷ 115 ∷ 101 ∷ 34 ∷ 58 ∷ []) ++ woven (map now of) sale_ends []
-    → IsFound (λ sale. IsTold sale × (map now of ≡ sale_values sale)) r
-    → IsFound (λ sale. IsTold sale × (text ≡ sale_text sale)) r
+    → IsFound (λ sale. IsSaleTold sale × (map now of ≡ sale_values sale)) r
+    → IsFound (λ sale. IsSaleTold sale × (text ≡ sale_as_read sale)) r
 read_of_values most text of r len free is found =
-    found_by (λ sale. IsTold sale × (map now of ≡ sale_values sale)) (λ sale. IsTold sale × (text ≡ sale_text sale)) r
+    found_by (λ sale. IsSaleTold sale × (map now of ≡ sale_values sale)) (λ sale. IsSaleTold sale × (text ≡ sale_as_read sale)) r
     (λ sale h. (h.0, is ∙ ap (λ (values : List (List ℕ)). (123 ∷ 34 ∷ 98 ∷ 97 ∷ 115 ∷ 101 ∷ 34 ∷ 58 ∷ []) ++ woven values sale_ends []) h.1))
     (λ sale h. (
       h.0,
@@ -84,6 +84,6 @@ read_of_values most text of r len free is found =
 
 -- a sale, from what a desk writes of one
 pub sale-written : ((s : Sale) → IsTellableSale s → compact_text (sale_data s) ≡ desk_text.sale_text s)
-    → (s : Sale) → IsTold s → compact_text (sale_data s) ≡ sale_text s
+    → (s : Sale) → IsSaleTold s → compact_text (sale_data s) ≡ sale_as_read s
 sale-written written s told =
     written s (record { operator = told.operator; order_ref = told.order_ref; meter = told.meter; digits = told.digits })

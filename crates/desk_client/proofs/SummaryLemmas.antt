@@ -4,13 +4,13 @@ use Rattle.book_facts.specs.declared.lookup.MeterSummary.{MeterSummary}
 use Rattle.book_facts.specs.declared.lookup.Quote.{Quote}
 use Rattle.book_tables.specs.declared.row.totals.Totals.{Totals}
 use Rattle.sts_fields.specs.Amount.{IsRepresentable, greatest_amount}
-use Rattle.desk_client.specs.Meter.{IsLastSale, IsToldMeter, last_sale_text, meter_values}
+use Rattle.desk_client.specs.Meter.{IsLastSaleNumber, IsToldMeter, last_number_text, meter_values}
 use Rattle.desk_client.specs.Quote.{IsToldQuote, quote_values}
 use Rattle.desk_client.specs.Text.{LackStops, LacksStop}
 use Rattle.desk_client.specs.Totals.{IsToldTotals, totals_values}
 use Rattle.desk_client.proofs.PlainLemmas.{plain_digits, plain_name, plain_number, plain_year}
 
-plain_last_sale : (sale : Option ℕ) → IsLastSale sale → LacksStop (last_sale_text sale)
+plain_last_sale : (sale : Option ℕ) → IsLastSaleNumber sale → LacksStop (last_number_text sale)
 plain_last_sale None h = (refl, (refl, (refl, (refl, tt))))
 plain_last_sale (Some number) h = plain_number number (omega (arith, h))
 

@@ -14,7 +14,7 @@ use Rattle.book_facts.specs.declared.lookup.LaterSteps.{LaterSteps}
 use Rattle.book_facts.specs.declared.lookup.ListedTariff.{ListedTariff}
 use Rattle.desk_messages.specs.reply.Members.{array_of}
 use Rattle.desk_messages.specs.reply.Lists.{array_text, day_text, later_data, later_text, tariff_text}
-use Rattle.desk_client.specs.Items.{AreReadInOneWay, closed_text}
+use Rattle.desk_client.specs.Items.{AreReadInOneWay, closed_list_text}
 use Rattle.desk_client.specs.Page.{IsToldLater, IsToldTariff}
 use Rattle.desk_client.specs.TariffItem.{with_steps}
 use Rattle.desk_client.specs.Text.{LacksStop}
@@ -43,7 +43,7 @@ later_one_way plain = record {
 
 -- by the texts of its later steps
 abbrev pub open_text : ListedTariff → List ℕ
-open_text t = codes "{\"later\":[" ++ (closed_text (map later_text t.later.items) ++ with_steps (codes ",\"name\":\"") t.name t.steps)
+open_text t = codes "{\"later\":[" ++ (closed_list_text (map later_text t.later.items) ++ with_steps (codes ",\"name\":\"") t.name t.steps)
 
 -- how later steps and arrays are written
 abbrev pub Spells : Type 0
@@ -64,19 +64,19 @@ pub opened : IsArray → Spells → (t : ListedTariff) → IsToldTariff t → ta
 opened array spells t told =
     ap (λ (text : List ℕ). codes "{\"later\":" ++ (text ++ with_steps (codes ",\"name\":\"") t.name t.steps)) (
     array (map later_data t.later.items)
-    ∙ ap (λ (texts : List (List ℕ)). codes "[" ++ closed_text texts) (each_later spells t.later.items told.later))
+    ∙ ap (λ (texts : List (List ℕ)). codes "[" ++ closed_list_text texts) (each_later spells t.later.items told.later))
 
 -- before what follows it
 pub open_before : (later : List (List ℕ)) (name : List ℕ) (steps : List Step) (rest : List ℕ)
-    → (codes "{\"later\":[" ++ (closed_text later ++ with_steps (codes ",\"name\":\"") name steps)) ++ rest
-    ≡ codes "{\"later\":[" ++ (closed_text later ++ (with_steps (codes ",\"name\":\"") name steps ++ rest))
+    → (codes "{\"later\":[" ++ (closed_list_text later ++ with_steps (codes ",\"name\":\"") name steps)) ++ rest
+    ≡ codes "{\"later\":[" ++ (closed_list_text later ++ (with_steps (codes ",\"name\":\"") name steps ++ rest))
 open_before later name steps rest =
-    ap (λ (text : List ℕ). codes "{\"later\":[" ++ text) (append_assoc (closed_text later) (with_steps (codes ",\"name\":\"") name steps) rest)
+    ap (λ (text : List ℕ). codes "{\"later\":[" ++ text) (append_assoc (closed_list_text later) (with_steps (codes ",\"name\":\"") name steps) rest)
 
 -- what stands behind the front of a tariff
 pub at_later : IsArray → Spells → (text behind : List ℕ) → text ≡ codes "{\"later\":[" ++ behind
     → (t : ListedTariff) (more : List ℕ) → IsToldTariff t → text ≡ tariff_text t ++ more
-    → behind ≡ closed_text (map later_text t.later.items) ++ (with_steps (codes ",\"name\":\"") t.name t.steps ++ more)
+    → behind ≡ closed_list_text (map later_text t.later.items) ++ (with_steps (codes ",\"name\":\"") t.name t.steps ++ more)
 at_later array spells text behind is t more told same =
     append_cancel_left (codes "{\"later\":[") behind _ (
     sym is ∙ same ∙ ap (λ (b : List ℕ). b ++ more) (opened array spells t told)
@@ -84,7 +84,7 @@ at_later array spells text behind is t more told same =
 
 -- what stands behind the list of later steps, as any reading of the text has it
 pub behind_later : IsArray → Spells → AreReadInOneWay IsToldLater later_text → (text behind : List ℕ) (later : List LaterSteps) (rest : List ℕ)
-    → text ≡ codes "{\"later\":[" ++ behind → All IsToldLater later → behind ≡ closed_text (map later_text later) ++ rest
+    → text ≡ codes "{\"later\":[" ++ behind → All IsToldLater later → behind ≡ closed_list_text (map later_text later) ++ rest
     → (t : ListedTariff) (more : List ℕ) → IsToldTariff t → text ≡ tariff_text t ++ more
     → (map later_text later ≡ map later_text t.later.items) × (rest ≡ with_steps (codes ",\"name\":\"") t.name t.steps ++ more)
 behind_later array spells way text behind later rest is are there t more told same =
@@ -94,11 +94,11 @@ behind_later array spells way text behind later rest is are there t more told sa
 
 -- what was read of a text is a tariff
 pub tariff_there : IsArray → Spells → (text behind rest : List ℕ) (t : ListedTariff) (more : List ℕ) → IsToldTariff t
-    → text ≡ codes "{\"later\":[" ++ behind → behind ≡ closed_text (map later_text t.later.items) ++ rest
+    → text ≡ codes "{\"later\":[" ++ behind → behind ≡ closed_list_text (map later_text t.later.items) ++ rest
     → rest ≡ with_steps (codes ",\"name\":\"") t.name t.steps ++ more → text ≡ tariff_text t ++ more
 tariff_there array spells text behind rest t more told is there left =
     is
-    ∙ ap (λ (b : List ℕ). codes "{\"later\":[" ++ b) (there ∙ ap (λ (b : List ℕ). closed_text (map later_text t.later.items) ++ b) left)
+    ∙ ap (λ (b : List ℕ). codes "{\"later\":[" ++ b) (there ∙ ap (λ (b : List ℕ). closed_list_text (map later_text t.later.items) ++ b) left)
     ∙ sym (open_before (map later_text t.later.items) t.name t.steps more)
     ∙ ap (λ (b : List ℕ). b ++ more) (sym (opened array spells t told))
 
@@ -115,8 +115,8 @@ tariff_one_way array spells way = record {
       let same = one_with_steps (codes ",\"name\":\"") item.name other.name item.steps other.steps rest more
       (plain_name item.name told.name.bytes) (plain_name other.name also.name.bytes) told.steps also.steps behind.1 in
       mine
-      ∙ ap (λ (texts : List (List ℕ)). codes "{\"later\":[" ++ (closed_text texts ++ with_steps (codes ",\"name\":\"") item.name item.steps)) behind.0
-      ∙ ap (λ (b : List ℕ). codes "{\"later\":[" ++ (closed_text (map later_text other.later.items) ++ b))
+      ∙ ap (λ (texts : List (List ℕ)). codes "{\"later\":[" ++ (closed_list_text texts ++ with_steps (codes ",\"name\":\"") item.name item.steps)) behind.0
+      ∙ ap (λ (b : List ℕ). codes "{\"later\":[" ++ (closed_list_text (map later_text other.later.items) ++ b))
       (same_with_steps (codes ",\"name\":\"") item.name other.name item.steps other.steps same.0 same.1)
       ∙ sym yours;
   braced = λ item told. refl;

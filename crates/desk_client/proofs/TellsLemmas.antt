@@ -22,12 +22,12 @@ use Rattle.office_rules.specs.declared.decision.category.Category.{Category}
 use Rattle.office_rules.specs.declared.decision.category.Category.TheVariants as categories
 use Rattle.office_rules.specs.declared.decision.refusal.Refusal.{Refusal}
 use Rattle.office_rules.specs.declared.office.sale.Sale.{Sale}
-use Rattle.desk_client.specs.Page.{page_text}
-use Rattle.desk_client.specs.Reply.{IsReading, IsReply, head_bytes, longest_body}
+use Rattle.desk_client.specs.Page.{page_as_read}
+use Rattle.desk_client.specs.Reply.{IsReplyReading, IsReply, head_bytes, longest_reply_body}
 use Rattle.desk_client.specs.Reply as replies
-use Rattle.desk_client.specs.Sale.{sale_text}
+use Rattle.desk_client.specs.Sale.{sale_as_read}
 use Rattle.desk_client.specs.Start.{category_start, head_end}
-use Rattle.desk_client.specs.Tells.{Tells, TellsAnswer, TellsFault, TellsFound, TellsPage, TellsPaper, TellsSale, as_told}
+use Rattle.desk_client.specs.Tells.{Tells, TellsReplyAnswer, TellsFault, TellsReplyFound, TellsPage, TellsPaper, TellsReplySale, as_told}
 use Rattle.desk_client.specs.Told.{IsTellable, refusal_text, told_start, told_text}
 use Rattle.desk_client.specs.declared.reply.Reading.{Reading}
 use Rattle.desk_client.specs.declared.reply.Reading.TheVariants as readings
@@ -124,8 +124,8 @@ paper_says text told.NoMoment h = absurd h
 
 -- a page, by the text that the desk writes of it
 page_says : (page : Found) (t : Told) → TellsPage page t
-    → reply_text (record { status = 200; form = forms.Json; allowed = None; closes = false }) (page_text page) ≡ replies.reply_text t
-page_says page (told.Granted (granted.Page text)) h = rw h (json-reply (page_text page))
+    → reply_text (record { status = 200; form = forms.Json; allowed = None; closes = false }) (page_as_read page) ≡ replies.reply_text t
+page_says page (told.Granted (granted.Page text)) h = rw h (json-reply (page_as_read page))
 page_says page (told.Granted granted.Done) h = absurd h
 page_says page (told.Granted (granted.Imported n)) h = absurd h
 page_says page (told.Granted (granted.Shift n)) h = absurd h
@@ -137,11 +137,11 @@ page_says page (told.Granted (granted.Paper paper)) h = absurd h
 page_says page (told.Refused r) h = absurd h
 page_says page told.NoMoment h = absurd h
 
-sale_says : SalesAreTexts → (form : Form) (sale : Sale) (asked : Wanted) (t : Told) → IsTellable asked t → TellsSale form sale t
+sale_says : SalesAreTexts → (form : Form) (sale : Sale) (asked : Wanted) (t : Told) → IsTellable asked t → TellsReplySale form sale t
     → reply_text (record { status = 200; form = form; allowed = None; closes = false }) (sale_body form sale) ≡ replies.reply_text t
 sale_says texts forms.Json sale asked t tellable h =
     let is : IsTellable asked (told.Granted (granted.Sale (as_told sale))) = subst (IsTellable asked) h tellable in
-    let text : json_text (sale_members sale) ≡ sale_text (as_told sale) = texts sale (record {
+    let text : json_text (sale_members sale) ≡ sale_as_read (as_told sale) = texts sale (record {
       operator = is.0.operator;
       order_ref = is.0.order_ref;
       meter = is.0.meter;
@@ -150,7 +150,7 @@ sale_says texts forms.Json sale asked t tellable h =
     json_says _ (granted.Sale (as_told sale)) refl text ∙ ap replies.reply_text (sym h)
 sale_says texts forms.Paper sale asked t tellable h = paper_says _ t h
 
-answer_says : SalesAreTexts → (form : Form) (answer : Answer) (asked : Wanted) (t : Told) → IsTellable asked t → TellsAnswer form answer t
+answer_says : SalesAreTexts → (form : Form) (answer : Answer) (asked : Wanted) (t : Told) → IsTellable asked t → TellsReplyAnswer form answer t
     → reply_bytes_of (outcomes.Replied form (Ok answer)) false ≡ replies.reply_text t
 answer_says texts form answers.Done asked t tellable h = json_says _ granted.Done refl done-text ∙ ap replies.reply_text (sym h)
 answer_says texts form (answers.Imported n) asked t tellable h = json_says _ (granted.Imported n) refl (added-text n) ∙ ap replies.reply_text (sym h)
@@ -160,7 +160,7 @@ answer_says texts form (answers.Sold sale) asked t tellable h = sale_says texts 
 answer_says texts form (answers.Reprinted sale) asked t tellable h = sale_says texts form sale asked t tellable h
 answer_says texts form (answers.Report shift sales) asked t tellable h = paper_says _ t h
 
-found_says : SalesAreTexts → (form : Form) (it : Found) (asked : Wanted) (t : Told) → IsTellable asked t → TellsFound form it t
+found_says : SalesAreTexts → (form : Form) (it : Found) (asked : Wanted) (t : Told) → IsTellable asked t → TellsReplyFound form it t
     → reply_bytes_of (outcomes.Found form (Ok it)) false ≡ replies.reply_text t
 found_says texts form (found.SaleCount n) asked t tellable h = absurd h
 found_says texts form (found.Meter m) asked t tellable h =
@@ -199,7 +199,7 @@ says texts asked (outcomes.Found form (Ok it)) t tellable h = found_says texts f
 says texts asked (outcomes.Found form (Err refusal)) t tellable h = refused_says refusal asked t tellable h
 
 -- where a text is a reply, it is read as a whole one
-pub is_whole : (asked : Wanted) (text : List ℕ) (t : Told) (reading : Reading) → IsReply asked text t → IsReading asked text reading
+pub is_whole : (asked : Wanted) (text : List ℕ) (t : Told) (reading : Reading) → IsReply asked text t → IsReplyReading asked text reading
     → (read : Told) × (reading ≡ readings.Whole read) × IsReply asked text read
 is_whole asked text t (readings.Whole read) reply h = (read, refl, h)
 is_whole asked text t readings.NeedHead reply h = absurd (h.1 t reply)
@@ -210,5 +210,5 @@ is_whole asked text t readings.OutOfForm reply h = absurd (h [] t (subst (λ (x 
 
 -- a reply that is not too long is one that is read
 pub is_reply : SalesAreTexts → (asked : Wanted) (outcome : Outcome) (t : Told) → Tells outcome t → IsTellable asked t
-    → length (told_text t) ≤ longest_body → IsReply asked (reply_bytes_of outcome false) t
+    → length (told_text t) ≤ longest_reply_body → IsReply asked (reply_bytes_of outcome false) t
 is_reply texts asked outcome t h tellable few = record { tellable = tellable; short = few; is_text = says texts asked outcome t tellable h }

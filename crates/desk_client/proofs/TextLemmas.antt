@@ -23,10 +23,10 @@ use Rattle.office_rules.specs.declared.decision.refusal.Refusal.TheVariants as r
 use Rattle.office_rules.specs.declared.decision.row_cause.RowCause.{RowCause}
 use Rattle.office_rules.specs.declared.decision.row_cause.RowCause.TheVariants.{Header, Columns, Field, TooManyRows, Differs, NoTariff, DayPast}
 use Rattle.desk_client.specs.Meter.{IsToldMeter, meter_text}
-use Rattle.desk_client.specs.Quote.{IsToldQuote, quote_text}
+use Rattle.desk_client.specs.Quote.{IsToldQuote, quote_as_read}
 use Rattle.desk_client.specs.Refusal.{IsCause, row_text}
 use Rattle.desk_client.specs.Told.{IsTellableRefusal, refusal_text}
-use Rattle.desk_client.specs.Totals.{totals_text}
+use Rattle.desk_client.specs.Totals.{totals_as_read}
 
 digit_plain : (b : ℕ) → is_ascii_digit b ≡ true → escape_byte b ≡ b ∷ []
 unfolding escape_byte
@@ -125,7 +125,7 @@ unfolding json_text serde_json_on_literals
 quote-object change price tender tenths meter tariff = refl
 
 -- a quote, by its members
-pub quote-text : (q : Quote) → IsToldQuote q → json_text (quote_members q) ≡ quote_text q
+pub quote-text : (q : Quote) → IsToldQuote q → json_text (quote_members q) ≡ quote_as_read q
 quote-text q told =
     rw (
       quote-object (q.tender - q.price) q.price q.tender q.tenths q.meter q.tariff,
@@ -144,7 +144,7 @@ unfolding json_text serde_json_on_literals
 totals-object cash sales shift tenths = refl
 
 -- a shift's totals, by their members
-pub totals-text : (number : ℕ) (t : Totals) → json_text (totals_members number t) ≡ totals_text number t
+pub totals-text : (number : ℕ) (t : Totals) → json_text (totals_members number t) ≡ totals_as_read number t
 totals-text number t = totals-object t.cash t.sales number t.tenths
 
 -- ---- what is refused

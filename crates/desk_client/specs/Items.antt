@@ -5,11 +5,11 @@ use Rattle.std.specs.List.{join_with_byte}
 use Rattle.desk_messages.specs.reply.Lists.{comma}
 
 -- a told item begins the text, and this follows it; or none does, whatever follows
-abbrev pub IsFront : {A : Type 0} → (A → Type 0) → (A → List ℕ) → List ℕ
+abbrev pub IsFrontItem : {A : Type 0} → (A → Type 0) → (A → List ℕ) → List ℕ
     → Option (A × Bor (List ℕ)) → Type 0
-IsFront is_told text_of text (Some front) =
+IsFrontItem is_told text_of text (Some front) =
     is_told front.0 × (text ≡ text_of front.0 ++ front.1.now)
-IsFront {A} is_told text_of text None =
+IsFrontItem {A} is_told text_of text None =
     (item : A) (rest : List ℕ) → is_told item → text ≢ text_of item ++ rest
 
 -- the told items that begin one text have one text, whatever follows, and its first byte is a brace
@@ -19,5 +19,5 @@ pub record AreReadInOneWay {A : Type 0} (is_told : A → Type 0) (text_of : A �
   pub braced : (item : A) → is_told item → slice_index (text_of item) 0 ≡ 123
 
 -- the texts of items with a comma between each two, and a bracket behind the last
-abbrev pub closed_text : List (List ℕ) → List ℕ
-closed_text texts = join_with_byte comma texts ++ codes "]"
+abbrev pub closed_list_text : List (List ℕ) → List ℕ
+closed_list_text texts = join_with_byte comma texts ++ codes "]"

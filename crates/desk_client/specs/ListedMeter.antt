@@ -12,5 +12,5 @@ listed_meter_values m = decimal (year_of m.base) ∷ m.number ∷ m.tariff ∷ [
 abbrev pub listed_meter_ends : List (List ℕ)
 listed_meter_ends = codes ",\"meter\":\"" ∷ codes "\",\"tariff\":\"" ∷ codes "\"}" ∷ []
 
-abbrev pub listed_meter_text : ListedMeter → List ℕ
-listed_meter_text m = codes "{\"base\":" ++ woven (listed_meter_values m) listed_meter_ends []
+abbrev pub listed_meter_as_read : ListedMeter → List ℕ
+listed_meter_as_read m = codes "{\"base\":" ++ woven (listed_meter_values m) listed_meter_ends []

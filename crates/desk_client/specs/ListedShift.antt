@@ -4,14 +4,14 @@ use Rattle.book_facts.specs.declared.lookup.ListedShift.{ListedShift}
 use Rattle.desk_client.specs.Text.{woven}
 
 -- the moment of the end of a shift, or that there is none
-abbrev pub end_text : Option ℕ → List ℕ
-end_text None = codes "null"
-end_text (Some moment) = decimal moment
+abbrev pub closing_text : Option ℕ → List ℕ
+closing_text None = codes "null"
+closing_text (Some moment) = decimal moment
 
 -- the values that stand in the text of a shift
 abbrev pub listed_shift_values : ListedShift → List (List ℕ)
 listed_shift_values l =
-    decimal l.totals.cash ∷ end_text l.shift.closed ∷ decimal l.shift.number
+    decimal l.totals.cash ∷ closing_text l.shift.closed ∷ decimal l.shift.number
     ∷ decimal l.shift.opened ∷ l.shift.operator ∷ decimal l.totals.sales ∷ decimal l.totals.tenths
     ∷ []
 
@@ -21,5 +21,5 @@ listed_shift_ends =
     codes ",\"closed\":" ∷ codes ",\"number\":" ∷ codes ",\"opened\":"
     ∷ codes ",\"operator\":\"" ∷ codes "\",\"sales\":" ∷ codes ",\"tenths\":" ∷ codes "}" ∷ []
 
-abbrev pub listed_shift_text : ListedShift → List ℕ
-listed_shift_text l = codes "{\"cash\":" ++ woven (listed_shift_values l) listed_shift_ends []
+abbrev pub listed_shift_as_read : ListedShift → List ℕ
+listed_shift_as_read l = codes "{\"cash\":" ++ woven (listed_shift_values l) listed_shift_ends []

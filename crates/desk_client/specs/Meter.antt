@@ -6,19 +6,19 @@ use Rattle.office_rules.specs.Name.{IsMeterNo, IsName}
 use Rattle.desk_client.specs.Text.{woven}
 
 -- the number of the last sale to a meter, or that there is none
-abbrev pub last_sale_text : Option ℕ → List ℕ
-last_sale_text None = codes "null"
-last_sale_text (Some number) = decimal number
+abbrev pub last_number_text : Option ℕ → List ℕ
+last_number_text None = codes "null"
+last_number_text (Some number) = decimal number
 
 -- a number of a sale has 32 bits
-abbrev pub IsLastSale : Option ℕ → Type 0
-IsLastSale None = ⊤
-IsLastSale (Some number) = number < 2 ^ 32
+abbrev pub IsLastSaleNumber : Option ℕ → Type 0
+IsLastSaleNumber None = ⊤
+IsLastSaleNumber (Some number) = number < 2 ^ 32
 
 -- the values that stand in the text of a meter
 abbrev pub meter_values : MeterSummary → List (List ℕ)
 meter_values m =
-    decimal (year_of m.base) ∷ m.number ∷ last_sale_text m.last_sale ∷ m.tariff ∷ decimal m.tenths
+    decimal (year_of m.base) ∷ m.number ∷ last_number_text m.last_sale ∷ m.tariff ∷ decimal m.tenths
     ∷ []
 
 -- what stands behind each
@@ -33,6 +33,6 @@ meter_text m = codes "{\"base\":" ++ woven (meter_values m) meter_ends []
 -- a meter by its rules
 pub record IsToldMeter (m : MeterSummary) : Type 0 where
   pub number : IsMeterNo m.number
-  pub last_sale : IsLastSale m.last_sale
+  pub last_sale : IsLastSaleNumber m.last_sale
   pub tariff : IsName m.tariff
   pub tenths : m.tenths < 2 ^ 64

@@ -14,13 +14,13 @@ use Rattle.sts_fields.specs.Moment.{IsMoment}
 use Rattle.tariff.specs.Steps.{IsSteps}
 use Rattle.tariff.specs.declared.step.Step.{Step}
 use Rattle.office_rules.specs.Name.{IsMeterNo, IsName, IsOperator}
-use Rattle.desk_client.specs.Sale.{IsTold}
+use Rattle.desk_client.specs.Sale.{IsSaleTold}
 use Rattle.desk_client.specs.declared.page.PageKind.{PageKind}
 use Rattle.desk_client.specs.declared.page.PageKind.TheVariants.{Tariffs, Meters, Shifts, Sales}
 
 -- the body of a page, as a desk writes it
-abbrev pub page_text : Found → List ℕ
-page_text page = found_body Json page
+abbrev pub page_as_read : Found → List ℕ
+page_as_read page = found_body Json page
 
 -- steps from a later day on, by the rules
 pub record IsToldLater (l : LaterSteps) : Type 0 where
@@ -63,7 +63,7 @@ abbrev pub IsToldPage : PageKind → Found → Type 0
 IsToldPage Tariffs (found.Tariffs page) = AreTold IsToldTariff page.items
 IsToldPage Meters (found.Meters page) = AreTold IsToldListedMeter page.items
 IsToldPage Shifts (found.Shifts page) = AreTold IsToldListedShift page.items
-IsToldPage Sales (found.Sales page) = AreTold IsTold page.items
+IsToldPage Sales (found.Sales page) = AreTold IsSaleTold page.items
 IsToldPage kind page = ⊥
 
 -- what a tariff of a list has

@@ -18,8 +18,8 @@ quote_ends =
     codes ",\"meter\":\"" ∷ codes "\",\"price\":" ∷ codes ",\"tariff\":\""
     ∷ codes "\",\"tender\":" ∷ codes ",\"tenths\":" ∷ codes "}" ∷ []
 
-abbrev pub quote_text : Quote → List ℕ
-quote_text q = codes "{\"change\":" ++ woven (quote_values q) quote_ends []
+abbrev pub quote_as_read : Quote → List ℕ
+quote_as_read q = codes "{\"change\":" ++ woven (quote_values q) quote_ends []
 
 -- a quote by its rules
 pub record IsToldQuote (q : Quote) : Type 0 where

@@ -52,5 +52,5 @@ IsCause NoTariff = ⊤
 IsCause DayPast = ⊤
 
 -- a row's number has 32 bits
-abbrev pub IsRow : ℕ → RowCause → Type 0
-IsRow row cause = (row < 2 ^ 32) × IsCause cause
+abbrev pub IsRowCause : ℕ → RowCause → Type 0
+IsRowCause row cause = (row < 2 ^ 32) × IsCause cause

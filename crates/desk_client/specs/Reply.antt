@@ -18,11 +18,11 @@ abbrev pub reply_text : Told → List ℕ
 reply_text told = head_bytes (told_start told) (length (told_text told)) (told_text told)
 
 -- the most bytes of a body, and more than any head has
-abbrev pub longest_body : ℕ
-longest_body = 67108864
+abbrev pub longest_reply_body : ℕ
+longest_reply_body = 67108864
 
-abbrev pub longest_head : ℕ
-longest_head = 100
+abbrev pub longest_reply_head : ℕ
+longest_reply_head = 100
 
 -- the start is a refusal's
 abbrev pub IsRefusing : Start → Type 0
@@ -36,16 +36,16 @@ IsRefusing Unable = ⊤
 -- the text is a whole reply to a message that wants this
 pub record IsReply (asked : Wanted) (text : List ℕ) (told : Told) : Type 0 where
   pub tellable : IsTellable asked told
-  pub short : length (told_text told) ≤ longest_body
+  pub short : length (told_text told) ≤ longest_reply_body
   pub is_text : text ≡ reply_text told
 
 -- what each answer says of the bytes that came so far
-abbrev pub IsReading : Wanted → List ℕ → Reading → Type 0
-IsReading asked input (Whole told) = IsReply asked input told
-IsReading asked input NeedHead =
-    (length input < longest_head) × ((told : Told) → ¬ IsReply asked input told)
-IsReading asked input (NeedBody missing) =
+abbrev pub IsReplyReading : Wanted → List ℕ → Reading → Type 0
+IsReplyReading asked input (Whole told) = IsReply asked input told
+IsReplyReading asked input NeedHead =
+    (length input < longest_reply_head) × ((told : Told) → ¬ IsReply asked input told)
+IsReplyReading asked input (NeedBody missing) =
     (0 < missing)
     × ((more : List ℕ) (told : Told) → IsReply asked (input ++ more) told → length more ≡ missing)
-IsReading asked input OutOfForm =
+IsReplyReading asked input OutOfForm =
     (more : List ℕ) (told : Told) → ¬ IsReply asked (input ++ more) told

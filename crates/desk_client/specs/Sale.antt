@@ -25,11 +25,11 @@ sale_ends =
     ∷ codes ",\"tender\":" ∷ codes ",\"tenths\":" ∷ codes ",\"tid\":" ∷ codes ",\"token\":\""
     ∷ codes "\"}" ∷ []
 
-abbrev pub sale_text : Sale → List ℕ
-sale_text s = codes "{\"base\":" ++ woven (sale_values s) sale_ends []
+abbrev pub sale_as_read : Sale → List ℕ
+sale_as_read s = codes "{\"base\":" ++ woven (sale_values s) sale_ends []
 
 -- a sale by its rules, whose token's nibble is not told
-pub record IsTold (s : Sale) : Type 0 where
+pub record IsSaleTold (s : Sale) : Type 0 where
   pub number : s.number < 2 ^ 32
   pub moment : IsMoment s.moment
   pub shift : s.shift < 2 ^ 32

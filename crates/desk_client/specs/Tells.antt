@@ -13,7 +13,7 @@ use Rattle.papers.specs.Report.{report_of}
 use Rattle.office_rules.specs.declared.decision.answer.Answer.{Answer}
 use Rattle.office_rules.specs.declared.decision.answer.Answer.TheVariants as answers
 use Rattle.office_rules.specs.declared.office.sale.Sale.{Sale}
-use Rattle.desk_client.specs.Page.{page_text}
+use Rattle.desk_client.specs.Page.{page_as_read}
 use Rattle.desk_client.specs.declared.told.Granted.TheVariants as granted
 use Rattle.desk_client.specs.declared.told.Told.{Told}
 use Rattle.desk_client.specs.declared.told.Told.TheVariants as told
@@ -43,37 +43,37 @@ TellsPaper text (told.Granted (granted.Paper paper)) = paper.now ≡ text
 TellsPaper text other = ⊥
 
 -- a sale in a form: itself, or its receipt
-abbrev pub TellsSale : Form → Sale → Told → Type 0
-TellsSale forms.Json sale t = t ≡ told.Granted (granted.Sale (as_told sale))
-TellsSale forms.Paper sale t = TellsPaper (receipt_of sale) t
+abbrev pub TellsReplySale : Form → Sale → Told → Type 0
+TellsReplySale forms.Json sale t = t ≡ told.Granted (granted.Sale (as_told sale))
+TellsReplySale forms.Paper sale t = TellsPaper (receipt_of sale) t
 
 -- an answer, where a sale is to have this form
-abbrev pub TellsAnswer : Form → Answer → Told → Type 0
-TellsAnswer form answers.Done t = t ≡ told.Granted granted.Done
-TellsAnswer form (answers.Imported count) t = t ≡ told.Granted (granted.Imported count)
-TellsAnswer form (answers.Opened shift) t = t ≡ told.Granted (granted.Shift shift)
-TellsAnswer form (answers.Closed shift) t = t ≡ told.Granted (granted.Shift shift)
-TellsAnswer form (answers.Sold sale) t = TellsSale form sale t
-TellsAnswer form (answers.Reprinted sale) t = TellsSale form sale t
-TellsAnswer form (answers.Report shift sales) t = TellsPaper (report_of shift sales) t
+abbrev pub TellsReplyAnswer : Form → Answer → Told → Type 0
+TellsReplyAnswer form answers.Done t = t ≡ told.Granted granted.Done
+TellsReplyAnswer form (answers.Imported count) t = t ≡ told.Granted (granted.Imported count)
+TellsReplyAnswer form (answers.Opened shift) t = t ≡ told.Granted (granted.Shift shift)
+TellsReplyAnswer form (answers.Closed shift) t = t ≡ told.Granted (granted.Shift shift)
+TellsReplyAnswer form (answers.Sold sale) t = TellsReplySale form sale t
+TellsReplyAnswer form (answers.Reprinted sale) t = TellsReplySale form sale t
+TellsReplyAnswer form (answers.Report shift sales) t = TellsPaper (report_of shift sales) t
 
 -- a page is told by the text that the desk writes of it
 abbrev pub TellsPage : Found → Told → Type 0
-TellsPage page (told.Granted (granted.Page text)) = text.now ≡ page_text page
+TellsPage page (told.Granted (granted.Page text)) = text.now ≡ page_as_read page
 TellsPage page other = ⊥
 
 -- what was found, where a sale is to have this form; a count of sales is not read here
-abbrev pub TellsFound : Form → Found → Told → Type 0
-TellsFound form (found.SaleCount sales) t = ⊥
-TellsFound form (found.Meter summary) t = t ≡ told.Granted (granted.Meter summary)
-TellsFound form (found.Sale sale) t = TellsSale form sale t
-TellsFound form (found.Quote quote) t = t ≡ told.Granted (granted.Quote quote)
-TellsFound form (found.ShiftTotals number totals) t =
+abbrev pub TellsReplyFound : Form → Found → Told → Type 0
+TellsReplyFound form (found.SaleCount sales) t = ⊥
+TellsReplyFound form (found.Meter summary) t = t ≡ told.Granted (granted.Meter summary)
+TellsReplyFound form (found.Sale sale) t = TellsReplySale form sale t
+TellsReplyFound form (found.Quote quote) t = t ≡ told.Granted (granted.Quote quote)
+TellsReplyFound form (found.ShiftTotals number totals) t =
     t ≡ told.Granted (granted.Totals number totals)
-TellsFound form (found.Tariffs page) t = TellsPage (found.Tariffs page) t
-TellsFound form (found.Meters page) t = TellsPage (found.Meters page) t
-TellsFound form (found.Shifts page) t = TellsPage (found.Shifts page) t
-TellsFound form (found.Sales page) t = TellsPage (found.Sales page) t
+TellsReplyFound form (found.Tariffs page) t = TellsPage (found.Tariffs page) t
+TellsReplyFound form (found.Meters page) t = TellsPage (found.Meters page) t
+TellsReplyFound form (found.Shifts page) t = TellsPage (found.Shifts page) t
+TellsReplyFound form (found.Sales page) t = TellsPage (found.Sales page) t
 
 -- the one fault of the desk that a well-formed message may meet
 abbrev pub TellsFault : DeskFault → Told → Type 0
@@ -86,7 +86,7 @@ TellsFault faults.Body t = ⊥
 abbrev pub Tells : Outcome → Told → Type 0
 Tells (outcomes.Refused fault) t = ⊥
 Tells (outcomes.Faulty fault) t = TellsFault fault t
-Tells (outcomes.Replied form (Ok answer)) t = TellsAnswer form answer t
+Tells (outcomes.Replied form (Ok answer)) t = TellsReplyAnswer form answer t
 Tells (outcomes.Replied form (Err refusal)) t = t ≡ told.Refused refusal
-Tells (outcomes.Found form (Ok it)) t = TellsFound form it t
+Tells (outcomes.Found form (Ok it)) t = TellsReplyFound form it t
 Tells (outcomes.Found form (Err refusal)) t = t ≡ told.Refused refusal

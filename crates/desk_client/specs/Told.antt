@@ -5,11 +5,11 @@ use Rattle.office_rules.specs.declared.decision.category.Category.{Category}
 use Rattle.office_rules.specs.declared.decision.category.Category.TheVariants.{Missing, Forbidden, Unfit, UnfitRow, Unable}
 use Rattle.office_rules.specs.declared.decision.refusal.Refusal.{Refusal}
 use Rattle.desk_client.specs.Meter.{IsToldMeter, meter_text}
-use Rattle.desk_client.specs.Quote.{IsToldQuote, quote_text}
-use Rattle.desk_client.specs.Refusal.{IsRow, plain_text, row_text}
-use Rattle.desk_client.specs.Sale.{IsTold, sale_text}
+use Rattle.desk_client.specs.Quote.{IsToldQuote, quote_as_read}
+use Rattle.desk_client.specs.Refusal.{IsRowCause, plain_text, row_text}
+use Rattle.desk_client.specs.Sale.{IsSaleTold, sale_as_read}
 use Rattle.desk_client.specs.Start.{category_start}
-use Rattle.desk_client.specs.Totals.{IsToldTotals, totals_text}
+use Rattle.desk_client.specs.Totals.{IsToldTotals, totals_as_read}
 use Rattle.desk_client.specs.declared.start.Start.{Start}
 use Rattle.desk_client.specs.declared.start.Start.TheVariants as starts
 use Rattle.desk_client.specs.declared.told.Granted.{Granted}
@@ -36,7 +36,7 @@ abbrev pub IsAnswer : Granted → Type 0
 IsAnswer Done = ⊤
 IsAnswer (Imported count) = count < 2 ^ 32
 IsAnswer (Shift number) = number < 2 ^ 32
-IsAnswer (Sale sale) = IsTold sale
+IsAnswer (Sale sale) = IsSaleTold sale
 IsAnswer (Meter meter) = IsToldMeter meter
 IsAnswer (Quote quote) = IsToldQuote quote
 IsAnswer (Totals number totals) = IsToldTotals number totals
@@ -48,10 +48,10 @@ abbrev pub granted_text : Granted → List ℕ
 granted_text Done = codes "{\"done\":true}"
 granted_text (Imported count) = codes "{\"added\":" ++ (decimal count ++ codes "}")
 granted_text (Shift number) = codes "{\"shift\":" ++ (decimal number ++ codes "}")
-granted_text (Sale sale) = sale_text sale
+granted_text (Sale sale) = sale_as_read sale
 granted_text (Meter meter) = meter_text meter
-granted_text (Quote quote) = quote_text quote
-granted_text (Totals number totals) = totals_text number totals
+granted_text (Quote quote) = quote_as_read quote
+granted_text (Totals number totals) = totals_as_read number totals
 granted_text (Paper text) = text.now
 granted_text (Page text) = text.now
 
@@ -80,7 +80,7 @@ refusal_text refusal = text_by refusal (refusal_category refusal)
 
 -- a row's number has 32 bits
 abbrev pub IsTellableBy : Category → Type 0
-IsTellableBy (UnfitRow row cause) = IsRow row cause
+IsTellableBy (UnfitRow row cause) = IsRowCause row cause
 IsTellableBy Missing = ⊤
 IsTellableBy Forbidden = ⊤
 IsTellableBy Unfit = ⊤

@@ -12,8 +12,8 @@ totals_values number totals =
 abbrev pub totals_ends : List (List ℕ)
 totals_ends = codes ",\"sales\":" ∷ codes ",\"shift\":" ∷ codes ",\"tenths\":" ∷ codes "}" ∷ []
 
-abbrev pub totals_text : ℕ → Totals → List ℕ
-totals_text number totals =
+abbrev pub totals_as_read : ℕ → Totals → List ℕ
+totals_as_read number totals =
     codes "{\"cash\":" ++ woven (totals_values number totals) totals_ends []
 
 -- the number has 32 bits, and the totals have 64

@@ -1,7 +1,7 @@
 //! The items of a list, as their texts stand in a reply.
 
 ghost use Rattle.std.specs.Prelude.{◌≡◌, ◌++◌, All, IfOk, codes, map};
-ghost use Rattle.desk_client.specs.Items.{IsFront, closed_text};
+ghost use Rattle.desk_client.specs.Items.{IsFrontItem, closed_list_text};
 ghost use Rattle.desk_client.specs.Page.{AreTold};
 ghost use Rattle.desk_client.specs.Text.{IsFound};
 
@@ -11,7 +11,7 @@ use std::alloc::{AllocError, Global};
 /// An item of a list.
 pub(crate) trait Item: Sized + Drop {
     ghost use Rattle.std.specs.Prelude.{ℕ, List, IfOk};
-    ghost use Rattle.desk_client.specs.Items.{AreReadInOneWay, IsFront};
+    ghost use Rattle.desk_client.specs.Items.{AreReadInOneWay, IsFrontItem};
 
     // That it keeps its rules, and its text.
     ghost is_told: { Self → Type 0 };
@@ -20,7 +20,7 @@ pub(crate) trait Item: Sized + Drop {
 
     /// The item at the front of a text, and what follows it.
     fn read_front<'t>(alloc: Global, text: &'t [u8]) -> Result<Option<(Self, &'t [u8])>, AllocError>
-        ensures { IfOk result (IsFront is_told text_of text.now) };
+        ensures { IfOk result (IsFrontItem is_told text_of text.now) };
 
     /// A text begins with one item at the most, and each begins with a brace.
     fn item_law()
@@ -33,8 +33,8 @@ pub(crate) fn read_items<'t, T: Item>(
     alloc: Global,
     text: &'t [u8],
 ) -> Result<Option<(Vec<T>, &'t [u8])>, AllocError>
-    ensures { IfOk result (IsFront (λ items. All T.is_told items.items)
-        (λ items. closed_text (map T.text_of items.items)) text.now) }
+    ensures { IfOk result (IsFrontItem (λ items. All T.is_told items.items)
+        (λ items. closed_list_text (map T.text_of items.items)) text.now) }
 {
     T::item_law();
     let mut items = Vec::new(alloc);
@@ -65,7 +65,7 @@ pub(crate) fn read_list<T: Item>(
     text: &[u8],
 ) -> Result<Option<Vec<T>>, AllocError>
     ensures { IfOk result (IsFound (λ items. AreTold T.is_told items.items
-        × (text.now ≡ front.now ++ (closed_text (map T.text_of items.items) ++ codes "}")))) }
+        × (text.now ≡ front.now ++ (closed_list_text (map T.text_of items.items) ++ codes "}")))) }
 {
     T::item_law();
     let Some(rest) = text.strip_prefix(front.as_bytes()) else {

@@ -2,7 +2,7 @@ ghost use Rattle.std.specs.Prelude.{◌≡◌, ◌≤◌, ℕ, List, false, leng
 ghost use Rattle.desk_messages.specs.declared.reply.outcome.Outcome.{Outcome};
 ghost use Rattle.desk_messages.specs.reply.Text.{reply_bytes_of};
 ghost use Rattle.desk_client.specs.Alike.{TellAlike};
-ghost use Rattle.desk_client.specs.Reply.{IsReading, IsReply, longest_body};
+ghost use Rattle.desk_client.specs.Reply.{IsReplyReading, IsReply, longest_reply_body};
 ghost use Rattle.desk_client.specs.Tells.{Tells};
 ghost use Rattle.desk_client.specs.Told.{IsTellable, told_text};
 ghost use Rattle.desk_client.specs.declared.reply.Reading.{Reading};
@@ -17,10 +17,10 @@ use sts_fields::amount_law;
 /// read as a whole reply; and one text tells one thing, value for value.
 pub fn told_law()
     ensures text { (asked : Wanted) (outcome : Outcome) (told : Told) → Tells outcome told
-        → IsTellable asked told → length (told_text told) ≤ longest_body
+        → IsTellable asked told → length (told_text told) ≤ longest_reply_body
         → IsReply asked (reply_bytes_of outcome false) told }
     ensures read { (asked : Wanted) (text : List ℕ) (told : Told) (reading : Reading)
-        → IsReply asked text told → IsReading asked text reading
+        → IsReply asked text told → IsReplyReading asked text reading
         → (read : Told) × (reading ≡ Whole read) × IsReply asked text read }
     ensures alike { (asked : Wanted) (text : List ℕ) (told other : Told)
         → IsReply asked text told → IsReply asked text other → TellAlike told other }

@@ -13,12 +13,12 @@ use std::alloc::{AllocError, Global};
 const ENDS: [&str; 3] = [",\"meter\":\"", "\",\"tariff\":\"", "\"}"];
 
 impl Item for ListedMeter {
-    ghost use Rattle.desk_client.specs.ListedMeter.{listed_meter_text};
+    ghost use Rattle.desk_client.specs.ListedMeter.{listed_meter_as_read};
     ghost use Rattle.desk_client.specs.Page.{IsToldListedMeter};
 
     ghost is_told = { IsToldListedMeter };
 
-    ghost text_of = { listed_meter_text };
+    ghost text_of = { listed_meter_as_read };
 
     fn read_front<'t>(
         _alloc: Global,

@@ -23,12 +23,12 @@ const ENDS: [&str; 7] = [
 ];
 
 impl Item for ListedShift {
-    ghost use Rattle.desk_client.specs.ListedShift.{listed_shift_text};
+    ghost use Rattle.desk_client.specs.ListedShift.{listed_shift_as_read};
     ghost use Rattle.desk_client.specs.Page.{IsToldListedShift};
 
     ghost is_told = { IsToldListedShift };
 
-    ghost text_of = { listed_shift_text };
+    ghost text_of = { listed_shift_as_read };
 
     fn read_front<'t>(
         _alloc: Global,

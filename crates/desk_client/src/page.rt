@@ -2,7 +2,7 @@
 
 ghost use Rattle.std.specs.Prelude.{◌≡◌, IfOk};
 ghost use Rattle.book_facts.specs.declared.lookup.Found.{Found as WhatIsFound};
-ghost use Rattle.desk_client.specs.Page.{AreAlike, IsToldPage, page_text};
+ghost use Rattle.desk_client.specs.Page.{AreAlike, IsToldPage, page_as_read};
 ghost use Rattle.desk_client.specs.Text.{IsFound};
 ghost use Rattle.desk_client.specs.declared.page.PageKind.TheVariants.{Meters, Sales, Shifts, Tariffs};
 
@@ -27,7 +27,7 @@ pub enum PageKind {
 /// rules. The reply does not tell the nibbles of the tokens of sales: here they are 0. An error is
 /// want of memory.
 pub fn page_in(alloc: Global, kind: PageKind, body: &[u8]) -> Result<Option<Found>, AllocError>
-    ensures { IfOk result (IsFound (λ page. IsToldPage kind page × (body.now ≡ page_text page))) }
+    ensures { IfOk result (IsFound (λ page. IsToldPage kind page × (body.now ≡ page_as_read page))) }
 {
     match kind {
         PageKind::Tariffs => tariffs_in(alloc, body),
@@ -40,7 +40,7 @@ pub fn page_in(alloc: Global, kind: PageKind, body: &[u8]) -> Result<Option<Foun
 // The same of a page of tariffs,
 fn tariffs_in(alloc: Global, body: &[u8]) -> Result<Option<Found>, AllocError>
     ensures { IfOk result (IsFound (λ page. IsToldPage Tariffs page
-        × (body.now ≡ page_text page))) }
+        × (body.now ≡ page_as_read page))) }
 {
     list_law();
     match read_list(alloc, "{\"tariffs\":[", body)? {
@@ -51,7 +51,7 @@ fn tariffs_in(alloc: Global, body: &[u8]) -> Result<Option<Found>, AllocError>
 
 // of meters,
 fn meters_in(alloc: Global, body: &[u8]) -> Result<Option<Found>, AllocError>
-    ensures { IfOk result (IsFound (λ page. IsToldPage Meters page × (body.now ≡ page_text page))) }
+    ensures { IfOk result (IsFound (λ page. IsToldPage Meters page × (body.now ≡ page_as_read page))) }
 {
     list_law();
     match read_list(alloc, "{\"meters\":[", body)? {
@@ -62,7 +62,7 @@ fn meters_in(alloc: Global, body: &[u8]) -> Result<Option<Found>, AllocError>
 
 // of shifts,
 fn shifts_in(alloc: Global, body: &[u8]) -> Result<Option<Found>, AllocError>
-    ensures { IfOk result (IsFound (λ page. IsToldPage Shifts page × (body.now ≡ page_text page))) }
+    ensures { IfOk result (IsFound (λ page. IsToldPage Shifts page × (body.now ≡ page_as_read page))) }
 {
     list_law();
     match read_list(alloc, "{\"shifts\":[", body)? {
@@ -73,7 +73,7 @@ fn shifts_in(alloc: Global, body: &[u8]) -> Result<Option<Found>, AllocError>
 
 // and of sales.
 fn sales_in(alloc: Global, body: &[u8]) -> Result<Option<Found>, AllocError>
-    ensures { IfOk result (IsFound (λ page. IsToldPage Sales page × (body.now ≡ page_text page))) }
+    ensures { IfOk result (IsFound (λ page. IsToldPage Sales page × (body.now ≡ page_as_read page))) }
 {
     list_law();
     match read_list(alloc, "{\"sales\":[", body)? {
@@ -85,7 +85,7 @@ fn sales_in(alloc: Global, body: &[u8]) -> Result<Option<Found>, AllocError>
 /// One body tells one page.
 pub fn page_law()
     ensures one { (kind : PageKind) (page other : WhatIsFound) → IsToldPage kind page
-        → IsToldPage kind other → page_text page ≡ page_text other → AreAlike page other }
+        → IsToldPage kind other → page_as_read page ≡ page_as_read other → AreAlike page other }
 {
     list_law();
     tariff_law();

@@ -1,5 +1,5 @@
 ghost use Rattle.std.specs.Prelude.{◌≡◌, map, take};
-ghost use Rattle.desk_client.specs.Quote.{IsToldQuote, quote_text, quote_values};
+ghost use Rattle.desk_client.specs.Quote.{IsToldQuote, quote_as_read, quote_values};
 ghost use Rattle.desk_client.specs.Text.{IsFound, now};
 
 use crate::text::{Values, read_values, small_number};
@@ -19,7 +19,7 @@ const ENDS: [&str; 6] = [
 
 // The quote that a text tells.
 pub(crate) fn read_quote(text: &[u8]) -> Option<Quote>
-    ensures { IsFound (λ quote. IsToldQuote quote × (text.now ≡ quote_text quote)) result }
+    ensures { IsFound (λ quote. IsToldQuote quote × (text.now ≡ quote_as_read quote)) result }
 {
     amount_law();
     match read_values(text, "{\"change\":", &ENDS) {

@@ -3,7 +3,7 @@
 ghost use Rattle.std.specs.Prelude.{◌≡◌};
 ghost use Rattle.office_rules.specs.Decision.Refusals.{refusal_number};
 ghost use Rattle.office_rules.specs.Decision.RowCauses.{cause_text};
-ghost use Rattle.desk_client.specs.Refusal.{IsCause, IsPlain, IsRow, IsWord, plain_text, row_text};
+ghost use Rattle.desk_client.specs.Refusal.{IsCause, IsPlain, IsRowCause, IsWord, plain_text, row_text};
 ghost use Rattle.desk_client.specs.Text.{IsFound};
 
 use crate::text::{read_values, small_number};
@@ -55,7 +55,7 @@ fn numbered(number: u32) -> Option<Refusal>
 
 // The number of the row that a text refuses, and why.
 pub(crate) fn row_refusal(text: &[u8]) -> Option<(u32, RowCause)>
-    ensures { IsFound (λ found. IsRow found.0 found.1 × (text.now ≡ row_text found.0 found.1))
+    ensures { IsFound (λ found. IsRowCause found.0 found.1 × (text.now ≡ row_text found.0 found.1))
         result }
 {
     let middle = "\",\"error\":\"ImportRow\",\"refusal\":14,\"row\":";

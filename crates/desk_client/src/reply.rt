@@ -1,7 +1,7 @@
 //! The replies of a desk, as they come.
 
 ghost use Rattle.std.specs.Prelude.{◌≡◌, ◌≢◌, ◌^◌, ◌<◌, ℕ, List, MatchOption};
-ghost use Rattle.desk_client.specs.Reply.{IsReading, IsRefusing, head_bytes};
+ghost use Rattle.desk_client.specs.Reply.{IsReplyReading, IsRefusing, head_bytes};
 ghost use Rattle.desk_client.specs.Told.{IsStart};
 ghost use Rattle.desk_client.specs.declared.start.Start.{Start};
 
@@ -38,7 +38,7 @@ struct Head<'b> {
 
 /// What the bytes are that came so far of the reply to a message that wants this.
 pub fn reply_in(input: &[u8], wanted: Wanted) -> Reading<'_>
-    ensures { IsReading wanted input.now result }
+    ensures { IsReplyReading wanted input.now result }
 {
     match find_head(input, wanted) {
         Some(head) => body_in(&head, wanted),
@@ -105,7 +105,7 @@ fn find_refusal(input: &[u8]) -> Option<Head<'_>>
 fn body_in<'b>(head: &Head<'b>, wanted: Wanted) -> Reading<'b>
     requires start { IsStart wanted head.now.start }
     requires len { head.now.len < 2 ^ 64 }
-    ensures { IsReading wanted (head_bytes head.now.start head.now.len head.now.rest.now) result }
+    ensures { IsReplyReading wanted (head_bytes head.now.start head.now.len head.now.rest.now) result }
 {
     let have = head.rest.len() as u64;
     if head.len > MAX_BODY {

@@ -1,5 +1,5 @@
 ghost use Rattle.std.specs.Prelude.{◌≡◌, map};
-ghost use Rattle.desk_client.specs.Sale.{IsTold, sale_text, sale_values};
+ghost use Rattle.desk_client.specs.Sale.{IsSaleTold, sale_as_read, sale_values};
 ghost use Rattle.desk_client.specs.Text.{IsFound, now};
 
 use crate::items::Item;
@@ -30,7 +30,7 @@ const ENDS: [&str; 13] = [
 
 // The sale that a text tells. What it does not tell is the nibble of the token, which is 0 here.
 pub(crate) fn read_sale(text: &[u8]) -> Option<Sale>
-    ensures { IsFound (λ sale. IsTold sale × (text.now ≡ sale_text sale)) result }
+    ensures { IsFound (λ sale. IsSaleTold sale × (text.now ≡ sale_as_read sale)) result }
 {
     amount_law();
     match read_values(text, "{\"base\":", &ENDS) {
@@ -40,11 +40,11 @@ pub(crate) fn read_sale(text: &[u8]) -> Option<Sale>
 }
 
 impl Item for Sale {
-    ghost use Rattle.desk_client.specs.Sale.{IsTold, sale_text};
+    ghost use Rattle.desk_client.specs.Sale.{IsSaleTold, sale_as_read};
 
-    ghost is_told = { IsTold };
+    ghost is_told = { IsSaleTold };
 
-    ghost text_of = { sale_text };
+    ghost text_of = { sale_as_read };
 
     fn read_front<'t>(
         _alloc: Global,
@@ -67,7 +67,7 @@ impl Item for Sale {
 
 // The sale that these values are.
 fn sale_of(values: &Values<'_>) -> Option<Sale>
-    ensures { IsFound (λ sale. IsTold sale × (map now values.now.of ≡ sale_values sale)) result }
+    ensures { IsFound (λ sale. IsSaleTold sale × (map now values.now.of ≡ sale_values sale)) result }
 {
     let [
         base,

@@ -1,6 +1,6 @@
 ghost use Rattle.std.specs.Prelude.{◌≡◌, map, take};
 ghost use Rattle.desk_client.specs.Text.{IsFound, now};
-ghost use Rattle.desk_client.specs.Totals.{IsToldTotals, totals_text, totals_values};
+ghost use Rattle.desk_client.specs.Totals.{IsToldTotals, totals_as_read, totals_values};
 
 use crate::text::{Values, number, read_values, small_number};
 use book_tables::Totals;
@@ -11,7 +11,7 @@ const ENDS: [&str; 4] = [",\"sales\":", ",\"shift\":", ",\"tenths\":", "}"];
 // The number of a shift and its totals, as a text tells them.
 pub(crate) fn read_totals(text: &[u8]) -> Option<(u32, Totals)>
     ensures { IsFound (λ found. IsToldTotals found.0 found.1
-        × (text.now ≡ totals_text found.0 found.1)) result }
+        × (text.now ≡ totals_as_read found.0 found.1)) result }
 {
     match read_values(text, "{\"cash\":", &ENDS) {
         Some(values) => totals_of(&values),

@@ -9,8 +9,8 @@ ghost use Rattle.sts_fields.specs.Moment.{IsMoment};
 ghost use Rattle.sts_token.specs.Token.{AreTwentyDigits};
 ghost use Rattle.tariff.specs.Tender.{IsTender};
 ghost use Rattle.office_rules.specs.Name.{IsMeterNo, IsName, IsOperator};
-ghost use Rattle.desk_client.specs.ListedShift.{end_text};
-ghost use Rattle.desk_client.specs.Meter.{IsLastSale, last_sale_text};
+ghost use Rattle.desk_client.specs.ListedShift.{closing_text};
+ghost use Rattle.desk_client.specs.Meter.{IsLastSaleNumber, last_number_text};
 ghost use Rattle.desk_client.specs.Page.{IsToldEnd};
 ghost use Rattle.desk_client.specs.Text.{IsFound};
 
@@ -59,7 +59,7 @@ pub(crate) fn tariff_of(value: &[u8]) -> Option<TariffName>
 
 // The number of a sale that a value writes, or that there is none.
 pub(crate) fn last_sale_of(value: &[u8]) -> Option<Option<u32>>
-    ensures { IsFound (λ sale. IsLastSale sale × (value.now ≡ last_sale_text sale)) result }
+    ensures { IsFound (λ sale. IsLastSaleNumber sale × (value.now ≡ last_number_text sale)) result }
 {
     if value == b"null".as_slice() {
         return Some(None);
@@ -82,7 +82,7 @@ pub(crate) fn moment_of(value: &[u8]) -> Option<Moment>
 
 // The moment whose Unix seconds a value writes, or that there is none.
 pub(crate) fn end_of(value: &[u8]) -> Option<Option<Moment>>
-    ensures { IsFound (λ end. IsToldEnd end × (value.now ≡ end_text end)) result }
+    ensures { IsFound (λ end. IsToldEnd end × (value.now ≡ closing_text end)) result }
 {
     if value == b"null".as_slice() {
         return Some(None);

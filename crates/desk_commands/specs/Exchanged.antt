@@ -14,8 +14,8 @@ pub record Round : Type 0 where
   pub came : Text
 
 -- the rounds of one message
-abbrev pub once : (message came : Text) → List Round
-once message came = record { message = message; came = came } ∷ []
+abbrev pub one_round : (message came : Text) → List Round
+one_round message came = record { message = message; came = came } ∷ []
 
 -- What connections with desks tell: that one was had on which these rounds were held, each message
 -- sent whole and nothing more; and that none could be had.
@@ -74,5 +74,5 @@ pub data IsUnsent (calls : Calls) (desk : Address) (rounds : List Round) (fault 
 -- the desk was sent one message, and this came; or why nothing did
 abbrev pub IsExchanged : {A : Type 0} → (A → Text) → Calls → Address → (message : Text)
     → Result A ExchangeFault → Type 0
-IsExchanged bytes calls desk message (Ok came) = calls.exchanges desk (once message (bytes came))
+IsExchanged bytes calls desk message (Ok came) = calls.exchanges desk (one_round message (bytes came))
 IsExchanged bytes calls desk message (Err fault) = IsUnsent calls desk [] fault

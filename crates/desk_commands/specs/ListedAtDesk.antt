@@ -6,7 +6,7 @@ use Rattle.book_facts.specs.declared.lookup.Found.{Found}
 use Rattle.command_line.specs.declared.address.Address.{Address}
 use Rattle.command_line.specs.declared.commands.list.Listed.{Listed}
 use Rattle.command_line.specs.declared.commands.list.Listed.TheVariants as listed
-use Rattle.desk_client.specs.Page.{IsToldPage, page_text}
+use Rattle.desk_client.specs.Page.{IsToldPage, page_as_read}
 use Rattle.desk_client.specs.Question.{question_text}
 use Rattle.desk_client.specs.Reply.{IsReply}
 use Rattle.desk_client.specs.declared.question.Question.{Question}
@@ -52,7 +52,7 @@ pub record IsPageReply (list : Listed) (came : Text) (page : Found) : Type 0 whe
   pub body : Bor Text
   pub reply : IsReply wanted.Page came (tells.Granted (grants.Page body))
   pub told : IsToldPage (page_kind list) page
-  pub text : body.now ≡ page_text page
+  pub text : body.now ≡ page_as_read page
 
 -- These rounds told these pages of a list: the first, and each next one the first of the list
 -- behind the one before it. What is left is the list behind the last of them.
@@ -84,7 +84,7 @@ IsTextReply came body = IsReply wanted.Page came (tells.Granted (grants.Page bod
 
 -- the text is no page of the list
 abbrev pub IsOtherText : Listed → Text → Type 0
-IsOtherText list text = (page : Found) → IsToldPage (page_kind list) page → text ≢ page_text page
+IsOtherText list text = (page : Found) → IsToldPage (page_kind list) page → text ≢ page_as_read page
 
 -- why what came is not printed as the next page of a list: a refusal; that the desk's clock has no
 -- moment; what is no whole reply, or tells no page of the list; or a text, and there is no room for

@@ -30,13 +30,13 @@ use Rattle.desk_messages.specs.declared.json_body.kind.JsonKind.{JsonKind}
 use Rattle.desk_messages.specs.declared.json_body.kind.JsonKind.TheVariants as kinds
 use Rattle.desk_messages.specs.Asking.{AsksByJson, AsksImport, BodyAsks, SaysJson, import_of}
 use Rattle.desk_messages.specs.json_body.Body.{IsJson, BodySays, BodySaysMeter, BodySaysOperator, BodySaysBase, BodySaysDatedSteps, BodySaysOrder, BodySaysTariff, BodySaysTariffName}
-use Rattle.desk_messages.specs.Reads.{IsFoundIn}
+use Rattle.desk_messages.specs.Reads.{IsFoundInBody}
 
 -- ---- the value of a body
 
 -- what the value of a body says, the body says
 pub body_says : (kind : JsonKind) (body : List ℕ) (json : Data) (result : Result Request BodyFault)
-    → IsJson body json → IsFoundIn (BodySays kind json) result → AsksByJson kind body result
+    → IsJson body json → IsFoundInBody (BodySays kind json) result → AsksByJson kind body result
 body_says kind body json (Ok request) is says = (json, is, says)
 body_says kind body json (Err faults.OutsideRule) is none =
     λ request says. none request (subst (λ j. BodySays kind j request)
@@ -165,7 +165,7 @@ one_said_by are kind body x y a b =
     one_said are kind a.0 x y a.2 (subst (λ json. BodySays kind json y) same b.2)
 
 one_found : {A : Type 0} (Holds : A → Type 0) → ((x y : A) → Holds x → Holds y → x ≡ y)
-    → (a b : Result A BodyFault) → IsFoundIn Holds a → IsFoundIn Holds b → a ≢ Err faults.Memory
+    → (a b : Result A BodyFault) → IsFoundInBody Holds a → IsFoundInBody Holds b → a ≢ Err faults.Memory
     → b ≢ Err faults.Memory → a ≡ b
 one_found Holds one (Ok x) (Ok y) p q u v = ap Ok (one x y p q)
 one_found Holds one (Ok x) (Err faults.OutsideRule) p q u v = absurd (q x p)

@@ -16,7 +16,7 @@ use Rattle.desk_messages.specs.declared.body_fault.BodyFault.TheVariants.{Outsid
 use Rattle.desk_messages.specs.declared.json_body.kind.JsonKind.{JsonKind}
 use Rattle.desk_messages.specs.declared.json_body.kind.JsonKind.TheVariants.{Tariff, TariffSteps}
 use Rattle.desk_messages.specs.json_body.Body.{HasMemberCount, IsKeyAt, BodySays, BodySaysMeter, BodySaysTariff, BodySaysDatedSteps}
-use Rattle.desk_messages.specs.Reads.{IsFoundIn}
+use Rattle.desk_messages.specs.Reads.{IsFoundInBody}
 
 -- a map has as many entries as its object has members
 pub count_is : (json : Data) (entries : List (String Global × Value)) (len count : ℕ)
@@ -36,8 +36,8 @@ no_key json none meter m says = none m.key (says.key_text, says.members.each.1.0
 
 -- what is found in a value needs what is found in a part of it
 pub not_found_in : {A B : Type 0} (Part : A → Type 0) (Whole : B → Type 0) (fault : BodyFault)
-    → ((whole : B) → Whole whole → (part : A) × Part part) → IsFoundIn Part (Err fault)
-    → IsFoundIn Whole (Err fault)
+    → ((whole : B) → Whole whole → (part : A) × Part part) → IsFoundInBody Part (Err fault)
+    → IsFoundInBody Whole (Err fault)
 not_found_in Part Whole OutsideRule has none = λ whole holds.
     let part = has whole holds in none part.0 part.1
 not_found_in Part Whole (Row number cause) has none = none
@@ -46,14 +46,14 @@ not_found_in Part Whole Memory has none = none
 -- a value that says none of what is needed for a kind says nothing where it is to say that kind
 not_said : {A : Type 0} (Says : A → Type 0) (kind own : JsonKind) (json : Data) (fault : BodyFault)
     → ((request : Request) → BodySays own json request → (said : A) × Says said) → kind ≡ own
-    → IsFoundIn Says (Err fault) → IsFoundIn (BodySays kind json) (Err fault)
+    → IsFoundInBody Says (Err fault) → IsFoundInBody (BodySays kind json) (Err fault)
 not_said Says kind own json fault needs same none =
-    subst (λ k. IsFoundIn (BodySays k json) (Err fault)) (sym same) (not_found_in Says (BodySays own json) fault needs none)
+    subst (λ k. IsFoundInBody (BodySays k json) (Err fault)) (sym same) (not_found_in Says (BodySays own json) fault needs none)
 
 -- a value that says no tariff
 pub no_tariff : (kind : JsonKind) (json : Data) (fault : BodyFault) → kind ≡ Tariff
-    → IsFoundIn {A = List ℕ × List Step} (λ said. BodySaysTariff json said.0 said.1) (Err fault)
-    → IsFoundIn (BodySays kind json) (Err fault)
+    → IsFoundInBody {A = List ℕ × List Step} (λ said. BodySaysTariff json said.0 said.1) (Err fault)
+    → IsFoundInBody (BodySays kind json) (Err fault)
 no_tariff kind json fault =
     not_said {A = List ℕ × List Step} (λ said. BodySaysTariff json said.0 said.1) kind Tariff json fault
     (λ request says. ((says.0, says.1), says.3))
@@ -61,8 +61,8 @@ no_tariff kind json fault =
 -- a value that says no dated steps
 pub no_dated_steps : (kind : JsonKind) (name : List ℕ) (json : Data) (fault : BodyFault)
     → kind ≡ TariffSteps name
-    → IsFoundIn {A = ℕ × List Step} (λ said. BodySaysDatedSteps json said.0 said.1) (Err fault)
-    → IsFoundIn (BodySays kind json) (Err fault)
+    → IsFoundInBody {A = ℕ × List Step} (λ said. BodySaysDatedSteps json said.0 said.1) (Err fault)
+    → IsFoundInBody (BodySays kind json) (Err fault)
 no_dated_steps kind name json fault =
     not_said {A = ℕ × List Step} (λ said. BodySaysDatedSteps json said.0 said.1) kind (TariffSteps name) json fault
     (λ request says. ((says.0, says.1), says.3))

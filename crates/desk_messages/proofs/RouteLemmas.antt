@@ -19,7 +19,7 @@ use Rattle.desk_messages.specs.declared.route.Route.TheVariants.{AddTariff, AddS
 use Rattle.book_facts.specs.declared.lookup.Lookup.{Lookup}
 use Rattle.book_facts.specs.declared.lookup.Lookup.TheVariants as lookups
 use Rattle.desk_messages.specs.route.Endpoint.{Table, closes, endpoints, endpoint_method, filled, opens, pattern_of, quote_target, sale_target, with_endpoint, with_pattern}
-use Rattle.desk_messages.specs.route.Route.{Finds, IsRouted, LeadsTo, Names, NamesLookup, endpoint_of, lookup_endpoint}
+use Rattle.desk_messages.specs.route.Route.{FindsRoute, IsRouted, LeadsTo, Names, NamesLookup, endpoint_of, lookup_endpoint}
 use Rattle.desk_messages.proofs.ParameterLemmas.{digits_lack, letters_lack, same_number, same_start, same_two}
 
 -- what `insert` leaves where it succeeds
@@ -45,7 +45,7 @@ next_rows old new i pattern there before written one =
     ∙ sym (fold_more with_endpoint [] endpoints i Tariffs there)
 
 -- a target has one endpoint
-pub one_endpoint : (target : List ℕ) (a b : Endpoint) → Finds target a → Finds target b → a ≡ b
+pub one_endpoint : (target : List ℕ) (a b : Endpoint) → FindsRoute target a → FindsRoute target b → a ≡ b
 one_endpoint target a b one other =
     let e : Some a ≡ Some b = sym one.found ∙ other.found in cc
 

@@ -8,7 +8,7 @@ use Rattle.matchit.proofs.OnLiterals.{matchit_on_literals}
 use Rattle.desk_messages.specs.declared.route.endpoint.Endpoint.{Endpoint}
 use Rattle.desk_messages.specs.declared.route.endpoint.Endpoint.TheVariants.{Tariffs, TariffSteps, Meters, MeterTariff, MeterBase, Shifts, ShiftClosing, Shift, Sales, Sale, SaleReceipt, MeterImports, TariffImports, Health, Meter, LastSale, Quote, SaleOfRef, ShiftTotals, FirstTariffs, TariffsAfter, FirstMeters, MetersAfter, ShiftsAfter, SalesAfter}
 use Rattle.desk_messages.specs.route.Endpoint.{table}
-use Rattle.desk_messages.specs.route.Route.{Finds}
+use Rattle.desk_messages.specs.route.Route.{FindsRoute}
 
 -- a target of each endpoint
 abbrev pub target_of : Endpoint → List ℕ
@@ -95,5 +95,5 @@ text ShiftsAfter = (target_of ShiftsAfter, (refl, refl))
 text SalesAfter = (target_of SalesAfter, (refl, refl))
 
 -- each endpoint is found for a target
-pub each_found : (endpoint : Endpoint) → (target : List ℕ) × Finds target endpoint
+pub each_found : (endpoint : Endpoint) → (target : List ℕ) × FindsRoute target endpoint
 each_found e = (target_of e, record { text = text e; found = found e })

@@ -17,7 +17,7 @@ use Rattle.desk_messages.specs.declared.json_body.kind.JsonKind.{JsonKind}
 use Rattle.desk_messages.specs.declared.json_body.kind.JsonKind.TheVariants as kinds
 use Rattle.desk_messages.specs.declared.route.Route.TheVariants.{AddTariff, AddSteps, AddMeter, SetTariff, MoveBase, OpenShift, CloseShift, ShiftReport, Sell, Reprint, Receipt, ImportMeters, ImportTariffs, LookUp}
 use Rattle.desk_messages.specs.json_body.Body.{IsJson, BodySays}
-use Rattle.desk_messages.specs.Reads.{IsFoundIn}
+use Rattle.desk_messages.specs.Reads.{IsFoundInBody}
 
 -- the body is JSON that says this request
 abbrev pub SaysJson : JsonKind → List ℕ → Request → Type 0
@@ -25,7 +25,7 @@ SaysJson kind body request = (json : Data) × IsJson body json × BodySays kind 
 
 -- the body says a request as JSON, or none
 abbrev pub AsksByJson : JsonKind → List ℕ → Result Request BodyFault → Type 0
-AsksByJson kind body result = IsFoundIn (SaysJson kind body) result
+AsksByJson kind body result = IsFoundInBody (SaysJson kind body) result
 
 -- what reading a file of rows answers, as a request or as why there is none
 abbrev pub import_of : Result (List Row) RowFault → Result Request BodyFault

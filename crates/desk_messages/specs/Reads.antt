@@ -14,8 +14,8 @@ ReadsWritten rule write written (Some value) = rule value × (written ≡ write 
 ReadsWritten {A} rule write written None = (value : A) → rule value → written ≢ write value
 
 -- a value of a body was found of which this holds, or it holds of none, or memory was short
-abbrev pub IsFoundIn : {A : Type 0} → (A → Type 0) → Result A BodyFault → Type 0
-IsFoundIn Holds (Ok value) = Holds value
-IsFoundIn {A} Holds (Err OutsideRule) = (value : A) → ¬ Holds value
-IsFoundIn Holds (Err (Row number cause)) = ⊥
-IsFoundIn Holds (Err Memory) = ⊤
+abbrev pub IsFoundInBody : {A : Type 0} → (A → Type 0) → Result A BodyFault → Type 0
+IsFoundInBody Holds (Ok value) = Holds value
+IsFoundInBody {A} Holds (Err OutsideRule) = (value : A) → ¬ Holds value
+IsFoundInBody Holds (Err (Row number cause)) = ⊥
+IsFoundInBody Holds (Err Memory) = ⊤

@@ -18,7 +18,7 @@ use Rattle.sqlite_trees.specs.Objects.{IsListed, catalog_tree}
 use Rattle.sqlite_trees.specs.Props.{IsOrdered-prop}
 use Rattle.sqlite_trees.specs.Tree.{Trees}
 use Rattle.sqlite_trees.specs.View.{IsOrdered}
-use Rattle.kept_order.specs.InOrder.{AreInOrder}
+use Rattle.kept_order.specs.InOrder.{AreTreesInOrder}
 use Rattle.kept_order.specs.ListedLaws.{listed_in_order}
 
 module _ {D : Type 0} {g : Ghosts D} (it : FileStore D g) (trees : Trees) where
@@ -48,5 +48,5 @@ module _ {D : Type 0} {g : Ghosts D} (it : FileStore D g) (trees : Trees) where
         rows_are : trees catalog_tree ≡ listed_from 0 wanted
         rows_are = ap (λ (t : Trees). t catalog_tree) may.4 ∙ catalog_rows _ wanted _
 
-  pub file_in_order : (s : Schema) → recovers it trees → IsSound s trees → AreInOrder s trees
+  pub file_in_order : (s : Schema) → recovers it trees → IsSound s trees → AreTreesInOrder s trees
   file_in_order s may = listed_in_order _ _ s trees (listed may) (ordered may)

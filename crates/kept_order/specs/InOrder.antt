@@ -6,9 +6,9 @@ use Rattle.sqlite_trees.specs.Tree.{Trees}
 use Rattle.one_table.specs.Numbered.{IsInOrder}
 
 -- the rows of each table of the schema are in the order of their numbers
-abbrev pub AreInOrder : Schema → Trees → Type 0
-AreInOrder s trees = AllByRecursion (λ t. IsInOrder (trees t.tree)) s.tables
+abbrev pub AreTreesInOrder : Schema → Trees → Type 0
+AreTreesInOrder s trees = AllByRecursion (λ t. IsInOrder (trees t.tree)) s.tables
 
 -- the same of the tables of a database
 abbrev pub HasTablesInOrder : Database → Type 0
-HasTablesInOrder db = AreInOrder db.schema db.trees
+HasTablesInOrder db = AreTreesInOrder db.schema db.trees

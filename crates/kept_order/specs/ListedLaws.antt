@@ -11,7 +11,7 @@ use Rattle.sqlite_trees.specs.Tree.{Trees}
 use Rattle.sqlite_trees.specs.View.{IsOrdered, IsShaped}
 use Rattle.sqlite_value.specs.Order.{Row}
 use Rattle.one_table.specs.Numbered.{IsInOrder}
-use Rattle.kept_order.specs.InOrder.{AreInOrder}
+use Rattle.kept_order.specs.InOrder.{AreTreesInOrder}
 
 -- the rows of a tree that has the shape of a table
 shaped_in_order : (rows : List Row) (found : Shape) → found ≡ shape.Table
@@ -22,7 +22,7 @@ shaped_in_order rows found is shaped =
 
 module _ (shapes : ℕ → Shape) (reals : ℕ → ℕ) (s : Schema) (trees : Trees) where
   pub listed_in_order : IsListed (trees catalog_tree) shapes reals → IsOrdered shapes trees
-      → IsSound s trees → AreInOrder s trees
+      → IsSound s trees → AreTreesInOrder s trees
   listed_in_order listed ordered sound =
       let objects = shaped_in_order _ _ listed.itself.0 (ordered catalog_tree) in
       all_from (λ t. IsInOrder (trees t.tree)) s.tables (λ t among.

@@ -12,7 +12,7 @@ use Rattle.sqlite_trees.specs.Objects.{catalog_tree, version_rows, version_tree,
 use Rattle.sqlite_trees.specs.Props.{IsShaped-prop}
 use Rattle.sqlite_trees.specs.Tree.{Trees}
 use Rattle.sqlite_trees.specs.View.{IsOrdered, IsShaped}
-use Rattle.kept_order.specs.InOrder.{AreInOrder}
+use Rattle.kept_order.specs.InOrder.{AreTreesInOrder}
 use Rattle.kept_order.specs.ListedLaws.{listed_in_order}
 
 -- each tree keeps its rows in the order of its shape
@@ -37,9 +37,9 @@ module _ (last : List Tree) (version : ℕ) where
       [ true ↦ ((tt, tt), (refl, tt)) | false ↦ with_list_ordered t ]
 
 pub memory_in_order : (s : MemStore) (trees : Trees) (schema : Schema)
-    → trees ≡ (memory_view s).committed → IsSound schema trees → AreInOrder schema trees
+    → trees ≡ (memory_view s).committed → IsSound schema trees → AreTreesInOrder schema trees
 memory_in_order s trees schema same sound =
     let last = s.base.items in
     let listed = objects_are_listed (map heading last) in
-    subst (AreInOrder schema) (sym same) (listed_in_order _ _ schema (memory_view s).committed
+    subst (AreTreesInOrder schema) (sym same) (listed_in_order _ _ schema (memory_view s).committed
     listed (all_ordered last s.base_version) (subst (IsSound schema) same sound))

@@ -9,7 +9,7 @@ ghost use Rattle.sqlite_trees.specs.Tree.{Trees};
 ghost use Rattle.one_table.specs.Numbered.{IsInOrder};
 ghost use Rattle.one_table.specs.Place.{Has};
 ghost use Rattle.one_table.specs.Standing.{Stands, tree_in};
-ghost use Rattle.kept_order.specs.InOrder.{AreInOrder, HasTablesInOrder};
+ghost use Rattle.kept_order.specs.InOrder.{AreTreesInOrder, HasTablesInOrder};
 
 use sqlite::{Alter, Connection, FileStore, MemStore};
 use sqlite_disk::Disk;
@@ -18,7 +18,7 @@ use sqlite_disk::Disk;
 pub trait KeepsOrder: Alter {
     // all that a stop may leave is in order
     ghost kept: { (s : Self) (trees : Trees) (schema : Schema)
-        → Self.Store.recovers s trees → IsSound schema trees → AreInOrder schema trees };
+        → Self.Store.recovers s trees → IsSound schema trees → AreTreesInOrder schema trees };
 }
 
 impl<D: Disk> KeepsOrder for FileStore<D> {

@@ -64,9 +64,9 @@ WasMade g Makes old new (Unmade why) = Unit {0}
 WasMade g Makes old new (InDoubt e) = HasBeen g (λ held. FailsAtCommit Makes old held new e)
 
 -- what the fault of a change that was not made tells of the database before it
-abbrev pub Tells : {F : Type 0} → (Database → F → Type 0) → Database → CommitFault F → Type 0
-Tells Says old (Unmade why) = Says old why
-Tells Says old (InDoubt e) = Unit {0}
+abbrev pub TellsCommit : {F : Type 0} → (Database → F → Type 0) → Database → CommitFault F → Type 0
+TellsCommit Says old (Unmade why) = Says old why
+TellsCommit Says old (InDoubt e) = Unit {0}
 
 -- Why a change was not made: in the transaction that was begun on this connection it failed for
 -- this reason. What was left of it then was undone, and no fault is forgotten.

@@ -4,7 +4,7 @@ ghost use Rattle.sqlite.specs.Effect.{Database};
 ghost use Rattle.sqlite.specs.State.{HasCleanDisk, State, Survives};
 ghost use Rattle.one_table.specs.Over.{Inside, Over};
 ghost use Rattle.one_table.specs.InTransaction.{IsUnderWay, KeepsTransaction};
-ghost use Rattle.one_table.specs.Committing.{FailsInside, IsUndone, HasCommitted, LeavesMade, Risks, Tells, WasMade};
+ghost use Rattle.one_table.specs.Committing.{FailsInside, IsUndone, HasCommitted, LeavesMade, Risks, TellsCommit, WasMade};
 
 use sqlite::{Alter, Connection, Error, Transaction};
 
@@ -51,7 +51,7 @@ pub fn change_once<S: Alter, C: Change<S>>(
     ensures committed { Over S.Store conn (λ old new. HasCleanDisk new
         → OnOk result ((db : Database) × C.makes change.now old.now db × HasCommitted db old new)) }
     ensures told { Over S.Store conn (λ old new. HasCleanDisk new
-        → IfErr result (Tells (C.tells change.now) old.now)) }
+        → IfErr result (TellsCommit (C.tells change.now) old.now)) }
     ensures refused { Over S.Store conn (λ _ new. HasCleanDisk new
         → IfErr result (FailsInside S.Store (C.fails change.now) conn.old new)) }
     ensures undone { Over S.Store conn (λ old new. HasCleanDisk new

@@ -24,8 +24,8 @@ sale_line s = join_with_byte space (
     ∷ []) ++ line_feed ∷ []
 
 -- the tenths of some sales, added
-abbrev pub tenths_of : List Sale → ℕ
-tenths_of sales = sum_by (λ s. s.tenths) sales
+abbrev pub sum_of_tenths : List Sale → ℕ
+sum_of_tenths sales = sum_by (λ s. s.tenths) sales
 
 -- the lines of a shift and its times
 unfoldable pub shift_head : Shift → List ℕ
@@ -46,4 +46,4 @@ unfoldable pub report_of : Shift → List Sale → List ℕ
 report_of shift sales =
     shift_head shift
     ++ flat_map sale_line sales
-    ++ totals_text (length sales) (tenths_of sales) (cash_of sales)
+    ++ totals_text (length sales) (sum_of_tenths sales) (cash_of sales)

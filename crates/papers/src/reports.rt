@@ -2,7 +2,7 @@ ghost use Rattle.std.specs.Prelude.{◌≡◌, ◌+◌, ◌++◌, ◌∷◌, ℕ
 ghost use Rattle.office_rules.specs.declared.office.sale.Sale.{Sale};
 ghost use Rattle.office_rules.specs.declared.office.shift.Shift.{Shift};
 ghost use Rattle.papers.specs.Output.{BlamesWriter, IsWritten};
-ghost use Rattle.papers.specs.Report.{report_of, sale_line, shift_head, tenths_of, totals_text};
+ghost use Rattle.papers.specs.Report.{report_of, sale_line, shift_head, sum_of_tenths, totals_text};
 ghost use Rattle.office_rules.specs.Law.Cash.{cash_of};
 
 use crate::fault::TextFault;
@@ -47,12 +47,12 @@ pub fn shift_text<W: Outlet>(
 /// their tenths and their prices, which are those of its parts together.
 pub fn report_law()
     ensures totals { (shift : Shift) (sales : List Sale) → (front : List ℕ) × (report_of shift sales
-        ≡ front ++ totals_text (length sales) (tenths_of sales) (cash_of sales)) }
+        ≡ front ++ totals_text (length sales) (sum_of_tenths sales) (cash_of sales)) }
     ensures each_sale { (shift : Shift) (before after : List Sale) (s : Sale)
         → (front back : List ℕ)
         × (report_of shift (before ++ s ∷ after) ≡ front ++ sale_line s ++ back) }
     ensures parts { (a b : List Sale) → (length (a ++ b) ≡ length a + length b)
-        × (tenths_of (a ++ b) ≡ tenths_of a + tenths_of b)
+        × (sum_of_tenths (a ++ b) ≡ sum_of_tenths a + sum_of_tenths b)
         × (cash_of (a ++ b) ≡ cash_of a + cash_of b) }
 {}
 
@@ -86,7 +86,7 @@ fn put_sale(alloc: Global, text: &mut Vec<u8>, sale: &Sale) -> Result<(), AllocE
 
 // The tenths of some sales, added.
 fn tenths(sales: &[Sale]) -> u128
-    ensures { result ≡ tenths_of sales.now }
+    ensures { result ≡ sum_of_tenths sales.now }
 {
     let mut sum = 0;
     for sale in sales {

@@ -8,7 +8,7 @@ use Rattle.command_line.specs.declared.transform.Shipped.TheVariants.{Plain}
 use Rattle.desk.specs.Answering.{answers_by, life_serves, message_refusal_of}
 use Rattle.conversation.specs.Exchanges.{Exchanged, GaveUp, MessageExchange, Timed, timed}
 use Rattle.conversation.specs.message.Messages.{BeginsMessage, Message}
-use Rattle.conversation.specs.Conversation.{IsRefusal, IsReply}
+use Rattle.conversation.specs.Conversation.{IsRefusal, IsMessageReply}
 use Rattle.conversation.specs.Run.{IsRun}
 use Rattle.conversation.specs.declared.end.End as conversation
 use Rattle.conversation.specs.declared.end.End.TheVariants.{Closed, BadMessage, ReadFault, WriteFault, Memory}
@@ -25,7 +25,7 @@ use Rattle.program_laws.specs.Courses.{AreLived, Course, IsNext, course}
 use Rattle.program_laws.specs.SalesTold.{ConnectionsTell, CutReplyTells, ExchangeTells, ExchangesTell, RunTells}
 use Rattle.vend_commands.specs.port.Machines.{Way}
 use Rattle.program_laws.specs.runs.OneOffice.{LivesIn, TellsIn}
-use Rattle.program_laws.specs.runs.Uses.{Use, asking_life, connected, idle_life, many_lives, no_life, reading_life, unconnected, unseen}
+use Rattle.program_laws.specs.runs.Uses.{RunUse, asking_life, connected, idle_life, many_lives, no_life, reading_life, unconnected, unseen}
 use Rattle.program_laws.proofs.FoundLemmas.{found_hands, read_hands}
 
 -- what the law of a life says of the sales that it hands out
@@ -82,7 +82,7 @@ module _ (laws : HandingLaws) (s : Sale) where
   exchanges_hand old new (x ∷ xs) (mid, first, later) (inl told) = exchanged_keeps mid new xs later (exchange_hands old.0 mid.0 x told)
   exchanges_hand old new (x ∷ xs) (mid, first, later) (inr told) = exchanges_hand mid new xs later told
 
-  cut_reply_hands : (old new : Timed Life) (rest last : List ℕ) (is : IsReply (timed (answers_by life_serves)) rest old last new ⊎ IsRefusal message_refusal_of rest old last new) → CutReplyTells is s → HandsOut new.0 s
+  cut_reply_hands : (old new : Timed Life) (rest last : List ℕ) (is : IsMessageReply (timed (answers_by life_serves)) rest old last new ⊎ IsRefusal message_refusal_of rest old last new) → CutReplyTells is s → HandsOut new.0 s
   cut_reply_hands old new rest last (inl reply) told = exchange_hands old.0 new.0 reply.exchange told
   cut_reply_hands old new rest last (inr refusal) told = absurd told
 
@@ -127,7 +127,7 @@ module _ (laws : HandingLaws) (s : Sale) where
         inr (run_hands (next.life, mid.answers) (new.books.life, new.answers) _ _ _ _ goes.end goes.run told)
 
   -- what was read or told at a desk in a use was handed out in its lives, or in those before
-  pub use_hands : (made : Use) (before own : List Life) (lived : LivesIn made before own) → TellsIn made before own lived s → IsHanded (before ++ own) s
+  pub use_hands : (made : RunUse) (before own : List Life) (lived : LivesIn made before own) → TellsIn made before own lived s → IsHanded (before ++ own) s
   use_hands unseen before own lived told = absurd told
   use_hands (unconnected g found left) before own lived told = absurd told
   use_hands (connected image no_life last) before own lived told = absurd told

@@ -24,10 +24,10 @@ use Rattle.sts_fields.specs.Day.{day_at}
 use Rattle.sts_fields.specs.Text.{Text}
 use Rattle.office_rules.specs.Office.{Office}
 use Rattle.program_laws.proofs.WholeLemmas.{from_first, from_next, no_page_more, none_past, text_from}
-use Rattle.vend_ports.specs.print.Printed.{row_of}
+use Rattle.vend_ports.specs.print.Printed.{table_row_of}
 use Rattle.desk_commands.specs.print.Pages.{ArePages, last_of_full, list_behind, page_lookup}
 use Rattle.desk_commands.specs.print.ListTexts.{meter_line, meter_names, page_text, pages_text, table_text, tariff_lines, tariff_names}
-use Rattle.program_laws.specs.WholeLists.{AreAllAfter, AreAllMeters, AreAllTariffs, meters_text, tariffs_text}
+use Rattle.program_laws.specs.WholeLists.{AreAllAfter, AreAllMeters, AreAllTariffs, whole_meters_text, whole_tariffs_text}
 
 -- ---- keys
 
@@ -135,27 +135,27 @@ module _ {Y : Type 0} (key : Y → Text) (Has : Text → Type 0) where
 
 lines_law : {Y : Type 0} (names : List Text) (lines : Y → Text) (named : Bool) (front back : List Y) → table_text named names (flat_map lines (front ++ back)) ≡ table_text named names (flat_map lines front) ++ table_text false names (flat_map lines back)
 lines_law names lines named front back =
-    let header = if named then row_of names else [] in
+    let header = if named then table_row_of names else [] in
     ap (λ l. header ++ l) (flat_map-append lines front back) ∙ sym (append_assoc header (flat_map lines front) (flat_map lines back))
 
 tariffs_read : (o : Office) (moment : ℕ) (at : Option Text) (page : Found) → Finds o moment (lookups.Tariffs at) (Ok page)
-    → IsKeyedPage (λ t. t.name) (λ name. IsSome (o.tariffs name)) (IsListedTariff o (day_at moment)) tariffs_text (lines_law tariff_names tariff_lines) o moment listed.Tariffs at page
+    → IsKeyedPage (λ t. t.name) (λ name. IsSome (o.tariffs name)) (IsListedTariff o (day_at moment)) whole_tariffs_text (lines_law tariff_names tariff_lines) o moment listed.Tariffs at page
 tariffs_read o moment at (found.Tariffs page) are = record { members = page.items; each = are.each; first = are.first; text_is = λ named. refl; behind = refl }
 tariffs_read o moment at page none = absurd none
 
 pub whole_tariffs : (o : Office) (moment : ℕ) (after : Option Text) (pages : List Found) → ArePages o moment (Some (listed.Tariffs after)) pages None
-    → (tariffs : List ListedTariff) × AreAllTariffs o (day_at moment) (unwrap_or after []) tariffs × (pages_text false pages ≡ tariffs_text true tariffs)
+    → (tariffs : List ListedTariff) × AreAllTariffs o (day_at moment) (unwrap_or after []) tariffs × (pages_text false pages ≡ whole_tariffs_text true tariffs)
 whole_tariffs o moment after pages are =
-    let all = whole_list (λ t. t.name) (λ name. IsSome (o.tariffs name)) (IsListedTariff o (day_at moment)) tariffs_text (lines_law tariff_names tariff_lines) o moment listed.Tariffs (tariffs_read o moment) pages true after are in
+    let all = whole_list (λ t. t.name) (λ name. IsSome (o.tariffs name)) (IsListedTariff o (day_at moment)) whole_tariffs_text (lines_law tariff_names tariff_lines) o moment listed.Tariffs (tariffs_read o moment) pages true after are in
     (all.members, record { each = all.each; all = all.all }, from_first pages ∙ all.text_is)
 
 meters_read : (o : Office) (moment : ℕ) (at : Option Text) (page : Found) → Finds o moment (lookups.Meters at) (Ok page)
-    → IsKeyedPage (λ m. m.number) (λ number. IsSome (o.meters number)) (IsListedMeter o) meters_text (lines_law meter_names meter_line) o moment listed.Meters at page
+    → IsKeyedPage (λ m. m.number) (λ number. IsSome (o.meters number)) (IsListedMeter o) whole_meters_text (lines_law meter_names meter_line) o moment listed.Meters at page
 meters_read o moment at (found.Meters page) are = record { members = page.items; each = are.each; first = are.first; text_is = λ named. refl; behind = refl }
 meters_read o moment at page none = absurd none
 
 pub whole_meters : (o : Office) (moment : ℕ) (after : Option Text) (pages : List Found) → ArePages o moment (Some (listed.Meters after)) pages None
-    → (meters : List ListedMeter) × AreAllMeters o (unwrap_or after []) meters × (pages_text false pages ≡ meters_text true meters)
+    → (meters : List ListedMeter) × AreAllMeters o (unwrap_or after []) meters × (pages_text false pages ≡ whole_meters_text true meters)
 whole_meters o moment after pages are =
-    let all = whole_list (λ m. m.number) (λ number. IsSome (o.meters number)) (IsListedMeter o) meters_text (lines_law meter_names meter_line) o moment listed.Meters (meters_read o moment) pages true after are in
+    let all = whole_list (λ m. m.number) (λ number. IsSome (o.meters number)) (IsListedMeter o) whole_meters_text (lines_law meter_names meter_line) o moment listed.Meters (meters_read o moment) pages true after are in
     (all.members, record { each = all.each; all = all.all }, from_first pages ∙ all.text_is)

@@ -68,10 +68,10 @@ use Rattle.vend_commands.specs.port.Machines.{Machine, Way}
 use Rattle.office_commands.specs.port.Places.IsUnopened.{unfound, unopened as found_unopened}
 use Rattle.office_commands.specs.port.Places.IsUnopenedIn.{refused, unsalted}
 use Rattle.vend_ports.specs.print.Told.{Outputs, Sink}
-use Rattle.program_laws.specs.runs.Follow.{AreFoundSo, AreRuns, EndsClean, Finds, FindsAgain, Follow, Here, IsClean, IsLeftBy, LeftAfter, MayHold, MayHoldAfter, MayLeaveOf, ProgramRun, use_of}
+use Rattle.program_laws.specs.runs.Follow.{AreFoundSo, AreRuns, EndsClean, FindsImage, FindsAgain, Follow, Here, IsClean, IsLeftBy, LeftAfter, MayHold, MayHoldAfter, MayLeaveOf, ProgramRun, use_of}
 use Rattle.program_laws.specs.runs.OneOffice.{AreLivedBy, AreOneOffice, LivesIn}
 use Rattle.program_laws.specs.runs.Readings.{IsReadIn, reading_of}
-use Rattle.program_laws.specs.runs.Uses.{Living, AreCoursed, Ending, Use, connected, ends_lost, let_go, idle_life, many_lives, reading_life, unconnected, unseen, lives_asking, lives_printing, use_added, use_asked, use_audited, use_carried, use_imported, use_refused, use_reported, use_run, use_served, use_serving, use_shown, use_timed, use_visited, with_file}
+use Rattle.program_laws.specs.runs.Uses.{Living, AreCoursed, RunEnding, RunUse, connected, ends_lost, let_go, idle_life, many_lives, reading_life, unconnected, unseen, lives_asking, lives_printing, use_added, use_asked, use_audited, use_carried, use_imported, use_refused, use_reported, use_run, use_served, use_serving, use_shown, use_timed, use_visited, with_file}
 use Rattle.vend_commands.specs.serving.Connections.{AreHeld, AreReady, AreServed, Service, service}
 use Rattle.program_laws.specs.Courses.{AreLived, Course, IsNext, course}
 use Rattle.vend_commands.specs.serving.Listening.{IsServing}
@@ -97,7 +97,7 @@ none_listed [] is = refl
 none_listed (x ∷ xs) is = absurd (∥∥₁_elim is (λ a b. absurd a) (λ (none : (x ∷ xs) ≡ []). let no : ⊥ = cc in no))
 
 -- what a run makes of them
-abbrev pub GoesOn : Use → (Before : Image → Type 0) → List Life → Type 0
+abbrev pub GoesOn : RunUse → (Before : Image → Type 0) → List Life → Type 0
 GoesOn made Before lives = (own : List Life) × LivesIn made lives own × Kept (MayHold made Before) (lives ++ own)
 
 -- the law of lives, and that what is left is found
@@ -180,20 +180,20 @@ module _ {D R W B : Type 0} (way : Way D R W) (forward : BlockFunction) (see : B
         subst (λ l. Kept After l) (sym own.1) next.2,
       )))
 
-  module _ (Before : Image → Type 0) (loses : Seen → OpenFault → Type 0) (ends : (old : Seen) (fault : OpenFault) → loses old fault → Ending) where
+  module _ (Before : Image → Type 0) (loses : Seen → OpenFault → Type 0) (ends : (old : Seen) (fault : OpenFault) → loses old fault → RunEnding) where
     -- what is said of a lost file
-    abbrev LostGoesOn : Seen → Ending → Type 0
+    abbrev LostGoesOn : Seen → RunEnding → Type 0
     LostGoesOn old last = FindsAgain last → EndsClean last → HasCleanDisk old.state × ((c : Course) → RepresentTheLast c.over c.life old → ∥ Kept (MayHoldAfter last) (with_last c.over c.life) ∥₁)
 
     found_served : (wanted : ℕ) (old : Service D B) (door : D) (answers : Option (List ℤ)) (printed : Text) (image : Image) (served : Result (B × Bool) OpenFault) (are : AreServed way forward see loses wanted old door answers served printed)
-        → Finds (use_served way forward see loses ends wanted old door answers printed image served are) Before → Before image
+        → FindsImage (use_served way forward see loses ends wanted old door answers printed image served are) Before → Before image
     found_served wanted old door answers printed image (Ok (books, true)) held found = found.0
     found_served wanted old door answers printed image (Ok (books, false)) none found = found.0
     found_served wanted old door answers printed image (Err fault) lost found = found.0
 
     served_on : ((old : Seen) (fault : OpenFault) (lost : loses old fault) → LostGoesOn old (ends old fault lost))
         → (lives : List Life) (wanted : ℕ) (old : Service D B) (door : D) (answers : Option (List ℤ)) (printed : Text) (image : Image) (served : Result (B × Bool) OpenFault) (are : AreServed way forward see loses wanted old door answers served printed)
-        → Finds (use_served way forward see loses ends wanted old door answers printed image served are) Before → IsClean (use_served way forward see loses ends wanted old door answers printed image served are)
+        → FindsImage (use_served way forward see loses ends wanted old door answers printed image served are) Before → IsClean (use_served way forward see loses ends wanted old door answers printed image served are)
         → (office : Office) → AreLives lives office → Represents (opened forward office) (see old.books)
         → ∥ GoesOn (use_served way forward see loses ends wanted old door answers printed image served are) Before lives ∥₁
     served_on lost_goes lives wanted old door answers printed image (Ok (books, true)) held found clean office led begins =
@@ -289,7 +289,7 @@ module _ (laws : Laws) (Before : Image → Type 0) (lives : List Life) where
 
   -- no office was opened
   refused_on : {D S : Type 0} {disk : disk.Ghosts D} {salts : source.Ghosts S} {finds lets_go : D → D → Type 0} {fails : OpenFault → Type 0} (fault : OpenFault) (why : IsUnopened disk salts finds lets_go fails fault)
-      → Finds (use_refused fault why) Before → IsClean (use_refused fault why) → Kept Before lives → GoesOn (use_refused fault why) Before lives
+      → FindsImage (use_refused fault why) Before → IsClean (use_refused fault why) → Kept Before lives → GoesOn (use_refused fault why) Before lives
   refused_on fault (unfound none) found clean kept = unseen_on kept
   refused_on fault (found_unopened files finds (unsalted it lacks is gone)) found clean kept = unseen_on kept
   refused_on {disk = disk} fault (found_unopened files finds (refused left (Connected last) why taken gone)) found clean kept =
@@ -335,11 +335,11 @@ module _ (laws : Laws) (Before : Image → Type 0) (lives : List Life) where
         (life ∷ [], (office, refl), one_more laws lives (seen_in new) office led life refl (keeps life (begins.opens office stands) clean))
 
     -- a visit, where it is known what is done there
-    visited_on : (Does : (old new : Seen) → Type 0) (o : Outputs) (end : CommandEnd) (if_refused : (fault : OpenFault) → place.fails fault → Use) (living : (old new : Seen) → Does old new → Living)
-        → ((fault : OpenFault) (why : place.fails fault) → Finds (if_refused fault why) Before → IsClean (if_refused fault why) → Kept Before lives → GoesOn (if_refused fault why) Before lives)
+    visited_on : (Does : (old new : Seen) → Type 0) (o : Outputs) (end : CommandEnd) (if_refused : (fault : OpenFault) → place.fails fault → RunUse) (living : (old new : Seen) → Does old new → Living)
+        → ((fault : OpenFault) (why : place.fails fault) → FindsImage (if_refused fault why) Before → IsClean (if_refused fault why) → Kept Before lives → GoesOn (if_refused fault why) Before lives)
         → ((old new : Books S Shipped store shipped) (begins : IsOpenedAt place transform old) (does : Does (seen_in old) (seen_in new)) → HasCleanDisk (seen_in new).state → (office : Office) → StandsIn place.image office → AreLives lives office
         → GoesOn (connected place.image (living (seen_in old) (seen_in new) does) (let_go (seen_in new).state)) Before lives)
-        → (visit : IsVisited store place transform Does o end) → Finds (use_visited if_refused living visit) Before → IsClean (use_visited if_refused living visit) → Kept Before lives → GoesOn (use_visited if_refused living visit) Before lives
+        → (visit : IsVisited store place transform Does o end) → FindsImage (use_visited if_refused living visit) Before → IsClean (use_visited if_refused living visit) → Kept Before lives → GoesOn (use_visited if_refused living visit) Before lives
     visited_on Does o end if_refused living refused_goes done_goes (visit_unopened fault fails told) found clean kept = refused_goes fault fails found clean kept
     visited_on Does o end if_refused living refused_goes done_goes (visit_opened old new begins finds does closes) found clean kept =
         let here = kept.left place.image found.0 in
@@ -387,47 +387,47 @@ module _ (laws : Laws) (Before : Image → Type 0) (lives : List Life) where
     here = with_file disk salts of office m
 
     asking_on : (transform : Shipped) (path : Text) (wait moment : ℕ) (request : Request) (o : Outputs) (end : CommandEnd) (asks : IsAskedAt (over_files {g = disk}) here.at transform path wait moment request o end)
-        → Finds (use_asked disk salts of office m transform path wait moment request o end asks) Before → IsClean (use_asked disk salts of office m transform path wait moment request o end asks) → Kept Before lives
+        → FindsImage (use_asked disk salts of office m transform path wait moment request o end asks) Before → IsClean (use_asked disk salts of office m transform path wait moment request o end asks) → Kept Before lives
         → GoesOn (use_asked disk salts of office m transform path wait moment request o end asks) Before lives
     asking_on transform path wait moment request o end asks found clean kept =
         visited_on (here.at path wait) _ o end use_refused (lives_asking transform moment request o end) refused_on (asked_on (here.at path wait) moment request o end) asks found clean kept
 
     adding_on : (words : ImportWords) (moment : ℕ) (rows : Result (List Row) RowFault) (o : Outputs) (end : CommandEnd) (added : AreAdded (over_files {g = disk}) here.at m.untouched words moment rows o end)
-        → Finds (use_added disk salts of office m words moment rows o end added) Before → IsClean (use_added disk salts of office m words moment rows o end added) → Kept Before lives
+        → FindsImage (use_added disk salts of office m words moment rows o end added) Before → IsClean (use_added disk salts of office m words moment rows o end added) → Kept Before lives
         → GoesOn (use_added disk salts of office m words moment rows o end added) Before lives
     adding_on words moment (Ok rows) o end added found clean kept = asking_on words.transform words.file.now words.wait moment (requests.Import rows) o end added found clean kept
     adding_on words moment (Err fault) o end told found clean kept = unseen_on kept
 
     importing_on : (words : ImportWords) (moment : ℕ) (o : Outputs) (end : CommandEnd) (imported : IsFileImported (over_files {g = disk}) here.at m.untouched m.texts words moment o end)
-        → Finds (use_imported disk salts of office m words moment o end imported) Before → IsClean (use_imported disk salts of office m words moment o end imported) → Kept Before lives
+        → FindsImage (use_imported disk salts of office m words moment o end imported) Before → IsClean (use_imported disk salts of office m words moment o end imported) → Kept Before lives
         → GoesOn (use_imported disk salts of office m words moment o end imported) Before lives
     importing_on words moment o end (inl (bytes, reads, (records, rows, are, reading, added))) found clean kept = adding_on words moment rows o end added found clean kept
     importing_on words moment o end (inr unread) found clean kept = unseen_on kept
 
     reporting_on : (words : ReportWords) (o : Outputs) (end : CommandEnd) (reported : IsReported (over_files {g = disk}) here.at words o end)
-        → Finds (use_reported disk salts of office m words o end reported) Before → IsClean (use_reported disk salts of office m words o end reported) → Kept Before lives
+        → FindsImage (use_reported disk salts of office m words o end reported) Before → IsClean (use_reported disk salts of office m words o end reported) → Kept Before lives
         → GoesOn (use_reported disk salts of office m words o end reported) Before lives
     reporting_on words o end (report_absent misses told) found clean kept = unseen_on kept
     reporting_on words o end (report_present visit) found clean kept =
         visited_on (where_present (here.at words.file.now words.wait)) _ o end use_refused (lives_printing words.paper o end) refused_on (printed_on (where_present (here.at words.file.now words.wait)) words.paper o end) visit found clean kept
 
     showing_on : (path : Text) (wait moment : ℕ) (wanted : Wanted) (o : Outputs) (end : CommandEnd) (shown : IsShownAt (over_files {g = disk}) here.at path wait moment wanted o end)
-        → Finds (use_shown disk salts of office m path wait moment wanted o end shown) Before → IsClean (use_shown disk salts of office m path wait moment wanted o end shown) → Kept Before lives
+        → FindsImage (use_shown disk salts of office m path wait moment wanted o end shown) Before → IsClean (use_shown disk salts of office m path wait moment wanted o end shown) → Kept Before lives
         → GoesOn (use_shown disk salts of office m path wait moment wanted o end shown) Before lives
     showing_on path wait moment wanted o end (shown_absent misses told) found clean kept = unseen_on kept
     showing_on path wait moment wanted o end (shown_present visit) found clean kept =
         visited_on (where_present (here.at path wait)) _ o end use_refused (λ old new done. reading_life moment (reading_of moment wanted old new o end done)) refused_on
         (looked_on (where_present (here.at path wait)) moment wanted o end) visit found clean kept
 
-    timed_on : (Idle : Type 0) (At : ℕ → Type 0) (o : Outputs) (end : CommandEnd) (made : (moment : ℕ) → At moment → Use)
-        → ((moment : ℕ) (it : At moment) → Finds (made moment it) Before → IsClean (made moment it) → Kept Before lives → GoesOn (made moment it) Before lives)
-        → (moment : Option ℕ) (done : IsDoneAt Idle At o end moment) → Finds (use_timed Idle At o end made moment done) Before → IsClean (use_timed Idle At o end made moment done) → Kept Before lives → GoesOn (use_timed Idle At o end made moment done) Before lives
+    timed_on : (Idle : Type 0) (At : ℕ → Type 0) (o : Outputs) (end : CommandEnd) (made : (moment : ℕ) → At moment → RunUse)
+        → ((moment : ℕ) (it : At moment) → FindsImage (made moment it) Before → IsClean (made moment it) → Kept Before lives → GoesOn (made moment it) Before lives)
+        → (moment : Option ℕ) (done : IsDoneAt Idle At o end moment) → FindsImage (use_timed Idle At o end made moment done) Before → IsClean (use_timed Idle At o end made moment done) → Kept Before lives → GoesOn (use_timed Idle At o end made moment done) Before lives
     timed_on Idle At o end made each (Some moment) done found clean kept = each moment done found clean kept
     timed_on Idle At o end made each None idle found clean kept = unseen_on kept
 
     module _ (finds : (c : Held (FileStore M disk)) (o : Office) → Opens (file_state c) → IsLive (file_state c) → FindsOffice (file_state c).committed.trees o → StoreStandsFor (file_state c) o) where
       audited_on : (words : AuditWords) (o : Outputs) (end : CommandEnd) (audited : IsAudited (here.at words.file.now words.wait) (option_map forward_of words.transform) o end)
-          → Finds (use_audited disk salts of office m words o end audited) Before → IsClean (use_audited disk salts of office m words o end audited) → Kept Before lives
+          → FindsImage (use_audited disk salts of office m words o end audited) Before → IsClean (use_audited disk salts of office m words o end audited) → Kept Before lives
           → GoesOn (use_audited disk salts of office m words o end audited) Before lives
       audited_on words o end (audit_absent misses told) found clean kept = unseen_on kept
       audited_on words o end (audit_unopened fault why told) found clean kept = refused_on fault why found clean kept
@@ -446,7 +446,7 @@ module _ (laws : Laws) (Before : Image → Type 0) (lives : List Life) where
           )
 
       serving_on : (words : ServeWords) (err_old err_new : Sink) (end : CommandEnd) (serving : IsServing (over_files {g = disk}) m.way here.at m.door m.clock.answers words err_old err_new end)
-          → Finds (use_serving disk salts of office m words err_old err_new end serving) Before → IsClean (use_serving disk salts of office m words err_old err_new end serving) → Kept Before lives
+          → FindsImage (use_serving disk salts of office m words err_old err_new end serving) Before → IsClean (use_serving disk salts of office m words err_old err_new end serving) → Kept Before lives
           → ∥ GoesOn (use_serving disk salts of office m words err_old err_new end serving) Before lives ∥₁
       serving_on words err_old err_new end (serve_unopened fault fails leaves told ends) found clean kept = ∣ refused_on fault fails found clean kept ∣₁
       serving_on words err_old err_new end (serve_unheard old begins finds last deaf leaves closes ends) found clean kept =
@@ -460,7 +460,7 @@ module _ (laws : Laws) (Before : Image → Type 0) (lives : List Life) where
           served_on m.way (forward_of words.transform) seen_in laws Before loses ends_lost (lost_on laws finds) lives words.connections service_old were.last were.left were.printed image were.served were.are_served found clean was.0 was.2 (begins.opens was.0 was.1)
 
       carried_on : (asked : Asked) (o : Outputs) (end : CommandEnd) (done : IsCarriedOut (over_files {g = disk}) here asked o end)
-          → Finds (use_carried disk salts of office m asked o end done) Before → IsClean (use_carried disk salts of office m asked o end done) → Kept Before lives
+          → FindsImage (use_carried disk salts of office m asked o end done) Before → IsClean (use_carried disk salts of office m asked o end done) → Kept Before lives
           → ∥ GoesOn (use_carried disk salts of office m asked o end done) Before lives ∥₁
       carried_on (asks.Trial words) o end done found clean kept = ∣ unseen_on kept ∣₁
       carried_on (asks.Import words) o end (shut, (moment, taken, done)) found clean kept =
@@ -485,7 +485,7 @@ module _ (laws : Laws) (Before : Image → Type 0) (lives : List Life) where
       carried_on (asks.Audit words) o end (shut, done) found clean kept = ∣ audited_on words o end done found clean kept ∣₁
 
       run_on : (words : List Text) (o : Outputs) (end : CommandEnd) (it : IsProgramRun (over_files {g = disk}) here words o end)
-          → Finds (use_run disk salts of office m words o end it) Before → IsClean (use_run disk salts of office m words o end it) → Kept Before lives
+          → FindsImage (use_run disk salts of office m words o end it) Before → IsClean (use_run disk salts of office m words o end it) → Kept Before lives
           → ∥ GoesOn (use_run disk salts of office m words o end it) Before lives ∥₁
       run_on words o end (answered asked for done) found clean kept = carried_on asked o end done found clean kept
       run_on words o end (bad_word idle none asks_none told) found clean kept = ∣ unseen_on kept ∣₁

@@ -25,7 +25,7 @@ use Rattle.office_rules.specs.declared.decision.request.Request.TheVariants.{Sel
 use Rattle.office_rules.specs.declared.decision.request.Stamped.{Stamped}
 use Rattle.office_rules.specs.declared.office.sale.Sale.{Sale}
 use Rattle.office_rules.specs.declared.office.shift.Shift.{Shift}
-use Rattle.program_laws.specs.Selling.{EndsSold, TellsSale}
+use Rattle.program_laws.specs.Selling.{EndsSold, PrintsSale}
 use Rattle.office_commands.specs.office.Served.{TellsReply, answer_text}
 use Rattle.office_commands.specs.commands.Asked.{IsAskedAt}
 use Rattle.office_commands.specs.port.Places.{Places}
@@ -97,7 +97,7 @@ is_answered (Ok answer) o (inr (room, told)) = absurd (not_refused o _ _ told)
 is_answered (Err refusal) o told = absurd (not_refused o _ _ told)
 
 -- a receipt takes no memory
-pub sale_told : (sale : Sale) (o : Outputs) (end : CommandEnd) → TellsReply (Ok (Sold sale)) o end → TellsSale sale o end
+pub sale_told : (sale : Sale) (o : Outputs) (end : CommandEnd) → TellsReply (Ok (Sold sale)) o end → PrintsSale sale o end
 sale_told sale o end (inl told) = told
 sale_told sale o end (inr (none, told)) = absurd none
 

@@ -61,7 +61,7 @@ use Rattle.vend_ports.specs.print.Told.{Outputs, Sink}
 use Rattle.program_laws.specs.runs.Follow.{Here, ProgramRun, use_of}
 use Rattle.program_laws.specs.runs.OneOffice.{AreLivedBy, AreOneOffice, AreSoldFor, Asks, AsksIn, AsksSo, TellAlong, Gets, IsAmong, IsToldIn, IsUnlessFailed, LivesIn, TellsIn}
 use Rattle.program_laws.specs.runs.Readings.{reading_of}
-use Rattle.program_laws.specs.runs.Uses.{Ending, IsAskedLife, Living, Question, Use, asking_life, connected, ends_lost, idle_life, lives_asking, lives_printing, many_lives, no_life, reading_life, unconnected, unseen, use_added, use_asked, use_audited, use_carried, use_imported, use_refused, use_reported, use_run, use_served, use_serving, use_shown, use_timed, use_visited, with_file}
+use Rattle.program_laws.specs.runs.Uses.{RunEnding, IsAskedLife, Living, RunQuestion, RunUse, asking_life, connected, ends_lost, idle_life, lives_asking, lives_printing, many_lives, no_life, reading_life, unconnected, unseen, use_added, use_asked, use_audited, use_carried, use_imported, use_refused, use_reported, use_run, use_served, use_serving, use_shown, use_timed, use_visited, with_file}
 use Rattle.vend_commands.specs.serving.Connections.{AreServed, Service, service}
 use Rattle.vend_commands.specs.serving.Listening.{IsServing}
 use Rattle.vend_commands.specs.serving.Listening.IsServing.{unheard as serve_unheard, unopened as serve_unopened, was_open as serve_open}
@@ -77,8 +77,8 @@ use Rattle.program_laws.proofs.OrderLemmas.{SellingLaws, sold_handed, sold_is_or
 -- ---- a run tells the reply that it got
 
 -- what was asked in a use was told so
-abbrev Tells : Use → Outputs → CommandEnd → Type 0
-Tells made o end = (q : Question) → AsksIn made q → TellsReply q.reply o end
+abbrev Tells : RunUse → Outputs → CommandEnd → Type 0
+Tells made o end = (q : RunQuestion) → AsksIn made q → TellsReply q.reply o end
 
 refused_tells : {D S : Type 0} {disk : disk.Ghosts D} {salts : source.Ghosts S} {finds lets_go : D → D → Type 0} {fails : OpenFault → Type 0} (fault : OpenFault) (why : IsUnopened disk salts finds lets_go fails fault) (o : Outputs) (end : CommandEnd) → Tells (use_refused fault why) o end
 refused_tells fault (unfound none) o end q asks = absurd asks
@@ -86,27 +86,27 @@ refused_tells fault (found_unopened files finds (unsalted it lacks is gone)) o e
 refused_tells fault (found_unopened files finds (refused left (Connected last) why taken gone)) o end q asks = absurd asks
 refused_tells fault (found_unopened files finds (refused left (Unconnected rest) why taken gone)) o end q asks = absurd asks
 
-visited_tells : {S : Type 0} {store : Ghosts S} (place : Place) {transform : Shipped} (Does : (old new : Seen) → Type 0) (o : Outputs) (end : CommandEnd) (if_refused : (fault : OpenFault) → place.fails fault → Use) (living : (old new : Seen) → Does old new → Living)
+visited_tells : {S : Type 0} {store : Ghosts S} (place : Place) {transform : Shipped} (Does : (old new : Seen) → Type 0) (o : Outputs) (end : CommandEnd) (if_refused : (fault : OpenFault) → place.fails fault → RunUse) (living : (old new : Seen) → Does old new → Living)
     → ((fault : OpenFault) (why : place.fails fault) → Tells (if_refused fault why) o end)
-    → ((old new : Seen) (does : Does old new) (q : Question) → AsksSo (living old new does) q → TellsReply q.reply o end)
+    → ((old new : Seen) (does : Does old new) (q : RunQuestion) → AsksSo (living old new does) q → TellsReply q.reply o end)
     → (visit : IsVisited store place transform Does o end) → Tells (use_visited if_refused living visit) o end
 visited_tells place Does o end if_refused living refused_told done_told (visit_unopened fault fails told) q asks = refused_told fault fails q asks
 visited_tells place Does o end if_refused living refused_told done_told (visit_opened old new begins finds does closes) q asks = done_told (seen_in old) (seen_in new) does q asks
 
-asked_tells : (transform : Shipped) (moment : ℕ) (request : Request) (o : Outputs) (end : CommandEnd) (old new : Seen) (done : IsServedAndTold moment request old new o end) (q : Question) → AsksSo (lives_asking transform moment request o end old new done) q → TellsReply q.reply o end
-asked_tells transform moment request o end old new done q is = subst (λ (p : Question). TellsReply p.reply o end) (sym is) done.told
+asked_tells : (transform : Shipped) (moment : ℕ) (request : Request) (o : Outputs) (end : CommandEnd) (old new : Seen) (done : IsServedAndTold moment request old new o end) (q : RunQuestion) → AsksSo (lives_asking transform moment request o end old new done) q → TellsReply q.reply o end
+asked_tells transform moment request o end old new done q is = subst (λ (p : RunQuestion). TellsReply p.reply o end) (sym is) done.told
 
-printed_tells : (paper : Paper) (o : Outputs) (end : CommandEnd) (old new : Seen) (done : PrintsPaper paper old new o end) (q : Question) → AsksSo (lives_printing paper o end old new done) q → TellsReply q.reply o end
+printed_tells : (paper : Paper) (o : Outputs) (end : CommandEnd) (old new : Seen) (done : PrintsPaper paper old new o end) (q : RunQuestion) → AsksSo (lives_printing paper o end old new done) q → TellsReply q.reply o end
 printed_tells (Shift number) o end old new done q is = asked_tells Plain first_moment (requests.ShiftReport number) o end old new done q is
 printed_tells (Receipt number) o end old new done q is = asked_tells Plain first_moment (requests.Reprint number) o end old new done q is
 printed_tells (Totals number) o end old new done q is = absurd is
 printed_tells Sales o end old new done q is = absurd is
 
-timed_tells : (Idle : Type 0) (At : ℕ → Type 0) (o : Outputs) (end : CommandEnd) (made : (moment : ℕ) → At moment → Use) → ((moment : ℕ) (it : At moment) → Tells (made moment it) o end) → (moment : Option ℕ) (done : IsDoneAt Idle At o end moment) → Tells (use_timed Idle At o end made moment done) o end
+timed_tells : (Idle : Type 0) (At : ℕ → Type 0) (o : Outputs) (end : CommandEnd) (made : (moment : ℕ) → At moment → RunUse) → ((moment : ℕ) (it : At moment) → Tells (made moment it) o end) → (moment : Option ℕ) (done : IsDoneAt Idle At o end moment) → Tells (use_timed Idle At o end made moment done) o end
 timed_tells Idle At o end made each (Some moment) done q asks = each moment done q asks
 timed_tells Idle At o end made each None idle q asks = absurd asks
 
-served_tells : {D R W B : Type 0} (way : Way D R W) (forward : BlockFunction) (see : B → Seen) (loses : Seen → OpenFault → Type 0) (ends : (old : Seen) (fault : OpenFault) → loses old fault → Ending) (wanted : ℕ) (old : Service D B) (door : D) (answers : Option (List ℤ)) (printed : Text) (image : Image) (served : Result (B × Bool) OpenFault) (are : AreServed way forward see loses wanted old door answers served printed) (o : Outputs) (end : CommandEnd)
+served_tells : {D R W B : Type 0} (way : Way D R W) (forward : BlockFunction) (see : B → Seen) (loses : Seen → OpenFault → Type 0) (ends : (old : Seen) (fault : OpenFault) → loses old fault → RunEnding) (wanted : ℕ) (old : Service D B) (door : D) (answers : Option (List ℤ)) (printed : Text) (image : Image) (served : Result (B × Bool) OpenFault) (are : AreServed way forward see loses wanted old door answers served printed) (o : Outputs) (end : CommandEnd)
     → Tells (use_served way forward see loses ends wanted old door answers printed image served are) o end
 served_tells way forward see loses ends wanted old door answers printed image (Ok (books, true)) held o end q asks = absurd asks
 served_tells way forward see loses ends wanted old door answers printed image (Ok (books, false)) none o end q asks = absurd asks
@@ -186,17 +186,17 @@ module _ {M S H D R W : Type 0} (disk : disk.Ghosts M) (salts : source.Ghosts S)
 -- ---- a run has its life among the lives
 
 -- what was asked in a use is its one life
-asked_life : (made : Use) (q : Question) (before own : List Life) → AsksIn made q → LivesIn made before own → (life : Life) × IsAskedLife q life × (own ≡ life ∷ [])
+asked_life : (made : RunUse) (q : RunQuestion) (before own : List Life) → AsksIn made q → LivesIn made before own → (life : Life) × IsAskedLife q life × (own ≡ life ∷ [])
 asked_life unseen q before own asks lives = absurd asks
 asked_life (unconnected g found left) q before own asks lives = absurd asks
 asked_life (connected image no_life last) q before own asks lives = absurd asks
 asked_life (connected image (idle_life transform) last) q before own asks lives = absurd asks
 asked_life (connected image (reading_life moment reading) last) q before own asks lives = absurd asks
-asked_life (connected image (asking_life asked) last) q before own asks (life, is, one) = (life, subst (λ (p : Question). IsAskedLife p life) (sym asks) is, one)
+asked_life (connected image (asking_life asked) last) q before own asks (life, is, one) = (life, subst (λ (p : RunQuestion). IsAskedLife p life) (sym asks) is, one)
 asked_life (connected image (many_lives way forward count door answers last_door left) last) q before own asks lives = absurd asks
 
 -- where something was asked nothing was read, or told at a desk
-asks_alone : (made : Use) (q : Question) (before own : List Life) (lived : LivesIn made before own) (s : Sale) → AsksIn made q → ¬ TellsIn made before own lived s
+asks_alone : (made : RunUse) (q : RunQuestion) (before own : List Life) (lived : LivesIn made before own) (s : Sale) → AsksIn made q → ¬ TellsIn made before own lived s
 asks_alone unseen q before own lived s asks told = absurd asks
 asks_alone (unconnected g found left) q before own lived s asks told = absurd asks
 asks_alone (connected image no_life last) q before own lived s asks told = absurd asks
@@ -211,7 +211,7 @@ pub record HistoryLaws : Type 0 where
   pub stands : (lives : List Life) (o : Office) (s : Sale) → AreLives lives o → IsHanded lives s → Contains o.sales s
 
 -- a life whose one reply gives a sale hands it out
-hands : (q : Question) (life : Life) (s : Sale) → IsAskedLife q life → Contains (sales_of q.reply) s → HandsOut life s
+hands : (q : RunQuestion) (life : Life) (s : Sale) → IsAskedLife q life → Contains (sales_of q.reply) s → HandsOut life s
 hands q life s is gives =
     let P : Life → Type 0 = λ l. HandsOut l s in
     subst P (sym is.life_is) (inl (q.reply, (0, omega arith, refl), gives))
@@ -220,7 +220,7 @@ gives_sold : (r : Result Answer Refusal) (s : Sale) → r ≡ Ok (Sold s) → Co
 gives_sold r s sold = subst (λ (x : Result Answer Refusal). Contains (sales_of x) s) (sym sold) (0, omega arith, refl)
 
 module _ {P D R W : Type 0} (here : Here P D R W) where
-  pub tells : (run : ProgramRun here) (q : Question) → Asks here run q → TellsReply q.reply run.o run.end
+  pub tells : (run : ProgramRun here) (q : RunQuestion) → Asks here run q → TellsReply q.reply run.o run.end
   tells run q asks = run_tells here.disk here.salts here.of (here.office run.ports) (here.rest run.ports) run.words run.o run.end run.ran q asks
 
   -- the lives before a run, its own, and those after it
@@ -278,7 +278,7 @@ module _ {P D R W : Type 0} (here : Here P D R W) where
         ]
 
     -- before a run that asked something, it was so in the lives before that run
-    handed_before : (earlier : List (ProgramRun here)) (again : ProgramRun here) (q : Question) → Asks here again q → (before lives : List Life) (lived : AreLivedBy here (earlier ++ again ∷ []) before lives) (s : Sale)
+    handed_before : (earlier : List (ProgramRun here)) (again : ProgramRun here) (q : RunQuestion) → Asks here again q → (before lives : List Life) (lived : AreLivedBy here (earlier ++ again ∷ []) before lives) (s : Sale)
         → TellAlong here (earlier ++ again ∷ []) before lives lived s → IsHanded (before ++ (split earlier [] again before lives lived).first) s
     unfolding split
     handed_before [] again q asks before lives (own, others, is, rest, all) s told = elim told [
@@ -299,13 +299,13 @@ module _ {P D R W : Type 0} (here : Here P D R W) where
 
   module _ (history : HistoryLaws) where
     -- the life of a run that asked one request, and the lives before it
-    record IsAsking (q : Question) (before : List Life) : Type 0 where
+    record IsAsking (q : RunQuestion) (before : List Life) : Type 0 where
       life : Life
       asked : IsAskedLife q life
       is_life : IsLife life
       lead : AreLives before life.opening
 
-    asking : (earlier later : List (ProgramRun here)) (lives : List Life) (run : ProgramRun here) (q : Question) (one : AreOneOffice here (earlier ++ run ∷ later) lives) → Asks here run q → IsAsking q (split earlier later run [] lives one.lived).first
+    asking : (earlier later : List (ProgramRun here)) (lives : List Life) (run : ProgramRun here) (q : RunQuestion) (one : AreOneOffice here (earlier ++ run ∷ later) lives) → Asks here run q → IsAsking q (split earlier later run [] lives one.lived).first
     asking earlier later lives run q one asks =
         let it = split earlier later run [] lives one.lived in
         let mine = asked_life (use_of here run) q ([] ++ it.first) it.own asks it.here_lived in
@@ -315,14 +315,14 @@ module _ {P D R W : Type 0} (here : Here P D R W) where
         record { life = life; asked = mine.1; is_life = opens.1; lead = opens.0 }
 
     -- it opened an office in which this sale stands
-    record IsLastAsking (s : Sale) (q : Question) : Type 0 where
+    record IsLastAsking (s : Sale) (q : RunQuestion) : Type 0 where
       life : Life
       asked : IsAskedLife q life
       is_life : IsLife life
       office : IsOffice life.opening
       stands : Contains life.opening.sales s
 
-    last_asking : (earlier : List (ProgramRun here)) (lives : List Life) (again : ProgramRun here) (s : Sale) (q : Question) (one : AreOneOffice here (earlier ++ again ∷ []) lives)
+    last_asking : (earlier : List (ProgramRun here)) (lives : List Life) (again : ProgramRun here) (s : Sale) (q : RunQuestion) (one : AreOneOffice here (earlier ++ again ∷ []) lives)
         → IsHanded (split earlier [] again [] lives one.lived).first s → Asks here again q → IsLastAsking s q
     last_asking earlier lives again s q one there asks =
         let before = (split earlier [] again [] lives one.lived).first in
@@ -342,7 +342,7 @@ module _ {P D R W : Type 0} (here : Here P D R W) where
         got_handed earlier it.first first s it.lived among gets
 
     -- its reply is that of the rules, or it failed
-    asked_reply : (s : Sale) (q : Question) (it : IsLastAsking s q) (answer : Answer) → reply (forward_of q.transform) it.life.opening it.asked.at ≡ Ok answer → IsUnlessFailed q.reply answer
+    asked_reply : (s : Sale) (q : RunQuestion) (it : IsLastAsking s q) (answer : Answer) → reply (forward_of q.transform) it.life.opening it.asked.at ≡ Ok answer → IsUnlessFailed q.reply answer
     asked_reply s q it answer rules =
         let is = subst IsLife it.asked.life_is it.is_life in
         elim (replied (forward_of q.transform) it.life.opening it.asked.at q.reply is) [
@@ -353,7 +353,7 @@ module _ {P D R W : Type 0} (here : Here P D R W) where
         ]
 
     module _ (orders : OrderLaws) where
-      pub printed_again : (handing : HandingLaws) (earlier : List (ProgramRun here)) (lives : List Life) (again : ProgramRun here) (one : AreOneOffice here (earlier ++ again ∷ []) lives) (s : Sale) (q : Question) → IsToldIn here earlier (earlier ++ again ∷ []) lives one s → Asks here again q → q.request ≡ requests.Reprint s.number → IsUnlessFailed q.reply (Reprinted s)
+      pub printed_again : (handing : HandingLaws) (earlier : List (ProgramRun here)) (lives : List Life) (again : ProgramRun here) (one : AreOneOffice here (earlier ++ again ∷ []) lives) (s : Sale) (q : RunQuestion) → IsToldIn here earlier (earlier ++ again ∷ []) lives one s → Asks here again q → q.request ≡ requests.Reprint s.number → IsUnlessFailed q.reply (Reprinted s)
       printed_again handing earlier lives again one s q told asks request =
           let before : IsHanded (split earlier [] again [] lives one.lived).first s = elim told [
             | inl (first, among, gets) ↦ got_before earlier lives first again s one among gets
@@ -363,7 +363,7 @@ module _ {P D R W : Type 0} (here : Here P D R W) where
           asked_reply s q it (Reprinted s) (orders.reprinted (forward_of q.transform) it.life.opening it.asked.at s it.office it.stands (it.asked.for_request ∙ request))
 
       -- the order of a sale that was sold is the sale's
-      pub sold_again : (earlier : List (ProgramRun here)) (lives : List Life) (first again : ProgramRun here) (order : Order) (s : Sale) (p q : Question) → AreOneOffice here (earlier ++ again ∷ []) lives → IsAmong here earlier first
+      pub sold_again : (earlier : List (ProgramRun here)) (lives : List Life) (first again : ProgramRun here) (order : Order) (s : Sale) (p q : RunQuestion) → AreOneOffice here (earlier ++ again ∷ []) lives → IsAmong here earlier first
           → Asks here first p → p.request ≡ requests.Sell order → p.reply ≡ Ok (Sold s) → Asks here again q → q.request ≡ requests.Sell order → IsUnlessFailed q.reply (Sold s)
       sold_again earlier lives first again order s p q one among first_asks first_request sold asks request =
           let it = last_asking earlier lives again s q one (got_before earlier lives first again s one among (p, first_asks, gives_sold p.reply s sold)) asks in
@@ -380,7 +380,7 @@ module _ {P D R W : Type 0} (here : Here P D R W) where
 
     module _ (selling : SellingLaws) where
       -- a sale that was sold for an order before a run, by a command or at a desk
-      sold_before : (earlier : List (ProgramRun here)) (lives : List Life) (again : ProgramRun here) (order : Order) (s : Sale) (q : Question) (one : AreOneOffice here (earlier ++ again ∷ []) lives) → AreSoldFor (split earlier [] again [] lives one.lived).first order s
+      sold_before : (earlier : List (ProgramRun here)) (lives : List Life) (again : ProgramRun here) (order : Order) (s : Sale) (q : RunQuestion) (one : AreOneOffice here (earlier ++ again ∷ []) lives) → AreSoldFor (split earlier [] again [] lives one.lived).first order s
           → Asks here again q → q.request ≡ requests.Sell order → IsUnlessFailed q.reply (Sold s)
       sold_before earlier lives again order s q one there asks request =
           let before = (split earlier [] again [] lives one.lived).first in
@@ -391,7 +391,7 @@ module _ {P D R W : Type 0} (here : Here P D R W) where
           asked_reply s q it (Sold s) (same.1 its.same)
 
       -- by the run itself: then that is its reply
-      sold_itself : (q : Question) (life : Life) (order : Order) (s : Sale) (at : Stamped) → IsAskedLife q life → Contains life.exchanges (record { request = at; reply = Ok (Sold s) }) → q.reply ≡ Ok (Sold s)
+      sold_itself : (q : RunQuestion) (life : Life) (order : Order) (s : Sale) (at : Stamped) → IsAskedLife q life → Contains life.exchanges (record { request = at; reply = Ok (Sold s) }) → q.reply ≡ Ok (Sold s)
       sold_itself q life order s at is sold =
           let only = subst (λ (l : Life). Contains l.exchanges (record { request = at; reply = Ok (Sold s) })) is.life_is sold in
           elim (contains_cases _ _ [] only) [
@@ -399,7 +399,7 @@ module _ {P D R W : Type 0} (here : Here P D R W) where
             | inr none ↦ absurd (omega (arith, none.1))
           ]
 
-      pub order_again : (earlier : List (ProgramRun here)) (lives : List Life) (again : ProgramRun here) (order : Order) (s : Sale) (q : Question) → AreOneOffice here (earlier ++ again ∷ []) lives → AreSoldFor lives order s
+      pub order_again : (earlier : List (ProgramRun here)) (lives : List Life) (again : ProgramRun here) (order : Order) (s : Sale) (q : RunQuestion) → AreOneOffice here (earlier ++ again ∷ []) lives → AreSoldFor lives order s
           → Asks here again q → q.request ≡ requests.Sell order → IsUnlessFailed q.reply (Sold s)
       order_again earlier lives again order s q one (life, there, at, asked, sold) asks request =
           let it = split earlier [] again [] lives one.lived in

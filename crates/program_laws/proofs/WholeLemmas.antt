@@ -21,9 +21,9 @@ use Rattle.sts_fields.specs.Text.{Text}
 use Rattle.office_rules.specs.Office.{AreNumbered, IsOffice, Office}
 use Rattle.office_rules.specs.declared.office.sale.Sale.{Sale}
 use Rattle.office_commands.proofs.ExportLemmas.{PagesLaw}
-use Rattle.vend_ports.specs.print.Printed.{row_of}
+use Rattle.vend_ports.specs.print.Printed.{table_row_of}
 use Rattle.desk_commands.specs.print.Pages.{ArePages, last_of_full, list_behind, page_lookup}
-use Rattle.desk_commands.specs.print.ListTexts.{listed_shift_line, page_text, pages_text, shift_names, shifts_text}
+use Rattle.desk_commands.specs.print.ListTexts.{listed_shift_line, page_text, pages_text, shift_names, shift_rows_text}
 
 -- ---- places in lists
 
@@ -126,21 +126,21 @@ module _ {X Y : Type 0} (number : X → ℕ) (show : X → Y) (key : Y → ℕ) 
 -- ---- shifts and sales
 
 shifts_read : (o : Office) (moment n : ℕ) (page : Found) → Finds o moment (lookups.Shifts n) (Ok page)
-    → ((first : Bool) → page_text false first page ≡ shifts_text first (first_above (λ s. s.number) (listed_shift o) (λ l. l.shift.number) (λ s. refl) n o.shifts))
+    → ((first : Bool) → page_text false first page ≡ shift_rows_text first (first_above (λ s. s.number) (listed_shift o) (λ l. l.shift.number) (λ s. refl) n o.shifts))
     × (list_behind page ≡ option_map (λ l. listed.Shifts l.shift.number) (last_of_full (first_above (λ s. s.number) (listed_shift o) (λ l. l.shift.number) (λ s. refl) n o.shifts)))
-shifts_read o moment n (found.Shifts page) is = (λ first. ap (shifts_text first) is, ap (λ ls. option_map (λ (l : ListedShift). listed.Shifts l.shift.number) (last_of_full ls)) is)
+shifts_read o moment n (found.Shifts page) is = (λ first. ap (shift_rows_text first) is, ap (λ ls. option_map (λ (l : ListedShift). listed.Shifts l.shift.number) (last_of_full ls)) is)
 shifts_read o moment n page none = absurd none
 
-shifts_law : (first : Bool) (front back : List ListedShift) → shifts_text first (front ++ back) ≡ shifts_text first front ++ shifts_text false back
+shifts_law : (first : Bool) (front back : List ListedShift) → shift_rows_text first (front ++ back) ≡ shift_rows_text first front ++ shift_rows_text false back
 shifts_law first front back =
-    let names = if first then row_of shift_names else [] in
+    let names = if first then table_row_of shift_names else [] in
     ap (λ lines. names ++ lines) (flat_map-append listed_shift_line front back) ∙ sym (append_assoc names (flat_map listed_shift_line front) (flat_map listed_shift_line back))
 
 pub whole_shifts : (o : Office) (moment after : ℕ) (pages : List Found) → IsOffice o → ArePages o moment (Some (listed.Shifts after)) pages None
-    → pages_text false pages ≡ shifts_text true (map (listed_shift o) (filter (λ s. nat_lt after s.number) o.shifts))
+    → pages_text false pages ≡ shift_rows_text true (map (listed_shift o) (filter (λ s. nat_lt after s.number) o.shifts))
 whole_shifts o moment after pages office are =
     from_first pages
-    ∙ whole_text (λ s. s.number) (listed_shift o) (λ l. l.shift.number) (λ s. refl) shifts_text shifts_law o moment o.shifts office.shift_numbers listed.Shifts (shifts_read o moment) pages true after are
+    ∙ whole_text (λ s. s.number) (listed_shift o) (λ l. l.shift.number) (λ s. refl) shift_rows_text shifts_law o moment o.shifts office.shift_numbers listed.Shifts (shifts_read o moment) pages true after are
 
 sales_read : (o : Office) (moment n : ℕ) (page : Found) → Finds o moment (lookups.Sales n) (Ok page)
     → ((first : Bool) → page_text false first page ≡ export_of first (first_above (λ s. s.number) (λ s. s) (λ s. s.number) (λ s. refl) n o.sales))

@@ -5,7 +5,7 @@ use Rattle.book_facts.specs.declared.lookup.Found.{Found}
 use Rattle.book_facts.specs.declared.lookup.Found.TheVariants as found
 use Rattle.books.specs.Looking.{IsFoundAt}
 use Rattle.conversation.specs.Exchanges.{Exchanged, MessageExchange, Timed, timed}
-use Rattle.conversation.specs.Conversation.{IsRefusal, IsReply}
+use Rattle.conversation.specs.Conversation.{IsRefusal, IsMessageReply}
 use Rattle.conversation.specs.Run.{IsRun}
 use Rattle.conversation.specs.declared.end.End.{End}
 use Rattle.conversation.specs.declared.end.End.TheVariants.{Closed, BadMessage, ReadFault, WriteFault, Memory}
@@ -56,7 +56,7 @@ ExchangesTell old (x ∷ xs) new (mid, first, later) s =
 
 -- the last text was a reply that told it, though the writer took a beginning of it alone
 abbrev pub CutReplyTells : {old new : Timed Life} → {rest last : List ℕ}
-    → IsReply (timed (answers_by life_serves)) rest old last new
+    → IsMessageReply (timed (answers_by life_serves)) rest old last new
     ⊎ IsRefusal message_refusal_of rest old last new → Sale → Type 0
 CutReplyTells {old} {new} (inl reply) s = ExchangeTells old.0 reply.exchange new.0 s
 CutReplyTells (inr refusal) s = ⊥

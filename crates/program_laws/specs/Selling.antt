@@ -44,8 +44,8 @@ pub record HasSold (forward : BlockFunction) (office : Office) (order : Order) (
 
 -- of a sale that books replied nothing is told but its receipt: so what is told else came before it
 -- stood
-abbrev pub TellsSale : Sale → Outputs → CommandEnd → Type 0
-TellsSale sale o end = IsTold o (receipt_of sale) [] Done end
+abbrev pub PrintsSale : Sale → Outputs → CommandEnd → Type 0
+PrintsSale sale o end = IsTold o (receipt_of sale) [] Done end
 
 -- so with the books as the command left them and closed their file, as long as the disk returned
 -- what was written

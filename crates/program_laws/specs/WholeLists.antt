@@ -26,8 +26,8 @@ pub record AreAllMeters (o : Office) (after : Text) (meters : List ListedMeter) 
   pub all : AreAllAfter (λ number. IsSome (o.meters number)) after (map (λ m. m.number) meters)
 
 -- their tables
-abbrev pub tariffs_text : (named : Bool) → List ListedTariff → Text
-tariffs_text named tariffs = table_text named tariff_names (flat_map tariff_lines tariffs)
+abbrev pub whole_tariffs_text : (named : Bool) → List ListedTariff → Text
+whole_tariffs_text named tariffs = table_text named tariff_names (flat_map tariff_lines tariffs)
 
-abbrev pub meters_text : (named : Bool) → List ListedMeter → Text
-meters_text named meters = table_text named meter_names (flat_map meter_line meters)
+abbrev pub whole_meters_text : (named : Bool) → List ListedMeter → Text
+whole_meters_text named meters = table_text named meter_names (flat_map meter_line meters)

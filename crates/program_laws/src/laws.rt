@@ -46,11 +46,11 @@ ghost use Rattle.office_commands.specs.port.Places.{places_of};
 ghost use Rattle.vend_commands.specs.port.Machines.{loop_of, way};
 ghost use Rattle.program_laws.specs.runs.Follow.{here_of};
 ghost use Rattle.program_laws.specs.runs.OneOffice.{KeepsPromise};
-ghost use Rattle.program_laws.specs.Selling.{EndsSold, TellsSale};
+ghost use Rattle.program_laws.specs.Selling.{EndsSold, PrintsSale};
 ghost use Rattle.office_commands.specs.office.Served.{TellsReply};
 ghost use Rattle.desk_commands.specs.print.Pages.{ArePages};
-ghost use Rattle.desk_commands.specs.print.ListTexts.{pages_text, shifts_text};
-ghost use Rattle.program_laws.specs.WholeLists.{AreAllMeters, AreAllTariffs, meters_text, tariffs_text};
+ghost use Rattle.desk_commands.specs.print.ListTexts.{pages_text, shift_rows_text};
+ghost use Rattle.program_laws.specs.WholeLists.{AreAllMeters, AreAllTariffs, whole_meters_text, whole_tariffs_text};
 ghost use Rattle.vend_ports.specs.print.Told.{Outputs, IsTold};
 ghost use Rattle.office_commands.specs.office.Visited.{seen_in};
 ghost use Rattle.vend_ports.specs.declared.command_end.CommandEnd.{CommandEnd};
@@ -68,7 +68,7 @@ ghost use Rattle.desk.specs.Answering.{LifeReplies, answers_by, life_serves, mes
 ghost use Rattle.vend_core.specs.Law.LifeLaws.{IsReadingRequest};
 ghost use Rattle.desk_client.specs.Asks.{IsAskable, IsNoMoment};
 ghost use Rattle.desk_client.specs.Question.{question_text, wanted_by};
-ghost use Rattle.desk_client.specs.Reply.{IsReply, longest_body};
+ghost use Rattle.desk_client.specs.Reply.{IsReply, longest_reply_body};
 ghost use Rattle.desk_client.specs.declared.question.Question.{Question as WhatIsAsked};
 ghost use Rattle.desk_client.specs.declared.told.Told.{Told};
 ghost use Rattle.program_laws.specs.AtDesk.{AreAnsweredOn, IsAnsweredAt, IsAskedByOne, IsGivenOn, IsOneLookup, IsPageOrRefusal, PrintsAsOnFile, PrintsList, came_in, sent_in};
@@ -104,16 +104,16 @@ pub fn list_law()
         → ArePages office moment (Some (Listed.Tariffs after)) pages None
         → (tariffs : List ListedTariff)
         × AreAllTariffs office (day_at moment) (unwrap_or after []) tariffs
-        × (pages_text false pages ≡ tariffs_text true tariffs) }
+        × (pages_text false pages ≡ whole_tariffs_text true tariffs) }
     ensures meters { (office : Office) (moment : ℕ) (after : Option Text)
         (pages : List WhatIsFound)
         → ArePages office moment (Some (Listed.Meters after)) pages None
         → (meters : List ListedMeter) × AreAllMeters office (unwrap_or after []) meters
-        × (pages_text false pages ≡ meters_text true meters) }
+        × (pages_text false pages ≡ whole_meters_text true meters) }
     ensures shifts { (office : Office) (moment after : ℕ) (pages : List WhatIsFound)
         → IsOffice office
         → ArePages office moment (Some (Listed.Shifts after)) pages None
-        → pages_text false pages ≡ shifts_text true
+        → pages_text false pages ≡ shift_rows_text true
         (map (listed_shift office) (filter (λ s. nat_lt after s.number) office.shifts)) }
     ensures sales { (office : Office) (moment after : ℕ) (pages : List WhatIsFound)
         → IsOffice office
@@ -140,7 +140,7 @@ pub fn sell_law<H: OfficeFile>()
         (IsClosed H.Medium.Disk (H.lets_go H.Medium)) transform order
         moment office o }
     ensures told { (sale : Sale) (o : Outputs) (end : CommandEnd)
-        → TellsReply (Ok (Sold sale)) o end → TellsSale sale o end }
+        → TellsReply (Ok (Sold sale)) o end → PrintsSale sale o end }
 {
     office_law();
 }
@@ -262,12 +262,12 @@ pub fn at_desk_law()
     ensures read { (question : WhatIsAsked) (moment : ℕ) (old new : Timed Life) (came : Text)
         → IsAskable question → IsMoment moment → IsOffice old.0.opening → IsLife new.0
         → IsAnsweredAt (pos moment) old (question_text question) came new
-        → length came ≤ longest_body → (told : Told) × IsReply (wanted_by question) came told }
+        → length came ≤ longest_reply_body → (told : Told) × IsReply (wanted_by question) came told }
     ensures page_read { (list : Listed) (moment : ℕ) (old new : Timed Life) (came : Text)
         → IsAskable (page_question list) → IsMoment moment
         → IsOffice old.0.opening → IsLife old.0
         → IsAnsweredAt (pos moment) old (question_text (page_question list)) came new
-        → length came ≤ longest_body → IsPageOrRefusal list came }
+        → length came ≤ longest_reply_body → IsPageOrRefusal list came }
 
     // What the words of a command say is such a question: it can be asked, and but for a list it is
     // asked by one message.

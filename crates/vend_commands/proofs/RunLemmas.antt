@@ -26,7 +26,7 @@ use Rattle.papers.specs.declared.row_fault.RowFault.{RowFault}
 use Rattle.tariff.specs.Purchase.{purchase_of}
 use Rattle.command_line.specs.Asked.{AskFor}
 use Rattle.office_commands.specs.commands.Asked.{IsAskedAt}
-use Rattle.desk_commands.specs.AskedOfDesk.{IsAnswered, IsAsked, IsAskedOnce, TellsTold}
+use Rattle.desk_commands.specs.AskedOfDesk.{IsAnswered, IsAskedOfDesk, IsAskedOnce, TellsTold}
 use Rattle.desk_commands.specs.AskedOfDesk.IsAsked.{broken, no_room as desk_full, replied, unsent}
 use Rattle.desk_commands.specs.AskedOfDesk.IsAskedOnce.{asked as desk_asked, without_rows}
 use Rattle.desk_commands.specs.ListedAtDesk.{page_stop_end}
@@ -51,7 +51,7 @@ use Rattle.vend_ports.specs.commands.Quoted.{quote_end}
 use Rattle.vend_ports.specs.port.Dial.{Dial}
 use Rattle.vend_ports.specs.port.Texts.{Texts}
 use Rattle.office_commands.specs.port.Places.{Place, Places}
-use Rattle.vend_commands.specs.port.Machines.{Machine, Way, IsIdle}
+use Rattle.vend_commands.specs.port.Machines.{Machine, Way, IsMachineIdle}
 use Rattle.vend_ports.specs.print.Printed.{refusal_line}
 use Rattle.office_commands.specs.commands.Reported.{IsReported, PrintsPaper}
 use Rattle.office_commands.specs.commands.Reported.IsReported.{absent as no_file, present}
@@ -93,7 +93,7 @@ selfcheck_done o end Agrees Has Disagrees Told less fewer (failed fault why told
 
 -- what `clap` says of words is a fault of theirs, or there was no room
 pub told_by_clap : {S D R W : Type 0} (store : Ghosts S) (m : Machine D R W) (error : Error) (words : List Text) (Says : Error → Text → Type 0) (o : Outputs) (end : CommandEnd) → HasKind (faults_in words) error
-    → IsIdle m → IsTold o [] (refusal_line Memory) how.Refused end ⊎ ((text : Text) × Says error text × (text ≢ []) × IsExplained (kind_of error) text o end) → IsProgramRun store m words o end
+    → IsMachineIdle m → IsTold o [] (refusal_line Memory) how.Refused end ⊎ ((text : Text) × Says error text × (text ≢ []) × IsExplained (kind_of error) text o end) → IsProgramRun store m words o end
 told_by_clap store m error words Says o end kind idle (inl told) = no_room idle told
 told_by_clap store m error words Says o end (inl full) idle (inr (text, said, some, says)) = absurd (subst (λ k. IsExplained k text o end) full says)
 told_by_clap store m error words Says o end (inr among) idle (inr (text, said, some, says)) = explained idle (kind_of error) text among some says
@@ -194,7 +194,7 @@ told_in_reply_ends json question (tells.Granted granted) o end (inr (room, told)
 told_in_reply_ends json question (tells.Refused refusal) o end told = told_ends o _ _ how.Refused end (omega arith) told
 told_in_reply_ends json question tells.NoMoment o end told = told_ends o _ _ how.Refused end (omega arith) told
 
-desk_asked_ends : (calls : Calls) (uncalled : Type 0) (desk : Address) (json : Bool) (question : Question) (o : Outputs) (end : CommandEnd) → IsAsked calls uncalled desk json question o end → exit_status_of end ≤ 1
+desk_asked_ends : (calls : Calls) (uncalled : Type 0) (desk : Address) (json : Bool) (question : Question) (o : Outputs) (end : CommandEnd) → IsAskedOfDesk calls uncalled desk json question o end → exit_status_of end ≤ 1
 desk_asked_ends calls uncalled desk json question o end (replied came exchanged told is done) = told_in_reply_ends json question told o end done
 desk_asked_ends calls uncalled desk json question o end (broken came exchanged none told) = told_ends o _ _ how.Refused end (omega arith) told
 desk_asked_ends calls uncalled desk json question o end (unsent fault why told) = told_ends o _ _ how.Refused end (omega arith) told

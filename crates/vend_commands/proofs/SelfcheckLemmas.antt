@@ -10,7 +10,7 @@ use Rattle.office_rules.specs.declared.decision.refusal.Refusal.{Refusal}
 use Rattle.office_rules.specs.declared.decision.request.Request.{Request}
 use Rattle.conversation.specs.declared.end.End as conversation
 use Rattle.conversation.specs.declared.end.End.TheVariants.{Closed, BadMessage, ReadFault, WriteFault, Memory}
-use Rattle.vend_commands.specs.commands.Selfchecked.{AreReplies, Converses, HasNoReplies, IsGranted, IsPrepared, IsUnprepared, add_flat, add_selfcheck_meter, clock_moment, fault_in_memory, fault_over_net, messages, open_selfcheck_shift, preparing}
+use Rattle.vend_commands.specs.commands.Selfchecked.{AreReplies, ConversesWithItself, HasNoReplies, IsGranted, IsPrepared, IsUnprepared, add_flat, add_selfcheck_meter, clock_moment, fault_in_memory, fault_over_net, messages, open_selfcheck_shift, preparing}
 use Rattle.vend_commands.specs.commands.Selfchecked.{ConversesOver, Disagrees}
 use Rattle.vend_commands.specs.commands.Selfchecked.Disagrees.{no_room, unlike}
 use Rattle.vend_commands.specs.commands.Selfchecked.HasNoReplies.{cut_off}
@@ -85,15 +85,15 @@ whole_over_net WriteFault is = absurd (cc)
 whole_over_net Memory is = absurd (cc)
 
 -- what a whole conversation over memory wrote is the replies
-pub replies_so : (forward : BlockFunction) (life : Life) (held text : List ℕ) (end : conversation.End) (told : Option SelfcheckFault) → IsPrepared forward life → held ≡ [] → Converses life (Some messages) (Some held) (Some text) end → told ≡ fault_in_memory end → told ≡ None → AreReplies forward text
+pub replies_so : (forward : BlockFunction) (life : Life) (held text : List ℕ) (end : conversation.End) (told : Option SelfcheckFault) → IsPrepared forward life → held ≡ [] → ConversesWithItself life (Some messages) (Some held) (Some text) end → told ≡ fault_in_memory end → told ≡ None → AreReplies forward text
 replies_so forward life held text end told prepared fresh converses is none =
     let closed = whole_in_memory end (sym is ∙ none) in
-    (life, prepared, subst (λ (h : List ℕ). Converses life (Some messages) (Some h) (Some text) Closed) fresh (subst (Converses life (Some messages) (Some held) (Some text)) closed converses))
+    (life, prepared, subst (λ (h : List ℕ). ConversesWithItself life (Some messages) (Some h) (Some text) Closed) fresh (subst (ConversesWithItself life (Some messages) (Some held) (Some text)) closed converses))
 
 -- one that was cut gives none
-pub cut_so : {B : Type 0} (see : B → Seen) (forward : BlockFunction) (life : Life) (held : List ℕ) (holds : Held) (end : conversation.End) (told : Option SelfcheckFault) (fault : SelfcheckFault) → IsPrepared forward life → held ≡ [] → Converses life (Some messages) (Some held) holds end → told ≡ fault_in_memory end → told ≡ Some fault → HasNoReplies see forward fault
+pub cut_so : {B : Type 0} (see : B → Seen) (forward : BlockFunction) (life : Life) (held : List ℕ) (holds : Held) (end : conversation.End) (told : Option SelfcheckFault) (fault : SelfcheckFault) → IsPrepared forward life → held ≡ [] → ConversesWithItself life (Some messages) (Some held) holds end → told ≡ fault_in_memory end → told ≡ Some fault → HasNoReplies see forward fault
 cut_so see forward life held holds end told fault prepared fresh converses is some =
-    cut_off life prepared holds end (subst (λ (h : List ℕ). Converses life (Some messages) (Some h) holds end) fresh converses) (sym is ∙ some)
+    cut_off life prepared holds end (subst (λ (h : List ℕ). ConversesWithItself life (Some messages) (Some h) holds end) fresh converses) (sym is ∙ some)
 
 -- what came back was not read to its end
 pub not_read : {N S B : Type 0} (of : loopback.Ghosts N S) (remaining contents : S → Held) (net : N) (forward : BlockFunction) (see : B → Seen) (fault : SelfcheckFault) (text : Text) → AreReplies forward text → (near : S)

@@ -17,9 +17,9 @@ use Rattle.office_commands.specs.commands.Imported.{IsFileImported}
 use Rattle.office_commands.specs.commands.LookedUp.{IsShown, lookup_of}
 use Rattle.vend_commands.specs.serving.Listening.{IsServedTo}
 use Rattle.vend_ports.specs.commands.Metered.{IsMetered}
-use Rattle.vend_commands.specs.port.Machines.{IsAlone, IsIdle, IsOffline, IsShut, Machine}
+use Rattle.vend_commands.specs.port.Machines.{IsAlone, IsMachineIdle, IsOffline, IsShut, Machine}
 use Rattle.vend_ports.specs.print.Printed.{bad_word_line, refusal_line}
-use Rattle.vend_ports.specs.commands.Quoted.{IsQuoted}
+use Rattle.vend_ports.specs.commands.Quoted.{PrintsQuote}
 use Rattle.office_commands.specs.commands.Reported.{IsReported}
 use Rattle.vend_commands.specs.commands.Selfchecked.{IsSelfchecked}
 use Rattle.vend_ports.specs.commands.Timed.{IsTimed}
@@ -39,7 +39,7 @@ use Rattle.vend_ports.specs.declared.command_end.CommandEnd.TheVariants.{Done, R
 abbrev pub IsCarriedOut : {S D R W : Type 0} → Ghosts S → Machine D R W → Asked → Outputs
     → CommandEnd → Type 0
 IsCarriedOut store m (Trial words) o end =
-    IsIdle m × IsTimed ⊤ words.at m.clock (λ moment. IsTried words moment o end) o end
+    IsMachineIdle m × IsTimed ⊤ words.at m.clock (λ moment. IsTried words moment o end) o end
 IsCarriedOut store m (Import words) o end = IsOffline m
     × IsTimed (m.untouched × m.texts.leaves) words.at m.clock
     (λ moment. IsFileImported store m.at m.untouched m.texts words moment o end) o end
@@ -54,8 +54,8 @@ IsCarriedOut store m (asks.List words) o end = IsAlone m × IsShown store m.at m
 IsCarriedOut store m (Offer words) o end = IsAlone m × IsShown store m.at m.untouched m.clock
     words.at words.file.now words.wait
     (One (lookups.Quote words.meter words.tender) words.json) o end
-IsCarriedOut store m (Meter words) o end = IsIdle m × IsMetered words o end
-IsCarriedOut store m (Quote words) o end = IsIdle m × IsQuoted words o end
+IsCarriedOut store m (Meter words) o end = IsMachineIdle m × IsMetered words o end
+IsCarriedOut store m (Quote words) o end = IsMachineIdle m × PrintsQuote words o end
 IsCarriedOut store m (Serve words) o end =
     (m.loop.leaves × m.texts.leaves)
     × IsServedTo store m.way m.at m.door m.clock.answers words o end
@@ -82,9 +82,9 @@ pub data IsProgramRun {S D R W : Type 0} (store : Ghosts S) (machine : Machine D
     (words : List Text) (o : Outputs) (end : CommandEnd) : Type 0 where
   answered : (asked : Asked) → AskFor words asked → IsCarriedOut store machine asked o end
       → IsProgramRun store machine words o end
-  bad_word : IsIdle machine → faults_in words ≡ [] → ((asked : Asked) → ¬ AskFor words asked)
+  bad_word : IsMachineIdle machine → faults_in words ≡ [] → ((asked : Asked) → ¬ AskFor words asked)
       → IsTold o [] bad_word_line BadWords end → IsProgramRun store machine words o end
-  explained : IsIdle machine → (kind : ErrorKind) (text : Text) → IsAmong kind (faults_in words)
+  explained : IsMachineIdle machine → (kind : ErrorKind) (text : Text) → IsAmong kind (faults_in words)
       → text ≢ [] → IsExplained kind text o end → IsProgramRun store machine words o end
-  no_room : IsIdle machine → IsTold o [] (refusal_line Memory) Refused end
+  no_room : IsMachineIdle machine → IsTold o [] (refusal_line Memory) Refused end
       → IsProgramRun store machine words o end

@@ -10,7 +10,7 @@ ghost use Rattle.conversation.specs.declared.end.End.TheVariants.{Closed};
 ghost use Rattle.vend_core.specs.Law.Life.{Life};
 ghost use Rattle.office_rules.specs.declared.decision.refusal.Refusal.TheVariants.{Memory};
 ghost use Rattle.books.specs.Keeps.{Represents, seen};
-ghost use Rattle.vend_commands.specs.commands.Selfchecked.{AgreesOver, AreReplies, Converses, ConversesOver};
+ghost use Rattle.vend_commands.specs.commands.Selfchecked.{AgreesOver, AreReplies, ConversesWithItself, ConversesOver};
 ghost use Rattle.vend_commands.specs.commands.Selfchecked.{Disagrees, HasNoReplies, fault_in_memory};
 ghost use Rattle.vend_commands.specs.commands.Selfchecked.{fault_over_net};
 
@@ -126,7 +126,7 @@ fn answer<T: BlockTransform, R: Read, W: Write>(
 ) -> Result<End, AllocError>
     ensures { IfOk result (λ end. (life : Life)
         → Represents life (seen books.old)
-        → Converses life (R.remaining reader.old)
+        → ConversesWithItself life (R.remaining reader.old)
         (W.contents writer.old) (W.contents writer.new) end) }
 {
     let Ok(desk) = Desk::new(alloc) else {

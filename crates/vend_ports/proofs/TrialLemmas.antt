@@ -7,7 +7,7 @@ use Rattle.std.proofs.lemmas.List.{get_or_at, get_or_append_left, length_push, t
 use Rattle.sts_fields.specs.Tid.{FreshOutcome, IsLast, minute_of}
 use Rattle.sts_fields.specs.declared.base.Base.{Base}
 use Rattle.sts_fields.specs.declared.fault.TidFault.{TidFault}
-use Rattle.vend_ports.specs.commands.Trial.{EndsBy, IsRefusedBy, IsSale, TidOutcome}
+use Rattle.vend_ports.specs.commands.Trial.{EndsTrialBy, IsRefusedBy, IsSale, TidOutcome}
 use Rattle.vend_ports.specs.declared.trials.TrialFault.{TrialFault}
 use Rattle.vend_ports.specs.declared.trials.TrialFault.TheVariants.{Amount, Tid, Memory}
 
@@ -54,7 +54,7 @@ last_more base moment tids tid fresh =
     (Contains-push tids tid, All-push (λ u. u ≤ tid) tids tid at_most (omega arith))
 
 -- a refusal of the next amount ends the trial
-pub ends_by_refusal : (base : Base) (moment : ℕ) (amounts tids : List ℕ) (fault : TrialFault) → length tids < length amounts → IsRefusedBy base moment tids (get_or amounts (length tids) 0) fault → EndsBy base moment amounts tids (Some fault)
+pub ends_by_refusal : (base : Base) (moment : ℕ) (amounts tids : List ℕ) (fault : TrialFault) → length tids < length amounts → IsRefusedBy base moment tids (get_or amounts (length tids) 0) fault → EndsTrialBy base moment amounts tids (Some fault)
 ends_by_refusal base moment amounts tids Amount next refused = (next, refused)
 ends_by_refusal base moment amounts tids (Tid fault) next refused = (next, refused)
 ends_by_refusal base moment amounts tids Memory next refused = absurd refused

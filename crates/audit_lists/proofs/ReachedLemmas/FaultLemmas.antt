@@ -5,7 +5,7 @@ use Rattle.office_rules.specs.Office.{Office}
 use Rattle.office_rules.specs.declared.office.shift.Shift.{Shift}
 use Rattle.audit_rows.specs.declared.finding.Finding.{Finding}
 use Rattle.audit_rows.specs.declared.office_rows.OfficeRows.{OfficeRows}
-use Rattle.audit_lists.specs.Ties.{IsFirst, IsKept, Says}
+use Rattle.audit_lists.specs.Ties.{IsFirst, IsTieKept, Says}
 use Rattle.audit_lists.specs.declared.fault.OfficeFault.{OfficeFault}
 use Rattle.audit_lists.specs.declared.fault.OfficeFault.TheVariants as fault
 use Rattle.audit_lists.specs.reached.Finds.{AreRowsOfOffice, TellsUnreached, closed_first}
@@ -27,13 +27,13 @@ tells_sale r fault.Memory some none = some
 
 -- ---- what is told of all rows
 
-pub shifts_kept : (r : OfficeRows) (o : Office) → AreRowsOfOffice r o → IsKept (closed_first r.shifts.items) → IsKept (closed_first o.shifts)
-shifts_kept r o are kept = subst (λ (l : List Shift). IsKept (closed_first l)) are.members.shifts kept
+pub shifts_kept : (r : OfficeRows) (o : Office) → AreRowsOfOffice r o → IsTieKept (closed_first r.shifts.items) → IsTieKept (closed_first o.shifts)
+shifts_kept r o are kept = subst (λ (l : List Shift). IsTieKept (closed_first l)) are.members.shifts kept
 
 pub tells_shift : (r : OfficeRows) (e : OfficeFault) → TellsShift r.shifts.items e → TellsUnreached r e
 tells_shift r (fault.Found f) first = λ o are. inl (subst (λ (l : List Shift). IsFirst (closed_first l) f) are.members.shifts first)
 tells_shift r fault.Memory some = omega (arith, some)
 
-pub tells_sales : (r : OfficeRows) → IsKept (closed_first r.shifts.items) → (e : OfficeFault) → TellsSale r e → TellsUnreached r e
+pub tells_sales : (r : OfficeRows) → IsTieKept (closed_first r.shifts.items) → (e : OfficeFault) → TellsSale r e → TellsUnreached r e
 tells_sales r kept (fault.Found f) first = λ o are. inr (shifts_kept r o are kept, first o are)
 tells_sales r kept fault.Memory some = omega (arith, some)

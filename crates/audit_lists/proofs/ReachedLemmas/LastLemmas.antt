@@ -9,7 +9,7 @@ use Rattle.std.proofs.lemmas.Map.Text.{is_eq-slice_cmp}
 use Rattle.std.proofs.lemmas.Option.{none-some, same_Some}
 use Rattle.std.proofs.lemmas.Slice.Eq.{bytes_eq-Decides}
 use Rattle.office_rules.specs.declared.office.shift.Shift.{Shift}
-use Rattle.audit_lists.specs.reached.Lasts.{AreLasts, IsLastOf, LastShifts, NoneBetween, last_under}
+use Rattle.audit_lists.specs.reached.Lasts.{AreLasts, IsLastOf, LastShifts, NoneBetween, last_shift_under}
 use Rattle.audit_lists.proofs.ReachedLemmas.TextLemmas.{text_same}
 use denote.Ref.{Bor}
 
@@ -17,8 +17,8 @@ abbrev pub text_cmp : Bor (List ℕ) → Bor (List ℕ) → Ordering
 text_cmp a b = slice_cmp nat_cmp a.now b.now
 
 -- what is under each text where a place was put
-put_last : (m n : LastShifts) (k : Bor (List ℕ)) (at : ℕ) → Updates text_cmp m n k (Some at) → (q : List ℕ) → last_under n q ≡ cond (bytes_eq k.now q) (Some at) (last_under m q)
-put_last m n k at put q = put.0 (record { ref_ptr = (0, 0); now = q }) ∙ ap (λ (b : Bool). cond b (Some at) (last_under m q)) (is_eq-slice_cmp k.now q)
+put_last : (m n : LastShifts) (k : Bor (List ℕ)) (at : ℕ) → Updates text_cmp m n k (Some at) → (q : List ℕ) → last_shift_under n q ≡ cond (bytes_eq k.now q) (Some at) (last_shift_under m q)
+put_last m n k at put q = put.0 (record { ref_ptr = (0, 0); now = q }) ∙ ap (λ (b : Bool). cond b (Some at) (last_shift_under m q)) (is_eq-slice_cmp k.now q)
 
 module _ (shifts : List Shift) (at : ℕ) (s : Shift) (there : slice_get shifts at ≡ Some s) (k : Bor (List ℕ)) (is : k.now ≡ s.operator) (q : List ℕ) where
   -- a shift more that is not the operator's
@@ -41,7 +41,7 @@ module _ (shifts : List Shift) (at : ℕ) (s : Shift) (there : slice_get shifts 
 
 -- the places with a shift more
 pub lasts_more : (shifts : List Shift) (at : ℕ) (s : Shift) → slice_get shifts at ≡ Some s → (k : Bor (List ℕ)) → k.now ≡ s.operator → (m n : LastShifts) → Updates text_cmp m n k (Some at) → AreLasts m shifts at → AreLasts n shifts (at + 1)
-lasts_more shifts at s there k is m n put are q = fits shifts at s there k is q (bytes_eq k.now q) refl (last_under m q) (last_under n q) (put_last m n k at put q) (are q)
+lasts_more shifts at s there k is m n put are q = fits shifts at s there k is q (bytes_eq k.now q) refl (last_shift_under m q) (last_shift_under n q) (put_last m n k at put q) (are q)
 
 -- what is known of a place by whether a map has one
 pub last_some : (shifts : List Shift) (end : ℕ) (q : List ℕ) (i : ℕ) (o : Option ℕ) → o ≡ Some i → MatchOption o (NoneBetween shifts 0 end q) (IsLastOf shifts end q) → IsLastOf shifts end q i

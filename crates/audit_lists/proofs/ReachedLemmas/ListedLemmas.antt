@@ -14,7 +14,7 @@ use Rattle.audit_rows.specs.declared.rows.DatedStepRow.{DatedStepRow}
 use Rattle.audit_rows.specs.declared.rows.StepRow.{StepRow}
 use Rattle.audit_lists.specs.Keys.{IsNew, Key}
 use Rattle.audit_lists.specs.RowKeys.{dated_key, place_key, step_key}
-use Rattle.audit_lists.specs.Steps.{AreFirst, HasStepAt}
+use Rattle.audit_lists.specs.Steps.{AreFirstUnder, HasStepAt}
 use Rattle.audit_lists.specs.Ties.{Each}
 use Rattle.audit_lists.specs.declared.reached.listed.ListedSteps.{ListedSteps}
 use Rattle.audit_lists.specs.reached.Finds.{AreRowsOfOffice}
@@ -58,7 +58,7 @@ module _ {T : Type 0} (step : T → Step) (key : T → Key) (rows : List T) (own
     abbrev Owns : Key → List Step → Type 0
     Owns q s = owns q.0 q.2 s
 
-    first_owned : (q : Key) (s : List Step) → q.1 ≡ [] → Owns q s → AreFirst step key rows q s
+    first_owned : (q : Key) (s : List Step) → q.1 ≡ [] → Owns q s → AreFirstUnder step key rows q s
     first_owned q s plain own = record {
       there = λ p x is. subst (λ (t : List ℕ). HasStepAt step key rows (q.0, t, q.2, p) x) (sym plain) (owned.there q.0 q.2 s p x own is);
       ended = inr (λ last.
@@ -69,7 +69,7 @@ module _ {T : Type 0} (step : T → Step) (key : T → Key) (rows : List T) (own
           omega (arith, within, place));
     }
 
-    owned_same : (row : T) (found s : List Step) → AreFirst step key rows (key row) found → Owns (key row) s → found ≡ s
+    owned_same : (row : T) (found s : List Step) → AreFirstUnder step key rows (key row) found → Owns (key row) s → found ≡ s
     owned_same row found s first own =
         same_first step key rows owned.once (key row) found s first (first_owned (key row) s (owned.plain row) own) (owned.priced (key row).0 (key row).2 s own)
 

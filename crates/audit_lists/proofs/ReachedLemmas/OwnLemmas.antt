@@ -8,11 +8,11 @@ use Rattle.vend_core.specs.Law.Reached.{IsInOpenShift}
 use Rattle.office_rules.specs.Office.{IsOffice, Office}
 use Rattle.office_rules.specs.declared.office.sale.Sale.{Sale}
 use Rattle.audit_lists.specs.reached.Lasts.{IsLastOf, NoneBetween}
-use Rattle.audit_lists.specs.reached.Walk.{IsLatest}
+use Rattle.audit_lists.specs.reached.Walk.{IsLatestOf}
 use Rattle.audit_lists.proofs.ListLemmas.{at_contains, contains_at}
 
 module _ (o : Office) (office : IsOffice o) (s : Sale) where
-  module _ (earlier : List Sale) (latest : ℕ) (is : IsLatest earlier latest) where
+  module _ (earlier : List Sale) (latest : ℕ) (is : IsLatestOf earlier latest) where
     pub open_where : NoneBetween o.shifts s.shift (min (length o.shifts) latest) s.operator → IsInOpenShift o earlier s
     open_where none next there operator later =
         let at = at_contains o.shifts next there in

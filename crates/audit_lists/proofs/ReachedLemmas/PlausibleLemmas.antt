@@ -8,7 +8,7 @@ use Rattle.office_rules.specs.declared.office.sale.Sale.{Sale}
 use Rattle.audit_rows.specs.declared.finding.Finding.{Finding}
 use Rattle.audit_rows.specs.declared.finding.Rule.{Rule}
 use Rattle.audit_rows.specs.declared.finding.Rule.TheVariants as rule
-use Rattle.audit_lists.specs.reached.Finds.{Finds, Keeps, granting_rules}
+use Rattle.audit_lists.specs.reached.Finds.{FindsByRequests, Keeps, granting_rules}
 use Rattle.audit_lists.proofs.ListLemmas.{contains_at}
 use Rattle.audit_lists.proofs.ReachedLemmas.ShiftLemmas.{kept_pairs}
 
@@ -27,7 +27,7 @@ module _ (o : Office) (earlier : List Sale) (s : Sale) where
     digits = all 5 rule.Token (omega arith);
   }
 
-pub none_found : (o : Office) (f : Finding) → IsPlausible o → ¬ Finds o f
+pub none_found : (o : Office) (f : Finding) → IsPlausible o → ¬ FindsByRequests o f
 none_found o f plausible (inl first) = first.2.breaks (kept_pairs o.shifts plausible.shifts first.0 first.1 first.2.there)
 none_found o f plausible (inr (kept, first)) =
     let b = first.breaks in

@@ -9,7 +9,7 @@ use Rattle.office_rules.proofs.OfficeLemmas.MapLemmas.{all_from_contains}
 use Rattle.office_rules.proofs.OfficeLemmas.RowLemmas.{kept, kept_from}
 use Rattle.vend_core.specs.Law.Reached.{IsClosedFirst}
 use Rattle.office_rules.specs.declared.office.shift.Shift.{Shift}
-use Rattle.audit_lists.specs.Ties.{IsKept}
+use Rattle.audit_lists.specs.Ties.{IsTieKept}
 use Rattle.audit_lists.specs.reached.Finds.{closed_first}
 
 abbrev pub is_open : Shift → Bool
@@ -36,12 +36,12 @@ not_all_closed before s (k, a, within, is, same) all =
     not_closed a.closed from.1 (All-contains (λ (b : Shift). IsClosedFirst b s) before a all from.0 same)
 
 -- each shift after those before it is each pair of them
-pub pairs_kept : (shifts : List Shift) → IsKept (closed_first shifts) → AllPairs IsClosedFirst shifts
+pub pairs_kept : (shifts : List Shift) → IsTieKept (closed_first shifts) → AllPairs IsClosedFirst shifts
 pairs_kept shifts kept i j d below low =
     let last = kept j (get_or shifts j d) (slice_get-get_or shifts j d low) in
     subst (λ (a : Shift). IsClosedFirst a (get_or shifts j d)) (get_or-take j shifts i d below) (last i d (omega (arith, below, low, length-take j shifts)))
 
-pub kept_pairs : (shifts : List Shift) → AllPairs IsClosedFirst shifts → IsKept (closed_first shifts)
+pub kept_pairs : (shifts : List Shift) → AllPairs IsClosedFirst shifts → IsTieKept (closed_first shifts)
 kept_pairs shifts pairs i s at k d below =
     let low : k < i = omega (arith, below, length-take i shifts) in
     subst (λ (a : Shift). IsClosedFirst a s) (sym (get_or-take i shifts k d low))

@@ -14,11 +14,11 @@ use Rattle.audit_rows.specs.declared.finding.Rule.{Rule}
 use Rattle.audit_lists.specs.Ties.{EachBelow}
 use Rattle.audit_lists.specs.declared.reached.walked.Walked.{Walked}
 use Rattle.audit_lists.specs.reached.Finds.{BreaksFirst, Keeps}
-use Rattle.audit_lists.specs.reached.Walk.{IsLatest, IsWalked}
+use Rattle.audit_lists.specs.reached.Walk.{IsLatestOf, IsWalked}
 use Rattle.audit_lists.proofs.EachLemmas.{each_more}
 
 -- the greatest shift of the sales and one more
-pub latest_more : (earlier : List Sale) (latest : ℕ) (s : Sale) → IsLatest earlier latest → IsLatest (earlier ++ s ∷ []) (max latest s.shift)
+pub latest_more : (earlier : List Sale) (latest : ℕ) (s : Sale) → IsLatestOf earlier latest → IsLatestOf (earlier ++ s ∷ []) (max latest s.shift)
 latest_more earlier latest s is n some = (
   λ all.
       let before = (is n some).0 (all_from_contains (λ (a : Sale). a.shift < n) earlier (λ a there. All-contains (λ (b : Sale). b.shift < n) (earlier ++ s ∷ []) a all (Contains-append_left earlier (s ∷ []) a there))) in

@@ -15,7 +15,7 @@ use Rattle.audit_rows.specs.declared.finding.Rule.{Rule}
 use Rattle.audit_rows.specs.declared.finding.Rule.TheVariants as rule
 use Rattle.audit_rows.specs.declared.office_rows.OfficeRows.{OfficeRows}
 use Rattle.audit_rows.specs.declared.table_name.TableName.TheVariants as table
-use Rattle.audit_lists.specs.Ties.{EachBelow, IsFirst, IsKept, Tie, found}
+use Rattle.audit_lists.specs.Ties.{EachBelow, IsFirst, IsTieKept, Tie, found}
 use Rattle.audit_lists.specs.declared.fault.OfficeFault.{OfficeFault}
 use Rattle.audit_lists.specs.declared.fault.OfficeFault.TheVariants as fault
 
@@ -74,10 +74,10 @@ pub record IsFirstSale (o : Office) (f : Finding) : Type 0 where
 -- ---- all rows
 
 -- the finding is of the first row that no requests lead to: shifts are looked at before sales
-abbrev pub Finds : Office → Finding → Type 0
-Finds o f = IsFirst (closed_first o.shifts) f ⊎ (IsKept (closed_first o.shifts) × IsFirstSale o f)
+abbrev pub FindsByRequests : Office → Finding → Type 0
+FindsByRequests o f = IsFirst (closed_first o.shifts) f ⊎ (IsTieKept (closed_first o.shifts) × IsFirstSale o f)
 
 -- that is so of each office of these rows; or there was no memory, of which rows alone take some
 abbrev pub TellsUnreached : OfficeRows → OfficeFault → Type 0
-TellsUnreached r (fault.Found f) = (o : Office) → AreRowsOfOffice r o → Finds o f
+TellsUnreached r (fault.Found f) = (o : Office) → AreRowsOfOffice r o → FindsByRequests o f
 TellsUnreached r fault.Memory = 1 ≤ length r.shifts.items + length r.sales.items

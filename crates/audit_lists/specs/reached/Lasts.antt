@@ -11,8 +11,8 @@ abbrev pub LastShifts : Type 0
 LastShifts = BTreeMap (Bor (List ℕ)) ℕ
 
 -- the place that a map has under an operator's text
-abbrev pub last_under : LastShifts → List ℕ → Option ℕ
-last_under lasts operator = get_by (λ k. slice_cmp nat_cmp operator k.now) lasts
+abbrev pub last_shift_under : LastShifts → List ℕ → Option ℕ
+last_shift_under lasts operator = get_by (λ k. slice_cmp nat_cmp operator k.now) lasts
 
 -- no shift from one place up to another is of the operator
 abbrev pub NoneBetween : List Shift → ℕ → ℕ → List ℕ → Type 0
@@ -31,5 +31,5 @@ pub record IsLastOf (shifts : List Shift) (end : ℕ) (operator : List ℕ) (pla
 -- under each operator a map has the place of its last one of the shifts before an end, where one is
 abbrev pub AreLasts : LastShifts → List Shift → ℕ → Type 0
 AreLasts lasts shifts end =
-    (operator : List ℕ) → MatchOption (last_under lasts operator)
+    (operator : List ℕ) → MatchOption (last_shift_under lasts operator)
     (NoneBetween shifts 0 end operator) (IsLastOf shifts end operator)

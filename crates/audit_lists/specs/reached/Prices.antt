@@ -7,7 +7,7 @@ use Rattle.vend_core.specs.Law.Reached.{AreStepsOfOne}
 use Rattle.office_rules.specs.Office.{Office}
 use Rattle.office_rules.specs.declared.office.sale.Sale.{Sale}
 use Rattle.audit_lists.specs.Keys.{IsNew, Key}
-use Rattle.audit_lists.specs.Steps.{AreFirst, AreSteps}
+use Rattle.audit_lists.specs.Steps.{AreFirstUnder, AreSteps}
 use Rattle.audit_lists.specs.Ties.{Each, EachBelow}
 use Rattle.audit_lists.specs.declared.reached.listed.ListedSteps.{ListedSteps}
 
@@ -16,7 +16,7 @@ pub record IsListOf {T : Type 0} (step : T → Step) (key : T → Key) (rows : L
     (l : ListedSteps) : Type 0 where
   pub begins : (key row).3 ≡ 0
   pub from : l.from ≡ (key row).2
-  pub steps : AreFirst step key rows (key row) l.steps
+  pub steps : AreFirstUnder step key rows (key row) l.steps
 
 -- there is such a list for each such one of the first rows, and no other list
 pub record AreLists {T : Type 0} (step : T → Step) (key : T → Key) (rows : List T) (n : ℕ)

@@ -16,14 +16,14 @@ use Rattle.audit_lists.specs.reached.Finds.{AreRowsOfOffice, BreaksFirst, IsFirs
 use Rattle.audit_lists.specs.reached.Lasts.{AreLasts}
 
 -- the greatest shift that one of the sales was made in; 0 where there is none
-abbrev pub IsLatest : List Sale → ℕ → Type 0
-IsLatest sales latest = (n : ℕ) → 1 ≤ n → (All (λ s. s.shift < n) sales ↔ (latest < n))
+abbrev pub IsLatestOf : List Sale → ℕ → Type 0
+IsLatestOf sales latest = (n : ℕ) → 1 ≤ n → (All (λ s. s.shift < n) sales ↔ (latest < n))
 
 -- what is kept of some first sales: their totals, their latest shift, and each operator's last one
 -- of the shifts up to that
 pub record IsWalked (shifts : List Shift) (earlier : List Sale) (w : Walked) : Type 0 where
   pub gathered : IsGathered earlier w.gathered
-  pub latest : IsLatest earlier w.latest
+  pub latest : IsLatestOf earlier w.latest
   pub lasts : AreLasts w.lasts shifts (min (length shifts) w.latest)
 
 -- no sale to the sale's meter before it was under this base, where that is a later one than its own

@@ -1,7 +1,7 @@
 //! The last shift of each operator.
 
 ghost use Rattle.std.specs.Prelude.{◌≡◌, OnOk, length, max, min};
-ghost use Rattle.audit_lists.specs.reached.Lasts.{AreLasts, last_under};
+ghost use Rattle.audit_lists.specs.reached.Lasts.{AreLasts, last_shift_under};
 
 use office_rules::Shift;
 use std::alloc::AllocError;
@@ -12,7 +12,7 @@ pub(crate) type LastShifts<'a> = BTreeMap<&'a [u8], usize>;
 
 /// The place of an operator's last one, if any.
 pub(crate) fn last_of<'a>(lasts: &LastShifts<'a>, operator: &'a [u8]) -> Option<usize>
-    ensures { result ≡ last_under lasts.now operator.now }
+    ensures { result ≡ last_shift_under lasts.now operator.now }
 {
     lasts.get(&operator).copied()
 }

@@ -4,16 +4,16 @@ ghost use Rattle.std.specs.Prelude.{List};
 ghost use Rattle.vend_core.specs.Law.Life.{AreLives, Life};
 ghost use Rattle.vend_core.specs.Law.Reached.{IsPlausible};
 ghost use Rattle.office_rules.specs.Office.{Office};
-ghost use Rattle.audit_lists.specs.reached.Finds.{Finds};
+ghost use Rattle.audit_lists.specs.reached.Finds.{FindsByRequests};
 ghost use Rattle.audit_rows.specs.declared.finding.Finding.{Finding};
 
 use vend_core::reached_law;
 
 /// Of an office that requests lead to no row is ever found.
 pub fn honest_law()
-    ensures none { (o : Office) (f : Finding) → IsPlausible o → Finds o f → ⊥ }
+    ensures none { (o : Office) (f : Finding) → IsPlausible o → FindsByRequests o f → ⊥ }
     ensures lives { (lives : List Life) (o : Office) (f : Finding)
-        → AreLives lives o → Finds o f → ⊥ }
+        → AreLives lives o → FindsByRequests o f → ⊥ }
 {
     reached_law();
 }

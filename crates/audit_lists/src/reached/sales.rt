@@ -6,7 +6,7 @@ ghost use Rattle.vend_core.specs.Law.Reached.{IsInOpenShift, IsInOwnShift};
 ghost use Rattle.office_rules.specs.Office.{IsOffice, Office};
 ghost use Rattle.office_rules.specs.declared.office.sale.Sale.{Sale};
 ghost use Rattle.audit_lists.specs.reached.Lasts.{AreLasts};
-ghost use Rattle.audit_lists.specs.reached.Walk.{IsLatest};
+ghost use Rattle.audit_lists.specs.reached.Walk.{IsLatestOf};
 
 use crate::reached::lasts::{LastShifts, last_of};
 use crate::reached::operators::is_same;
@@ -36,7 +36,7 @@ pub(crate) fn is_in_own_shift(shifts: &[Shift], sale: &Sale) -> bool
 // is the last of those of which the map has each operator's last one.
 pub(crate) fn is_in_open_shift<'a>(lasts: &LastShifts<'a>, sale: &'a Sale) -> bool
     ensures { (o : Office) (earlier : List Sale) (latest : ℕ) → IsOffice o
-        → IsLatest earlier latest → AreLasts lasts.now o.shifts (min (length o.shifts) latest)
+        → IsLatestOf earlier latest → AreLasts lasts.now o.shifts (min (length o.shifts) latest)
         → (IsTrue result ↔ IsInOpenShift o earlier sale.now) }
 {
     match last_of(lasts, sale.operator.as_bytes()) {

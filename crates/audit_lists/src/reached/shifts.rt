@@ -1,7 +1,7 @@
 //! Shifts that come after an open one of their operator.
 
 ghost use Rattle.std.specs.Prelude.{◌≡◌, ◌≢◌, ◌++◌, [], ◌∷◌, All, Any, IfErr, OnOk, false, if◌then◌else◌, is_none, true};
-ghost use Rattle.audit_lists.specs.Ties.{IsKept};
+ghost use Rattle.audit_lists.specs.Ties.{IsTieKept};
 ghost use Rattle.audit_lists.specs.reached.Finds.{closed_first};
 ghost use Rattle.audit_lists.specs.reached.Walk.{TellsShift};
 
@@ -40,7 +40,7 @@ fn add_unclosed(shifts: &mut Vec<Shift>, shift: Shift) -> Result<(), AllocError>
 /// # Errors
 /// The first that was not, and want of memory.
 pub(crate) fn test_shifts(alloc: Global, shifts: &[Shift]) -> Result<(), OfficeFault>
-    ensures passes { OnOk result (IsKept (closed_first shifts.now)) }
+    ensures passes { OnOk result (IsTieKept (closed_first shifts.now)) }
     ensures found { IfErr result (TellsShift shifts.now) }
 {
     let mut unclosed = Vec::new(alloc);

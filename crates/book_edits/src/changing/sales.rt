@@ -7,7 +7,7 @@ ghost use Rattle.one_table.specs.InTransaction.{IsUnderWay, KeepsTransaction};
 ghost use Rattle.book_tables.specs.reading.Reading.{HasAllTables};
 ghost use Rattle.office_rules.specs.declared.decision.change.Edit.TheVariants.{AddSale};
 ghost use Rattle.book_states.specs.Changing.{AddsAsComputed};
-ghost use Rattle.book_states.specs.Failing.{FailsToMake};
+ghost use Rattle.book_states.specs.Failing.{FailsToMakeEdit};
 
 use book_tables::TableError;
 use book_tables::writing::totals::add_sold;
@@ -26,7 +26,7 @@ pub(crate) fn add_counted<S: Alter>(
     ensures added { Inside S.Store tx (λ old new. HasCleanDisk new → IsUnderWay old
         → HasAllTables old → OnOk result (AddsAsComputed sale.now prior old new)) }
     ensures refused { Inside S.Store tx (λ old new. HasCleanDisk new → IsUnderWay old
-        → HasAllTables old → IfErr result (FailsToMake (AddSale sale.now) prior old new)) }
+        → HasAllTables old → IfErr result (FailsToMakeEdit (AddSale sale.now) prior old new)) }
     ensures transaction { Inside S.Store tx (λ old new. KeepsTransaction old new result) }
 {
     let totals = add_sold(tx, sale)?;

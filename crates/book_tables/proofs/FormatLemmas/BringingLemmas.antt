@@ -10,7 +10,7 @@ use Rattle.office_rules.specs.Office.{IsOffice, Office, empty_office}
 use Rattle.office_rules.specs.declared.office.sale.Sale.{Sale}
 use Rattle.one_table.specs.InTransaction.{KeepsTransaction, StaysInside}
 use Rattle.one_table.proofs.ChangeLemmas.{if_err, keeps_inside, keeps_then, on_ok, stays_then}
-use Rattle.book_tables.specs.format.Filling.{AreHanded, Fills, FillsBases, FillsTotals, IsFilling, IsReady, base_row}
+use Rattle.book_tables.specs.format.Filling.{AreHanded, Fills, FillsBases, FillsTotals, IsFilling, IsReady, base_row_of}
 use Rattle.book_tables.specs.Holds.{HasOffice, HoldsMembers, HoldsOf, rows_in}
 use Rattle.book_tables.specs.format.Format.{HasFormat}
 use Rattle.book_tables.specs.Kept.{Kept, about_kept, bases_kept, kept_names, last_ids_kept, later, month_tenths_kept, shift_totals_kept}
@@ -85,9 +85,9 @@ module _ (meters : List MeterRow) (sales : List Sale) where
         let sums = totals.rows 1 (rows_upto 1 rows) o office handed.sales held in
         let some : Rows = with_totals_of sums.0 (rows_upto 1 rows) in
         let alone = of_format.bases (omega arith) in (
-          record some { bases = map base_row meters },
+          record some { bases = map base_row_of meters },
           fills.rows 1 some sums.1,
-          members_brought rows sums.0 (map base_row meters) o are (of_format.dated_steps (omega arith)) (bases_are o rows meters sales handed are alone) (bases_once o rows meters sales handed are alone) (subst (λ (l : List Sale). AreTotalsOf l sums.0) handed.sales sums.2),
+          members_brought rows sums.0 (map base_row_of meters) o are (of_format.dated_steps (omega arith)) (bases_are o rows meters sales handed are alone) (bases_once o rows meters sales handed are alone) (subst (λ (l : List Sale). AreTotalsOf l sums.0) handed.sales sums.2),
         );
   }
 
@@ -97,9 +97,9 @@ module _ (meters : List MeterRow) (sales : List Sale) where
     tells = told_left old new ready.has (bases_kept ∷ []) bases_another fills.only;
     members = λ o rows office none handed are of_format held.
         let alone = of_format.bases (omega arith) in (
-          record rows { bases = map base_row meters; dated_steps = [] },
+          record rows { bases = map base_row_of meters; dated_steps = [] },
           fills.rows 2 (rows_upto 2 rows) held,
-          members_brought rows rows (map base_row meters) o are (of_format.dated_steps (omega arith)) (bases_are o rows meters sales handed are alone) (bases_once o rows meters sales handed are alone) are.totals,
+          members_brought rows rows (map base_row_of meters) o are (of_format.dated_steps (omega arith)) (bases_are o rows meters sales handed are alone) (bases_once o rows meters sales handed are alone) are.totals,
         );
   }
 

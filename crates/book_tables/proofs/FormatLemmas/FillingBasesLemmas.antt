@@ -7,7 +7,7 @@ use Rattle.sts_fields.specs.declared.base.Base.{Base}
 use Rattle.office_rules.specs.Office.{Office}
 use Rattle.office_rules.specs.declared.office.meter.Meter.{Meter}
 use Rattle.office_rules.specs.declared.office.sale.Sale.{Sale}
-use Rattle.book_tables.specs.format.Filling.{AreHanded, FillsBases, IsReady, base_row}
+use Rattle.book_tables.specs.format.Filling.{AreHanded, FillsBases, IsReady, base_row_of}
 use Rattle.book_tables.specs.Holds.{HoldsOf}
 use Rattle.book_tables.specs.row.Rows.{Rows, present_format}
 use Rattle.book_tables.specs.Stands.{AreMembersOf}
@@ -28,8 +28,8 @@ pub bases_more : (found : List MeterRow) (m : MeterRow) (old mid new : State) �
 bases_more found m old mid new first second = record {
   only = only_both _ old mid new first.only second.only;
   rows = λ told rows held.
-      let these = second.rows told (record rows { bases = rows.bases ++ map base_row found }) (first.rows told rows held) in
-      let same = append_assoc rows.bases (map base_row found) (base_row m ∷ []) ∙ ap (λ (l : List (List ℕ × Base)). rows.bases ++ l) (sym (map-append base_row found (m ∷ []))) in
+      let these = second.rows told (record rows { bases = rows.bases ++ map base_row_of found }) (first.rows told rows held) in
+      let same = append_assoc rows.bases (map base_row_of found) (base_row_of m ∷ []) ∙ ap (λ (l : List (List ℕ × Base)). rows.bases ++ l) (sym (map-append base_row_of found (m ∷ []))) in
       subst (λ (bases : List (List ℕ × Base)). HoldsOf present_format told new.now (record rows { bases = bases })) same these;
 }
 
@@ -46,18 +46,18 @@ module _ (o : Office) (rows : Rows) (meters : List MeterRow) (sales : List Sale)
   abbrev own_base : (List ℕ × Meter) → (List ℕ × Base)
   own_base r = (r.0, r.1.base)
 
-  pub bases_are : (number : List ℕ) (base : Base) → (o.bases number base ≡ true) ↔ Contains (map base_row meters) (number, base)
+  pub bases_are : (number : List ℕ) (base : Base) → (o.bases number base ≡ true) ↔ Contains (map base_row_of meters) (number, base)
   bases_are number base = (
     λ has.
         let from = map_source own_base rows.meters (number, base) (subst (λ (l : List (List ℕ × Base)). Contains l (number, base)) alone ((are.bases number base).0 has)) in
         let there = (handed.meters from.0.0 from.0.1).0 ((are.meters from.0.0 from.0.1).1 from.1) in
-        subst (Contains (map base_row meters)) from.2 (contains_map base_row meters _ there),
+        subst (Contains (map base_row_of meters)) from.2 (contains_map base_row_of meters _ there),
     λ listed.
-        let from = map_source base_row meters (number, base) listed in
+        let from = map_source base_row_of meters (number, base) listed in
         let there = (are.meters from.0.number from.0.meter).0 ((handed.meters from.0.number from.0.meter).1 from.1) in
         let stands = subst (Contains (map own_base rows.meters)) from.2 (contains_map own_base rows.meters _ there) in
         (are.bases number base).1 (subst (λ (l : List (List ℕ × Base)). Contains l (number, base)) (sym alone) stands),
   )
 
-  pub bases_once : AllPairs (λ a b. a ≢ b) (map base_row meters)
-  bases_once = pairs_into (λ (a b : MeterRow). a.number ≢ b.number) (λ a b. a ≢ b) base_row meters (λ a b apart same. apart (ap (λ (x : List ℕ × Base). x.0) same)) handed.once
+  pub bases_once : AllPairs (λ a b. a ≢ b) (map base_row_of meters)
+  bases_once = pairs_into (λ (a b : MeterRow). a.number ≢ b.number) (λ a b. a ≢ b) base_row_of meters (λ a b apart same. apart (ap (λ (x : List ℕ × Base). x.0) same)) handed.once

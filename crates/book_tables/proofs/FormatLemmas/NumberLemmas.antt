@@ -28,7 +28,7 @@ use Rattle.book_tables.specs.Kept.{about_kept}
 use Rattle.book_tables.specs.row.ReadBack.{ReadsBack}
 use Rattle.book_tables.specs.row.Rows.{keyed, number, shown_format}
 use Rattle.book_tables.specs.Tables.{about_table}
-use Rattle.book_tables.specs.declared.format.number.Told.{Told}
+use Rattle.book_tables.specs.declared.format.number.ToldFormat.{ToldFormat}
 use Rattle.book_tables.specs.reading.Reading.{HasTable}
 use Rattle.book_tables.proofs.KeptLemmas.{listed_holds}
 use Rattle.book_tables.proofs.ReadingLemmas.ReadLemmas.{Asks, answer_is}
@@ -123,7 +123,7 @@ lone [] x one first = absurd (omega (arith, one))
 lone (y ∷ []) x one first = ap (λ z. z ∷ []) (sym first)
 lone (y ∷ z ∷ more) x one first = absurd (omega (arith, one))
 
-abbrev pub TellsOne : Row → Told → Type 0
+abbrev pub TellsOne : Row → ToldFormat → Type 0
 TellsOne row told = ReadsBack shown_format (λ n. n < 2 ^ 32) row told.format
 
 module _ (db : Database) (sound : IsDatabase db) (has : IsKept db.schema about_kept) (rows : List Row) (answer : IsAnswer (format_query (tree_in db.schema (codes "about"))) db.trees [] rows) where
@@ -134,15 +134,15 @@ module _ (db : Database) (sound : IsDatabase db) (has : IsKept db.schema about_k
       let told = format_shown db sound has n in
       (λ e. told.0 (one.0 e), λ e. one.1 (told.1 e))
 
-  pub none_told : (values : List Told) → AllZip TellsOne rows values → ¬ (length values ≡ 1) → IsFormatOf db None
+  pub none_told : (values : List ToldFormat) → AllZip TellsOne rows values → ¬ (length values ≡ 1) → IsFormatOf db None
   none_told values told other n small = (λ e. absurd cc, λ has. absurd (other (alone values (subst (λ l. AllZip TellsOne l values) ((shown_alone n).1 has) told))))
     where
-      alone : (values : List Told) → AllZip TellsOne (shown_format n ∷ []) values → length values ≡ 1
+      alone : (values : List ToldFormat) → AllZip TellsOne (shown_format n ∷ []) values → length values ≡ 1
       alone [] told = absurd told
       alone (v ∷ []) told = refl
       alone (v ∷ w ∷ more) told = absurd told.1
 
-  pub one_told : (value : Told) → AllZip TellsOne rows (value ∷ []) → IsFormatOf db value.format
+  pub one_told : (value : ToldFormat) → AllZip TellsOne rows (value ∷ []) → IsFormatOf db value.format
   one_told value told n small = go rows refl told
     where
       read : (row : Row) (found : Option ℕ) → ReadsBack shown_format (λ n. n < 2 ^ 32) row found → (found ≡ Some n) ↔ (row ≡ shown_format n)
@@ -158,11 +158,11 @@ module _ (db : Database) (sound : IsDatabase db) (has : IsKept db.schema about_k
       go (r ∷ s ∷ more) is told = absurd told.1
 
 module _ (old new : State) (has : HasTable about_kept old) (sound : IsTrue old.is_open → IsDatabase old.now) where
-  told_rows : (values : List Told) → (given : GivesAll TellsOne format_text [] old new values) → IsTrue old.is_open → IsAnswer (format_query (tree_in old.now.schema (codes "about"))) old.now.trees [] given.rows
+  told_rows : (values : List ToldFormat) → (given : GivesAll TellsOne format_text [] old new values) → IsTrue old.is_open → IsAnswer (format_query (tree_in old.now.schema (codes "about"))) old.now.trees [] given.rows
   told_rows values given runs = answer_is format_asks about_kept (λ s has. has.0.has) old new (has runs) given.rows given.shown
 
-  pub given_none : (values : List Told) → GivesAll TellsOne format_text [] old new values → IsTrue old.is_open → ¬ (length values ≡ 1) → IsFormatOf old.now None
+  pub given_none : (values : List ToldFormat) → GivesAll TellsOne format_text [] old new values → IsTrue old.is_open → ¬ (length values ≡ 1) → IsFormatOf old.now None
   given_none values given runs other = none_told old.now (sound runs) (has runs) given.rows (told_rows values given runs) values given.read other
 
-  pub given_one : (values : List Told) (one : Told) → GivesAll TellsOne format_text [] old new values → IsTrue old.is_open → values ≡ one ∷ [] → IsFormatOf old.now one.format
+  pub given_one : (values : List ToldFormat) (one : ToldFormat) → GivesAll TellsOne format_text [] old new values → IsTrue old.is_open → values ≡ one ∷ [] → IsFormatOf old.now one.format
   given_one values one given runs is = one_told old.now (sound runs) (has runs) given.rows (told_rows values given runs) one (subst (λ l. AllZip TellsOne given.rows l) is given.read)

@@ -34,7 +34,7 @@ use Rattle.book_tables.proofs.RowLemmas.RecordLemmas.{one_number}
 use Rattle.book_tables.proofs.RowsOfLemmas.{few_under, found_under}
 use Rattle.book_tables.proofs.ReadingLemmas.SaleLemmas.{sales_keep_values}
 use Rattle.book_tables.proofs.SalesOfLemmas.{all_totals, greatest_within, tells_month, tells_number, tells_under}
-use Rattle.book_tables.proofs.WritingLemmas.TotalsTexts.{last_id_asks, last_id_names, last_id_query, last_id_text, month_tenths_asks, month_tenths_names, month_tenths_query, month_tenths_text, shift_totals_asks, shift_totals_names, shift_totals_query, shift_totals_text}
+use Rattle.book_tables.proofs.WritingLemmas.TotalsTexts.{last_id_asks, last_id_names, last_id_query, last_id_text, month_tenths_asks, month_tenths_names, month_tenths_query, month_sum_text, shift_totals_asks, shift_totals_names, shift_totals_query, shift_sums_text}
 
 own_totals : (rows : Rows) → AreOfOffice rows → AreTotalsOf rows.sales rows
 own_totals rows (o, office, are) = subst (λ (l : List Sale). AreTotalsOf l rows) (sym are.sales) are.totals
@@ -143,7 +143,7 @@ module _ (greatest : (t : ℕ) → IsRepresentable t → t ≤ 18201624) (meter 
       let is : A ≡ B = cc in
       is
 
-  pub month_found : Finds month_tenths_kept month_tenths_text (Text meter ∷ number month ∷ []) (λ (t : Tenths). shown_number t.sum) (λ (t : Tenths). IsTotal t.sum) found_tenths
+  pub month_found : Finds month_tenths_kept month_sum_text (Text meter ∷ number month ∷ []) (λ (t : Tenths). shown_number t.sum) (λ (t : Tenths). IsTotal t.sum) found_tenths
   month_found = record {
     table = month_tenths_table;
     query = month_tenths_query;
@@ -195,7 +195,7 @@ module _ (greatest : (t : ℕ) → IsRepresentable t → t ≤ 18201624) (shift 
   same_record None = refl
   same_record (Some t) = refl
 
-  pub totals_found : Finds shift_totals_kept shift_totals_text (number shift ∷ []) shown_totals AreTotalsValues found_totals
+  pub totals_found : Finds shift_totals_kept shift_sums_text (number shift ∷ []) shown_totals AreTotalsValues found_totals
   totals_found = record {
     table = shift_totals_table;
     query = shift_totals_query;

@@ -23,10 +23,10 @@ use Rattle.book_tables.specs.writing.Storing.{StoresRow}
 use Rattle.book_tables.proofs.KeptLemmas.{names_differ, trees_differ}
 use Rattle.book_tables.proofs.WritingLemmas.StoringLemmas.{left_by, stores_before}
 use Rattle.book_tables.specs.Stands.{AreMembersOf, AreTotalsOf, sales_in_month, sales_in_shift, sales_under, tenths_of, totals_of}
-use Rattle.book_tables.specs.writing.Writing.{AddsSale, AddsTenths, AddsToShift, AreSaleTotals, FitColumns, IsNextNumber, IsOfNone, MayAddSold, MayAddTenths, MayAddToShift, MayAddTotals, SetsLastId, TellsSold, TellsTotals, WritesOnly, totals_names, with_totals_of}
+use Rattle.book_tables.specs.writing.Writing.{AddsSale, AddsTenths, AddsToShift, AreSaleTotals, FitColumns, IsNextNumber, IsOfNone, MayAddSold, MayAddTenths, MayAddToShift, MayAddTotals, SetsLastId, TellsSold, TellsSaleTotals, WritesOnly, totals_names, with_totals_of}
 use Rattle.book_tables.specs.declared.row.totals.SaleTotals.{SaleTotals}
 use Rattle.book_tables.specs.Kept.{last_ids_kept, month_tenths_kept, sales_kept, shift_totals_kept}
-use Rattle.book_tables.specs.writing.Keeping.{AreInOrder, KeepsRows, last_id_key, month_key, sale_key, shift_totals_key, totals_keys}
+use Rattle.book_tables.specs.writing.Keeping.{AreInOrder, KeepsRows, last_id_keys, month_keys, sale_key, shift_totals_key, totals_keys}
 use Rattle.book_tables.proofs.OfficeTableLemmas.{last_ids_in, month_tenths_in, sales_in, shift_totals_in}
 use Rattle.book_tables.proofs.WritingLemmas.KeepingLemmas.{keeps_then, still_in_order}
 use Rattle.book_tables.proofs.WritingLemmas.WriteLemmas.{changes_only}
@@ -103,10 +103,10 @@ module _ (s : Sale) (last : ℕ) (shown : SaleTotals) (old one two new : State) 
       let months = still_in_order month_tenths_kept last_ids_kept month_tenths_in last_ids_in old.now one.now here to_one refl order.1.0 in
       let shifts = still_in_order shift_totals_kept last_ids_kept shift_totals_in last_ids_in old.now one.now here to_one refl order.1.1.0 in
       let shifts_then = still_in_order shift_totals_kept month_tenths_kept shift_totals_in month_tenths_in one.now two.now then to_two refl shifts in
-      keeps_then (last_id_key (s.meter, s.base)) (month_key (s.meter, month_at s.moment) ++ shift_totals_key s.shift) old.now one.now new.now (first.kept (order.0, tt))
-      (keeps_then (month_key (s.meter, month_at s.moment)) (shift_totals_key s.shift) one.now two.now new.now (second.kept (months, tt)) (third.kept (shifts_then, tt)))
+      keeps_then (last_id_keys (s.meter, s.base)) (month_keys (s.meter, month_at s.moment) ++ shift_totals_key s.shift) old.now one.now new.now (first.kept (order.0, tt))
+      (keeps_then (month_keys (s.meter, month_at s.moment)) (shift_totals_key s.shift) one.now two.now new.now (second.kept (months, tt)) (third.kept (shifts_then, tt)))
 
-  pub tells_totals : HasAllTables old → TellsTotals s last shown old new
+  pub tells_totals : HasAllTables old → TellsSaleTotals s last shown old new
   tells_totals has = record {
     adds = record {
       only = only_totals;
@@ -157,7 +157,7 @@ module _ (s : Sale) where
       let after = first.rows rows before (next_is o rows office meets are) in
       (with_sale rows, subst (λ (f : ℕ). HoldsOf present_format f mid.now (with_sale rows)) (sym present) after, (meets.values.tid, (o.sales, own_totals o rows are, sales_within greatest o s office meets)))
 
-module _ (greatest : (t : ℕ) → IsRepresentable t → t ≤ 18201624) (s : Sale) (shown : SaleTotals) (old mid new : State) (first : AddsSale s old mid) (second : TellsTotals s s.tid shown mid new) where
+module _ (greatest : (t : ℕ) → IsRepresentable t → t ≤ 18201624) (s : Sale) (shown : SaleTotals) (old mid new : State) (first : AddsSale s old mid) (second : TellsSaleTotals s s.tid shown mid new) where
   members : (o : Office) → IsOffice o → MeetsNewSale o s → HoldsMembers old.now o → HoldsMembers new.now (applied (AddSale s) o)
   members o office meets (rows, held, are) =
       let it = second.adds.rows present_format (with_sale s rows) o.sales (first.rows rows held (next_is s o rows office meets are)) (own_totals s o rows are) (fit_within (o.sales ++ s ∷ []) (sales_within greatest o s office meets)) (own_last o s meets) in (

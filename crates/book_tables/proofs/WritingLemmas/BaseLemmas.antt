@@ -31,7 +31,7 @@ use Rattle.book_tables.proofs.WritingLemmas.HiddenWriteLemmas.{is_that, one_at_m
 use Rattle.book_tables.specs.Holds.{HasOffice}
 use Rattle.book_tables.specs.Kept.{bases_kept, meters_kept}
 use Rattle.book_tables.specs.reading.Reading.{HasAllTables}
-use Rattle.book_tables.specs.writing.Keeping.{base_key, meter_key}
+use Rattle.book_tables.specs.writing.Keeping.{base_keys, meter_keys}
 use Rattle.book_tables.proofs.WritingLemmas.KeepingLemmas.{keeps_new, keeps_set, keeps_then, number_kept, text_found, text_kept}
 use Rattle.book_tables.proofs.KeptLemmas.{bases_changed, meters_changed}
 use Rattle.book_tables.proofs.OfficeTableLemmas.{bases_in, meters_in}
@@ -93,7 +93,7 @@ module _ (old new : State) where
       let kept = changes_only (codes "meters") old new only in
       record {
         only = only;
-        kept = keeps_set (meter_key number) old new meters_kept meters_in has is_that_meter base_set_row (base_params number base) h kept (λ r passes. text_found (codes "meters") number r passes)
+        kept = keeps_set (meter_keys number) old new meters_kept meters_in has is_that_meter base_set_row (base_params number base) h kept (λ r passes. text_found (codes "meters") number r passes)
             (λ r is_number own. (text_kept (codes "meters") number r (cast_row meters (eval_all base_set_row (base_params number base ∷ r ∷ []))) refl own, number_kept (rowid r) is_number));
         rows = λ rows held apart.
             let was = meters_in.holds present_format old.now rows held in
@@ -119,7 +119,7 @@ then_has old mid only has = subst HasOffice (sym only.schema) (has only.inside.w
 pub adds_both : (number : List ℕ) (m : Meter) (old mid new : State) → HasAllTables old → AddsMeterRow number m old mid → AddsBase number m.base mid new → AddsMeter number m old new
 adds_both number m old mid new has first second = record {
   only = only_two old mid new first.only second.only;
-  kept = keeps_then (meter_key number) (base_key number m.base) old.now mid.now new.now first.kept second.kept;
+  kept = keeps_then (meter_keys number) (base_keys number m.base) old.now mid.now new.now first.kept second.kept;
   stored = stores_before meters_kept (meter_columns (number, m) ∷ []) old.now mid.now new.now first.stored
       (left_by_one meters_kept bases_kept meters_in bases_in mid.now new.now (then_has old mid first.only has) (changes_only (codes "meter_bases") mid new second.only) refl);
   base = stores_after bases_kept (base_columns (number, m.base) ∷ []) old.now mid.now new.now (left_by_one bases_kept meters_kept bases_in meters_in old.now mid.now (has first.only.inside.was_open) (changes_only (codes "meters") old mid first.only) refl) second.stored;
@@ -129,7 +129,7 @@ adds_both number m old mid new has first second = record {
 pub moves_both : (number : List ℕ) (base : Base) (old mid new : State) → HasAllTables old → SetsBase number base old mid → AddsBase number base mid new → MovesBase number base old new
 moves_both number base old mid new has first second = record {
   only = only_two old mid new first.only second.only;
-  kept = λ order. keeps_then (meter_key number) (base_key number base) old.now mid.now new.now (first.kept order) second.kept;
+  kept = λ order. keeps_then (meter_keys number) (base_keys number base) old.now mid.now new.now (first.kept order) second.kept;
   stored = stores_after bases_kept (base_columns (number, base) ∷ []) old.now mid.now new.now (left_by_one bases_kept meters_kept bases_in meters_in old.now mid.now (has first.only.inside.was_open) (changes_only (codes "meters") old mid first.only) refl) second.stored;
   rows = λ rows held apart. second.rows present_format (record rows { meters = map (row_with_base number base) rows.meters }) (first.rows rows held apart);
 }

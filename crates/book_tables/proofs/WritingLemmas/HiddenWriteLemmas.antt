@@ -32,7 +32,7 @@ use Rattle.book_tables.specs.Tables.{meters_table, tariff_steps_table, tariffs_t
 use Rattle.book_tables.specs.writing.Writing.{AddsMeterRow, AddsName, AddsStep, SetsTariff}
 use Rattle.book_tables.specs.Kept.{meters_kept, steps_kept, tariffs_kept}
 use Rattle.book_tables.specs.reading.Reading.{HasAllTables}
-use Rattle.book_tables.specs.writing.Keeping.{meter_key}
+use Rattle.book_tables.specs.writing.Keeping.{meter_keys}
 use Rattle.book_tables.proofs.OfficeTableLemmas.{meters_in, steps_in, tariffs_in}
 use Rattle.book_tables.proofs.WritingLemmas.KeepingLemmas.{keeps_new, keeps_set, number_kept, text_found, text_kept}
 use Rattle.book_tables.proofs.KeptLemmas.{meters_changed, steps_changed, tariffs_changed}
@@ -157,7 +157,7 @@ module _ (old new : State) where
       let kept = changes_only (codes "meters") old new only in
       record {
         only = only;
-        kept = keeps_set (meter_key number) old new meters_kept meters_in has is_that_meter tariff_set_row (Text number ∷ Text name ∷ []) h kept (λ r passes. text_found (codes "meters") number r passes)
+        kept = keeps_set (meter_keys number) old new meters_kept meters_in has is_that_meter tariff_set_row (Text number ∷ Text name ∷ []) h kept (λ r passes. text_found (codes "meters") number r passes)
             (λ r is_number own. (text_kept (codes "meters") number r (cast_row meters (eval_all tariff_set_row ((Text number ∷ Text name ∷ []) ∷ r ∷ []))) refl own, number_kept (rowid r) is_number));
         rows = λ rows held apart.
             let order = held.are.1.1.1.0.1 in

@@ -17,7 +17,7 @@ use Rattle.book_tables.proofs.OfficeTableLemmas.{steps_in, tariffs_in}
 use Rattle.book_tables.proofs.WritingLemmas.StoringLemmas.{left_by_one, stores_before, stores_none, stores_then}
 use Rattle.book_tables.proofs.WritingLemmas.WriteLemmas.{changes_only}
 use Rattle.book_tables.specs.writing.Writing.{AddsName, AddsStep, AddsTariff, WritesOnly}
-use Rattle.book_tables.specs.writing.Keeping.{KeepsRows, Keys, name_key, step_key, tariff_keys}
+use Rattle.book_tables.specs.writing.Keeping.{KeepsRows, Keys, name_keys, step_keys, tariff_keys}
 use Rattle.book_tables.proofs.WritingLemmas.KeepingLemmas.{fewer_parts, keeps_both, keeps_more, own_left, own_right}
 use Rattle.book_tables.proofs.WritingLemmas.OnlyLemmas.{only_among, only_both}
 
@@ -53,16 +53,16 @@ rows_are name xs s =
 abbrev of_steps : List ℕ → Keys
 of_steps name = (codes "tariff_steps", (1, Text name) ∷ []) ∷ []
 
-step_of : (name : List ℕ) (place : ℕ) (s : Step) (a b : Database) → KeepsRows (step_key (record { tariff = name; place = place; step = s })) a b → KeepsRows (tariff_keys name) a b
+step_of : (name : List ℕ) (place : ℕ) (s : Step) (a b : Database) → KeepsRows (step_keys (record { tariff = name; place = place; step = s })) a b → KeepsRows (tariff_keys name) a b
 step_of name place s a b kept =
-    keeps_more (of_steps name) (tariff_keys name) (own_right (name_key name) (of_steps name)) a b
-    (keeps_more (step_key (record { tariff = name; place = place; step = s })) (of_steps name) (fewer_parts (codes "tariff_steps") ((1, Text name) ∷ []) ((2, Int (pos place)) ∷ [])) a b kept)
+    keeps_more (of_steps name) (tariff_keys name) (own_right (name_keys name) (of_steps name)) a b
+    (keeps_more (step_keys (record { tariff = name; place = place; step = s })) (of_steps name) (fewer_parts (codes "tariff_steps") ((1, Text name) ∷ []) ((2, Int (pos place)) ∷ [])) a b kept)
 
 -- with no steps so far
 pub adds_none : (name : List ℕ) (old new : State) → HasAllTables old → AddsName name old new → AddsTariff name [] old new
 adds_none name old new has adds = record {
   only = first_only old new adds.only;
-  kept = keeps_more (name_key name) (tariff_keys name) (own_left (name_key name) (of_steps name)) old.now new.now adds.kept;
+  kept = keeps_more (name_keys name) (tariff_keys name) (own_left (name_keys name) (of_steps name)) old.now new.now adds.kept;
   stored = adds.stored;
   steps = stores_none steps_kept old.now new.now (left_by_one steps_kept tariffs_kept steps_in tariffs_in old.now new.now (has adds.only.inside.was_open) (changes_only (codes "tariffs") old new adds.only) refl);
   rows = λ rows held.

@@ -44,7 +44,7 @@ use Rattle.sqlite_value.specs.declared.value.Value.{Value}
 use Rattle.sqlite_value.specs.Order.{column}
 use Rattle.one_table.specs.Merges.{given_row, set_row}
 use Rattle.book_tables.specs.reading.Reading.{HasAllTables}
-use Rattle.book_tables.specs.writing.Keeping.{has_key, last_id_key, shift_totals_key}
+use Rattle.book_tables.specs.writing.Keeping.{has_key, last_id_keys, shift_totals_key}
 use Rattle.book_tables.proofs.WritingLemmas.KeepingLemmas.{has_values, keeps_merge, number_found, number_kept, own_number_kept, own_of_key, pair_found, pair_kept}
 use Rattle.book_tables.proofs.KeptLemmas.{last_ids_changed, month_tenths_changed, shift_totals_changed}
 use Rattle.book_tables.proofs.OfficeTableLemmas.{last_ids_in, month_tenths_in, shift_totals_in}
@@ -246,7 +246,7 @@ module _ (old new : State) where
               let it = merged (λ runs. takes last_ids_kept old (last_ids_in.there old.now.schema (has_all runs)) order.0) in
               let given : given_row last_ids last_id_merging params (old.now.trees last_ids.tree) ≡ with_rowid Chosen (old.now.trees last_ids.tree) (Null ∷ last_id_columns (base_key, tid)) =
               ap (λ (p : Row). given_row last_ids last_id_merging p (old.now.trees last_ids.tree)) bound ∙ ap (with_rowid Chosen (old.now.trees last_ids.tree)) ((sets_tid []).source) in
-              keeps_merge (last_id_key base_key) old new last_ids_kept last_ids_in has_all last_id_merging params it.0 it.1 (changes_only (codes "last_ids") old new only) (was_open it.1)
+              keeps_merge (last_id_keys base_key) old new last_ids_kept last_ids_in has_all last_id_merging params it.0 it.1 (changes_only (codes "last_ids") old new only) (was_open it.1)
               (own_of_key (codes "last_ids") ((1, Text meter) ∷ (2, Int (pos (year_of base))) ∷ []) (cast_row last_ids (given_row last_ids last_id_merging params (old.now.trees last_ids.tree))) (ap (λ (r : Row). has_key ((1, Text meter) ∷ (2, Int (pos (year_of base))) ∷ []) (cast_row last_ids r)) given
               ∙ has_values ((1, Text meter) ∷ (2, Int (pos (year_of base))) ∷ []) (cast_row last_ids (with_rowid Chosen (old.now.trees last_ids.tree) (Null ∷ last_id_columns (base_key, tid)))) (refl, (cast_int (pos (year_of base)), tt))))
               (subst (λ (r : Row). IsTrue (is_int (rowid (cast_row last_ids r)))) (sym given) (subst (λ (v : Value). IsTrue (is_int v)) (sym (cast_int (next_rowid (old.now.trees last_ids.tree)))) refl))

@@ -17,7 +17,7 @@ use Rattle.book_tables.specs.row.Rows.{number}
 use Rattle.book_tables.specs.Tables.{last_ids_table, month_tenths_table, shift_totals_table}
 use Rattle.book_tables.specs.writing.Writes.{last_id_set_text, sale_counted_text, tenths_added_text}
 use Rattle.book_tables.proofs.ReadingLemmas.ReadLemmas.{Asks}
-pub use Rattle.book_tables.specs.reading.Questions.{last_id_text, month_tenths_text, shift_totals_text}
+pub use Rattle.book_tables.specs.reading.Questions.{last_id_text, month_sum_text, shift_sums_text}
 
 -- ---- what is read by a key
 
@@ -42,7 +42,7 @@ month_tenths_query tree = query_on tree is_that_pair (col 1 3 ∷ []) [] no_limi
 abbrev pub month_tenths_names : List Name
 month_tenths_names = codes "tenths" ∷ []
 
-pub month_tenths_asks : (meter : List ℕ) (month : ℕ) → Asks month_tenths_table month_tenths_query month_tenths_names month_tenths_text (Text meter ∷ number month ∷ [])
+pub month_tenths_asks : (meter : List ℕ) (month : ℕ) → Asks month_tenths_table month_tenths_query month_tenths_names month_sum_text (Text meter ∷ number month ∷ [])
 unfolding everything is_whole meant select_meant text_meant
 month_tenths_asks meter month =
     record { is = λ tree. record { means = refl; from = refl }; bare = λ tree. refl; typed = λ tree. refl; whole = refl }
@@ -54,7 +54,7 @@ shift_totals_query tree =
 abbrev pub shift_totals_names : List Name
 shift_totals_names = codes "sales" ∷ codes "tenths" ∷ codes "cash" ∷ []
 
-pub shift_totals_asks : (shift : ℕ) → Asks shift_totals_table shift_totals_query shift_totals_names shift_totals_text (number shift ∷ [])
+pub shift_totals_asks : (shift : ℕ) → Asks shift_totals_table shift_totals_query shift_totals_names shift_sums_text (number shift ∷ [])
 unfolding everything is_whole meant select_meant text_meant
 shift_totals_asks shift =
     record { is = λ tree. record { means = refl; from = refl }; bare = λ tree. refl; typed = λ tree. refl; whole = refl }

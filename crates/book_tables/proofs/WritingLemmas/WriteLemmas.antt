@@ -54,7 +54,7 @@ use Rattle.book_tables.specs.Tables.{sales_table}
 use Rattle.book_tables.specs.writing.Writing.{AddsSale, IsNextNumber, WritesOnly}
 use Rattle.book_tables.specs.Kept.{sales_kept, shifts_kept}
 use Rattle.book_tables.specs.reading.Reading.{HasAllTables}
-use Rattle.book_tables.specs.writing.Keeping.{is_own, shift_key}
+use Rattle.book_tables.specs.writing.Keeping.{is_own, shift_keys}
 use Rattle.book_tables.proofs.OfficeTableLemmas.{sales_in, shifts_in}
 use Rattle.book_tables.proofs.WritingLemmas.KeepingLemmas.{compares, keeps_new, keeps_set, number_kept, own_number_kept, own_of_key}
 use Rattle.book_tables.proofs.KeptLemmas.{ChangesOnly, sales_changed}
@@ -198,12 +198,12 @@ module _ (old new : State) where
   closed_row = col 1 0 ∷ lit Null ∷ col 1 2 ∷ col 1 3 ∷ col 0 1 ∷ []
 
   -- what is closed has the number, and keeps it
-  closes_own : (number moment : ℕ) (r : Row) → list_all (holds ((Int (pos number) ∷ Int (pos moment) ∷ []) ∷ r ∷ [])) is_that_shift ≡ true → is_own (shift_key number) (codes "shifts") r ≡ true
+  closes_own : (number moment : ℕ) (r : Row) → list_all (holds ((Int (pos number) ∷ Int (pos moment) ∷ []) ∷ r ∷ [])) is_that_shift ≡ true → is_own (shift_keys number) (codes "shifts") r ≡ true
   closes_own number moment r found = own_of_key (codes "shifts") ((0, Int (pos number)) ∷ []) r
       (ap (λ (b : Bool). b && true) (compares (column r 0) (Int (pos number)) (and_parts (is_true (binary (Compare Eq Binary) (column r 0) (Int (pos number)))) true found).0))
 
-  closed_own : (number moment : ℕ) (r : Row) → IsTrue (is_int (rowid r)) → is_own (shift_key number) (codes "shifts") r ≡ true
-      → (is_own (shift_key number) (codes "shifts") (cast_row shifts (eval_all closed_row ((Int (pos number) ∷ Int (pos moment) ∷ []) ∷ r ∷ []))) ≡ true)
+  closed_own : (number moment : ℕ) (r : Row) → IsTrue (is_int (rowid r)) → is_own (shift_keys number) (codes "shifts") r ≡ true
+      → (is_own (shift_keys number) (codes "shifts") (cast_row shifts (eval_all closed_row ((Int (pos number) ∷ Int (pos moment) ∷ []) ∷ r ∷ []))) ≡ true)
       × (rowid (cast_row shifts (eval_all closed_row ((Int (pos number) ∷ Int (pos moment) ∷ []) ∷ r ∷ []))) ≡ rowid r)
   closed_own number moment r is_number own = let same = number_kept (rowid r) is_number in (own_number_kept (codes "shifts") number r (cast_row shifts (eval_all closed_row ((Int (pos number) ∷ Int (pos moment) ∷ []) ∷ r ∷ []))) same own, same)
 
@@ -214,7 +214,7 @@ module _ (old new : State) where
       let kept = changes_only (codes "shifts") old new only in
       record {
         only = only;
-        kept = keeps_set (shift_key number) old new shifts_kept shifts_in has is_that_shift closed_row (Int (pos number) ∷ Int (pos moment) ∷ []) set kept (closes_own number moment) (closed_own number moment);
+        kept = keeps_set (shift_keys number) old new shifts_kept shifts_in has is_that_shift closed_row (Int (pos number) ∷ Int (pos moment) ∷ []) set kept (closes_own number moment) (closed_own number moment);
         rows = λ rows held numbered.
             let one : length (filter (is_that number) rows.shifts) ≤ 1 = subst (λ (l : List Shift). length l ≤ 1) (sym (found_numbered (λ (s : Shift). s.number) rows.shifts number numbered)) (few (find (is_that number) rows.shifts)) in
             let changed = sets_listed shifts is_that_shift shift_closed_terms (Int (pos number) ∷ Int (pos moment) ∷ []) (λ (s : Shift). pos s.number) shift_row (is_that number) (closed_at moment) (closing number moment)

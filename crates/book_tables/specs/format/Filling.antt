@@ -89,12 +89,12 @@ pub record FillsTotals (sales : List Sale) (old new : State) : Type 0 where
       × AreTotalsOf sales totals
 
 -- a meter's number and its present base
-abbrev pub base_row : MeterRow → (List ℕ × Base)
-base_row m = (m.number, m.meter.base)
+abbrev pub base_row_of : MeterRow → (List ℕ × Base)
+base_row_of m = (m.number, m.meter.base)
 
 -- the present base of each of these meters stands after those that were there
 pub record FillsBases (meters : List MeterRow) (old new : State) : Type 0 where
   pub only : WritesOnly (codes "meter_bases" ∷ []) old new
   pub rows : (told : ℕ) (rows : Rows) → HoldsOf present_format told old.now rows
       → HoldsOf present_format told new.now
-      (record rows { bases = rows.bases ++ map base_row meters })
+      (record rows { bases = rows.bases ++ map base_row_of meters })

@@ -149,17 +149,17 @@ the_last_id meter base =
     question last_ids_kept shown_number IsTid last_id_text
     (Text meter ∷ number (year_of base) ∷ [])
 
-abbrev pub month_tenths_text : List ℕ
-month_tenths_text = codes "SELECT tenths FROM month_tenths WHERE meter = ?1 AND month = ?2"
+abbrev pub month_sum_text : List ℕ
+month_sum_text = codes "SELECT tenths FROM month_tenths WHERE meter = ?1 AND month = ?2"
 
 abbrev pub the_month_tenths : List ℕ → ℕ → Question ℕ
 the_month_tenths meter month =
-    question month_tenths_kept shown_number IsTotal month_tenths_text
+    question month_tenths_kept shown_number IsTotal month_sum_text
     (Text meter ∷ number month ∷ [])
 
-abbrev pub shift_totals_text : List ℕ
-shift_totals_text = codes "SELECT sales, tenths, cash FROM shift_totals WHERE shift = ?1"
+abbrev pub shift_sums_text : List ℕ
+shift_sums_text = codes "SELECT sales, tenths, cash FROM shift_totals WHERE shift = ?1"
 
 abbrev pub the_shift_totals : ℕ → Question Totals
 the_shift_totals shift =
-    question shift_totals_kept shown_totals AreTotalsValues shift_totals_text (number shift ∷ [])
+    question shift_totals_kept shown_totals AreTotalsValues shift_sums_text (number shift ∷ [])

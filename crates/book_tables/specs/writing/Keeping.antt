@@ -51,32 +51,32 @@ pub record KeepsRows (keys : Keys) (old new : Database) : Type 0 where
 abbrev pub sale_key : ℕ → Keys
 sale_key n = (codes "sales", (0, number n) ∷ []) ∷ []
 
-abbrev pub shift_key : ℕ → Keys
-shift_key n = (codes "shifts", (0, number n) ∷ []) ∷ []
+abbrev pub shift_keys : ℕ → Keys
+shift_keys n = (codes "shifts", (0, number n) ∷ []) ∷ []
 
-abbrev pub meter_key : List ℕ → Keys
-meter_key meter = (codes "meters", (1, Text meter) ∷ []) ∷ []
+abbrev pub meter_keys : List ℕ → Keys
+meter_keys meter = (codes "meters", (1, Text meter) ∷ []) ∷ []
 
-abbrev pub base_key : List ℕ → Base → Keys
-base_key meter base =
+abbrev pub base_keys : List ℕ → Base → Keys
+base_keys meter base =
     (codes "meter_bases", (1, Text meter) ∷ (2, number (year_of base)) ∷ []) ∷ []
 
-abbrev pub name_key : List ℕ → Keys
-name_key name = (codes "tariffs", (1, Text name) ∷ []) ∷ []
+abbrev pub name_keys : List ℕ → Keys
+name_keys name = (codes "tariffs", (1, Text name) ∷ []) ∷ []
 
-abbrev pub step_key : StepRow → Keys
-step_key r = (codes "tariff_steps", (1, Text r.tariff) ∷ (2, number r.place) ∷ []) ∷ []
+abbrev pub step_keys : StepRow → Keys
+step_keys r = (codes "tariff_steps", (1, Text r.tariff) ∷ (2, number r.place) ∷ []) ∷ []
 
 abbrev pub dated_step_key : DatedStepRow → Keys
 dated_step_key r =
     (codes "dated_steps", (1, Text r.tariff) ∷ (2, number r.day) ∷ (3, number r.place) ∷ []) ∷ []
 
-abbrev pub last_id_key : (List ℕ × Base) → Keys
-last_id_key key =
+abbrev pub last_id_keys : (List ℕ × Base) → Keys
+last_id_keys key =
     (codes "last_ids", (1, Text key.0) ∷ (2, number (year_of key.1)) ∷ []) ∷ []
 
-abbrev pub month_key : (List ℕ × ℕ) → Keys
-month_key key = (codes "month_tenths", (1, Text key.0) ∷ (2, number key.1) ∷ []) ∷ []
+abbrev pub month_keys : (List ℕ × ℕ) → Keys
+month_keys key = (codes "month_tenths", (1, Text key.0) ∷ (2, number key.1) ∷ []) ∷ []
 
 abbrev pub shift_totals_key : ℕ → Keys
 shift_totals_key n = (codes "shift_totals", (0, number n) ∷ []) ∷ []
@@ -92,5 +92,5 @@ dated_keys name day = (codes "dated_steps", (1, Text name) ∷ (2, number day) �
 
 abbrev pub totals_keys : Sale → Keys
 totals_keys s =
-    last_id_key (s.meter, s.base) ++ month_key (s.meter, month_at s.moment)
+    last_id_keys (s.meter, s.base) ++ month_keys (s.meter, month_at s.moment)
     ++ shift_totals_key s.shift

@@ -24,7 +24,7 @@ use Rattle.office_rules.specs.declared.office.shift.Shift.{Shift}
 use Rattle.book_tables.specs.writing.Edited.{dated_rows, edited, row_with_base, row_with_tariff, shift_closed, step_rows}
 use Rattle.book_tables.specs.writing.Failing.{Ends, FailsToMerge, FailsToStore}
 use Rattle.book_tables.specs.writing.Writes.{Write}
-use Rattle.book_tables.specs.writing.Keeping.{AreInOrder, KeepsRows, base_key, dated_keys, dated_step_key, last_id_key, meter_key, month_key, name_key, sale_key, shift_key, shift_totals_key, step_key, tariff_keys, totals_keys}
+use Rattle.book_tables.specs.writing.Keeping.{AreInOrder, KeepsRows, base_keys, dated_keys, dated_step_key, last_id_keys, meter_keys, month_keys, name_keys, sale_key, shift_keys, shift_totals_key, step_keys, tariff_keys, totals_keys}
 use Rattle.book_tables.specs.writing.Storing.{StoresRow, StoresRows}
 use Rattle.book_tables.specs.Holds.{Holds, HoldsMembers, HoldsOf}
 use Rattle.book_tables.specs.Kept.{bases_kept, dated_steps_kept, meters_kept, sales_kept, shifts_kept, steps_kept, tariffs_kept}
@@ -96,7 +96,7 @@ pub record AddsSale (s : Sale) (old new : State) : Type 0 where
 -- a shift with the next number stands after the others
 pub record AddsShift (s : Shift) (old new : State) : Type 0 where
   pub only : WritesOnly (codes "shifts" ∷ []) old new
-  pub kept : KeepsRows (shift_key s.number) old.now new.now
+  pub kept : KeepsRows (shift_keys s.number) old.now new.now
   pub stored : StoresRow shifts_kept (shift_row s) old.now new.now
   pub rows : (rows : Rows) → Holds old.now rows → IsNextNumber (λ s. s.number) rows.shifts s.number
       → Holds new.now (record rows { shifts = rows.shifts ++ s ∷ [] })
@@ -105,14 +105,14 @@ pub record AddsShift (s : Shift) (old new : State) : Type 0 where
 pub record ClosesShift (number moment : ℕ) (old new : State) : Type 0 where
   pub only : WritesOnly (codes "shifts" ∷ []) old new
   pub kept : AreInOrder (codes "shifts" ∷ []) old.now
-      → KeepsRows (shift_key number) old.now new.now
+      → KeepsRows (shift_keys number) old.now new.now
   pub rows : (rows : Rows) → Holds old.now rows → AreNumbered (λ s. s.number) rows.shifts
       → Holds new.now (record rows { shifts = map (shift_closed number moment) rows.shifts })
 
 -- a meter more, and its base, which stand after the others
 pub record AddsMeter (number : List ℕ) (m : Meter) (old new : State) : Type 0 where
   pub only : WritesOnly (codes "meters" ∷ codes "meter_bases" ∷ []) old new
-  pub kept : KeepsRows (meter_key number ++ base_key number m.base) old.now new.now
+  pub kept : KeepsRows (meter_keys number ++ base_keys number m.base) old.now new.now
   pub stored : StoresRow meters_kept (meter_columns (number, m)) old.now new.now
   pub base : StoresRow bases_kept (base_columns (number, m.base)) old.now new.now
   pub rows : (rows : Rows) → Holds old.now rows → Holds new.now (edited (AddMeter number m) rows)
@@ -120,7 +120,7 @@ pub record AddsMeter (number : List ℕ) (m : Meter) (old new : State) : Type 0 
 -- the row of a meter more, which stands after the others
 pub record AddsMeterRow (number : List ℕ) (m : Meter) (old new : State) : Type 0 where
   pub only : WritesOnly (codes "meters" ∷ []) old new
-  pub kept : KeepsRows (meter_key number) old.now new.now
+  pub kept : KeepsRows (meter_keys number) old.now new.now
   pub stored : StoresRow meters_kept (meter_columns (number, m)) old.now new.now
   pub rows : (rows : Rows) → Holds old.now rows
       → Holds new.now (record rows { meters = rows.meters ++ (number, m) ∷ [] })
@@ -128,7 +128,7 @@ pub record AddsMeterRow (number : List ℕ) (m : Meter) (old new : State) : Type
 -- a base more that a meter had, which stands after the others, whatever format `about` tells
 pub record AddsBase (number : List ℕ) (base : Base) (old new : State) : Type 0 where
   pub only : WritesOnly (codes "meter_bases" ∷ []) old new
-  pub kept : KeepsRows (base_key number base) old.now new.now
+  pub kept : KeepsRows (base_keys number base) old.now new.now
   pub stored : StoresRow bases_kept (base_columns (number, base)) old.now new.now
   pub rows : (told : ℕ) (rows : Rows) → HoldsOf present_format told old.now rows
       → HoldsOf present_format told new.now
@@ -138,7 +138,7 @@ pub record AddsBase (number : List ℕ) (base : Base) (old new : State) : Type 0
 pub record SetsBase (number : List ℕ) (base : Base) (old new : State) : Type 0 where
   pub only : WritesOnly (codes "meters" ∷ []) old new
   pub kept : AreInOrder (codes "meters" ∷ []) old.now
-      → KeepsRows (meter_key number) old.now new.now
+      → KeepsRows (meter_keys number) old.now new.now
   pub rows : (rows : Rows) → Holds old.now rows → AllPairs (λ a b. a.0 ≢ b.0) rows.meters
       → Holds new.now (record rows { meters = map (row_with_base number base) rows.meters })
 
@@ -146,7 +146,7 @@ pub record SetsBase (number : List ℕ) (base : Base) (old new : State) : Type 0
 pub record MovesBase (number : List ℕ) (base : Base) (old new : State) : Type 0 where
   pub only : WritesOnly (codes "meters" ∷ codes "meter_bases" ∷ []) old new
   pub kept : AreInOrder (codes "meters" ∷ []) old.now
-      → KeepsRows (meter_key number ++ base_key number base) old.now new.now
+      → KeepsRows (meter_keys number ++ base_keys number base) old.now new.now
   pub stored : StoresRow bases_kept (base_columns (number, base)) old.now new.now
   pub rows : (rows : Rows) → Holds old.now rows → AllPairs (λ a b. a.0 ≢ b.0) rows.meters
       → Holds new.now (edited (MoveBase number base) rows)
@@ -154,7 +154,7 @@ pub record MovesBase (number : List ℕ) (base : Base) (old new : State) : Type 
 -- the name of a tariff more, which stands after the others
 pub record AddsName (name : List ℕ) (old new : State) : Type 0 where
   pub only : WritesOnly (codes "tariffs" ∷ []) old new
-  pub kept : KeepsRows (name_key name) old.now new.now
+  pub kept : KeepsRows (name_keys name) old.now new.now
   pub stored : StoresRow tariffs_kept (tariff_columns name) old.now new.now
   pub rows : (rows : Rows) → Holds old.now rows
       → Holds new.now (record rows { tariffs = rows.tariffs ++ name ∷ [] })
@@ -162,7 +162,7 @@ pub record AddsName (name : List ℕ) (old new : State) : Type 0 where
 -- the row of a step more, which stands after the others
 pub record AddsStep (r : StepRow) (old new : State) : Type 0 where
   pub only : WritesOnly (codes "tariff_steps" ∷ []) old new
-  pub kept : KeepsRows (step_key r) old.now new.now
+  pub kept : KeepsRows (step_keys r) old.now new.now
   pub stored : StoresRow steps_kept (step_columns r) old.now new.now
   pub rows : (rows : Rows) → Holds old.now rows
       → Holds new.now (record rows { steps = rows.steps ++ r ∷ [] })
@@ -179,7 +179,7 @@ pub record AddsDatedStep (r : DatedStepRow) (old new : State) : Type 0 where
 pub record SetsTariff (number name : List ℕ) (old new : State) : Type 0 where
   pub only : WritesOnly (codes "meters" ∷ []) old new
   pub kept : AreInOrder (codes "meters" ∷ []) old.now
-      → KeepsRows (meter_key number) old.now new.now
+      → KeepsRows (meter_keys number) old.now new.now
   pub rows : (rows : Rows) → Holds old.now rows → AllPairs (λ a b. a.0 ≢ b.0) rows.meters
       → Holds new.now (record rows { meters = map (row_with_tariff number name) rows.meters })
 
@@ -217,7 +217,7 @@ is_in_month key other = bytes_eq other.0 key.0 && (other.1 == key.1)
 pub record SetsLastId (key : List ℕ × Base) (tid : ℕ) (old new : State) : Type 0 where
   pub only : WritesOnly (codes "last_ids" ∷ []) old new
   pub kept : AreInOrder (codes "last_ids" ∷ []) old.now
-      → KeepsRows (last_id_key key) old.now new.now
+      → KeepsRows (last_id_keys key) old.now new.now
   pub rows : (told : ℕ) (rows : Rows) (has : (List ℕ × Base) → Option ℕ)
       → HoldsOf present_format told old.now rows → AreRowsOf rows.last_ids has
       → (rest : List ((List ℕ × Base) × ℕ))
@@ -229,7 +229,7 @@ pub record SetsLastId (key : List ℕ × Base) (tid : ℕ) (old new : State) : T
 pub record AddsTenths (key : List ℕ × ℕ) (tenths sum : ℕ) (old new : State) : Type 0 where
   pub only : WritesOnly (codes "month_tenths" ∷ []) old new
   pub kept : AreInOrder (codes "month_tenths" ∷ []) old.now
-      → KeepsRows (month_key key) old.now new.now
+      → KeepsRows (month_keys key) old.now new.now
   pub rows : (told : ℕ) (rows : Rows) (has : (List ℕ × ℕ) → Option ℕ)
       → HoldsOf present_format told old.now rows → AreRowsOf rows.month_tenths has
       → unwrap_or (has key) 0 + tenths < 2 ^ 63
@@ -336,7 +336,7 @@ AreSaleTotals s sales shown =
     × (totals_of (sales_in_shift sales s.shift) ≡ Some shown.shift)
 
 -- the totals are those with one sale more, and these are told of it
-pub record TellsTotals (s : Sale) (last : ℕ) (shown : SaleTotals) (old new : State) : Type 0 where
+pub record TellsSaleTotals (s : Sale) (last : ℕ) (shown : SaleTotals) (old new : State) : Type 0 where
   pub adds : AddsTotals s last old new
   pub tells : (format : ℕ) (rows : Rows) (sales : List Sale)
       → HoldsOf present_format format old.now rows → AreTotalsOf sales rows

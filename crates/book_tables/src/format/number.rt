@@ -30,11 +30,11 @@ fn format_of(row: &Row) -> Option<u32>
 
 // What a row of the table tells: a format, or none.
 #[derive(Drop)]
-pub(crate) struct Told {
+pub(crate) struct ToldFormat {
     pub(crate) format: Option<u32>,
 }
 
-impl FromRow for Told {
+impl FromRow for ToldFormat {
     ghost use Rattle.std.specs.Prelude.{◌<◌, ◌^◌, ⊤};
     ghost use Rattle.book_tables.specs.row.Rows.{shown_format};
     ghost use Rattle.book_tables.specs.row.ReadBack.{ReadsBack};
@@ -43,8 +43,8 @@ impl FromRow for Told {
 
     ghost is_readable = { λ _. ⊤ };
 
-    fn from_row(row: &Row) -> Result<Told, ReadFault> {
-        Ok(Told {
+    fn from_row(row: &Row) -> Result<ToldFormat, ReadFault> {
+        Ok(ToldFormat {
             format: format_of(row),
         })
     }
@@ -63,7 +63,7 @@ pub fn format_number<S: Alter>(
         → (IsTrue old.is_open → IsDatabase old.now) → IfOk result (IsFormatOf old.now)) }
     ensures reads { Over S.Store conn (λ old new. ReadsTable about_kept old new result) }
 {
-    let told: Vec<Told> = read_rows(alloc, conn, FORMAT, &[])?;
+    let told: Vec<ToldFormat> = read_rows(alloc, conn, FORMAT, &[])?;
     if told.len() != 1 {
         return Ok(None);
     }

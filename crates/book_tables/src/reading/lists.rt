@@ -9,7 +9,7 @@ ghost use Rattle.one_table.specs.ReadsOnly.{ReadsOnly};
 ghost use Rattle.book_tables.specs.reading.Reading.{FailsToShowRow, IsShown, ShowsRecord};
 
 use crate::error::TableError;
-use crate::row::record::{Record, Shown};
+use crate::row::record::{Record, ShownRecord};
 use one_table::read_rows;
 use sqlite::types::ValueRef;
 use sqlite::{Alter, Connection};
@@ -17,7 +17,7 @@ use std::alloc::{AllocError, Global};
 
 pub(crate) fn records_of<T: Record + Drop>(
     alloc: Global,
-    shown: Vec<Shown<T>>,
+    shown: Vec<ShownRecord<T>>,
 ) -> Result<Vec<T>, AllocError>
     ensures { IfOk result (λ records. records.items ≡ map (λ s. s.record) shown.items) }
 {
@@ -41,6 +41,6 @@ pub fn all_records<S: Alter, T: Record + Drop>(
         (FailsToShowRow (ShowsRecord T.Record.shown T.Record.keeps) sql.now (bound params.now))
         old new result) }
 {
-    let shown: Vec<Shown<T>> = read_rows(alloc, conn, sql, params)?;
+    let shown: Vec<ShownRecord<T>> = read_rows(alloc, conn, sql, params)?;
     Ok(records_of(alloc, shown)?)
 }

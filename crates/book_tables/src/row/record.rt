@@ -29,18 +29,18 @@ pub trait Record: Sized {
 
 /// A record as a row of an answer shows it.
 #[derive(Drop)]
-pub(crate) struct Shown<T> {
+pub(crate) struct ShownRecord<T> {
     pub(crate) record: T,
 }
 
-impl<T: Record> FromRow for Shown<T> {
+impl<T: Record> FromRow for ShownRecord<T> {
     ghost reads_as = { λ row x. IsShown T.Record.shown T.Record.keeps row x.record };
 
     ghost is_readable = { ShowsRecord T.Record.shown T.Record.keeps };
 
-    fn from_row(row: &Row) -> Result<Shown<T>, ReadFault> {
+    fn from_row(row: &Row) -> Result<ShownRecord<T>, ReadFault> {
         match T::of_row(row) {
-            Some(record) => Ok(Shown { record }),
+            Some(record) => Ok(ShownRecord { record }),
             None => Err(ReadFault::Row),
         }
     }
@@ -63,9 +63,9 @@ pub fn first_record<S: Alter, T: Record>(
         (FailsToShowRow (ShowsRecord T.Record.shown T.Record.keeps) sql.now (bound params.now))
         old new result) }
 {
-    let found: Option<Shown<T>> = read_row(conn, sql, params)?;
+    let found: Option<ShownRecord<T>> = read_row(conn, sql, params)?;
     match found {
-        Some(Shown { record }) => Ok(Some(record)),
+        Some(ShownRecord { record }) => Ok(Some(record)),
         None => Ok(None),
     }
 }

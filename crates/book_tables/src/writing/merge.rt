@@ -14,7 +14,7 @@ ghost use Rattle.book_tables.specs.reading.Reading.{IsShown, ShowsRecord};
 ghost use Rattle.book_tables.specs.writing.Failing.{Ends, FailsToMerge};
 
 use crate::error::TableError;
-use crate::row::record::{Record, Shown};
+use crate::row::record::{Record, ShownRecord};
 use one_table::upsert;
 use sqlite::types::ValueRef;
 use sqlite::{Alter, Transaction};
@@ -49,6 +49,6 @@ pub(crate) fn merge<S: Alter, T: Record>(
         → (row : Row) × (¬ ShowsRecord T.Record.shown T.Record.keeps (shown_row t m (bound
         params.now) row)) × Upserts t m (bound params.now) old new row) }
 {
-    let shown: Shown<T> = upsert(tx, sql, params)?;
+    let shown: ShownRecord<T> = upsert(tx, sql, params)?;
     Ok(shown.record)
 }

@@ -8,7 +8,7 @@ ghost use Rattle.one_table.specs.InTransaction.{IsUnderWay, KeepsTransaction};
 ghost use Rattle.book_tables.specs.writing.Failing.{End, FailsToMergeAll};
 ghost use Rattle.book_tables.specs.reading.Reading.{HasAllTables};
 ghost use Rattle.book_tables.specs.writing.Writes.{last_id_set, sale_counted, sale_writes, tenths_added, totals_writes};
-ghost use Rattle.book_tables.specs.writing.Writing.{AddsTenths, AddsToShift, FindsNoFalseRow, MayAddSold, MayAddTenths, MayAddToShift, MayAddTotals, MaySetLastId, MergesTables, SetsLastId, TellsSold, TellsTotals};
+ghost use Rattle.book_tables.specs.writing.Writing.{AddsTenths, AddsToShift, FindsNoFalseRow, MayAddSold, MayAddTenths, MayAddToShift, MayAddTotals, MaySetLastId, MergesTables, SetsLastId, TellsSold, TellsSaleTotals};
 
 use crate::error::TableError;
 use crate::row::gathered::month_of_sale;
@@ -101,7 +101,7 @@ pub fn add_totals<S: Alter>(
 ) -> Result<SaleTotals, TableError>
     ensures same_reference { tx.new.conn.ghost_name ≡ tx.old.conn.ghost_name }
     ensures adds { Inside S.Store tx (λ old new. HasCleanDisk new → IsUnderWay old
-        → HasAllTables old → IfOk result (λ shown. TellsTotals sale.now last shown old new)) }
+        → HasAllTables old → IfOk result (λ shown. TellsSaleTotals sale.now last shown old new)) }
     ensures ends { Inside S.Store tx (λ old new. HasCleanDisk new → IsUnderWay old
         → HasAllTables old → End FailsToMergeAll (totals_writes sale.now last) old new result) }
     ensures transaction { Inside S.Store tx (λ old new. KeepsTransaction old new result) }

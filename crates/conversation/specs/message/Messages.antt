@@ -54,9 +54,9 @@ BeginsNoHead ended input = (0 < length input) × HasNoHead input
 BeginsNoHead failed input = NeverHasHead input
 
 -- the front of an input that stops so is refused for this fault
-abbrev pub IsRefused : Stop → List ℕ → MessageFault → Type 0
-IsRefused stop input Head = BeginsNoHead stop input
-IsRefused stop input fault = BeginsFaulty input fault
+abbrev pub IsMessageRefused : Stop → List ℕ → MessageFault → Type 0
+IsMessageRefused stop input Head = BeginsNoHead stop input
+IsMessageRefused stop input fault = BeginsFaulty input fault
 
 -- how the messages of an input end: nothing follows but a message that is cut; what follows is
 -- refused; the last one closes the conversation; or the reader failed before one was whole
@@ -70,7 +70,7 @@ EndsAs ended input finished = (input ≡ []) ⊎ IsCutMessage input
 EndsAs failed input finished = ⊥
 EndsAs ended input broken = ⊥
 EndsAs failed input broken = (HasNoHead input × (length input < longest_head)) ⊎ IsCutMessage input
-EndsAs stop input (refused fault) = IsRefused stop input fault
+EndsAs stop input (refused fault) = IsMessageRefused stop input fault
 EndsAs stop input closing = ⊥
 
 -- the input is these messages, one after another, and then ends like this

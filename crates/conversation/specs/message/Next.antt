@@ -6,7 +6,7 @@ use Rattle.conversation.specs.declared.message.message_fault.MessageFault.{Messa
 use Rattle.conversation.specs.declared.message.message_fault.MessageFault.TheVariants.{Head}
 use Rattle.conversation.specs.declared.message.received.Received.{Received}
 use Rattle.conversation.specs.message.Heads.{HasNoHead, AwaitsHead}
-use Rattle.conversation.specs.message.Messages.{Stop, Message, BeginsMessage, BeginsFaulty, LacksBody, IsRefused}
+use Rattle.conversation.specs.message.Messages.{Stop, Message, BeginsMessage, BeginsFaulty, LacksBody, IsMessageRefused}
 
 -- a message that was received, without where it lies in memory
 abbrev pub message_of : Received → Message
@@ -20,7 +20,7 @@ pub record IsWhole (input : List ℕ) (r : Received) : Type 0 where
 
 -- whatever follows the input, and however that stops, its front is refused for this fault
 abbrev pub IsRefusedEver : List ℕ → MessageFault → Type 0
-IsRefusedEver input fault = (stop : Stop) (more : List ℕ) → IsRefused stop (input ++ more) fault
+IsRefusedEver input fault = (stop : Stop) (more : List ℕ) → IsMessageRefused stop (input ++ more) fault
 
 -- what each answer says
 abbrev pub BeginsAs : List ℕ → Next → Type 0

@@ -14,7 +14,7 @@ use Rattle.sts_fields.specs.Base.{year_of}
 use Rattle.sts_fields.specs.Text.{Text}
 use Rattle.tariff.specs.declared.bought.Buy.{Buy}
 use Rattle.office_rules.specs.declared.office.sale.Sale.{Sale}
-use Rattle.vend_ports.specs.print.Printed.{quote_line, row_of}
+use Rattle.vend_ports.specs.print.Printed.{quote_line, table_row_of}
 
 -- the number of a sale, or a hyphen where there is none
 abbrev pub number_or_none : Option ℕ → Text
@@ -23,11 +23,11 @@ number_or_none (Some number) = decimal number
 
 -- a meter, below the names of its fields; its key is none of them
 abbrev pub meter_header : Text
-meter_header = row_of (codes "meter" ∷ codes "base" ∷ codes "tariff" ∷ codes "tenths"
+meter_header = table_row_of (codes "meter" ∷ codes "base" ∷ codes "tariff" ∷ codes "tenths"
     ∷ codes "sale" ∷ [])
 
-abbrev pub meter_row : MeterSummary → Text
-meter_row m = row_of (m.number ∷ decimal (year_of m.base) ∷ m.tariff ∷ decimal m.tenths
+abbrev pub meter_table_row : MeterSummary → Text
+meter_table_row m = table_row_of (m.number ∷ decimal (year_of m.base) ∷ m.tariff ∷ decimal m.tenths
     ∷ number_or_none m.last_sale ∷ [])
 
 -- the purchase that is quoted
@@ -35,9 +35,9 @@ abbrev pub purchase_in : Quote → Buy
 purchase_in q = record { tenths = q.tenths; price = q.price; change = q.tender - q.price }
 
 -- a sale: the last one of a meter as its receipt, another as an export of it alone
-abbrev pub sale_text : Lookup → Sale → Text
-sale_text (lookups.LastSale number) s = receipt_of s
-sale_text lookup s = export_of true (s ∷ [])
+abbrev pub sale_lines : Lookup → Sale → Text
+sale_lines (lookups.LastSale number) s = receipt_of s
+sale_lines lookup s = export_of true (s ∷ [])
 
 -- as JSON on a line: the body that a desk replies
 abbrev pub json_line : Found → Text
@@ -47,8 +47,8 @@ json_line what = found_body Json what ++ 10 ∷ []
 -- up alone.
 abbrev pub found_text : (json : Bool) → Lookup → Found → Text
 found_text true lookup what = json_line what
-found_text false lookup (found.Meter m) = meter_header ++ meter_row m
-found_text false lookup (found.Sale s) = sale_text lookup s
+found_text false lookup (found.Meter m) = meter_header ++ meter_table_row m
+found_text false lookup (found.Sale s) = sale_lines lookup s
 found_text false lookup (found.Quote q) = quote_line (purchase_in q)
 found_text false lookup what = []
 

@@ -2,8 +2,8 @@
 
 ghost use Rattle.std.specs.Prelude.{◌≡◌, ◌++◌, [], false, MatchResult};
 ghost use Rattle.desk_commands.specs.print.FoundTexts.{IsMadeWhole, found_text, meter_header};
-ghost use Rattle.desk_commands.specs.print.FoundTexts.{meter_row, number_or_none, purchase_in};
-ghost use Rattle.desk_commands.specs.print.FoundTexts.{sale_text};
+ghost use Rattle.desk_commands.specs.print.FoundTexts.{meter_table_row, number_or_none, purchase_in};
+ghost use Rattle.desk_commands.specs.print.FoundTexts.{sale_lines};
 ghost use Rattle.vend_ports.specs.print.Told.{Takes, sink};
 ghost use Rattle.book_facts.specs.declared.lookup.Found.TheVariants.{Sale as FoundSale};
 
@@ -50,7 +50,7 @@ pub fn put_found<O: Write>(
 // Prints a meter, below the names of its fields.
 fn put_meter<O: Write>(meter: &MeterSummary, out: &mut Watched<'_, O>)
     ensures { Takes (sink O.contents out.old) (sink O.contents out.new)
-        (meter_header ++ meter_row meter.now) }
+        (meter_header ++ meter_table_row meter.now) }
 {
     put_row(&[b"meter", b"base", b"tariff", b"tenths", b"sale"], out);
     put_values(meter, out);
@@ -58,7 +58,7 @@ fn put_meter<O: Write>(meter: &MeterSummary, out: &mut Watched<'_, O>)
 
 // Prints what a meter has in each field.
 fn put_values<O: Write>(meter: &MeterSummary, out: &mut Watched<'_, O>)
-    ensures { Takes (sink O.contents out.old) (sink O.contents out.new) (meter_row meter.now) }
+    ensures { Takes (sink O.contents out.old) (sink O.contents out.new) (meter_table_row meter.now) }
 {
     let mut base = Buffer::new();
     let mut tenths = Buffer::new();
@@ -90,7 +90,7 @@ fn put_sale<O: Write>(
 ) -> Result<(), AllocError>
     ensures { MatchResult result
         (λ _. Takes (sink O.contents out.old) (sink O.contents out.new)
-        (sale_text lookup.now sale.now))
+        (sale_lines lookup.now sale.now))
         (λ _. IsMadeWhole false lookup.now (FoundSale sale.now)
         × Takes (sink O.contents out.old) (sink O.contents out.new) []) }
 {

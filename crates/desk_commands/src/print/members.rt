@@ -5,14 +5,14 @@ ghost use Rattle.std.specs.List.{flat_map};
 ghost use Rattle.desk_commands.specs.print.FoundTexts.{number_or_none};
 ghost use Rattle.desk_commands.specs.print.ListTexts.{later_line};
 
-use crate::print::table::{Member, put_fields};
+use crate::print::table::{TableRow, put_fields};
 use book_facts::{LaterSteps, ListedMeter, ListedShift, ListedTariff};
 use desk_messages::{put_day, put_steps};
 use itoa::Buffer;
 use office_rules::Moment;
 use std::alloc::{AllocError, Global};
 
-impl Member for ListedTariff {
+impl TableRow for ListedTariff {
     ghost use Rattle.desk_commands.specs.print.ListTexts.{tariff_lines};
 
     ghost lines = { tariff_lines };
@@ -57,7 +57,7 @@ fn put_later_line(
     put_fields(text, &[name, &from, &steps])
 }
 
-impl Member for ListedMeter {
+impl TableRow for ListedMeter {
     ghost use Rattle.desk_commands.specs.print.ListTexts.{meter_line};
 
     ghost lines = { meter_line };
@@ -72,7 +72,7 @@ impl Member for ListedMeter {
     }
 }
 
-impl Member for ListedShift {
+impl TableRow for ListedShift {
     ghost use Rattle.desk_commands.specs.print.ListTexts.{listed_shift_line};
 
     ghost lines = { listed_shift_line };

@@ -2,13 +2,13 @@
 
 ghost use Rattle.std.specs.Prelude.{◌≡◌, ◌++◌, IfOk, OnOk, map};
 ghost use Rattle.std.specs.List.{flat_map};
-ghost use Rattle.vend_ports.specs.print.Printed.{row_of};
+ghost use Rattle.vend_ports.specs.print.Printed.{table_row_of};
 ghost use Rattle.desk_commands.specs.print.ListTexts.{table_text};
 
 use std::alloc::{AllocError, Global};
 
 /// What has lines in a table.
-pub(crate) trait Member {
+pub(crate) trait TableRow {
     ghost use Rattle.std.specs.Prelude.{◌≡◌, ◌++◌, OnOk};
     ghost use Rattle.sts_fields.specs.Text.{Text};
 
@@ -20,7 +20,7 @@ pub(crate) trait Member {
 }
 
 /// The text of a table, behind the names of its fields where these are asked for.
-pub(crate) fn table<M: Member>(
+pub(crate) fn table<M: TableRow>(
     alloc: Global,
     named: bool,
     names: &[&[u8]],
@@ -38,7 +38,7 @@ pub(crate) fn table<M: Member>(
 }
 
 // Adds the lines of members.
-fn put_members<M: Member>(
+fn put_members<M: TableRow>(
     alloc: Global,
     text: &mut Vec<u8>,
     members: &[M],
@@ -54,7 +54,7 @@ fn put_members<M: Member>(
 /// Adds fields on a line, with a tab between each two.
 pub(crate) fn put_fields(text: &mut Vec<u8>, fields: &[&[u8]]) -> Result<(), AllocError>
     ensures { OnOk result (text.new.items
-        ≡ text.old.items ++ row_of (map (λ field. field.now) fields.now)) }
+        ≡ text.old.items ++ table_row_of (map (λ field. field.now) fields.now)) }
 {
     let mut separator: &[u8] = b"";
     for field in fields {

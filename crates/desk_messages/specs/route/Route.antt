@@ -57,7 +57,7 @@ pub record IsPageStart (number : ℕ) : Type 0 where
   pub most : number ≤ 1000000000
 
 -- the target is text, and `matchit` finds the endpoint for it
-pub record Finds (target : List ℕ) (endpoint : Endpoint) : Type 0 where
+pub record FindsRoute (target : List ℕ) (endpoint : Endpoint) : Type 0 where
   pub text : IsUtf8 target
   pub found : option_map (λ (row : RouteOf Endpoint). row.value) (first table target)
       ≡ Some endpoint
@@ -111,7 +111,7 @@ Names target (LookUp lookup) = NamesLookup target lookup
 
 -- the target leads to the route, by whatever method
 pub record LeadsTo (target : List ℕ) (route : Route) : Type 0 where
-  pub finds : Finds target (endpoint_of route)
+  pub finds : FindsRoute target (endpoint_of route)
   pub names : Names target route
 
 -- what a target and a method ask for: a route by its own method, or why there is none

@@ -3,7 +3,7 @@ ghost use Rattle.serde_json.specs.Data.{number, string, unsigned};
 ghost use Rattle.serde_json.specs.Find.{get};
 ghost use Rattle.serde_json.specs.View.{view};
 ghost use Rattle.desk_messages.specs.json_body.Body.{IsBaseAt, IsDayAt, IsKeyAt, IsStepsAt};
-ghost use Rattle.desk_messages.specs.Reads.{IsFound, IsFoundIn, ReadsWritten};
+ghost use Rattle.desk_messages.specs.Reads.{IsFound, IsFoundInBody, ReadsWritten};
 ghost use Rattle.tariff.specs.Tender.{IsTender};
 ghost use Rattle.office_rules.specs.Name.{IsMeterNo, IsName, IsOperator};
 
@@ -105,7 +105,7 @@ pub(crate) fn key_at(value: &Value, name: &str) -> Option<u64>
 
 // The steps of a tariff whose text the member of a name is.
 pub(crate) fn steps_at(alloc: Global, value: &Value, name: &str) -> Result<Steps, BodyFault>
-    ensures { IsFoundIn (IsStepsAt (get name.now (view value.now))) result }
+    ensures { IsFoundInBody (IsStepsAt (get name.now (view value.now))) result }
 {
     match text_at(value, name) {
         Some(text) => match Steps::of_text(alloc, text) {

@@ -1,6 +1,6 @@
 ghost use Rattle.serde_json.specs.View.{view};
 ghost use Rattle.desk_messages.specs.json_body.Body.{BodySays, BodySaysMeter, BodySaysOperator, BodySaysBase, BodySaysDatedSteps, BodySaysOrder, BodySaysTariff, BodySaysTariffName};
-ghost use Rattle.desk_messages.specs.Reads.{IsFound, IsFoundIn};
+ghost use Rattle.desk_messages.specs.Reads.{IsFound, IsFoundInBody};
 
 use crate::body_fault::BodyFault;
 use crate::json_body::kind::JsonKind;
@@ -16,7 +16,7 @@ use tariff::Steps;
 
 // The request that a value says.
 pub(crate) fn said(alloc: Global, kind: JsonKind, value: &Value) -> Result<Request, BodyFault>
-    ensures { IsFoundIn (BodySays kind (view value.now)) result }
+    ensures { IsFoundInBody (BodySays kind (view value.now)) result }
 {
     match kind {
         JsonKind::Tariff => match tariff(alloc, value) {
@@ -52,7 +52,7 @@ pub(crate) fn said(alloc: Global, kind: JsonKind, value: &Value) -> Result<Reque
 // The sale that a value orders.
 #[inline(always)]
 pub(crate) fn sale(value: &Value) -> Result<Request, BodyFault>
-    ensures { IsFoundIn (BodySays JsonKind.Order (view value.now)) result }
+    ensures { IsFoundInBody (BodySays JsonKind.Order (view value.now)) result }
 {
     match order(value) {
         Some(order) => Ok(Request::Sell(order)),
@@ -62,7 +62,7 @@ pub(crate) fn sale(value: &Value) -> Result<Request, BodyFault>
 
 // The name and the steps of the tariff that a value says.
 fn tariff(alloc: Global, value: &Value) -> Result<(TariffName, Steps), BodyFault>
-    ensures { IsFoundIn (λ said. BodySaysTariff (view value.now) said.0 said.1) result }
+    ensures { IsFoundInBody (λ said. BodySaysTariff (view value.now) said.0 said.1) result }
 {
     if !has_count(value, 2) {
         return Err(BodyFault::OutsideRule);
@@ -78,7 +78,7 @@ fn tariff(alloc: Global, value: &Value) -> Result<(TariffName, Steps), BodyFault
 
 // The dated steps that a value says: the day from which they hold, and the steps.
 fn dated_steps(alloc: Global, value: &Value) -> Result<(Day, Steps), BodyFault>
-    ensures { IsFoundIn (λ said. BodySaysDatedSteps (view value.now) said.0 said.1) result }
+    ensures { IsFoundInBody (λ said. BodySaysDatedSteps (view value.now) said.0 said.1) result }
 {
     if !has_count(value, 2) {
         return Err(BodyFault::OutsideRule);

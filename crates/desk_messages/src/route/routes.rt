@@ -2,7 +2,7 @@ ghost use Rattle.std.specs.Prelude.{◌≡◌, ℕ, List, Result};
 ghost use Rattle.conversation.specs.declared.message.method.Method.{Method};
 ghost use Rattle.desk_messages.specs.route.Endpoint.{table};
 ghost use Rattle.desk_messages.specs.Reads.{IsFound};
-ghost use Rattle.desk_messages.specs.route.Route.{Finds, IsRouted, Names, NamesLookup, endpoint_of, lookup_endpoint};
+ghost use Rattle.desk_messages.specs.route.Route.{FindsRoute, IsRouted, Names, NamesLookup, endpoint_of, lookup_endpoint};
 ghost use Rattle.desk_messages.specs.declared.desk_fault.DeskFault.{DeskFault};
 ghost use Rattle.desk_messages.specs.declared.route.endpoint.Endpoint.{Endpoint};
 ghost use Rattle.desk_messages.specs.declared.route.Route.{Route};
@@ -78,7 +78,7 @@ impl Routes {
 
     // The endpoint of a target.
     fn endpoint_at(&self, target: &[u8]) -> Option<Endpoint>
-        ensures { IsFound (Finds target.now) result }
+        ensures { IsFound (FindsRoute target.now) result }
     {
         let Ok(text) = str::from_utf8(target) else {
             return None;
@@ -95,12 +95,12 @@ impl Routes {
 pub fn route_law()
     ensures one { (target : List ℕ) (method : Method) (a b : Result Route DeskFault)
         → IsRouted target method a → IsRouted target method b → a ≡ b }
-    ensures each { (endpoint : Endpoint) → (target : List ℕ) × Finds target endpoint }
+    ensures each { (endpoint : Endpoint) → (target : List ℕ) × FindsRoute target endpoint }
 {}
 
 // The route of a target, whose endpoint was found, or why there is none.
 fn route_at(endpoint: Endpoint, target: &[u8], method: Method) -> Result<Route, DeskFault>
-    requires { Finds target.now endpoint }
+    requires { FindsRoute target.now endpoint }
     ensures { IsRouted target.now method result }
 {
     match read_route(endpoint, target) {

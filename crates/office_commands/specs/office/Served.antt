@@ -27,20 +27,20 @@ answer_text (Report shift sales) = report_of shift sales
 
 -- an answer whose text is made whole in memory before it is printed: a report, which changes
 -- nothing
-abbrev pub TakesRoom : core.Answer → Type 0
-TakesRoom Done = ⊥
-TakesRoom (Imported count) = ⊥
-TakesRoom (Opened number) = ⊥
-TakesRoom (Closed number) = ⊥
-TakesRoom (Sold sale) = ⊥
-TakesRoom (Reprinted sale) = ⊥
-TakesRoom (Report shift sales) = ⊤
+abbrev pub TakesAnswerRoom : core.Answer → Type 0
+TakesAnswerRoom Done = ⊥
+TakesAnswerRoom (Imported count) = ⊥
+TakesAnswerRoom (Opened number) = ⊥
+TakesAnswerRoom (Closed number) = ⊥
+TakesAnswerRoom (Sold sale) = ⊥
+TakesAnswerRoom (Reprinted sale) = ⊥
+TakesAnswerRoom (Report shift sales) = ⊤
 
 -- the text of the answer is told; or there is no room to make a report, and that is told
 abbrev pub TellsAnswer : core.Answer → Outputs → CommandEnd → Type 0
 TellsAnswer answer o end =
     IsTold o (answer_text answer) [] how.Done end
-    ⊎ (TakesRoom answer × IsTold o [] (refusal_line Memory) how.Refused end)
+    ⊎ (TakesAnswerRoom answer × IsTold o [] (refusal_line Memory) how.Refused end)
 
 -- the text of this reply is told, and nothing else
 abbrev pub TellsReply : Result core.Answer Refusal → Outputs → CommandEnd → Type 0

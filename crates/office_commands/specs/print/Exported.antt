@@ -61,9 +61,9 @@ pub record IsExportOf (sales : List Sale) (text : Text) (stop : Option Refusal) 
   pub whole : stop ≡ None → failed ≡ false → text ≡ export_of true sales
 
 -- it stops at a page that was refused, or at none, and then the books are stopped as they were
-abbrev pub StopsBy : (old new : Seen) → Option Refusal → Type 0
-StopsBy old new None = new.stopped ≡ old.stopped
-StopsBy old new (Some refusal) = IsPageRefusal refusal × TellsStopped old new refusal
+abbrev pub StopsExport : (old new : Seen) → Option Refusal → Type 0
+StopsExport old new None = new.stopped ≡ old.stopped
+StopsExport old new (Some refusal) = IsPageRefusal refusal × TellsStopped old new refusal
 
 -- The export of all sales of the present office is told, or a beginning of it up to a page that is
 -- refused, and then the refusal, or up to a page that the output did not take. The books are only
@@ -72,7 +72,7 @@ pub record IsExported (old new : Seen) (o : Outputs) (end : CommandEnd) : Type 0
   pub text : Text
   pub stop : Option Refusal
   pub told : IsTold o text (stop_errors stop) (export_stop_end stop) end
-  pub stops : StopsBy old new stop
+  pub stops : StopsExport old new stop
   pub sales : HasCleanDisk new.state → (life : Life) → Represents life old
       → IsExportOf (present life).sales text stop o.new.failed
   pub reads : AreOnlyRead old new

@@ -2,7 +2,7 @@
 
 ghost use Rattle.std.specs.Prelude.{[], MatchResult};
 ghost use Rattle.books.specs.Keeps.{seen};
-ghost use Rattle.office_commands.specs.office.Served.{IsServedAndTold, TakesRoom, TellsAnswer, answer_text};
+ghost use Rattle.office_commands.specs.office.Served.{IsServedAndTold, TakesAnswerRoom, TellsAnswer, answer_text};
 ghost use Rattle.vend_ports.specs.print.Told.{Takes, outputs, sink};
 
 use books::Books;
@@ -66,7 +66,7 @@ fn print_answer<O: Write>(
 ) -> Result<(), AllocError>
     ensures { MatchResult result
         (λ _. Takes (sink O.contents out.old) (sink O.contents out.new) (answer_text answer.now))
-        (λ _. TakesRoom answer.now × Takes (sink O.contents out.old) (sink O.contents out.new) []) }
+        (λ _. TakesAnswerRoom answer.now × Takes (sink O.contents out.old) (sink O.contents out.new) []) }
 {
     match answer {
         Answer::Done => put_line(&[b"done"], out),

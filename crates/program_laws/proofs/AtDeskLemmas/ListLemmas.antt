@@ -23,7 +23,7 @@ use Rattle.desk_client.specs.Asks.{IsAskable, question_message}
 use Rattle.desk_client.specs.Page.{AreAlike, IsToldPage}
 use Rattle.desk_client.specs.Page as pages
 use Rattle.desk_client.specs.Question.{question_text}
-use Rattle.desk_client.specs.Reply.{IsReply, longest_body}
+use Rattle.desk_client.specs.Reply.{IsReply, longest_reply_body}
 use Rattle.desk_client.specs.Tells.{Tells}
 use Rattle.desk_client.specs.Told.{IsTellable}
 use Rattle.desk_client.specs.declared.page.PageKind.{PageKind}
@@ -49,11 +49,11 @@ use Rattle.program_laws.proofs.AtDeskLemmas.TellableLemmas.{look_tells, no_count
 -- one body tells one page
 abbrev pub OnePage : Type 0
 OnePage =
-    (kind : PageKind) (page other : Found) → IsToldPage kind page → IsToldPage kind other → pages.page_text page ≡ pages.page_text other → AreAlike page other
+    (kind : PageKind) (page other : Found) → IsToldPage kind page → IsToldPage kind other → pages.page_as_read page ≡ pages.page_as_read other → AreAlike page other
 
 -- what was told as a page is one that was found
 page_of : (body : Bor (List ℕ)) (r : Result Found Refusal) → TellAlike (told.Granted (granted.Page body)) (told_look forms.Json r)
-    → (it : Found) × (r ≡ Ok it) × (body.now ≡ pages.page_text it)
+    → (it : Found) × (r ≡ Ok it) × (body.now ≡ pages.page_as_read it)
 page_of body (Ok (found.SaleCount n)) alike = absurd alike
 page_of body (Ok (found.Meter m)) alike = absurd alike
 page_of body (Ok (found.Sale s)) alike = absurd alike
@@ -67,16 +67,16 @@ page_of body (Err refusal) alike = absurd alike
 
 -- what is found as a page is told as its text
 as_page : (it : Found) → IsTellable wants.Page (told_found forms.Json it)
-    → (body : Bor (List ℕ)) × (told_found forms.Json it ≡ told.Granted (granted.Page body)) × (body.now ≡ pages.page_text it)
+    → (body : Bor (List ℕ)) × (told_found forms.Json it ≡ told.Granted (granted.Page body)) × (body.now ≡ pages.page_as_read it)
 as_page (found.SaleCount n) h = let same : wants.Done ≡ wants.Page = h.1 in absurd cc
 as_page (found.Meter m) h = let same : wants.Meter ≡ wants.Page = h.1 in absurd cc
 as_page (found.Sale s) h = let same : wants.Sale ≡ wants.Page = h.1 in absurd cc
 as_page (found.Quote q) h = let same : wants.Quote ≡ wants.Page = h.1 in absurd cc
 as_page (found.ShiftTotals n totals) h = let same : wants.Totals ≡ wants.Page = h.1 in absurd cc
-as_page (found.Tariffs items) h = (record { ref_ptr = (0, 0); now = pages.page_text (found.Tariffs items) }, refl, refl)
-as_page (found.Meters items) h = (record { ref_ptr = (0, 0); now = pages.page_text (found.Meters items) }, refl, refl)
-as_page (found.Shifts items) h = (record { ref_ptr = (0, 0); now = pages.page_text (found.Shifts items) }, refl, refl)
-as_page (found.Sales items) h = (record { ref_ptr = (0, 0); now = pages.page_text (found.Sales items) }, refl, refl)
+as_page (found.Tariffs items) h = (record { ref_ptr = (0, 0); now = pages.page_as_read (found.Tariffs items) }, refl, refl)
+as_page (found.Meters items) h = (record { ref_ptr = (0, 0); now = pages.page_as_read (found.Meters items) }, refl, refl)
+as_page (found.Shifts items) h = (record { ref_ptr = (0, 0); now = pages.page_as_read (found.Shifts items) }, refl, refl)
+as_page (found.Sales items) h = (record { ref_ptr = (0, 0); now = pages.page_as_read (found.Sales items) }, refl, refl)
 
 -- a page is the same at each moment of a day
 any_moment : (o : Office) (moment other : ℕ) (list : Listed) (r : Result Found Refusal) → day_at moment ≡ day_at other → Finds o moment (page_lookup list) r
@@ -148,7 +148,7 @@ module _ (laws : DeskLaws) where
 
   pub page_read : (list : Listed) (moment : ℕ) (old new : Timed Life) (came : List ℕ) → IsAskable (page_question list) → IsMoment moment
       → IsOffice old.0.opening → IsLife old.0
-      → IsAnsweredAt (pos moment) old (question_text (page_question list)) came new → length came ≤ longest_body → IsPageOrRefusal list came
+      → IsAnsweredAt (pos moment) old (question_text (page_question list)) came new → length came ≤ longest_reply_body → IsPageOrRefusal list came
   page_read list moment old new came askable is_moment opening life at few =
       let office = present_is laws.along old.0 life opening in
       let l = looks_up moment old new list came is_moment office askable at in
@@ -167,7 +167,7 @@ module _ (laws : DeskLaws) where
 
     told_page : (moment : ℕ) (old new : Life) (list : Listed) (came : List ℕ) (page : Found) → IsOffice (present old) → LooksUp moment old new list came
         → (tells : IsPageReply list came page)
-        → (it : Found) × Finds (present old) moment (page_lookup list) (Ok it) × (pages.page_text page ≡ pages.page_text it)
+        → (it : Found) × Finds (present old) moment (page_lookup list) (Ok it) × (pages.page_as_read page ≡ pages.page_as_read it)
     told_page moment old new list came page office l tells =
         let text : IsReply wants.Page (reply_bytes_of (outcomes.Found forms.Json l.result) false) (told.Granted (granted.Page tells.body)) =
         subst (λ (x : List ℕ). IsReply wants.Page x (told.Granted (granted.Page tells.body))) l.text tells.reply in

@@ -54,7 +54,7 @@ use Rattle.desk_messages.specs.route.Route.{IsRouted}
 use Rattle.desk_client.specs.Alike.{TellAlike}
 use Rattle.desk_client.specs.Asks.{IsAskable, IsNoMoment, MeansAsked, asked_by, question_message}
 use Rattle.desk_client.specs.Question.{question_text, wanted_by}
-use Rattle.desk_client.specs.Reply.{IsReply, longest_body, reply_text}
+use Rattle.desk_client.specs.Reply.{IsReply, longest_reply_body, reply_text}
 use Rattle.desk_client.specs.Start.{category_start, head_end, start_text}
 use Rattle.desk_client.specs.Tells.{Tells}
 use Rattle.desk_client.specs.Told.{IsTellable, granted_start, told_start, told_text, wanted_of}
@@ -142,12 +142,12 @@ reply_length t =
       length-append head_end (told_text t),
     )
 
-short_reply : (t : Told) → length (told_text t) ≤ longest_body → length (reply_text t) ≤ longest_body + 95
+short_reply : (t : Told) → length (told_text t) ≤ longest_reply_body → length (reply_text t) ≤ longest_reply_body + 95
 short_reply t short =
     omega (arith, reply_length t, short_start t, length-decimal-le 8 (length (told_text t)) (omega arith) (omega (arith, short)) (omega (arith, short)), short)
 
 -- two replies with one text have one body
-same_body : (t u : Told) → length (told_text t) ≤ longest_body → reply_text t ≡ reply_text u → length (told_text u) ≤ longest_body
+same_body : (t u : Told) → length (told_text t) ≤ longest_reply_body → reply_text t ≡ reply_text u → length (told_text u) ≤ longest_reply_body
 same_body t u short same =
     let most : length (told_text u) < 2 ^ 64 = omega (arith, short_reply t short, ap length same, reply_length u) in
     let heads =

@@ -30,14 +30,14 @@ use Rattle.desk_client.specs.Page.{AreAlike, AreTold, IsToldLater, IsToldListedM
 use Rattle.desk_client.specs.Page as pages
 use Rattle.desk_client.specs.declared.page.PageKind.{PageKind}
 use Rattle.desk_client.specs.declared.page.PageKind.TheVariants as kinds
-use Rattle.desk_client.specs.Sale.{IsTold}
+use Rattle.desk_client.specs.Sale.{IsSaleTold}
 use Rattle.desk_client.specs.Tells.{as_told}
 use Rattle.command_line.specs.declared.commands.list.Listed.{Listed}
 use Rattle.command_line.specs.declared.commands.list.Listed.TheVariants as listed
 use Rattle.desk_commands.specs.ListedAtDesk.{page_kind, page_question}
 use Rattle.tariff.specs.StepsText.{steps_text}
-use Rattle.vend_ports.specs.print.Printed.{row_of}
-use Rattle.desk_commands.specs.print.ListTexts.{later_line, meter_line, meter_names, page_text, shifts_text, table_text, tariff_names}
+use Rattle.vend_ports.specs.print.Printed.{table_row_of}
+use Rattle.desk_commands.specs.print.ListTexts.{later_line, meter_line, meter_names, page_text, shift_rows_text, table_text, tariff_names}
 use Rattle.desk_commands.specs.print.Pages.{last_of_full, list_behind, page_lookup}
 use Rattle.program_laws.proofs.AtDeskLemmas.RangeLemmas.{cash_within, count_within, or_keeps, sale_number, shift_number, shift_row, tariff_named, tenths_within, there_is}
 use Rattle.program_laws.proofs.AtDeskLemmas.TellableLemmas.{RangeLaws, sale_told}
@@ -197,8 +197,8 @@ page_told laws o office moment (listed.Shifts after) (found.Shifts page) is =
       few = few_told (listed_shift o) o.shifts (λ s. nat_lt after s.number);
     })
 page_told laws o office moment (listed.Sales after) (found.Sales page) is =
-    subst (λ (items : List Sale). AreTold IsTold (map as_told items)) (sym is) (record {
-      each = told_each IsTold as_told o.sales (λ s. nat_lt after s.number) (λ s there. sale_told o s office there);
+    subst (λ (items : List Sale). AreTold IsSaleTold (map as_told items)) (sym is) (record {
+      each = told_each IsSaleTold as_told o.sales (λ s. nat_lt after s.number) (λ s there. sale_told o s office there);
       few = few_told as_told o.sales (λ s. nat_lt after s.number);
     })
 page_told laws o office moment list page is = absurd is
@@ -236,7 +236,7 @@ same_data : (items : List Sale) → map sale_data (map as_told items) ≡ map sa
 same_data [] = refl
 same_data (s ∷ items) = ap (λ rest. sale_data s ∷ rest) (same_data items)
 
-pub told_text : (page : Found) → pages.page_text (page_as_told page) ≡ pages.page_text page
+pub told_text : (page : Found) → pages.page_as_read (page_as_told page) ≡ pages.page_as_read page
 told_text (found.SaleCount n) = refl
 told_text (found.Meter m) = refl
 told_text (found.Sale s) = refl
@@ -265,22 +265,22 @@ pub record IsSamePage (page other : Found) : Type 0 where
   pub lines : (first : Bool) → page_text false first page ≡ page_text false first other
   pub json : (first : Bool) → page_text true first page ≡ page_text true first other
 
-same_json : (page other : Found) → pages.page_text page ≡ pages.page_text other → (first : Bool) → page_text true first page ≡ page_text true first other
+same_json : (page other : Found) → pages.page_as_read page ≡ pages.page_as_read other → (first : Bool) → page_text true first page ≡ page_text true first other
 same_json page other same first = ap (λ (text : List ℕ). text ++ 10 ∷ []) same
 
 same_tariffs : (page : Vec ListedTariff Global) (other : Found) → AreAlike (found.Tariffs page) (page_as_told other)
-    → pages.page_text (found.Tariffs page) ≡ pages.page_text other → IsSamePage (found.Tariffs page) other
+    → pages.page_as_read (found.Tariffs page) ≡ pages.page_as_read other → IsSamePage (found.Tariffs page) other
 same_tariffs page (found.Tariffs other) alike text = record {
   behind = same_behind tariff_view (λ view. listed.Tariffs (Some view.0)) page.items other.items alike;
   lines = λ first. ap (λ (lines : List ℕ). table_text first tariff_names lines)
       (same_lines tariff_view
-      (λ view. row_of (view.0 ∷ codes "-" ∷ steps_text view.1 ∷ []) ++ flat_map (later_line view.0) view.2) page.items other.items alike);
+      (λ view. table_row_of (view.0 ∷ codes "-" ∷ steps_text view.1 ∷ []) ++ flat_map (later_line view.0) view.2) page.items other.items alike);
   json = same_json (found.Tariffs page) (found.Tariffs other) text;
 }
 same_tariffs page other alike text = absurd alike
 
 same_meters : (page : Vec ListedMeter Global) (other : Found) → AreAlike (found.Meters page) (page_as_told other)
-    → pages.page_text (found.Meters page) ≡ pages.page_text other → IsSamePage (found.Meters page) other
+    → pages.page_as_read (found.Meters page) ≡ pages.page_as_read other → IsSamePage (found.Meters page) other
 same_meters page (found.Meters other) alike text = record {
   behind = ap (λ items. option_map (λ m. listed.Meters (Some m.number)) (last_of_full items)) alike;
   lines = λ first. ap (λ items. table_text first meter_names (flat_map meter_line items)) alike;
@@ -289,16 +289,16 @@ same_meters page (found.Meters other) alike text = record {
 same_meters page other alike text = absurd alike
 
 same_shifts : (page : Vec ListedShift Global) (other : Found) → AreAlike (found.Shifts page) (page_as_told other)
-    → pages.page_text (found.Shifts page) ≡ pages.page_text other → IsSamePage (found.Shifts page) other
+    → pages.page_as_read (found.Shifts page) ≡ pages.page_as_read other → IsSamePage (found.Shifts page) other
 same_shifts page (found.Shifts other) alike text = record {
   behind = ap (λ items. option_map (λ l. listed.Shifts l.shift.number) (last_of_full items)) alike;
-  lines = λ first. ap (λ items. shifts_text first items) alike;
+  lines = λ first. ap (λ items. shift_rows_text first items) alike;
   json = same_json (found.Shifts page) (found.Shifts other) text;
 }
 same_shifts page other alike text = absurd alike
 
 same_sales : (page : Vec Sale Global) (other : Found) → AreAlike (found.Sales page) (page_as_told other)
-    → pages.page_text (found.Sales page) ≡ pages.page_text other → IsSamePage (found.Sales page) other
+    → pages.page_as_read (found.Sales page) ≡ pages.page_as_read other → IsSamePage (found.Sales page) other
 same_sales page (found.Sales other) alike text = record {
   behind =
       same_behind (λ (s : Sale). s.number) (λ (n : ℕ). listed.Sales n) page.items other.items
@@ -309,7 +309,7 @@ same_sales page (found.Sales other) alike text = record {
 same_sales page other alike text = absurd alike
 
 pub same_page : (kind : PageKind) (page other : Found) → IsToldPage kind page → AreAlike page (page_as_told other)
-    → pages.page_text page ≡ pages.page_text other → IsSamePage page other
+    → pages.page_as_read page ≡ pages.page_as_read other → IsSamePage page other
 same_page kinds.Tariffs (found.Tariffs page) other h alike text = same_tariffs page other alike text
 same_page kinds.Meters (found.Meters page) other h alike text = same_meters page other alike text
 same_page kinds.Shifts (found.Shifts page) other h alike text = same_shifts page other alike text

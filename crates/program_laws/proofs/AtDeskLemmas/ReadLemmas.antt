@@ -24,7 +24,7 @@ use Rattle.desk_messages.specs.declared.reply.outcome.Outcome.TheVariants as out
 use Rattle.desk_messages.specs.reply.Text.{reply_bytes_of}
 use Rattle.desk_client.specs.Asks.{IsAskable, question_message}
 use Rattle.desk_client.specs.Question.{question_text, wanted_by}
-use Rattle.desk_client.specs.Reply.{IsReply, longest_body, reply_text}
+use Rattle.desk_client.specs.Reply.{IsReply, longest_reply_body, reply_text}
 use Rattle.desk_client.specs.Tells.{Tells}
 use Rattle.desk_client.specs.Told.{IsTellable}
 use Rattle.desk_client.specs.declared.question.Question.{Question}
@@ -144,7 +144,7 @@ module _ (laws : DeskLaws) (moment : ℕ) (is_moment : IsMoment moment) (old new
       look_reads (questions.Sales after) (lookups.Sales after) (laws.means (questions.Sales after) moment askable is_moment) tt refl (λ e. absurd cc) c
 
 -- a reply that is not too long tells it
-pub whole_reply : (laws : DeskLaws) (w : Wanted) (outcome : Outcome) (came : List ℕ) → came ≡ reply_bytes_of outcome false → length came ≤ longest_body
+pub whole_reply : (laws : DeskLaws) (w : Wanted) (outcome : Outcome) (came : List ℕ) → came ≡ reply_bytes_of outcome false → length came ≤ longest_reply_body
     → (reads : Reads w outcome) → IsReply w came reads.told
 whole_reply laws w outcome came is few reads =
     let text : came ≡ reply_text reads.told = is ∙ says laws.texts w outcome reads.told reads.tellable reads.tells in
@@ -153,7 +153,7 @@ whole_reply laws w outcome came is few reads =
 -- what a desk answers to a question is read whole
 pub question_read : (laws : DeskLaws) (q : Question) (moment : ℕ) (old new : Timed Life) (came : List ℕ) → IsAskable q → IsMoment moment
     → IsOffice old.0.opening → IsLife new.0
-    → IsAnsweredAt (pos moment) old (question_text q) came new → length came ≤ longest_body → (t : Told) × IsReply (wanted_by q) came t
+    → IsAnsweredAt (pos moment) old (question_text q) came new → length came ≤ longest_reply_body → (t : Told) × IsReply (wanted_by q) came t
 question_read laws q moment old new came askable is_moment opening life at few =
     let c = came_of laws q (pos moment) old new came askable at in
     let reads = question_reads laws moment is_moment old new came opening life q askable c in

@@ -17,7 +17,7 @@ use Rattle.conversation.proofs.ReadingLemmas.{head_unique, message_unique, no_em
 use Rattle.desk.specs.Answering.{answers_by, life_serves, message_refusal_of}
 use Rattle.desk_client.specs.Asks.{IsAskable, question_message}
 use Rattle.desk_client.specs.Question.{question_text}
-use Rattle.desk_client.specs.Reply.{head_bytes, longest_body, reply_text}
+use Rattle.desk_client.specs.Reply.{head_bytes, longest_reply_body, reply_text}
 use Rattle.desk_client.specs.Start.{start_text}
 use Rattle.desk_client.specs.Told.{told_start, told_text}
 use Rattle.desk_client.specs.declared.told.Granted.TheVariants as granted
@@ -81,7 +81,7 @@ one_more x xs ys = refl
 regroup : (s d r more : List ℕ) → (s ++ (d ++ 13 ∷ 10 ∷ 13 ∷ 10 ∷ r)) ++ more ≡ s ++ (d ++ 13 ∷ 10 ∷ 13 ∷ 10 ∷ (r ++ more))
 regroup s d r more = simp (append_assoc, one_more)
 
-cut_reply : (t u : Told) (a b : List ℕ) → length (told_text t) ≤ longest_body → length (reply_text u ++ b) < 2 ^ 64 → reply_text t ++ a ≡ reply_text u ++ b
+cut_reply : (t u : Told) (a b : List ℕ) → length (told_text t) ≤ longest_reply_body → length (reply_text u ++ b) < 2 ^ 64 → reply_text t ++ a ≡ reply_text u ++ b
     → (reply_text t ≡ reply_text u) × (a ≡ b)
 cut_reply t u a b short few same =
     let small : length (told_text u) < 2 ^ 64 = omega (arith, few, length-append (reply_text u) b, reply_length u) in

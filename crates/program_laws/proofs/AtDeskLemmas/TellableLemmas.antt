@@ -47,9 +47,9 @@ use Rattle.desk_messages.specs.Meaning.{lookup_form}
 use Rattle.desk_messages.specs.declared.reply.form.Form.{Form}
 use Rattle.desk_messages.specs.declared.reply.form.Form.TheVariants as forms
 use Rattle.desk_messages.specs.declared.reply.outcome.Outcome.TheVariants as outcomes
-use Rattle.desk_client.specs.Meter.{IsLastSale}
-use Rattle.desk_client.specs.Page.{page_text}
-use Rattle.desk_client.specs.Sale.{IsTold}
+use Rattle.desk_client.specs.Meter.{IsLastSaleNumber}
+use Rattle.desk_client.specs.Page.{page_as_read}
+use Rattle.desk_client.specs.Sale.{IsSaleTold}
 use Rattle.desk_client.specs.Tells.{Tells, as_told}
 use Rattle.desk_client.specs.Told.{IsTellable, IsTellableRefusal}
 use Rattle.desk_client.specs.declared.told.Granted.TheVariants as granted
@@ -93,10 +93,10 @@ told_found form (found.Meter m) = told.Granted (granted.Meter m)
 told_found form (found.Sale s) = told_sale form s
 told_found form (found.Quote q) = told.Granted (granted.Quote q)
 told_found form (found.ShiftTotals n totals) = told.Granted (granted.Totals n totals)
-told_found form (found.Tariffs items) = page (page_text (found.Tariffs items))
-told_found form (found.Meters items) = page (page_text (found.Meters items))
-told_found form (found.Shifts items) = page (page_text (found.Shifts items))
-told_found form (found.Sales items) = page (page_text (found.Sales items))
+told_found form (found.Tariffs items) = page (page_as_read (found.Tariffs items))
+told_found form (found.Meters items) = page (page_as_read (found.Meters items))
+told_found form (found.Shifts items) = page (page_as_read (found.Shifts items))
+told_found form (found.Sales items) = page (page_as_read (found.Sales items))
 
 abbrev pub told_look : Form → Result Found Refusal → Told
 told_look form (Ok it) = told_found form it
@@ -148,7 +148,7 @@ no_count form w (Err refusal) other h = tt
 
 -- ---- sales and refusals
 
-pub sale_told : (o : Office) (s : Sale) → IsOffice o → Contains o.sales s → IsTold (as_told s)
+pub sale_told : (o : Office) (s : Sale) → IsOffice o → Contains o.sales s → IsSaleTold (as_told s)
 sale_told o s office there =
     let row = sale_row o s office there in
     record {
@@ -199,11 +199,11 @@ tellable_close operator (Err refusal) h = tellable_refusal 0 refusal (omega arit
 
 -- the sales of a reply keep the rules
 abbrev pub AreToldSales : Result Answer Refusal → Type 0
-AreToldSales r = All (λ s. IsTold (as_told s)) (sales_of r)
+AreToldSales r = All (λ s. IsSaleTold (as_told s)) (sales_of r)
 
 tellable_sell : (order : Order) (r : Result Answer Refusal) → AreToldSales r → MayReply (requests.Sell order) r
     → IsTellable wanted.Sale (told_reply forms.Json r)
-tellable_sell order (Ok (answers.Sold s)) sales h = (All-head (λ s. IsTold (as_told s)) s [] sales, refl)
+tellable_sell order (Ok (answers.Sold s)) sales h = (All-head (λ s. IsSaleTold (as_told s)) s [] sales, refl)
 tellable_sell order (Ok answer) sales h = absurd h
 tellable_sell order (Err refusal) sales h = tellable_refusal 0 refusal (omega arith) h
 
@@ -280,7 +280,7 @@ last_stands o number =
     under : (base : Base) → IfSome (last_under o number base) (Contains o.sales)
     under base = of_tid base _
 
-last_number : (o : Office) → IsOffice o → (last : Option Sale) → IfSome last (Contains o.sales) → IsLastSale (option_map (λ s. s.number) last)
+last_number : (o : Office) → IsOffice o → (last : Option Sale) → IfSome last (Contains o.sales) → IsLastSaleNumber (option_map (λ s. s.number) last)
 last_number o office None h = tt
 last_number o office (Some s) h = omega (arith, sale_number o s office h)
 

@@ -19,7 +19,7 @@ use Rattle.vend_ports.specs.port.Texts.{texts_of}
 use Rattle.office_commands.specs.port.Places.{places_of}
 use Rattle.vend_commands.specs.port.Machines.{Loop, Machine, Way, machine}
 use Rattle.vend_ports.specs.print.Told.{Outputs}
-use Rattle.program_laws.specs.runs.Uses.{Ending, Use, connected, cut_off, let_go, unconnected, unseen, use_run, with_file}
+use Rattle.program_laws.specs.runs.Uses.{RunEnding, RunUse, connected, cut_off, let_go, unconnected, unseen, use_run, with_file}
 use Rattle.vend_ports.specs.declared.command_end.CommandEnd.{CommandEnd}
 use Rattle.office_commands.specs.declared.port.ports.OfficeFile as file
 use Rattle.office_commands.specs.declared.port.ports.SaltSource as source
@@ -37,15 +37,15 @@ abbrev pub IsLeftBy : State → Image → Type 0
 IsLeftBy s image = (trees : Trees) × s.may_leave trees × HoldsDatabase image trees
 
 -- where its files were found again, they held such a database
-abbrev pub FindsAgain : Ending → Type 0
+abbrev pub FindsAgain : RunEnding → Type 0
 FindsAgain (let_go s) = ⊤
 FindsAgain (cut_off s g found left) = AreFoundSo g found (IsLeftBy s)
 
 -- the file that was found held what it might hold before
-abbrev pub Finds : Use → (Before : Image → Type 0) → Type 0
-Finds unseen Before = ⊤
-Finds (unconnected g found left) Before = AreFoundSo g found Before
-Finds (connected image living last) Before = Before image × FindsAgain last
+abbrev pub FindsImage : RunUse → (Before : Image → Type 0) → Type 0
+FindsImage unseen Before = ⊤
+FindsImage (unconnected g found left) Before = AreFoundSo g found Before
+FindsImage (connected image living last) Before = Before image × FindsAgain last
 
 -- What a crash may leave of files to which no connection was made. Of a log that was being read
 -- again beside a database this says nothing.
@@ -59,23 +59,23 @@ MayLeaveOf g found (leftover.Store now) image =
 
 -- What the file may hold after the last connection, stopped wherever it was: a database that this
 -- may leave, or what may be left of an attempt to make another.
-abbrev pub MayHoldAfter : Ending → Image → Type 0
+abbrev pub MayHoldAfter : RunEnding → Image → Type 0
 MayHoldAfter (let_go s) image = IsLeftBy s image
 MayHoldAfter (cut_off s g found left) image = IsLeftBy s image ⊎ MayLeaveOf g found left image
 
 -- What it may hold after a run. Where no connection was made, what it might hold before, or what
 -- may be left of the attempt.
-abbrev pub MayHold : Use → (Before : Image → Type 0) → Image → Type 0
+abbrev pub MayHold : RunUse → (Before : Image → Type 0) → Image → Type 0
 MayHold unseen Before image = Before image
 MayHold (unconnected g found left) Before image = Before image ⊎ MayLeaveOf g found left image
 MayHold (connected found living last) Before image = MayHoldAfter last image
 
 -- the disk returned what was written
-abbrev pub EndsClean : Ending → Type 0
+abbrev pub EndsClean : RunEnding → Type 0
 EndsClean (let_go s) = HasCleanDisk s
 EndsClean (cut_off s g found left) = HasCleanDisk s × IsCleanLeft left
 
-abbrev pub IsClean : Use → Type 0
+abbrev pub IsClean : RunUse → Type 0
 IsClean unseen = ⊤
 IsClean (unconnected g found left) = IsCleanLeft left
 IsClean (connected image living last) = EndsClean last
@@ -103,7 +103,7 @@ module _ {P D R W : Type 0} (here : Here P D R W) where
     pub ran : IsProgramRun (over_files {g = here.disk})
         (with_file here.disk here.salts here.of (here.office ports) (here.rest ports)) words o end
 
-  abbrev pub use_of : ProgramRun → Use
+  abbrev pub use_of : ProgramRun → RunUse
   use_of run = use_run here.disk here.salts here.of (here.office run.ports) (here.rest run.ports)
       run.words run.o run.end run.ran
 
@@ -111,7 +111,7 @@ module _ {P D R W : Type 0} (here : Here P D R W) where
   abbrev pub Follow : (Before : Image → Type 0) → List ProgramRun → Type 0
   Follow Before [] = ⊤
   Follow Before (run ∷ later) =
-      Finds (use_of run) Before × IsClean (use_of run) × Follow (MayHold (use_of run) Before) later
+      FindsImage (use_of run) Before × IsClean (use_of run) × Follow (MayHold (use_of run) Before) later
 
   -- what the file may hold after the last
   abbrev pub LeftAfter : (Before : Image → Type 0) → List ProgramRun → Image → Type 0

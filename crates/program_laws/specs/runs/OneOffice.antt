@@ -15,29 +15,29 @@ use Rattle.office_rules.specs.declared.office.sale.Sale.{Sale}
 use Rattle.books.specs.Path.{StandsIn}
 use Rattle.office_commands.specs.office.Served.{TellsReply}
 use Rattle.program_laws.specs.runs.Follow.{AreRuns, Here, MayBeLeft, ProgramRun, use_of}
-use Rattle.program_laws.specs.runs.Uses.{Living, LivesSo, Question, TellsSo, Use, asking_life, connected, idle_life, many_lives, no_life, reading_life, unconnected, unseen}
+use Rattle.program_laws.specs.runs.Uses.{Living, LivesSo, RunQuestion, TellsSo, RunUse, asking_life, connected, idle_life, many_lives, no_life, reading_life, unconnected, unseen}
 
 -- these are the lives of what a run made of the file, after those before
-abbrev pub LivesIn : Use → (before lives : List Life) → Type 0
+abbrev pub LivesIn : RunUse → (before lives : List Life) → Type 0
 LivesIn unseen before lives = lives ≡ []
 LivesIn (unconnected g found left) before lives = lives ≡ []
 LivesIn (connected image living last) before lives = LivesSo living before lives
 
 -- this was asked and told in it
-abbrev pub AsksSo : Living → Question → Type 0
+abbrev pub AsksSo : Living → RunQuestion → Type 0
 AsksSo no_life q = ⊥
 AsksSo (idle_life transform) q = ⊥
 AsksSo (reading_life moment reading) q = ⊥
 AsksSo (asking_life asked) q = q ≡ asked
 AsksSo (many_lives way forward count door answers last left) q = ⊥
 
-abbrev pub AsksIn : Use → Question → Type 0
+abbrev pub AsksIn : RunUse → RunQuestion → Type 0
 AsksIn unseen q = ⊥
 AsksIn (unconnected g found left) q = ⊥
 AsksIn (connected image living last) q = AsksSo living q
 
 -- this sale was read in it, or a connection was told it, along these lives
-abbrev pub TellsIn : (made : Use) → (before lives : List Life) → LivesIn made before lives → Sale
+abbrev pub TellsIn : (made : RunUse) → (before lives : List Life) → LivesIn made before lives → Sale
     → Type 0
 TellsIn unseen before lives is s = ⊥
 TellsIn (unconnected g found left) before lives is s = ⊥
@@ -65,13 +65,13 @@ module _ {P D R W : Type 0} (here : Here P D R W) where
       × (runs ≡ earlier ++ run ∷ later)
 
   -- the run asked this of the office
-  abbrev pub Asks : ProgramRun here → Question → Type 0
+  abbrev pub Asks : ProgramRun here → RunQuestion → Type 0
   Asks run q = AsksIn (use_of here run) q
 
   -- The run got this sale to tell, in the reply to what it asked: a new one, the one that its order
   -- had made before, one that was asked for again by its number, or one of a shift's report.
   abbrev pub Gets : ProgramRun here → Sale → Type 0
-  Gets run sale = (q : Question) × Asks run q × Contains (sales_of q.reply) sale
+  Gets run sale = (q : RunQuestion) × Asks run q × Contains (sales_of q.reply) sale
 
   -- one of these runs told this sale along these lives: it read it, or its desk told a connection
   abbrev pub TellAlong : (runs : List (ProgramRun here)) → (before lives : List Life)
@@ -105,7 +105,7 @@ pub record KeepsPromise {P D R W : Type 0} (here : Here P D R W) : Type 0 where
   pub lives : (runs : List (ProgramRun here)) → AreRuns here runs
       → ∥ ((lives : List Life) × AreOneOffice here runs lives) ∥₁
   -- a run tells the reply that it got, and nothing else
-  pub told : (run : ProgramRun here) (q : Question) → Asks here run q
+  pub told : (run : ProgramRun here) (q : RunQuestion) → Asks here run q
       → TellsReply q.reply run.o run.end
   -- a sale that one of them got to tell, read or told at its desk stands, unchanged, in whatever
   -- the file may hold after the last of them
@@ -129,13 +129,13 @@ pub record KeepsPromise {P D R W : Type 0} (here : Here P D R W) : Type 0 where
       → a.operator ≡ b.operator → a.order_ref ≡ b.order_ref → a ≡ b
   -- the same `sell` again, at whatever moment and with whatever transform, gets the same sale
   pub sold_again : (earlier : List (ProgramRun here)) (lives : List Life)
-      (first again : ProgramRun here) (order : Order) (s : Sale) (p q : Question)
+      (first again : ProgramRun here) (order : Order) (s : Sale) (p q : RunQuestion)
       → AreOneOffice here (earlier ++ again ∷ []) lives → IsAmong here earlier first
       → Asks here first p → p.request ≡ Sell order → p.reply ≡ Ok (Sold s)
       → Asks here again q → q.request ≡ Sell order → IsUnlessFailed q.reply (Sold s)
   -- it does so where a desk had sold it too, and what two lives sold for one order is one sale
   pub order_again : (earlier : List (ProgramRun here)) (lives : List Life)
-      (again : ProgramRun here) (order : Order) (s : Sale) (q : Question)
+      (again : ProgramRun here) (order : Order) (s : Sale) (q : RunQuestion)
       → AreOneOffice here (earlier ++ again ∷ []) lives → AreSoldFor lives order s
       → Asks here again q → q.request ≡ Sell order → IsUnlessFailed q.reply (Sold s)
   pub one_order : (runs : List (ProgramRun here)) (lives : List Life) (order : Order) (a b : Sale)
@@ -143,6 +143,6 @@ pub record KeepsPromise {P D R W : Type 0} (here : Here P D R W) : Type 0 where
   -- a report of the receipt of a sale that was told before gets that sale
   pub printed_again : (earlier : List (ProgramRun here)) (lives : List Life)
       (again : ProgramRun here) (one : AreOneOffice here (earlier ++ again ∷ []) lives) (s : Sale)
-      (q : Question)
+      (q : RunQuestion)
       → IsToldIn here earlier (earlier ++ again ∷ []) lives one s
       → Asks here again q → q.request ≡ Reprint s.number → IsUnlessFailed q.reply (Reprinted s)

@@ -75,7 +75,7 @@ use Rattle.office_commands.specs.declared.port.ports.SaltSource as source
 -- ---- the lives of a run
 
 -- a request that a run asked of the office at a moment, and the reply that it got and told
-pub record Question : Type 0 where
+pub record RunQuestion : Type 0 where
   pub transform : Shipped
   pub moment : ℕ
   pub request : Request
@@ -88,12 +88,12 @@ pub data Living : Type 1 where
   no_life : Living
   idle_life : Shipped → Living
   reading_life : (moment : ℕ) → Reading → Living
-  asking_life : Question → Living
+  asking_life : RunQuestion → Living
   many_lives : {D R W : Type 0} → Way D R W → BlockFunction → (count : ℕ) → (door : D)
       → (answers : Option (List ℤ)) → (last : D) → (left : Option (List ℤ)) → Living
 
 -- the life of one request, with the nibble of the next sale's number, in an office that runs
-pub record IsAskedLife (q : Question) (life : Life) : Type 0 where
+pub record IsAskedLife (q : RunQuestion) (life : Life) : Type 0 where
   pub at : Stamped
   pub at_moment : at.moment ≡ q.moment
   pub for_request : at.request ≡ q.request
@@ -141,23 +141,23 @@ TellsSo (many_lives way forward count door answers last_door left) before lives
 
 -- how the last connection ended: in this state it was let go; or then its files were found again,
 -- no connection could be made to them, and this is what was left of them
-pub data Ending : Type 1 where
-  let_go : State → Ending
+pub data RunEnding : Type 1 where
+  let_go : State → RunEnding
   cut_off : {D : Type 0} → State → (g : disk.Ghosts D) → (found : Files D) → (left : Leftover D g)
-      → Ending
+      → RunEnding
 
 -- Nothing of the file was seen: none was found, or it was not looked into. Or it was found as these
 -- files, and no connection could be made to them: then this is what was left of them. Or one was
 -- made while the file held this, the office lived so, and the last one ended so.
-pub data Use : Type 1 where
-  unseen : Use
-  unconnected : {D : Type 0} → (g : disk.Ghosts D) → (found : Files D) → (left : Leftover D g) → Use
-  connected : (image : Image) → (living : Living) → (last : Ending) → Use
+pub data RunUse : Type 1 where
+  unseen : RunUse
+  unconnected : {D : Type 0} → (g : disk.Ghosts D) → (found : Files D) → (left : Leftover D g) → RunUse
+  connected : (image : Image) → (living : Living) → (last : RunEnding) → RunUse
 
 -- where no office was opened
 abbrev pub use_refused : {D S : Type 0} → {disk : disk.Ghosts D} → {salts : source.Ghosts S}
     → {finds lets_go : D → D → Type 0} → {fails : OpenFault → Type 0} → (fault : OpenFault)
-    → IsUnopened disk salts finds lets_go fails fault → Use
+    → IsUnopened disk salts finds lets_go fails fault → RunUse
 use_refused fault (unfound none) = unseen
 use_refused fault (found_unopened found finds (unsalted it lacks is gone)) = unseen
 use_refused {disk = disk} fault
@@ -170,9 +170,9 @@ use_refused {disk = disk} fault
 -- a visit, by what is known where it opened none, and by how the office lives in it
 abbrev pub use_visited : {S : Type 0} → {store : Ghosts S} → {place : Place}
     → {transform : Shipped} → {Does : (old new : Seen) → Type 0} → {o : Outputs}
-    → {end : CommandEnd} → ((fault : OpenFault) → place.fails fault → Use)
+    → {end : CommandEnd} → ((fault : OpenFault) → place.fails fault → RunUse)
     → ((old new : Seen) → Does old new → Living)
-    → IsVisited store place transform Does o end → Use
+    → IsVisited store place transform Does o end → RunUse
 use_visited if_refused lives (visit_unopened fault fails told) = if_refused fault fails
 use_visited {place = place} if_refused lives (visit_opened old new opens finds does closes) =
     connected place.image (lives (seen_in old) (seen_in new) does) (let_go (seen_in new).state)
@@ -199,14 +199,14 @@ lives_printing Sales o end old new done = reading_life first_moment (exported do
 
 -- what is done at a moment, if there is one
 abbrev pub use_timed : (Idle : Type 0) → (At : ℕ → Type 0) → (o : Outputs) → (end : CommandEnd)
-    → ((moment : ℕ) → At moment → Use) → (moment : Option ℕ) → IsDoneAt Idle At o end moment → Use
+    → ((moment : ℕ) → At moment → RunUse) → (moment : Option ℕ) → IsDoneAt Idle At o end moment → RunUse
 use_timed Idle At o end at (Some moment) done = at moment done
 use_timed Idle At o end at None idle = unseen
 
 -- the end of stopped books whose file was not opened again
 abbrev pub ends_lost : {D S : Type 0} → {disk : disk.Ghosts D} → {salts : source.Ghosts S}
     → {lets_go : D → D → Type 0} → (old : Seen) → (fault : OpenFault)
-    → IsUnreopened disk salts lets_go old fault → Ending
+    → IsUnreopened disk salts lets_go old fault → RunEnding
 ends_lost old fault (lost_unsalted it lacks is conn seen left taken gone) = let_go old.state
 ends_lost old fault (lost_refused it salt draws conn seen (Connected last) why left taken gone) =
     let_go (file_state last)
@@ -217,10 +217,10 @@ ends_lost {disk = disk} old fault
 -- connections that are served, by how lost books end
 abbrev pub use_served : {D R W B : Type 0} → (way : Way D R W) → (forward : BlockFunction)
     → (see : B → Seen) → (loses : Seen → OpenFault → Type 0)
-    → ((old : Seen) → (fault : OpenFault) → loses old fault → Ending) → (wanted : ℕ)
+    → ((old : Seen) → (fault : OpenFault) → loses old fault → RunEnding) → (wanted : ℕ)
     → (old : Service D B) → (door : D) → (answers : Option (List ℤ)) → (printed : Text) → Image
     → (served : Result (B × Bool) OpenFault)
-    → AreServed way forward see loses wanted old door answers served printed → Use
+    → AreServed way forward see loses wanted old door answers served printed → RunUse
 use_served way forward see loses ends wanted old door answers printed image (Ok (books, true))
     held = connected image (many_lives way forward wanted old.door old.answers door answers)
     (let_go (see books).state)
@@ -243,14 +243,14 @@ module _ {M S H D R W : Type 0} (disk : disk.Ghosts M) (salts : source.Ghosts S)
   abbrev pub use_asked : (transform : Shipped) → (path : Text) → (wait moment : ℕ)
       → (request : Request) → (o : Outputs) → (end : CommandEnd)
       → IsAskedAt (over_files {g = disk}) with_file.at transform path wait moment request o end
-      → Use
+      → RunUse
   use_asked transform path wait moment request o end asks =
       use_visited {place = with_file.at path wait} use_refused
       (lives_asking transform moment request o end) asks
 
   abbrev pub use_added : (words : ImportWords) → (moment : ℕ)
       → (rows : Result (List Row) RowFault) → (o : Outputs) → (end : CommandEnd)
-      → AreAdded (over_files {g = disk}) with_file.at m.untouched words moment rows o end → Use
+      → AreAdded (over_files {g = disk}) with_file.at m.untouched words moment rows o end → RunUse
   use_added words moment (Ok rows) o end added =
       use_asked words.transform words.file.now words.wait moment (requests.Import rows) o end added
   use_added words moment (Err fault) o end told = unseen
@@ -258,13 +258,13 @@ module _ {M S H D R W : Type 0} (disk : disk.Ghosts M) (salts : source.Ghosts S)
   abbrev pub use_imported : (words : ImportWords) → (moment : ℕ) → (o : Outputs)
       → (end : CommandEnd)
       → IsFileImported (over_files {g = disk}) with_file.at m.untouched m.texts words
-      moment o end → Use
+      moment o end → RunUse
   use_imported words moment o end (inl (bytes, reads, (records, rows, are, reading, added))) =
       use_added words moment rows o end added
   use_imported words moment o end (inr unread) = unseen
 
   abbrev pub use_reported : (words : ReportWords) → (o : Outputs) → (end : CommandEnd)
-      → IsReported (over_files {g = disk}) with_file.at words o end → Use
+      → IsReported (over_files {g = disk}) with_file.at words o end → RunUse
   use_reported words o end (report_absent misses told) = unseen
   use_reported words o end (report_present visit) =
       use_visited {place = where_present (with_file.at words.file.now words.wait)} use_refused
@@ -273,7 +273,7 @@ module _ {M S H D R W : Type 0} (disk : disk.Ghosts M) (salts : source.Ghosts S)
   -- a look-up, or a list
   abbrev pub use_shown : (path : Text) → (wait moment : ℕ) → (wanted : Wanted) → (o : Outputs)
       → (end : CommandEnd)
-      → IsShownAt (over_files {g = disk}) with_file.at path wait moment wanted o end → Use
+      → IsShownAt (over_files {g = disk}) with_file.at path wait moment wanted o end → RunUse
   use_shown path wait moment wanted o end (shown_absent misses told) = unseen
   use_shown path wait moment wanted o end (shown_present visit) =
       use_visited {place = where_present (with_file.at path wait)} use_refused
@@ -281,7 +281,7 @@ module _ {M S H D R W : Type 0} (disk : disk.Ghosts M) (salts : source.Ghosts S)
 
   abbrev pub use_serving : (words : ServeWords) → (err_old err_new : Sink) → (end : CommandEnd)
       → IsServing (over_files {g = disk}) m.way with_file.at m.door m.clock.answers words err_old
-      err_new end → Use
+      err_new end → RunUse
   use_serving words err_old err_new end (serve_unopened fault fails leaves told ends) =
       use_refused fault fails
   use_serving words err_old err_new end
@@ -296,7 +296,7 @@ module _ {M S H D R W : Type 0} (disk : disk.Ghosts M) (salts : source.Ghosts S)
 
   abbrev pub use_audited : (words : AuditWords) → (o : Outputs) → (end : CommandEnd)
       → IsAudited (with_file.at words.file.now words.wait) (option_map forward_of words.transform)
-      o end → Use
+      o end → RunUse
   use_audited words o end (audit_absent misses told) = unseen
   use_audited words o end (audit_unopened fault why told) = use_refused fault why
   use_audited words o end (audit_looked answer meets audit told) =
@@ -304,7 +304,7 @@ module _ {M S H D R W : Type 0} (disk : disk.Ghosts M) (salts : source.Ghosts S)
 
   -- what is asked for
   abbrev pub use_carried : (asked : Asked) → (o : Outputs) → (end : CommandEnd)
-      → IsCarriedOut (over_files {g = disk}) with_file asked o end → Use
+      → IsCarriedOut (over_files {g = disk}) with_file asked o end → RunUse
   use_carried (asks.Trial words) o end done = unseen
   use_carried (asks.Import words) o end (shut, (moment, taken, done)) =
       use_timed (m.untouched × m.texts.leaves) _ o end
@@ -332,7 +332,7 @@ module _ {M S H D R W : Type 0} (disk : disk.Ghosts M) (salts : source.Ghosts S)
 
   -- a run, whatever its words are
   abbrev pub use_run : (words : List Text) → (o : Outputs) → (end : CommandEnd)
-      → IsProgramRun (over_files {g = disk}) with_file words o end → Use
+      → IsProgramRun (over_files {g = disk}) with_file words o end → RunUse
   use_run words o end (answered asked for done) = use_carried asked o end done
   use_run words o end (bad_word idle none asks_none told) = unseen
   use_run words o end (explained idle kind text among some says) = unseen

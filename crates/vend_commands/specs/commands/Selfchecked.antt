@@ -96,14 +96,14 @@ messages = codes "POST /sales HTTP/1.1" ++ line_end ++ codes "Host: d" ++ line_e
     ++ codes "GET /sales/1/receipt HTTP/1.1" ++ line_end ++ codes "Host: d" ++ line_end ++ line_end
 
 -- the desk held a conversation from this life on, at the moment of the clock, and it ended so
-abbrev pub Converses : Life → (unread held holds : Held) → conversation.End → Type 0
-Converses life unread held holds end = (after : Timed Life) × (left : Held)
+abbrev pub ConversesWithItself : Life → (unread held holds : Held) → conversation.End → Type 0
+ConversesWithItself life unread held holds end = (after : Timed Life) × (left : Held)
     × IsRun (answers_by life_serves) message_refusal_of (life, Some (pos clock_moment ∷ [])) after
     unread left held holds end
 
 -- all that was read was answered, and what is written now is the replies
 abbrev pub IsAnsweredFrom : Life → (unread held holds : Held) → Type 0
-IsAnsweredFrom life unread held holds = Converses life unread held holds Closed
+IsAnsweredFrom life unread held holds = ConversesWithItself life unread held holds Closed
 
 -- what is told of a conversation over memory that ended so, where all there is room for is written;
 -- and of one over a connection
@@ -129,7 +129,7 @@ pub data HasNoReplies {B : Type 0} (see : B → Seen) (forward : BlockFunction)
   no_office : IsUnprepared see fault → HasNoReplies see forward fault
   no_desk : fault ≡ Refused refusal.Memory → HasNoReplies see forward fault
   cut_off : (life : Life) → IsPrepared forward life → (holds : Held) (end : conversation.End)
-      → Converses life (Some messages) (Some []) holds end → fault_in_memory end ≡ Some fault
+      → ConversesWithItself life (Some messages) (Some []) holds end → fault_in_memory end ≡ Some fault
       → HasNoReplies see forward fault
 
 module _ {N S : Type 0} (of : loopback.Ghosts N S) (remaining contents : S → Held) (net : N)
@@ -145,7 +145,7 @@ module _ {N S : Type 0} (of : loopback.Ghosts N S) (remaining contents : S → H
     pub sent : IsSent contents messages near
     pub life : Life
     pub prepared : IsPrepared forward life
-    pub converses : Converses life (remaining reader) (contents writer) (contents written) end
+    pub converses : ConversesWithItself life (remaining reader) (contents writer) (contents written) end
 
   -- it answered all, and what came back, where that is known, was exactly the replies that it
   -- writes over memory

@@ -87,8 +87,8 @@ abbrev pub IsAlone : {D R W : Type 0} → Machine D R W → Type 0
 IsAlone m = IsOffline m × m.texts.leaves
 
 -- nor was a file of an office found
-abbrev pub IsIdle : {D R W : Type 0} → Machine D R W → Type 0
-IsIdle m = m.untouched × IsAlone m
+abbrev pub IsMachineIdle : {D R W : Type 0} → Machine D R W → Type 0
+IsMachineIdle m = m.untouched × IsAlone m
 
 abbrev pub machine : {D R W : Type 0} → Places → (untouched : Type 0) → Texts → Dial → Way D R W
     → D → Loop → Machine D R W

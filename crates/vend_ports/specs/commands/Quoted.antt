@@ -23,7 +23,7 @@ quote_end None = Refused
 quote_end (Some b) = Done
 
 -- what the tender buys is told
-abbrev pub IsQuoted : QuoteWords → Outputs → CommandEnd → Type 0
-IsQuoted words o end =
+abbrev pub PrintsQuote : QuoteWords → Outputs → CommandEnd → Type 0
+PrintsQuote words o end =
     let bought = purchase_of words.steps words.prior words.tender in
     IsTold o (quote_text bought) (quote_errors bought) (quote_end bought) end

@@ -34,10 +34,10 @@ IsRefusedBy base moment used tenths Memory = ⊥
 
 -- why it ends after the sales with these identifiers: all are sold, the next is refused, or there
 -- was no room for any
-abbrev pub EndsBy : Base → ℕ → List ℕ → List ℕ → Option TrialFault → Type 0
-EndsBy base moment amounts tids None = length tids ≡ length amounts
-EndsBy base moment amounts tids (Some Memory) = tids ≡ []
-EndsBy base moment amounts tids (Some fault) =
+abbrev pub EndsTrialBy : Base → ℕ → List ℕ → List ℕ → Option TrialFault → Type 0
+EndsTrialBy base moment amounts tids None = length tids ≡ length amounts
+EndsTrialBy base moment amounts tids (Some Memory) = tids ≡ []
+EndsTrialBy base moment amounts tids (Some fault) =
     (length tids < length amounts) × IsRefusedBy base moment tids
     (slice_index amounts (length tids)) fault
 
@@ -50,4 +50,4 @@ pub record IsTrial (forward : BlockFunction) (key : ℕ) (base : Base) (moment :
   pub sold : (i : ℕ) → i < length tids
       → IsSale forward key base moment (take i tids) (i + 1) (slice_index amounts i)
       (slice_index tids i) (slice_index_or tokens i [])
-  pub ends : EndsBy base moment amounts tids fault
+  pub ends : EndsTrialBy base moment amounts tids fault

@@ -24,8 +24,8 @@ abbrev pub line_of : List Text → Text
 line_of words = joined_line 32 words
 
 -- fields with a tab between them, and the end of the line
-abbrev pub row_of : List Text → Text
-row_of fields = joined_line 9 fields
+abbrev pub table_row_of : List Text → Text
+table_row_of fields = joined_line 9 fields
 
 abbrev pub token_line : Text → Text
 token_line token = line_of (token ∷ [])

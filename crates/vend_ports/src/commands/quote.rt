@@ -1,4 +1,4 @@
-ghost use Rattle.vend_ports.specs.commands.Quoted.{IsQuoted};
+ghost use Rattle.vend_ports.specs.commands.Quoted.{PrintsQuote};
 ghost use Rattle.vend_ports.specs.print.Told.{outputs, sink};
 
 use crate::command_end::CommandEnd;
@@ -15,7 +15,7 @@ pub fn run<O: Write, E: Write>(
     out: &mut Watched<'_, O>,
     err: &mut Watched<'_, E>,
 ) -> CommandEnd
-    ensures { IsQuoted words.now (outputs (sink O.contents out.old) (sink O.contents out.new)
+    ensures { PrintsQuote words.now (outputs (sink O.contents out.old) (sink O.contents out.new)
         (sink E.contents err.old) (sink E.contents err.new)) result }
 {
     match buy(&words.steps, words.prior, words.tender) {

@@ -4,7 +4,7 @@ ghost use Rattle.office_rules.specs.Decision.RowCauses.{cause_text};
 ghost use Rattle.vend_ports.specs.print.Printed.{added_line, address_text, answer_line, clock_line};
 ghost use Rattle.vend_ports.specs.print.Printed.{credit_line, host_text, joined_line, line_of, open_line};
 ghost use Rattle.vend_ports.specs.print.Printed.{opened_line, pair_text, progress_line, quote_line};
-ghost use Rattle.vend_ports.specs.print.Printed.{read_fault_line, refusal_line, row_of, shift_line};
+ghost use Rattle.vend_ports.specs.print.Printed.{read_fault_line, refusal_line, table_row_of, shift_line};
 ghost use Rattle.vend_ports.specs.print.Printed.{stopped_line, token_line};
 ghost use Rattle.vend_ports.specs.print.Told.{IsPutOn, Takes, sink};
 
@@ -34,7 +34,7 @@ pub fn put_line<W: Write>(words: &[&[u8]], out: &mut Watched<'_, W>)
 /// The same of fields, with a tab between them.
 pub fn put_row<W: Write>(fields: &[&[u8]], out: &mut Watched<'_, W>)
     ensures { Takes (sink W.contents out.old) (sink W.contents out.new)
-        (row_of (map (λ field. field.now) fields.now)) }
+        (table_row_of (map (λ field. field.now) fields.now)) }
 {
     put_joined(b'\t', fields, out);
 }

@@ -2,7 +2,7 @@ use Rattle.std.proofs.Common.{◌≤◌, refl, arith}
 use Rattle.one_table.proofs.ChangeLemmas.{if_err, on_ok, told_as}
 use Rattle.audit_rows.specs.Entries.{rows_of}
 use Rattle.audit_lists.specs.Ties.{Says}
-use Rattle.audit_lists.specs.Told.{IsBroken}
+use Rattle.audit_lists.specs.Told.{BreaksOffice}
 use Rattle.audit_lists.proofs.MadeLemmas.{totals_made}
 use Rattle.audit_lists.proofs.OfficeLemmas.{sale_count}
 use Rattle.audit_lists.proofs.ToldLemmas.{shows, told_ties, told_totals}
@@ -12,7 +12,7 @@ use Rattle.audit_lists.proofs.office.test_office.Goals as goal
 pub returns-in_err-test_rules-clause-found : goal.returns-in_err-test_rules-clause-found
 returns-in_err-test_rules-clause-found c =
     let fault = c.in_err-test_rules.field-0.0 in
-    told_as (Says (IsBroken c.args.format c.args.rows.now)) c.from_residual.result fault c.from_residual.ensures.1 (told_ties c.args.format c.args.rows.now fault c.in_err-test_rules.ensures.found)
+    told_as (Says (BreaksOffice c.args.format c.args.rows.now)) c.from_residual.result fault c.from_residual.ensures.1 (told_ties c.args.format c.args.rows.now fault c.in_err-test_rules.ensures.found)
 
 pub returns-then-format-lt2-clause-passes : goal.returns-then-format-lt2-clause-passes
 returns-then-format-lt2-clause-passes c db read =

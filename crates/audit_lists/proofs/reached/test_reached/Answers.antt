@@ -1,7 +1,7 @@
 use Rattle.std.proofs.Common.{List, subst}
 use Rattle.std.proofs.lemmas.Result.{IfErr-weaker, on_ok_weaker}
 use Rattle.office_rules.specs.declared.office.shift.Shift.{Shift}
-use Rattle.audit_lists.specs.Ties.{IsKept}
+use Rattle.audit_lists.specs.Ties.{IsTieKept}
 use Rattle.audit_lists.specs.reached.Finds.{TellsUnreached, closed_first}
 use Rattle.audit_lists.specs.reached.Walk.{TellsSale, TellsShift}
 use Rattle.audit_lists.proofs.ReachedLemmas.FaultLemmas.{shifts_kept, tells_sales, tells_shift, told_on}
@@ -17,7 +17,7 @@ returns-in_err-test_shifts-clause-found c =
 pub returns : goal.returns
 returns c =
     let r = c.args.rows.now in
-    let kept = subst (λ (l : List Shift). IsKept (closed_first l)) c.deref.ensures.value c.in_ok-test_shifts.ensures.passes in
+    let kept = subst (λ (l : List Shift). IsTieKept (closed_first l)) c.deref.ensures.value c.in_ok-test_shifts.ensures.passes in
     record {
       passes = on_ok_weaker c.test_sales.result (λ sales o are. record { shifts = pairs_kept o.shifts (shifts_kept r o are kept); sales = sales o are }) c.test_sales.ensures.passes;
       found = IfErr-weaker c.test_sales.result (TellsSale r) (TellsUnreached r) (tells_sales r kept) c.test_sales.ensures.found;

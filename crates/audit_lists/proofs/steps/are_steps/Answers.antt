@@ -2,7 +2,7 @@ use Rattle.std.proofs.Common.{◌≡◌, List, rules, sym, subst}
 use Rattle.std.proofs.lemmas.Bool.{false≢true}
 use Rattle.tariff.specs.Steps.{IsSteps}
 use Rattle.tariff.specs.declared.step.Step.{Step}
-use Rattle.audit_lists.specs.Keys.{told}
+use Rattle.audit_lists.specs.Keys.{owned_key}
 use Rattle.audit_lists.proofs.StepLemmas.{same_first}
 use Rattle.audit_lists.proofs.steps.are_steps.Goals as goal
 
@@ -12,5 +12,5 @@ returns g c =
     let none : IsSteps c.deref.result.now → ⊥ = search rules in (
       λ yes. absurd (false≢true yes),
       λ are.
-          absurd (none (subst IsSteps (sym c.deref.ensures.value) (subst IsSteps (sym (same_first g.T.HasStep.step g.K.KeyOf.key c.args.rows.now c.requires.apart (told c.args.key) steps are.steps c.in_ok-steps.ensures are.first are.priced)) are.priced))),
+          absurd (none (subst IsSteps (sym c.deref.ensures.value) (subst IsSteps (sym (same_first g.T.HasStep.step g.K.KeyOf.key c.args.rows.now c.requires.apart (owned_key c.args.key) steps are.steps c.in_ok-steps.ensures are.first are.priced)) are.priced))),
     )

@@ -8,7 +8,7 @@ use Rattle.office_rules.specs.declared.office.sale.Sale.{Sale}
 use Rattle.book_tables.specs.declared.reading.pages.MeterRow.{MeterRow}
 use Rattle.audit_rows.specs.declared.finding.Rule.TheVariants as rule
 use Rattle.audit_lists.specs.RowKeys.{meter_key}
-use Rattle.audit_lists.specs.Tables.{meters_of}
+use Rattle.audit_lists.specs.Tables.{listed_meters}
 use Rattle.audit_lists.specs.Ties.{IsFirst, Says, once}
 use Rattle.audit_lists.specs.Tokens.{TellsUnwritten}
 use Rattle.audit_lists.proofs.EachLemmas.{each_more, row_at}
@@ -22,7 +22,7 @@ returns-in_err-places-clause-found g c =
     let r = c.args.rows.now in
     let forward = g.T.BlockTransform.forwards c.args.transform.now in
     let e = c.in_err-places.field-0.0 in
-    let found = subst (λ (l : List MeterRow). Says (IsFirst (once (meters_of l) rule.Twice meter_key)) e) c.deref.ensures.value c.in_err-places.ensures.found in
+    let found = subst (λ (l : List MeterRow). Says (IsFirst (once (listed_meters l) rule.Twice meter_key)) e) c.deref.ensures.value c.in_err-places.ensures.found in
     told_on (TellsUnwritten forward r) c.from_residual.result e c.from_residual.ensures.1 (tells_twice forward r rule.Twice e (search rules) found)
 
 pub returns-then-not-is_written-clause-found : goal.returns-then-not-is_written-clause-found

@@ -1,6 +1,6 @@
 use Rattle.std.proofs.Common.{◌≡◌, codes}
 use Rattle.desk_messages.specs.reply.Lists.{tariff_data, tariff_text}
-use Rattle.desk_client.specs.Page.{IsToldTariff, page_text}
+use Rattle.desk_client.specs.Page.{IsToldTariff, page_as_read}
 use Rattle.desk_client.proofs.PageLemmas.{by_tariffs, is_page, of_page, tariffs-named}
 use Rattle.desk_client.proofs.page.tariffs_in.Goals as goal
 
@@ -15,7 +15,7 @@ returns-in-Some c =
 pub returns-in-None : goal.returns-in-None
 returns-in-None c = λ page is.
     let none = rw c.in-None.is at c.in_ok-tariffs.ensures in
-    by_tariffs (λ there. c.args.body.now ≡ page_text there → ⊥) (λ items told same.
+    by_tariffs (λ there. c.args.body.now ≡ page_as_read there → ⊥) (λ items told same.
     none items (
       told,
       of_page IsToldTariff tariff_data tariff_text (codes "tariffs") tariffs-named c.list_law.ensures.list

@@ -2,7 +2,7 @@ use Rattle.std.proofs.Common.{List, ℕ, [], ◌∷◌, codes, refl, arith}
 use Rattle.std.specs.Prelude.{decimal}
 use Rattle.office_rules.specs.Decision.RowCauses.{cause_text}
 use Rattle.office_rules.specs.declared.decision.row_cause.RowCause.{RowCause}
-use Rattle.desk_client.specs.Refusal.{IsRow, row_ends}
+use Rattle.desk_client.specs.Refusal.{IsRowCause, row_ends}
 use Rattle.desk_client.specs.Text.{LackStops}
 use Rattle.desk_client.proofs.FoundLemmas.{first_values, no_value, read_value}
 use Rattle.desk_client.proofs.PlainLemmas.{plain_number}
@@ -12,7 +12,7 @@ use Rattle.desk_client.proofs.refusal.row_refusal.Goals as goal
 abbrev front : List ℕ
 front = codes "{\"cause\":\""
 
-told : (row : ℕ) (cause : RowCause) → IsRow row cause → LackStops (cause_text cause ∷ decimal row ∷ [])
+told : (row : ℕ) (cause : RowCause) → IsRowCause row cause → LackStops (cause_text cause ∷ decimal row ∷ [])
 told row cause is = (plain_cause cause is.1, (plain_number row (omega (arith, is.0)), tt))
 
 pub returns-in_default : goal.returns-in_default

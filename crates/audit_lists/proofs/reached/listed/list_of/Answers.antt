@@ -3,7 +3,7 @@ use Rattle.std.proofs.lemmas.Bool.{false≢true}
 use Rattle.tariff.specs.Steps.{IsSteps}
 use Rattle.tariff.specs.declared.fault.StepsFault.TheVariants as fault
 use Rattle.audit_lists.specs.Keys.{IsNew, Key}
-use Rattle.audit_lists.specs.Steps.{AreFirst, AreSteps}
+use Rattle.audit_lists.specs.Steps.{AreFirstUnder, AreSteps}
 use Rattle.audit_lists.specs.Ties.{Each}
 use Rattle.audit_lists.proofs.ReachedLemmas.FaultLemmas.{says_weaker}
 use Rattle.audit_lists.proofs.StepLemmas.{same_first}
@@ -15,7 +15,7 @@ returns g c =
     let key = g.K.KeyOf.key in
     let rows = c.args.rows.now in
     let q = key c.args.row.now in
-    let first = subst (λ (k : Key). AreFirst step key rows k c.in_ok-steps.steps.items) c.of-key.ensures c.in_ok-steps.ensures in
+    let first = subst (λ (k : Key). AreFirstUnder step key rows k c.in_ok-steps.steps.items) c.of-key.ensures c.in_ok-steps.ensures in
     record {
       lists = λ _. tt;
       found = says_weaker (λ _. c.in-Err.fault ≢ fault.Memory) (λ _. Each (IsNew key rows) rows → ¬ AreSteps step key rows q) c.steps_fault.result (λ f other once are.

@@ -2,7 +2,7 @@ use Rattle.std.proofs.Common.{arith, inr}
 use Rattle.sqlite.specs.Held.{state}
 use Rattle.one_table.proofs.ChangeLemmas.{told_as, transaction_off}
 use Rattle.office_rules.specs.declared.decision.change.Edit.TheVariants.{AddSale}
-use Rattle.book_states.specs.Failing.{FailsToMake}
+use Rattle.book_states.specs.Failing.{FailsToMakeEdit}
 use Rattle.book_edits.proofs.ChangeLemmas.{sold_refused}
 use Rattle.book_edits.proofs.changing.sales.add_counted.Goals as goal
 
@@ -11,7 +11,7 @@ returns-in_err-totals-clause-refused g c clean way has =
     let old = state g.S.Store c.args.tx.now.conn.now in
     let new = state g.S.Store c.add_sold.new.tx.conn.now in
     let e = c.in_err-totals.field-0.0 in
-    told_as (FailsToMake (AddSale c.args.sale.now) c.args.prior old new) c.from_residual.result e c.from_residual.ensures.1
+    told_as (FailsToMakeEdit (AddSale c.args.sale.now) c.args.prior old new) c.from_residual.result e c.from_residual.ensures.1
     (sold_refused c.args.sale.now c.args.prior old new e way clean (c.in_err-totals.ensures.ends clean way has).1 c.in_err-totals.ensures.no_false_row)
 
 pub returns-in_err-totals-clause-transaction : goal.returns-in_err-totals-clause-transaction

@@ -1,4 +1,4 @@
-use Rattle.desk_commands.specs.print.FoundTexts.{meter_header, meter_row}
+use Rattle.desk_commands.specs.print.FoundTexts.{meter_header, meter_table_row}
 use Rattle.vend_ports.specs.print.Told.{sink}
 use Rattle.vend_ports.proofs.TakeLemmas.{takes_next}
 use Rattle.desk_commands.proofs.print.found.put_meter.Goals as goal
@@ -8,4 +8,4 @@ returns g c =
     let before = sink g.O.Write.contents c.args.out.now in
     let between = sink g.O.Write.contents c.put_row.new.out in
     let after = sink g.O.Write.contents c.put_values.new.out in
-    takes_next before between after meter_header (meter_row c.args.meter.now) c.put_row.ensures c.put_values.ensures
+    takes_next before between after meter_header (meter_table_row c.args.meter.now) c.put_row.ensures c.put_values.ensures
