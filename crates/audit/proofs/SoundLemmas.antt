@@ -98,7 +98,8 @@ sound_none given db a has plausible is = subst (IsSound given db) (sym is) (reco
   written = none_written given;
   stands = λ _ _. stands;
   only = λ o other.
-      subst (λ (e : Office). IsPlausible e × AreWritten given e) (sym (other.empty (one_format db.schema other.format 0 other.known (omega arith) other.held.1.has has)))
+      subst (λ (e : Office). IsPlausible e × AreWritten given e)
+      (sym (other.empty (one_format db.schema other.format 0 other.known (omega arith) other.held.1.has has)))
       (plausible, none_written given);
   tariffs = refl;
   meters = refl;
@@ -139,8 +140,11 @@ pub forged_stops : (given : Option BlockFunction) (n : ℕ) (rows : OfficeRows) 
     → StopsBy (Denies given) old new (fault_of fault)
 forged_stops given n rows (office.Found f) (inl finds) are honest tokens same =
     (by_requests n rows are finds (λ o stands plausible. honest o f plausible (finds o (are.only o stands))), same)
-forged_stops given n rows (office.Found f) (inr (forward, is, reached, finds)) are honest tokens same =
-    (by_transform forward is n rows are (λ o of_rows. (reached o of_rows, finds o of_rows)) (λ o stands has. tokens forward o f has (finds o (are.only o stands))), same)
+forged_stops given n rows (office.Found f) (inr (forward, is, reached, finds)) are honest tokens same = (
+  by_transform forward is n rows are (λ o of_rows. (reached o of_rows, finds o of_rows))
+      (λ o stands has. tokens forward o f has (finds o (are.only o stands))),
+  same,
+)
 forged_stops given n rows office.Memory told are honest tokens same = inr (refl, same)
 
 -- ---- an office that requests lead to, whose tokens are written
@@ -195,7 +199,8 @@ module _ (given : Option BlockFunction) (s : State) where
     survives = survives_none;
   }
 
-  unknown_stops : (schema : Schema) → schema ≡ s.now.schema → IsTrue s.is_open → (fault : AuditFault) → FailsToKnow schema fault → StopsBy (Denies given) s s fault
+  unknown_stops : (schema : Schema) → schema ≡ s.now.schema → IsTrue s.is_open → (fault : AuditFault) → FailsToKnow schema fault
+      → StopsBy (Denies given) s s fault
   unknown_stops schema is runs (Found f) why = absurd why
   unknown_stops schema is runs NoOffice why =
       let none : (n : ℕ) → n ≤ present_format → ¬ HasOfficeOf n s.now.schema = λ n known has. why n known (subst (HasOfficeOf n) (sym is) has) in

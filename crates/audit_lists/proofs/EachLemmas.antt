@@ -6,7 +6,8 @@ use Rattle.std.proofs.lemmas.Option.{none-some, same_Some, slice_get_read}
 use Rattle.audit_lists.specs.Ties.{EachBelow}
 
 -- one row more of which it is said
-pub each_more : {T : Type 0} (said : ℕ → T → Type 0) (rows : List T) (at : ℕ) (row : T) → slice_get rows at ≡ Some row → said at row → EachBelow said rows at → EachBelow said rows (at + 1)
+pub each_more : {T : Type 0} (said : ℕ → T → Type 0) (rows : List T) (at : ℕ) (row : T) → slice_get rows at ≡ Some row → said at row
+    → EachBelow said rows at → EachBelow said rows (at + 1)
 each_more said rows at row there here before i r low there_r = elim (cases_lt i at) [
   | inl below ↦ before i r below there_r
   | inr least ↦

@@ -29,7 +29,8 @@ pub had : {T V : Type 0} (key : T → Key) (rows : List T) (q : Key) → (HasKey
 had key rows q f = chosen (find key rows q) f
 
 -- it is had of a row that has the key
-pub had_from : {T V : Type 0} (key : T → Key) (rows : List T) (q : Key) (f : HasKey key rows q → V) (v : V) → had key rows q f ≡ Some v → (has : HasKey key rows q) × (f has ≡ v)
+pub had_from : {T V : Type 0} (key : T → Key) (rows : List T) (q : Key) (f : HasKey key rows q → V) (v : V) → had key rows q f ≡ Some v
+    → (has : HasKey key rows q) × (f has ≡ v)
 unfolding had
 had_from key rows q f v e = by (find key rows q) e
   where
@@ -38,7 +39,8 @@ had_from key rows q f v e = by (find key rows q) e
     by (inr none) is = absurd (none-some v is)
 
 -- where a row has the key, something is had
-pub had_to : {T V : Type 0} (key : T → Key) (rows : List T) (q : Key) (f : HasKey key rows q → V) → HasKey key rows q → (has : HasKey key rows q) × (had key rows q f ≡ Some (f has))
+pub had_to : {T V : Type 0} (key : T → Key) (rows : List T) (q : Key) (f : HasKey key rows q → V) → HasKey key rows q
+    → (has : HasKey key rows q) × (had key rows q f ≡ Some (f has))
 unfolding had
 had_to key rows q f there = by (find key rows q)
   where

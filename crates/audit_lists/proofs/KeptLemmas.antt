@@ -29,15 +29,25 @@ use Rattle.audit_lists.proofs.ListLemmas.{all_at, at_contains, at_pairs, contain
 use Rattle.audit_lists.proofs.TieLemmas.{kept_both}
 
 -- rows of which no two have one key
-new_keys : {T : Type 0} (key : T → Key) (rows : List T) (R : T → T → Type 0) → ((i j : ℕ) (a b : T) → i < j → slice_get rows i ≡ Some a → slice_get rows j ≡ Some b → R a b) → ((a b : T) → key a ≡ key b → R a b → ⊥) → Each (IsNew key rows) rows
+new_keys : {T : Type 0} (key : T → Key) (rows : List T) (R : T → T → Type 0)
+    → ((i j : ℕ) (a b : T) → i < j → slice_get rows i ≡ Some a → slice_get rows j ≡ Some b → R a b)
+    → ((a b : T) → key a ≡ key b → R a b → ⊥) → Each (IsNew key rows) rows
 new_keys key rows R apart unlike i row there j low (other, at, same) = unlike other row same (apart j i other row low at there)
 
 -- the same where it is known of what they are mapped to
-new_entries : {T X : Type 0} (key : T → Key) (rows : List T) (f : T → X) (R : X → X → Type 0) → AllPairs R (map f rows) → ((a b : T) → key a ≡ key b → R (f a) (f b) → ⊥) → Each (IsNew key rows) rows
-new_entries key rows f R pairs unlike = new_keys key rows (λ a b. R (f a) (f b)) (λ i j a b below at_a at_b. at_pairs R (map f rows) pairs i j (f a) (f b) below (map_at f rows i a at_a) (map_at f rows j b at_b)) unlike
+new_entries : {T X : Type 0} (key : T → Key) (rows : List T) (f : T → X) (R : X → X → Type 0) → AllPairs R (map f rows)
+    → ((a b : T) → key a ≡ key b → R (f a) (f b) → ⊥) → Each (IsNew key rows) rows
+new_entries key rows f R pairs unlike = new_keys key rows (λ a b. R (f a) (f b))
+    (λ i j a b below at_a at_b. at_pairs R (map f rows) pairs i j (f a) (f b) below (map_at f rows i a at_a) (map_at f rows j b at_b)) unlike
 
 -- steps that an office has under names or under names and days, beside their rows
-module _ {T I : Type 0} (step : T → Step) (key before : T → Key) (rows : List T) (of : T → I) (place : T → ℕ) (base : I → Key) (is : (row : T) → key row ≡ at_place (base (of row)) (place row)) (before_is : (row : T) → before row ≡ at_place (base (of row)) (place row - 1)) (one : (a b : I) (p q : ℕ) → at_place (base a) p ≡ at_place (base b) q → (a ≡ b) × (p ≡ q)) (have : I → Option (List Step)) (to : (i : ℕ) (row : T) → slice_get rows i ≡ Some row → (s : List Step) × (have (of row) ≡ Some s) × (slice_get s (place row) ≡ Some (step row))) (from : (x : I) (s : List Step) (p : ℕ) (y : Step) → have x ≡ Some s → slice_get s p ≡ Some y → HasStepAt step key rows (at_place (base x) p) y) where
+module _ {T I : Type 0} (step : T → Step) (key before : T → Key) (rows : List T) (of : T → I) (place : T → ℕ) (base : I → Key)
+    (is : (row : T) → key row ≡ at_place (base (of row)) (place row))
+    (before_is : (row : T) → before row ≡ at_place (base (of row)) (place row - 1))
+    (one : (a b : I) (p q : ℕ) → at_place (base a) p ≡ at_place (base b) q → (a ≡ b) × (p ≡ q)) (have : I → Option (List Step))
+    (to : (i : ℕ) (row : T) → slice_get rows i ≡ Some row → (s : List Step) × (have (of row) ≡ Some s)
+    × (slice_get s (place row) ≡ Some (step row))) (from : (x : I) (s : List Step) (p : ℕ) (y : Step) → have x ≡ Some s → slice_get s p
+    ≡ Some y → HasStepAt step key rows (at_place (base x) p) y) where
   -- a row is at the place before that of each row
   places_follow : Each (λ _ row. HasKey key rows (before row)) rows
   places_follow i row there = by (place row) refl
@@ -86,14 +96,17 @@ module _ (r : OfficeRows) (totals : stored.Rows) (o : Office) (m : AreMembersOf 
   step_to : (i : ℕ) (row : StepRow) → slice_get r.steps.items i ≡ Some row → HasStep o (step_entry row)
   step_to i row there = (m.steps (step_entry row)).1 (contains_map step_entry r.steps.items i row there)
 
-  step_from : (name : List ℕ) (s : List Step) (p : ℕ) (x : Step) → o.tariffs name ≡ Some s → slice_get s p ≡ Some x → HasStepAt row_step step_key r.steps.items (place_key name 0 p) x
+  step_from : (name : List ℕ) (s : List Step) (p : ℕ) (x : Step) → o.tariffs name ≡ Some s → slice_get s p ≡ Some x
+      → HasStepAt row_step step_key r.steps.items (place_key name 0 p) x
   step_from name s p x e at =
       let entry : stored.StepRow = record { tariff = name; place = p; step = x } in
       let f = map_contains step_entry r.steps.items entry ((m.steps entry).0 (s, e, at)) in
       (f.0, f.1, f.2, ap (λ (y : stored.StepRow). place_key y.tariff 0 y.place) f.3, ap (λ (y : stored.StepRow). y.step) f.3)
 
-  tariff_steps : Each (λ _ row. HasKey step_key r.steps.items (step_before_key row)) r.steps.items × ((name : List ℕ) (s : List Step) → o.tariffs name ≡ Some s → IsSteps s → AreSteps row_step step_key r.steps.items (name_key name))
-  tariff_steps = steps_kept row_step step_key step_before_key r.steps.items (λ row. row.tariff) (λ row. row.place) name_key (λ row. refl) (λ row. refl) (λ a b p q e. (ap (λ (k : Key). k.0) e, ap (λ (k : Key). k.3) e)) o.tariffs step_to step_from
+  tariff_steps : Each (λ _ row. HasKey step_key r.steps.items (step_before_key row)) r.steps.items
+      × ((name : List ℕ) (s : List Step) → o.tariffs name ≡ Some s → IsSteps s → AreSteps row_step step_key r.steps.items (name_key name))
+  tariff_steps = steps_kept row_step step_key step_before_key r.steps.items (λ row. row.tariff) (λ row. row.place) name_key (λ row. refl)
+      (λ row. refl) (λ a b p q e. (ap (λ (k : Key). k.0) e, ap (λ (k : Key). k.3) e)) o.tariffs step_to step_from
 
   -- ---- steps from a day on
 
@@ -103,14 +116,18 @@ module _ (r : OfficeRows) (totals : stored.Rows) (o : Office) (m : AreMembersOf 
   dated_to : (i : ℕ) (row : DatedStepRow) → slice_get r.dated_steps.items i ≡ Some row → HasDatedStep o (dated_entry row)
   dated_to i row there = (m.dated_steps (dated_entry row)).1 (contains_map dated_entry r.dated_steps.items i row there)
 
-  dated_from : (x : Dated) (s : List Step) (p : ℕ) (y : Step) → o.dated_steps x.0 x.1 ≡ Some s → slice_get s p ≡ Some y → HasStepAt dated_step_of dated_key r.dated_steps.items (place_key x.0 x.1 p) y
+  dated_from : (x : Dated) (s : List Step) (p : ℕ) (y : Step) → o.dated_steps x.0 x.1 ≡ Some s → slice_get s p ≡ Some y
+      → HasStepAt dated_step_of dated_key r.dated_steps.items (place_key x.0 x.1 p) y
   dated_from x s p y e at =
       let entry : stored.DatedStepRow = record { tariff = x.0; day = x.1; place = p; step = y } in
       let f = map_contains dated_entry r.dated_steps.items entry ((m.dated_steps entry).0 (s, e, at)) in
       (f.0, f.1, f.2, ap (λ (z : stored.DatedStepRow). place_key z.tariff z.day z.place) f.3, ap (λ (z : stored.DatedStepRow). z.step) f.3)
 
-  dated_steps : Each (λ _ row. HasKey dated_key r.dated_steps.items (dated_before_key row)) r.dated_steps.items × ((x : Dated) (s : List Step) → o.dated_steps x.0 x.1 ≡ Some s → IsSteps s → AreSteps dated_step_of dated_key r.dated_steps.items (place_key x.0 x.1 0))
-  dated_steps = steps_kept dated_step_of dated_key dated_before_key r.dated_steps.items (λ row. (row.tariff, row.day)) (λ row. row.place) (λ (x : Dated). place_key x.0 x.1 0) (λ row. refl) (λ row. refl) (λ a b p q e. (ap (λ (k : Key). (k.0, k.2)) e, ap (λ (k : Key). k.3) e)) (λ x. o.dated_steps x.0 x.1) dated_to dated_from
+  dated_steps : Each (λ _ row. HasKey dated_key r.dated_steps.items (dated_before_key row)) r.dated_steps.items
+      × ((x : Dated) (s : List Step) → o.dated_steps x.0 x.1 ≡ Some s → IsSteps s → AreSteps dated_step_of dated_key r.dated_steps.items (place_key x.0 x.1 0))
+  dated_steps = steps_kept dated_step_of dated_key dated_before_key r.dated_steps.items (λ row. (row.tariff, row.day)) (λ row. row.place)
+      (λ (x : Dated). place_key x.0 x.1 0) (λ row. refl) (λ row. refl)
+      (λ a b p q e. (ap (λ (k : Key). (k.0, k.2)) e, ap (λ (k : Key). k.3) e)) (λ x. o.dated_steps x.0 x.1) dated_to dated_from
 
   -- ---- meters and their bases
 
@@ -125,8 +142,13 @@ module _ (r : OfficeRows) (totals : stored.Rows) (o : Office) (m : AreMembersOf 
   of_meters : Each (λ _ base. IsOfMeter r.meters.items base) r.bases.items
   of_meters i b there =
       let row = keeps.bases b.meter b.base ((m.bases b.meter b.base).1 (contains_map base_entry r.bases.items i b there)) in
-      let f = map_contains meter_entry r.meters.items (b.meter, row.meter) ((m.meters b.meter row.meter).0 row.meter_is) in
-      (f.0, f.1, f.2, ap (λ (p : List ℕ × Meter). p.0) f.3, subst (λ (x : Meter). year_of b.base ≤ year_of x.base) (sym (ap (λ (p : List ℕ × Meter). p.1) f.3)) row.not_after)
+      let f = map_contains meter_entry r.meters.items (b.meter, row.meter) ((m.meters b.meter row.meter).0 row.meter_is) in (
+        f.0,
+        f.1,
+        f.2,
+        ap (λ (p : List ℕ × Meter). p.0) f.3,
+        subst (λ (x : Meter). year_of b.base ≤ year_of x.base) (sym (ap (λ (p : List ℕ × Meter). p.1) f.3)) row.not_after,
+      )
 
   -- ---- shifts and sales
 
@@ -140,7 +162,8 @@ module _ (r : OfficeRows) (totals : stored.Rows) (o : Office) (m : AreMembersOf 
       by true true e f one = let first = numbers j a at_a in let second = numbers i b at_b in omega (arith, one, low, first, second)
       by true false e f none = let first = numbers j a at_a in omega (arith, none, first)
       by false true e f none = let second = numbers i b at_b in omega (arith, none, second)
-      by false false e f one = at_pairs NotBothOpen r.shifts.items (subst (AllPairs NotBothOpen) (sym m.shifts) keeps.one_open) j i a b low at_a at_b (open_is a.closed e) (open_is b.closed f) (ap (λ (q : Key). q.0) same)
+      by false false e f one = at_pairs NotBothOpen r.shifts.items (subst (AllPairs NotBothOpen) (sym m.shifts) keeps.one_open) j i a b low
+          at_a at_b (open_is a.closed e) (open_is b.closed f) (ap (λ (q : Key). q.0) same)
 
   before : (i j : ℕ) (a b : Sale) → i < j → slice_get r.sales.items i ≡ Some a → slice_get r.sales.items j ≡ Some b → IsBefore a b
   before = at_pairs IsBefore r.sales.items (subst (AllPairs IsBefore) (sym m.sales) keeps.before)
@@ -156,7 +179,8 @@ module _ (r : OfficeRows) (totals : stored.Rows) (o : Office) (m : AreMembersOf 
 
   tariff_kept : AreKept (tariff_rules r.tariffs.items r.steps.items)
   tariff_kept = (
-    new_keys name_key r.tariffs.items (λ a b. a ≢ b) (at_pairs (λ (a b : List ℕ). a ≢ b) r.tariffs.items m.tariffs_once) (λ a b same apart. apart (ap (λ (q : Key). q.0) same)),
+    new_keys name_key r.tariffs.items (λ a b. a ≢ b) (at_pairs (λ (a b : List ℕ). a ≢ b) r.tariffs.items m.tariffs_once)
+        (λ a b same apart. apart (ap (λ (q : Key). q.0) same)),
     (
       new_entries step_key r.steps.items step_entry AreApart m.steps_once (λ a b same apart. apart (ap (λ (q : Key). q.0) same) (ap (λ (q : Key). q.3) same)),
       (
@@ -176,7 +200,8 @@ module _ (r : OfficeRows) (totals : stored.Rows) (o : Office) (m : AreMembersOf 
 
   dated_kept : AreKept (dated_rules r.tariffs.items r.dated_steps.items)
   dated_kept = (
-    new_entries dated_key r.dated_steps.items dated_entry AreDatedApart m.dated_once (λ a b same apart. apart (ap (λ (q : Key). q.0) same) (ap (λ (q : Key). q.2) same) (ap (λ (q : Key). q.3) same)),
+    new_entries dated_key r.dated_steps.items dated_entry AreDatedApart m.dated_once
+        (λ a b same apart. apart (ap (λ (q : Key). q.0) same) (ap (λ (q : Key). q.2) same) (ap (λ (q : Key). q.3) same)),
     (
       λ i row there.
           let h = dated_to i row there in
@@ -196,7 +221,9 @@ module _ (r : OfficeRows) (totals : stored.Rows) (o : Office) (m : AreMembersOf 
   meter_kept = (
     new_entries meter_key r.meters.items meter_entry (λ a b. a.0 ≢ b.0) m.meters_once (λ a b same apart. apart (ap (λ (q : Key). q.0) same)),
     (
-      new_entries base_key r.bases.items base_entry (λ a b. a ≢ b) m.bases_once (λ a b same apart. apart (ap (λ (x : List ℕ). (x, a.base)) (ap (λ (q : Key). q.0) same) ∙ ap (λ (x : Base). (b.meter, x)) (one_base a.base b.base (ap (λ (q : Key). q.2) same)))),
+      new_entries base_key r.bases.items base_entry (λ a b. a ≢ b) m.bases_once
+          (λ a b same apart. apart (ap (λ (x : List ℕ). (x, a.base)) (ap (λ (q : Key). q.0) same)
+          ∙ ap (λ (x : Base). (b.meter, x)) (one_base a.base b.base (ap (λ (q : Key). q.2) same)))),
       (
         λ i row there.
             let s = some_is (o.tariffs row.meter.tariff) (keeps.meters row.number row.meter (meter_at i row there)).tariff in
@@ -230,7 +257,8 @@ module _ (r : OfficeRows) (totals : stored.Rows) (o : Office) (m : AreMembersOf 
     (
       subst (AreNumbered (λ (s : Sale). s.number)) (sym m.sales) keeps.sale_numbers,
       (
-        new_keys tid_key r.sales.items IsBefore before (λ a b same is. is.tid (ap (λ (q : Key). q.0) same) (one_base a.base b.base (ap (λ (q : Key). q.2) same)) (ap (λ (q : Key). q.3) same)),
+        new_keys tid_key r.sales.items IsBefore before (λ a b same is. is.tid (ap (λ (q : Key). q.0) same)
+            (one_base a.base b.base (ap (λ (q : Key). q.2) same)) (ap (λ (q : Key). q.3) same)),
         (
           new_keys ref_key r.sales.items IsBefore before (λ a b same is. is.order_ref (ap (λ (q : Key). q.0) same) (ap (λ (q : Key). q.1) same)),
           (
@@ -247,4 +275,12 @@ module _ (r : OfficeRows) (totals : stored.Rows) (o : Office) (m : AreMembersOf 
 
   -- all of them
   pub kept : AreKept (tie_rules r)
-  kept = kept_both (tariff_rules r.tariffs.items r.steps.items) (dated_rules r.tariffs.items r.dated_steps.items ++ meter_rules r.tariffs.items r.meters.items r.bases.items ++ shift_rules r.shifts.items ++ sale_rules (length r.shifts.items) r.bases.items r.sales.items) tariff_kept (kept_both (dated_rules r.tariffs.items r.dated_steps.items) (meter_rules r.tariffs.items r.meters.items r.bases.items ++ shift_rules r.shifts.items ++ sale_rules (length r.shifts.items) r.bases.items r.sales.items) dated_kept (kept_both (meter_rules r.tariffs.items r.meters.items r.bases.items) (shift_rules r.shifts.items ++ sale_rules (length r.shifts.items) r.bases.items r.sales.items) meter_kept (kept_both (shift_rules r.shifts.items) (sale_rules (length r.shifts.items) r.bases.items r.sales.items) shift_kept sale_kept)))
+  kept = kept_both (tariff_rules r.tariffs.items r.steps.items)
+      (dated_rules r.tariffs.items r.dated_steps.items ++ meter_rules r.tariffs.items r.meters.items r.bases.items
+      ++ shift_rules r.shifts.items ++ sale_rules (length r.shifts.items) r.bases.items r.sales.items) tariff_kept
+      (kept_both (dated_rules r.tariffs.items r.dated_steps.items)
+      (meter_rules r.tariffs.items r.meters.items r.bases.items ++ shift_rules r.shifts.items
+      ++ sale_rules (length r.shifts.items) r.bases.items r.sales.items) dated_kept
+      (kept_both (meter_rules r.tariffs.items r.meters.items r.bases.items)
+      (shift_rules r.shifts.items ++ sale_rules (length r.shifts.items) r.bases.items r.sales.items) meter_kept
+      (kept_both (shift_rules r.shifts.items) (sale_rules (length r.shifts.items) r.bases.items r.sales.items) shift_kept sale_kept)))

@@ -77,5 +77,6 @@ abbrev pub lent_cmp : LentKey → LentKey → Ordering
 lent_cmp a b = lent_key_cmp (owned_key a) b
 
 -- what is under each key where a place was put
-pub put_place : (m n : BTreeMap LentKey ℕ) (k : LentKey) (at : ℕ) → Updates lent_cmp m n k (Some at) → (q : Key) → place_under n q ≡ cond (same_key (owned_key k) q) (Some at) (place_under m q)
+pub put_place : (m n : BTreeMap LentKey ℕ) (k : LentKey) (at : ℕ) → Updates lent_cmp m n k (Some at) → (q : Key) → place_under n q
+    ≡ cond (same_key (owned_key k) q) (Some at) (place_under m q)
 put_place m n k at put q = put.0 (lend q) ∙ ap (λ (b : Bool). cond b (Some at) (place_under m q)) (tied (owned_key k) q)

@@ -33,16 +33,20 @@ map_contains f xs y there =
     (at.0, from.0, from.1, from.2)
 
 -- pairs by places
-pub pairs_at : {X : Type 0} (R : X → X → Type 0) (xs : List X) → ((i j : ℕ) (a b : X) → i < j → slice_get xs i ≡ Some a → slice_get xs j ≡ Some b → R a b) → AllPairs R xs
+pub pairs_at : {X : Type 0} (R : X → X → Type 0) (xs : List X)
+    → ((i j : ℕ) (a b : X) → i < j → slice_get xs i ≡ Some a → slice_get xs j ≡ Some b → R a b) → AllPairs R xs
 pairs_at R xs each i j d below low =
     let first : i < length xs = omega (arith, below, low) in
     each i j (get_or xs i d) (get_or xs j d) below (slice_get-get_or xs i d first) (slice_get-get_or xs j d low)
 
-pub at_pairs : {X : Type 0} (R : X → X → Type 0) (xs : List X) → AllPairs R xs → (i j : ℕ) (a b : X) → i < j → slice_get xs i ≡ Some a → slice_get xs j ≡ Some b → R a b
+pub at_pairs : {X : Type 0} (R : X → X → Type 0) (xs : List X) → AllPairs R xs → (i j : ℕ) (a b : X) → i < j → slice_get xs i ≡ Some a
+    → slice_get xs j ≡ Some b → R a b
 at_pairs R xs pairs i j a b below there_a there_b =
-    subst (R a) (get_or_from_slice_get xs j b a there_b) (subst (λ x. R x (get_or xs j a)) (get_or_from_slice_get xs i a a there_a) (pairs i j a below (slice_get_within xs j b there_b)))
+    subst (R a) (get_or_from_slice_get xs j b a there_b)
+    (subst (λ x. R x (get_or xs j a)) (get_or_from_slice_get xs i a a there_a) (pairs i j a below (slice_get_within xs j b there_b)))
 
-pub pairs_map : {X Y : Type 0} (R : Y → Y → Type 0) (f : X → Y) (xs : List X) → ((i j : ℕ) (a b : X) → i < j → slice_get xs i ≡ Some a → slice_get xs j ≡ Some b → R (f a) (f b)) → AllPairs R (map f xs)
+pub pairs_map : {X Y : Type 0} (R : Y → Y → Type 0) (f : X → Y) (xs : List X)
+    → ((i j : ℕ) (a b : X) → i < j → slice_get xs i ≡ Some a → slice_get xs j ≡ Some b → R (f a) (f b)) → AllPairs R (map f xs)
 pairs_map R f xs each = pairs_at R (map f xs) (λ i j y z below there_y there_z.
     let a = map_from f xs i y there_y in
     let b = map_from f xs j z there_z in
@@ -55,7 +59,8 @@ pub all_at : {X : Type 0} (P : X → Type 0) (xs : List X) → All P xs → Each
 all_at P xs all i x is = subst P (get_or_from_slice_get xs i x x is) (all i x (slice_get_within xs i x is))
 
 -- rows of one key are one row, where no two have one
-pub one_row : {T : Type 0} (key : T → Key) (rows : List T) → Each (IsNew key rows) rows → (i j : ℕ) (a b : T) → slice_get rows i ≡ Some a → slice_get rows j ≡ Some b → key a ≡ key b → a ≡ b
+pub one_row : {T : Type 0} (key : T → Key) (rows : List T) → Each (IsNew key rows) rows → (i j : ℕ) (a b : T) → slice_get rows i ≡ Some a
+    → slice_get rows j ≡ Some b → key a ≡ key b → a ≡ b
 one_row key rows apart i j a b there_a there_b same = elim (cases_lt i j) [
   | inl below ↦ absurd (apart j b there_b i below (a, there_a, same))
   | inr least ↦ elim (cases_lt j i) [

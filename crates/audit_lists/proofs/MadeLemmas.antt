@@ -58,7 +58,8 @@ with_one sales s rows are =
     let base = base_of s in
     let month = month_of s in
     let ids = put_rows (is_under base) base (tells_under base) rows.last_ids (λ k. greatest (sales_under sales k)) are.last_ids last.0 in
-    let months = put_rows (is_in_month month) month (tells_month month) rows.month_tenths (λ k. tenths_of (sales_in_month sales k)) are.month_tenths (month_sum sales s) in
+    let months = put_rows (is_in_month month) month (tells_month month) rows.month_tenths (λ k. tenths_of (sales_in_month sales k))
+    are.month_tenths (month_sum sales s) in
     let shifts = put_number s.shift rows.shift_totals (λ k. totals_of (sales_in_shift sales k)) are.shift_totals are.by_shift (shift_sum sales s) in (
       record no_rows { last_ids = ids.0; month_tenths = months.0; shift_totals = shifts.rest },
       record {

@@ -36,7 +36,8 @@ use Rattle.audit_lists.proofs.StepLemmas.{StepsHad, steps_had}
 use Rattle.audit_lists.proofs.TieLemmas.{kept_parts}
 
 -- no two of what rows with keys are mapped to
-apart_from : {T : Type 0} (key : T → Key) (rows : List T) → Each (IsNew key rows) rows → (i j : ℕ) (a b : T) → i < j → slice_get rows i ≡ Some a → slice_get rows j ≡ Some b → key a ≢ key b
+apart_from : {T : Type 0} (key : T → Key) (rows : List T) → Each (IsNew key rows) rows → (i j : ℕ) (a b : T) → i < j → slice_get rows i
+    ≡ Some a → slice_get rows j ≡ Some b → key a ≢ key b
 apart_from key rows once i j a b low at_a at_b same = once j b at_b i low (a, at_a, same)
 
 closing : (o : Option ℕ) → IsClosing o → (secs : ℕ) → o ≡ Some secs → IsMoment secs
@@ -71,14 +72,19 @@ stored_dated tariff day place step = record { tariff = tariff; day = day; place 
 abbrev shift_place : List ℕ → ℕ → Key
 shift_place operator number = (operator, [], number, 0)
 
-module _ (r : OfficeRows) (of_tariffs : AreKept (tariff_rules r.tariffs.items r.steps.items)) (of_dated : AreKept (dated_rules r.tariffs.items r.dated_steps.items)) (of_meters : AreKept (meter_rules r.tariffs.items r.meters.items r.bases.items)) (of_shifts : AreKept (shift_rules r.shifts.items)) (of_sales : AreKept (sale_rules (length r.shifts.items) r.bases.items r.sales.items)) where
+module _ (r : OfficeRows) (of_tariffs : AreKept (tariff_rules r.tariffs.items r.steps.items))
+    (of_dated : AreKept (dated_rules r.tariffs.items r.dated_steps.items))
+    (of_meters : AreKept (meter_rules r.tariffs.items r.meters.items r.bases.items)) (of_shifts : AreKept (shift_rules r.shifts.items))
+    (of_sales : AreKept (sale_rules (length r.shifts.items) r.bases.items r.sales.items)) where
   -- ---- the office
 
   tariff_steps : StepsHad row_step step_key r.steps.items name_key r.tariffs.items
-  tariff_steps = steps_had row_step step_key step_before_key r.steps.items of_tariffs.1.0 of_tariffs.1.1.1.0 step_is_before name_key r.tariffs.items of_tariffs.1.1.1.1.0
+  tariff_steps = steps_had row_step step_key step_before_key r.steps.items of_tariffs.1.0 of_tariffs.1.1.1.0 step_is_before name_key
+      r.tariffs.items of_tariffs.1.1.1.1.0
 
   dated_steps : StepsHad dated_step_of dated_key r.dated_steps.items dated_first_key r.dated_steps.items
-  dated_steps = steps_had dated_step_of dated_key dated_before_key r.dated_steps.items of_dated.0 of_dated.1.1.0 dated_is_before dated_first_key r.dated_steps.items of_dated.1.1.1.0
+  dated_steps = steps_had dated_step_of dated_key dated_before_key r.dated_steps.items of_dated.0 of_dated.1.1.0 dated_is_before
+      dated_first_key r.dated_steps.items of_dated.1.1.1.0
 
   abbrev meter_of : List ℕ → Option Meter
   meter_of number = had meter_key r.meters.items (name_key number) (λ has. has.1.0.meter)
@@ -118,7 +124,8 @@ module _ (r : OfficeRows) (of_tariffs : AreKept (tariff_rules r.tariffs.items r.
         let h = tariff_steps.step_from (name_key e.tariff) has.0 e.place e.step has.1 has.2 in
         let tariff : h.1.tariff ≡ e.tariff = ap (λ (q : Key). q.0) h.3 in
         let place : h.1.place ≡ e.place = ap (λ (q : Key). q.3) h.3 in
-        let is = ap (λ (x : List ℕ). stored_step x h.1.place h.1.step) tariff ∙ ap (λ (x : ℕ). stored_step e.tariff x h.1.step) place ∙ ap (stored_step e.tariff e.place) h.4 in
+        let is = ap (λ (x : List ℕ). stored_step x h.1.place h.1.step) tariff ∙ ap (λ (x : ℕ). stored_step e.tariff x h.1.step) place
+        ∙ ap (stored_step e.tariff e.place) h.4 in
         subst (Contains (map step_entry r.steps.items)) is (contains_map step_entry r.steps.items h.0 h.1 h.2),
     λ there.
         let f = map_contains step_entry r.steps.items e there in
@@ -132,7 +139,9 @@ module _ (r : OfficeRows) (of_tariffs : AreKept (tariff_rules r.tariffs.items r.
         let tariff : h.1.tariff ≡ e.tariff = ap (λ (q : Key). q.0) h.3 in
         let day : h.1.day ≡ e.day = ap (λ (q : Key). q.2) h.3 in
         let place : h.1.place ≡ e.place = ap (λ (q : Key). q.3) h.3 in
-        let is = ap (λ (x : List ℕ). stored_dated x h.1.day h.1.place h.1.step) tariff ∙ ap (λ (x : ℕ). stored_dated e.tariff x h.1.place h.1.step) day ∙ ap (λ (x : ℕ). stored_dated e.tariff e.day x h.1.step) place ∙ ap (stored_dated e.tariff e.day e.place) h.4 in
+        let is = ap (λ (x : List ℕ). stored_dated x h.1.day h.1.place h.1.step) tariff
+        ∙ ap (λ (x : ℕ). stored_dated e.tariff x h.1.place h.1.step) day ∙ ap (λ (x : ℕ). stored_dated e.tariff e.day x h.1.step) place
+        ∙ ap (stored_dated e.tariff e.day e.place) h.4 in
         subst (Contains (map dated_entry r.dated_steps.items)) is (contains_map dated_entry r.dated_steps.items h.0 h.1 h.2),
     λ there.
         let f = map_contains dated_entry r.dated_steps.items e there in
@@ -143,9 +152,11 @@ module _ (r : OfficeRows) (of_tariffs : AreKept (tariff_rules r.tariffs.items r.
   meter_is : (i : ℕ) (row : MeterRow) (number : List ℕ) → slice_get r.meters.items i ≡ Some row → row.number ≡ number → meter_of number ≡ Some row.meter
   meter_is i row number there is =
       let h = had_to meter_key r.meters.items (name_key number) (λ has. has.1.0.meter) (i, (row, there, ap name_key is)) in
-      h.1 ∙ ap (λ (x : MeterRow). Some x.meter) (one_row meter_key r.meters.items of_meters.0 h.0.0 i h.0.1.0 row h.0.1.1 there (h.0.1.2 ∙ sym (ap name_key is)))
+      h.1 ∙ ap (λ (x : MeterRow). Some x.meter) (one_row meter_key r.meters.items of_meters.0 h.0.0 i h.0.1.0 row h.0.1.1 there
+      (h.0.1.2 ∙ sym (ap name_key is)))
 
-  meter_from : (number : List ℕ) (m : Meter) → meter_of number ≡ Some m → (i : ℕ) × (row : MeterRow) × (slice_get r.meters.items i ≡ Some row) × (meter_entry row ≡ (number, m))
+  meter_from : (number : List ℕ) (m : Meter) → meter_of number ≡ Some m → (i : ℕ) × (row : MeterRow)
+      × (slice_get r.meters.items i ≡ Some row) × (meter_entry row ≡ (number, m))
   meter_from number m e =
       let h = had_from meter_key r.meters.items (name_key number) (λ has. has.1.0.meter) m e in
       (h.0.0, h.0.1.0, h.0.1.1, ap (λ (x : List ℕ). (x, h.0.1.0.meter)) (ap (λ (q : Key). q.0) h.0.1.2) ∙ ap (λ (x : Meter). (number, x)) h.1)
@@ -158,12 +169,18 @@ module _ (r : OfficeRows) (of_tariffs : AreKept (tariff_rules r.tariffs.items r.
         meter_is f.0 f.1 number f.2 (ap (λ (p : List ℕ × Meter). p.0) f.3) ∙ ap (λ (p : List ℕ × Meter). Some p.1) f.3,
   )
 
-  base_from : (number : List ℕ) (base : Base) → has_base number base ≡ true → (i : ℕ) × (row : BaseRow) × (slice_get r.bases.items i ≡ Some row) × (base_entry row ≡ (number, base))
+  base_from : (number : List ℕ) (base : Base) → has_base number base ≡ true → (i : ℕ) × (row : BaseRow)
+      × (slice_get r.bases.items i ≡ Some row) × (base_entry row ≡ (number, base))
   base_from number base e =
       let s = some_is (had base_key r.bases.items (base_place number base) (λ has. has.0)) e in
       let h = had_from base_key r.bases.items (base_place number base) (λ has. has.0) s.0 s.1 in
-      let row = h.0.1.0 in
-      (h.0.0, row, h.0.1.1, ap (λ (x : List ℕ). (x, row.base)) (ap (λ (q : Key). q.0) h.0.1.2) ∙ ap (λ (x : Base). (number, x)) (one_base row.base base (ap (λ (q : Key). q.2) h.0.1.2)))
+      let row = h.0.1.0 in (
+        h.0.0,
+        row,
+        h.0.1.1,
+        ap (λ (x : List ℕ). (x, row.base)) (ap (λ (q : Key). q.0) h.0.1.2)
+            ∙ ap (λ (x : Base). (number, x)) (one_base row.base base (ap (λ (q : Key). q.2) h.0.1.2)),
+      )
 
   base_there : (number : List ℕ) (base : Base) → HasKey base_key r.bases.items (base_place number base) → has_base number base ≡ true
   base_there number base has = ap is_some (had_to base_key r.bases.items (base_place number base) (λ has. has.0) has).1
@@ -186,11 +203,17 @@ module _ (r : OfficeRows) (of_tariffs : AreKept (tariff_rules r.tariffs.items r.
     shifts = refl;
     sales = refl;
     totals = sums;
-    tariffs_once = pairs_at (λ (a b : List ℕ). a ≢ b) r.tariffs.items (λ i j a b low at_a at_b same. apart_from name_key r.tariffs.items of_tariffs.0 i j a b low at_a at_b (ap name_key same));
-    steps_once = pairs_map AreApart step_entry r.steps.items (λ i j a b low at_a at_b tariff place. apart_from step_key r.steps.items of_tariffs.1.0 i j a b low at_a at_b (cc));
-    meters_once = pairs_map (λ (a b : List ℕ × Meter). a.0 ≢ b.0) meter_entry r.meters.items (λ i j a b low at_a at_b same. apart_from meter_key r.meters.items of_meters.0 i j a b low at_a at_b (ap name_key same));
-    bases_once = pairs_map (λ (a b : List ℕ × Base). a ≢ b) base_entry r.bases.items (λ i j a b low at_a at_b same. apart_from base_key r.bases.items of_meters.1.0 i j a b low at_a at_b (ap (λ (p : List ℕ × Base). base_place p.0 p.1) same));
-    dated_once = pairs_map AreDatedApart dated_entry r.dated_steps.items (λ i j a b low at_a at_b tariff day place. apart_from dated_key r.dated_steps.items of_dated.0 i j a b low at_a at_b (cc));
+    tariffs_once = pairs_at (λ (a b : List ℕ). a ≢ b) r.tariffs.items
+        (λ i j a b low at_a at_b same. apart_from name_key r.tariffs.items of_tariffs.0 i j a b low at_a at_b (ap name_key same));
+    steps_once = pairs_map AreApart step_entry r.steps.items
+        (λ i j a b low at_a at_b tariff place. apart_from step_key r.steps.items of_tariffs.1.0 i j a b low at_a at_b (cc));
+    meters_once = pairs_map (λ (a b : List ℕ × Meter). a.0 ≢ b.0) meter_entry r.meters.items
+        (λ i j a b low at_a at_b same. apart_from meter_key r.meters.items of_meters.0 i j a b low at_a at_b (ap name_key same));
+    bases_once = pairs_map (λ (a b : List ℕ × Base). a ≢ b) base_entry r.bases.items
+        (λ i j a b low at_a at_b same. apart_from base_key r.bases.items of_meters.1.0 i j a b low at_a at_b
+        (ap (λ (p : List ℕ × Base). base_place p.0 p.1) same));
+    dated_once = pairs_map AreDatedApart dated_entry r.dated_steps.items
+        (λ i j a b low at_a at_b tariff day place. apart_from dated_key r.dated_steps.items of_dated.0 i j a b low at_a at_b (cc));
   }
 
   -- ---- what they keep
@@ -204,7 +227,8 @@ module _ (r : OfficeRows) (of_tariffs : AreKept (tariff_rules r.tariffs.items r.
     meters_keep : (number : List ℕ) (m : Meter) → meter_of number ≡ Some m → IsMeterRow office number m
     meters_keep number m e =
         let f = meter_from number m e in
-        let values = all_at (λ (x : List ℕ × Meter). IsMeterNo x.0 × AreMeterValues x.1) (map meter_entry r.meters.items) v.meters f.0 (meter_entry f.1) (map_at meter_entry r.meters.items f.0 f.1 f.2) in
+        let values = all_at (λ (x : List ℕ × Meter). IsMeterNo x.0 × AreMeterValues x.1) (map meter_entry r.meters.items) v.meters f.0
+        (meter_entry f.1) (map_at meter_entry r.meters.items f.0 f.1 f.2) in
         subst (λ (x : List ℕ × Meter). IsMeterRow office x.0 x.1) f.3 (record {
           numbered = values.0;
           key = values.1.key;
@@ -216,15 +240,18 @@ module _ (r : OfficeRows) (of_tariffs : AreKept (tariff_rules r.tariffs.items r.
     bases_keep number base e =
         let f = base_from number base e in
         let m = of_meters.1.1.1.1.0 f.0 f.1 f.2 in
-        subst (λ (x : List ℕ × Base). IsBaseRow office x.0 x.1) f.3 (record { meter = m.1.meter; meter_is = meter_is m.0 m.1 f.1.meter m.2 m.3; not_after = m.4 })
+        subst (λ (x : List ℕ × Base). IsBaseRow office x.0 x.1) f.3
+        (record { meter = m.1.meter; meter_is = meter_is m.0 m.1 f.1.meter m.2 m.3; not_after = m.4 })
 
     dated_keep : (name : List ℕ) (day : ℕ) (s : List Step) → dated_steps.had (place_key name day 0) ≡ Some s → IsDatedRow office name day s
     dated_keep name day s e =
         let f = dated_steps.from (place_key name day 0) s e in
         let row = f.0.1.0 in
-        let values = all_at (λ (x : stored.DatedStepRow). IsName x.tariff × (IsDay x.day × AreStepValues x.step)) (map dated_entry r.dated_steps.items) v.dated_steps f.0.0 (dated_entry row) (map_at dated_entry r.dated_steps.items f.0.0 row f.0.1.1) in
+        let values = all_at (λ (x : stored.DatedStepRow). IsName x.tariff × (IsDay x.day × AreStepValues x.step))
+        (map dated_entry r.dated_steps.items) v.dated_steps f.0.0 (dated_entry row) (map_at dated_entry r.dated_steps.items f.0.0 row f.0.1.1) in
         record {
-          tariff = subst (λ (q : Key). IsSome (tariff_steps.had (name_key q.0))) f.0.1.2 (tariff_steps.to (name_key row.tariff) (of_dated.1.0 f.0.0 row f.0.1.1));
+          tariff = subst (λ (q : Key). IsSome (tariff_steps.had (name_key q.0))) f.0.1.2
+              (tariff_steps.to (name_key row.tariff) (of_dated.1.0 f.0.0 row f.0.1.1));
           in_range = subst (λ (q : Key). IsDay q.2) f.0.1.2 values.1.0;
           priced = f.1;
         }
@@ -234,7 +261,8 @@ module _ (r : OfficeRows) (of_tariffs : AreKept (tariff_rules r.tariffs.items r.
         let first = closed_is a.closed open_a in
         let second = closed_is b.closed open_b in
         apart_from open_key r.shifts.items of_shifts.1.1.0 i j a b low at_a at_b
-        (ap (λ (x : Bool). shift_place a.operator (if x then a.number else 0)) first ∙ ap (λ (x : List ℕ). shift_place x 0) same ∙ sym (ap (λ (x : Bool). shift_place b.operator (if x then b.number else 0)) second)))
+        (ap (λ (x : Bool). shift_place a.operator (if x then a.number else 0)) first ∙ ap (λ (x : List ℕ). shift_place x 0) same
+        ∙ sym (ap (λ (x : Bool). shift_place b.operator (if x then b.number else 0)) second)))
 
     sale_keeps : (i : ℕ) (s : Sale) → slice_get r.sales.items i ≡ Some s → IsSaleRow office s
     sale_keeps i s there =
@@ -281,11 +309,13 @@ module _ (r : OfficeRows) (of_tariffs : AreKept (tariff_rules r.tariffs.items r.
       sale_count = few_rows r.sales.items of_sales.0;
     }
 
-    shown_by : (totals : stored.Rows) → AreTotalsOf r.sales.items (with_totals (rows_of r) totals) → (o : Office) × IsOffice o × AreMembersOf (with_totals (rows_of r) totals) o
+    shown_by : (totals : stored.Rows) → AreTotalsOf r.sales.items (with_totals (rows_of r) totals) → (o : Office) × IsOffice o
+        × AreMembersOf (with_totals (rows_of r) totals) o
     shown_by totals sums = (office, office_keeps, members totals sums)
 
 -- rows that keep the rules are the members of an office, with any totals of its sales
-pub shown : (r : OfficeRows) → AreKept (tie_rules r) → KeepRules (rows_of r) → (totals : stored.Rows) → AreTotalsOf r.sales.items (with_totals (rows_of r) totals) → (o : Office) × IsOffice o × AreMembersOf (with_totals (rows_of r) totals) o
+pub shown : (r : OfficeRows) → AreKept (tie_rules r) → KeepRules (rows_of r) → (totals : stored.Rows)
+    → AreTotalsOf r.sales.items (with_totals (rows_of r) totals) → (o : Office) × IsOffice o × AreMembersOf (with_totals (rows_of r) totals) o
 shown r kept =
     let sales = sale_rules (length r.shifts.items) r.bases.items r.sales.items in
     let shifts = shift_rules r.shifts.items in
@@ -300,5 +330,6 @@ shown r kept =
 -- there are no more sales than an office holds
 pub sale_count : (r : OfficeRows) → AreKept (tie_rules r) → length r.sales.items ≤ greatest_count
 sale_count r kept =
-    let tables = tariff_rules r.tariffs.items r.steps.items ++ dated_rules r.tariffs.items r.dated_steps.items ++ meter_rules r.tariffs.items r.meters.items r.bases.items ++ shift_rules r.shifts.items in
+    let tables = tariff_rules r.tariffs.items r.steps.items ++ dated_rules r.tariffs.items r.dated_steps.items
+    ++ meter_rules r.tariffs.items r.meters.items r.bases.items ++ shift_rules r.shifts.items in
     few_rows r.sales.items (kept_parts tables (sale_rules (length r.shifts.items) r.bases.items r.sales.items) kept).1.0

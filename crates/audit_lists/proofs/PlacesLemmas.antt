@@ -23,13 +23,16 @@ module _ {T : Type 0} (key : T → Key) where
   at_some rows n q i None e is = absurd (none-some i e)
   at_some rows n q i (Some j) e is = subst (SomeAt rows n q) (same_Some j i e) is
 
-  pub none_under : (places : BTreeMap LentKey ℕ) (rows : List T) (n : ℕ) → ArePlaces key places rows n → (q : Key) → place_under places q ≡ None → NoneAt rows n q
+  pub none_under : (places : BTreeMap LentKey ℕ) (rows : List T) (n : ℕ) → ArePlaces key places rows n → (q : Key) → place_under places q
+      ≡ None → NoneAt rows n q
   none_under places rows n are q none = at_none rows n q (place_under places q) none (are q)
 
-  pub some_under : (places : BTreeMap LentKey ℕ) (rows : List T) (n : ℕ) → ArePlaces key places rows n → (q : Key) (i : ℕ) → place_under places q ≡ Some i → SomeAt rows n q i
+  pub some_under : (places : BTreeMap LentKey ℕ) (rows : List T) (n : ℕ) → ArePlaces key places rows n → (q : Key) (i : ℕ)
+      → place_under places q ≡ Some i → SomeAt rows n q i
   some_under places rows n are q i some = at_some rows n q i (place_under places q) some (are q)
 
-  module _ (rows : List T) (m : BTreeMap LentKey ℕ) (at : ℕ) (row : T) (there : slice_get rows at ≡ Some row) (k : LentKey) (is : owned_key k ≡ key row) (are : ArePlaces key m rows at) where
+  module _ (rows : List T) (m : BTreeMap LentKey ℕ) (at : ℕ) (row : T) (there : slice_get rows at ≡ Some row) (k : LentKey)
+      (is : owned_key k ≡ key row) (are : ArePlaces key m rows at) where
     -- the row has the key of an earlier one
     pub is_twice : (j : ℕ) → place_under m (owned_key k) ≡ Some j → ¬ IsNew key rows at row
     is_twice j some new = let found = some_under m rows at are (owned_key k) j some in new j found.0 (found.1.0, found.1.1, found.1.2 ∙ is)
@@ -40,9 +43,11 @@ module _ {T : Type 0} (key : T → Key) where
       is_new j low has = none_under m rows at are (owned_key k) new j has.0 low has.1 (has.2 ∙ sym is)
 
       module _ (n : BTreeMap LentKey ℕ) (put : Updates lent_cmp m n k (Some at)) (q : Key) where
-        fits : (b : Bool) → same_key (owned_key k) q ≡ b → (old now : Option ℕ) → now ≡ cond b (Some at) old → MatchOption old (NoneAt rows at q) (SomeAt rows at q) → MatchOption now (NoneAt rows (at + 1) q) (SomeAt rows (at + 1) q)
+        fits : (b : Bool) → same_key (owned_key k) q ≡ b → (old now : Option ℕ) → now ≡ cond b (Some at) old
+            → MatchOption old (NoneAt rows at q) (SomeAt rows at q) → MatchOption now (NoneAt rows (at + 1) q) (SomeAt rows (at + 1) q)
         fits true same old None e was = absurd (none-some at e)
-        fits true same old (Some i) e was = subst (SomeAt rows (at + 1) q) (sym (same_Some i at e)) (omega arith, (row, there, sym is ∙ one_key (owned_key k) q same))
+        fits true same old (Some i) e was = subst (SomeAt rows (at + 1) q) (sym (same_Some i at e))
+            (omega arith, (row, there, sym is ∙ one_key (owned_key k) q same))
         fits false other None None e was = λ i r below there_r same. elim (cases_lt i at) [
           | inl before ↦ was i r before there_r same
           | inr least ↦

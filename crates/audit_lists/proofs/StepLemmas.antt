@@ -26,7 +26,8 @@ module _ {T : Type 0} (step : T → Step) (key : T → Key) (rows : List T) (apa
   one_step : (q : Key) (s t : Step) → HasStepAt step key rows q s → HasStepAt step key rows q t → s ≡ t
   one_step q s t a b = sym a.4 ∙ ap step (one_row key rows apart a.0 b.0 a.1 b.1 a.2 b.2 (a.3 ∙ sym b.3)) ∙ b.4
 
-  no_longer : (q : Key) (xs ys : List Step) → AreFirstUnder step key rows q xs → AreFirstUnder step key rows q ys → (IsLong xs → length ys ≤ length xs) → length ys ≤ length xs
+  no_longer : (q : Key) (xs ys : List Step) → AreFirstUnder step key rows q xs → AreFirstUnder step key rows q ys
+      → (IsLong xs → length ys ≤ length xs) → length ys ≤ length xs
   no_longer q xs ys a b long = elim (cases_lt (length xs) (length ys)) [
     | inr least ↦ least
     | inl more ↦ elim a.ended [
@@ -48,7 +49,8 @@ module _ {T : Type 0} (step : T → Step) (key : T → Key) (rows : List T) (apa
       let t = row_below ys i (let within = slice_get_within xs i s is in omega (arith, within, high)) in
       t.1 ∙ ap Some (one_step (at_place q i) t.0 s (b.there i t.0 t.1) (a.there i s is)))
 
-  module _ (before : T → Key) (follow : Each (λ _ row. HasKey key rows (before row)) rows) (is_before : (row : T) (q : Key) (p : ℕ) → key row ≡ at_place q (suc p) → before row ≡ at_place q p) where
+  module _ (before : T → Key) (follow : Each (λ _ row. HasKey key rows (before row)) rows)
+      (is_before : (row : T) (q : Key) (p : ℕ) → key row ≡ at_place q (suc p) → before row ≡ at_place q p) where
     -- before a row there are rows at all earlier places
     earlier : (q : Key) (n d : ℕ) → HasKey key rows (at_place q (n + d)) → HasKey key rows (at_place q n)
     earlier q n zero has = subst (λ (p : ℕ). HasKey key rows (at_place q p)) (let e : n + 0 ≡ n = omega arith in e) has
@@ -68,7 +70,8 @@ module _ {T : Type 0} (step : T → Step) (key : T → Key) (rows : List T) (apa
         ]
 
     -- the step of a row is that of its place
-    pub row_step : (q : Key) (a : AreSteps step key rows q) (i : ℕ) (row : T) (p : ℕ) → slice_get rows i ≡ Some row → key row ≡ at_place q p → slice_get a.steps p ≡ Some (step row)
+    pub row_step : (q : Key) (a : AreSteps step key rows q) (i : ℕ) (row : T) (p : ℕ) → slice_get rows i ≡ Some row → key row
+        ≡ at_place q p → slice_get a.steps p ≡ Some (step row)
     row_step q a i row p there is =
         let x = row_below a.steps p (short q p a (i, (row, there, is)) (cases_lt p (length a.steps))) in
         x.1 ∙ ap Some (one_step (at_place q p) x.0 (step row) (a.first.there p x.0 x.1) (i, row, there, is, refl))
@@ -79,13 +82,18 @@ pub record StepsHad {T U : Type 0} (step : T → Step) (key : T → Key) (rows :
   pub to : (q : Key) → HasKey of others q → IsSome (had q)
   pub from : (q : Key) (s : List Step) → had q ≡ Some s → HasKey of others q × IsSteps s
   pub step_from : (q : Key) (s : List Step) (p : ℕ) (x : Step) → had q ≡ Some s → slice_get s p ≡ Some x → HasStepAt step key rows (at_place q p) x
-  pub step_to : (q : Key) (i : ℕ) (row : T) (p : ℕ) → HasKey of others q → slice_get rows i ≡ Some row → key row ≡ at_place q p → (s : List Step) × (had q ≡ Some s) × (slice_get s p ≡ Some (step row))
+  pub step_to : (q : Key) (i : ℕ) (row : T) (p : ℕ) → HasKey of others q → slice_get rows i ≡ Some row → key row ≡ at_place q p
+      → (s : List Step) × (had q ≡ Some s) × (slice_get s p ≡ Some (step row))
 
-module _ {T U : Type 0} (step : T → Step) (key before : T → Key) (rows : List T) (apart : Each (IsNew key rows) rows) (follow : Each (λ _ row. HasKey key rows (before row)) rows) (is_before : (row : T) (q : Key) (p : ℕ) → key row ≡ at_place q (suc p) → before row ≡ at_place q p) (of : U → Key) (others : List U) (are : Each (λ _ other. AreSteps step key rows (of other)) others) where
+module _ {T U : Type 0} (step : T → Step) (key before : T → Key) (rows : List T) (apart : Each (IsNew key rows) rows)
+    (follow : Each (λ _ row. HasKey key rows (before row)) rows)
+    (is_before : (row : T) (q : Key) (p : ℕ) → key row ≡ at_place q (suc p) → before row ≡ at_place q p) (of : U → Key) (others : List U)
+    (are : Each (λ _ other. AreSteps step key rows (of other)) others) where
   chosen : (q : Key) → HasKey of others q → AreSteps step key rows q
   chosen q has = subst (AreSteps step key rows) has.1.2 (are has.0 has.1.0 has.1.1)
 
-  from : (q : Key) (s : List Step) → had of others q (λ has. (chosen q has).steps) ≡ Some s → HasKey of others q × (a : AreSteps step key rows q) × (a.steps ≡ s)
+  from : (q : Key) (s : List Step) → had of others q (λ has. (chosen q has).steps) ≡ Some s → HasKey of others q
+      × (a : AreSteps step key rows q) × (a.steps ≡ s)
   from q s e = let h = had_from of others q (λ has. (chosen q has).steps) s e in (h.0, chosen q h.0, h.1)
 
   pub steps_had : StepsHad step key rows of others

@@ -25,7 +25,8 @@ use Rattle.audit_lists.specs.reached.Finds.{AreRowsOfOffice}
 use Rattle.audit_lists.proofs.ListLemmas.{all_at, all_from, at_pairs, contains_map, map_at, map_contains}
 
 -- fields are the same where the three numbers are, and only there
-pub same_fields : (rnd tid tenths : ℕ) (read f : TokenFields) → record { rnd = rnd; tid = tid; tenths = tenths } ≡ read → rnd ≡ f.rnd → tid ≡ f.tid → tenths ≡ f.tenths → read ≡ f
+pub same_fields : (rnd tid tenths : ℕ) (read f : TokenFields) → record { rnd = rnd; tid = tid; tenths = tenths } ≡ read → rnd ≡ f.rnd → tid
+    ≡ f.tid → tenths ≡ f.tenths → read ≡ f
 same_fields rnd tid tenths read f is same_rnd same_tid same_tenths =
     sym is ∙ ap (λ (n : ℕ). record { rnd = n; tid = tid; tenths = tenths }) same_rnd ∙ ap (λ (n : ℕ). record { rnd = f.rnd; tid = n; tenths = tenths }) same_tid
     ∙ ap (λ (n : ℕ). record { rnd = f.rnd; tid = f.tid; tenths = n }) same_tenths
@@ -52,14 +53,16 @@ module _ (r : OfficeRows) (o : Office) (are : AreRowsOfOffice r o) where
       subst (λ (n : List ℕ). o.meters n ≡ Some m.meter) named ((are.members.meters m.number m.meter).1 (contains_map meter_entry r.meters.items i m there))
 
   -- its key says whether the sale was written,
-  pub by_key : (forward : BlockFunction) (s : Sale) (m : Meter) → o.meters s.meter ≡ Some m → IsToken forward m.key (fields_of s) s.digits ↔ IsWrittenBy forward o s
+  pub by_key : (forward : BlockFunction) (s : Sale) (m : Meter) → o.meters s.meter ≡ Some m
+      → IsToken forward m.key (fields_of s) s.digits ↔ IsWrittenBy forward o s
   by_key forward s m is = (
     λ token. record { meter = m; meter_is = is; token = token },
     λ w. subst (λ (k : Meter). IsToken forward k.key (fields_of s) s.digits) (same_Some w.meter m (sym w.meter_is ∙ is)) w.token,
   )
 
   -- and a sale of no meter was not
-  pub no_meter : (forward : BlockFunction) (s : Sale) → ((i : ℕ) (m : MeterRow) → i < length r.meters.items → slice_get r.meters.items i ≡ Some m → meter_key m ≢ name_key s.meter) → ¬ IsWrittenBy forward o s
+  pub no_meter : (forward : BlockFunction) (s : Sale)
+      → ((i : ℕ) (m : MeterRow) → i < length r.meters.items → slice_get r.meters.items i ≡ Some m → meter_key m ≢ name_key s.meter) → ¬ IsWrittenBy forward o s
   no_meter forward s none w =
       let at = map_contains meter_entry r.meters.items (s.meter, w.meter) ((are.members.meters s.meter w.meter).0 w.meter_is) in
       none at.0 at.1 (slice_get_within r.meters.items at.0 at.1 at.2) at.2 (ap (λ (p : List ℕ × Meter). name_key p.0) at.3)

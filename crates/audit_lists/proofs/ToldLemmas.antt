@@ -20,7 +20,8 @@ told_ties zero r f said = said
 told_ties (suc zero) r f said = said
 told_ties (suc (suc n)) r f said = says_left (tie_rules r) (total_rules r) f said
 
-pub told_totals : (n : ℕ) (r : OfficeRows) (f : OfficeFault) → 2 ≤ n → AreKept (tie_rules r) → Says (FindsFirst (total_rules r)) f → Says (FindsFirst (rules_of n r)) f
+pub told_totals : (n : ℕ) (r : OfficeRows) (f : OfficeFault) → 2 ≤ n → AreKept (tie_rules r) → Says (FindsFirst (total_rules r)) f
+    → Says (FindsFirst (rules_of n r)) f
 told_totals zero r f two kept said = absurd (omega (arith, two))
 told_totals (suc zero) r f two kept said = absurd (omega (arith, two))
 told_totals (suc (suc n)) r f two kept said = says_right (tie_rules r) (total_rules r) f kept said
@@ -32,7 +33,13 @@ all_kept (suc zero) r kept more = kept
 all_kept (suc (suc n)) r kept more = kept_both (tie_rules r) (total_rules r) kept (more (omega arith))
 
 -- the rows are an office's, with totals of its sales
-pub shows : (n : ℕ) (r : OfficeRows) (totals : Rows) → (2 ≤ n → totals ≡ rows_of r) → AreKept (tie_rules r) → KeepRules (rows_of r) → AreTotalsOf r.sales.items totals → ShowOffice n (rows_of r)
+pub shows : (n : ℕ) (r : OfficeRows) (totals : Rows) → (2 ≤ n → totals ≡ rows_of r) → AreKept (tie_rules r) → KeepRules (rows_of r)
+    → AreTotalsOf r.sales.items totals → ShowOffice n (rows_of r)
 shows n r totals own kept keep are =
-    let all = shown r kept keep totals (record { last_ids = are.last_ids; month_tenths = are.month_tenths; shift_totals = are.shift_totals; by_shift = are.by_shift }) in
+    let all = shown r kept keep totals (record {
+      last_ids = are.last_ids;
+      month_tenths = are.month_tenths;
+      shift_totals = are.shift_totals;
+      by_shift = are.by_shift;
+    }) in
     record { totals = totals; own = own; office = all.0; is = all.1; members = all.2 }

@@ -65,7 +65,8 @@ module _ {X : Type 0} (p : X → Bool) where
 -- ---- one table: what is found of the sales under a key, and the rows that tell it
 
 module _ {K V : Type 0} (is_key : K → K → Bool) (tells : (key k : K) → (is_key key k ≡ true) ↔ (k ≡ key)) (key_of : Sale → K)
-    (found : List Sale → Option V) (none : found [] ≡ None) (some : (s : Sale) (more : List Sale) → (v : V) × (found (s ∷ more) ≡ Some v)) (sales : List Sale) where
+    (found : List Sale → Option V) (none : found [] ≡ None) (some : (s : Sale) (more : List Sale) → (v : V) × (found (s ∷ more) ≡ Some v))
+    (sales : List Sale) where
   abbrev pub has : K → Option V
   has key = found (filter (λ s. is_key key (key_of s)) sales)
 
@@ -204,7 +205,8 @@ module _ (r : OfficeRows) where
 
   shifts : AreKept shift_totals ↔ AreRowsOf (rows_of r).shift_totals (λ shift. totals_of (sales_in_shift r.sales.items shift))
   shifts =
-      rows_are (λ n k. k == n) tells_number (λ s. s.shift) totals_of refl (λ s more. (_, refl)) r.sales.items shift_place (λ a b same. ap (λ (q : Key). q.2) same)
+      rows_are (λ n k. k == n) tells_number (λ s. s.shift) totals_of refl (λ s more. (_, refl)) r.sales.items shift_place
+      (λ a b same. ap (λ (q : Key). q.2) same)
       totals_entry table.ShiftTotals (λ l. key.Number l.shift) shift_asked r.shift_totals.items
 
   -- the rows are the totals of the sales, where those of shifts come by their numbers

@@ -10,7 +10,9 @@ ghost use Rattle.audit_lists.specs.Ties.{AreKept, Each, FindsFirst, IsFirst, Say
 
 use crate::bases::test_bases;
 use crate::fault::{OfficeFault, found};
-use crate::key::{Before, First, Name, Number, Open, OrderRef, Place, Tariff, Identifier, UnderBase};
+use crate::key::{
+    Before, First, Identifier, Name, Number, Open, OrderRef, Place, Tariff, UnderBase,
+};
 use crate::numbers::{test_count, test_numbers};
 use crate::places::{Places, places_of, test_names};
 use crate::steps::test_steps;

@@ -25,13 +25,16 @@ use Rattle.audit_rows.specs.Order.{AreKeptInOrder, HaveAllColumns}
 use Rattle.audit_rows.proofs.TableLemmas.{StoredAs, at, hidden_found, long_so, numbered_so, numbered_stored}
 
 -- what holds of each table that came up to a format holds of all of them
-first_upto : (P : Kept → Type 0) (n : ℕ) (j : Kept) (rest : List Kept) (b : Bool) → nat_le j.since n ≡ b → (j.since ≤ n → P j) → AllByRecursion P rest → AllByRecursion P (cond b (j ∷ rest) rest)
+first_upto : (P : Kept → Type 0) (n : ℕ) (j : Kept) (rest : List Kept) (b : Bool) → nat_le j.since n ≡ b → (j.since ≤ n → P j)
+    → AllByRecursion P rest → AllByRecursion P (cond b (j ∷ rest) rest)
 first_upto P n j rest true is holds all = (holds (leb-true j.since n is), all)
 first_upto P n j rest false is holds all = all
 
-all_upto : (P : Kept → Type 0) (n : ℕ) (ts : List TableName) → ((t : TableName) → (kept_of t).since ≤ n → P (kept_of t)) → AllByRecursion P (filter (λ k. nat_le k.since n) (map kept_of ts))
+all_upto : (P : Kept → Type 0) (n : ℕ) (ts : List TableName) → ((t : TableName) → (kept_of t).since ≤ n → P (kept_of t))
+    → AllByRecursion P (filter (λ k. nat_le k.since n) (map kept_of ts))
 all_upto P n [] each = tt
-all_upto P n (t ∷ ts) each = first_upto P n (kept_of t) (filter (λ k. nat_le k.since n) (map kept_of ts)) (nat_le (kept_of t).since n) refl (each t) (all_upto P n ts each)
+all_upto P n (t ∷ ts) each = first_upto P n (kept_of t) (filter (λ k. nat_le k.since n) (map kept_of ts)) (nat_le (kept_of t).since n) refl
+    (each t) (all_upto P n ts each)
 
 -- the digits of a sale are in the last column of its row
 digits_there : (row : Row) (x : Sale) → columns_of sales_kept row ≡ sale_columns x → column row 14 ≢ Null
@@ -48,7 +51,8 @@ about_holds (suc n) db rows some tells = tells
 abbrev present_base : List ℕ × Meter → List ℕ × Base
 present_base r = (r.0, r.1.base)
 
-module _ (n : ℕ) (db : Database) (sound : IsDatabase db) (has : HasOfficeOf n db.schema) (tells : TellsFormat n db) (order : AreKeptInOrder db) (whole : 1 ≤ n → HaveAllColumns db) (rows : Rows) (read : HasAllRows n db rows) where
+module _ (n : ℕ) (db : Database) (sound : IsDatabase db) (has : HasOfficeOf n db.schema) (tells : TellsFormat n db)
+    (order : AreKeptInOrder db) (whole : 1 ≤ n → HaveAllColumns db) (rows : Rows) (read : HasAllRows n db rows) where
   there : (t : TableName) → (kept_of t).since ≤ n → IsKept db.schema (kept_of t)
   there t come = of_upto (IsKept db.schema) n (kept_of t) kept (at t) (le-leb (kept_of t).since n come) has.tables
 
@@ -58,23 +62,29 @@ module _ (n : ℕ) (db : Database) (sound : IsDatabase db) (has : HasOfficeOf n 
   -- ---- tables whose rows have no numbers of their own
 
   tariffs : StoredAs n 1 tariffs_kept db tariff_columns rows.tariffs
-  tariffs = hidden_found n 1 db sound tariffs_kept tariff_columns (there table.Tariffs) (in_order table.Tariffs) refl refl (λ row x is null. absurd (cc)) rows.tariffs read.tariffs
+  tariffs = hidden_found n 1 db sound tariffs_kept tariff_columns (there table.Tariffs) (in_order table.Tariffs) refl refl
+      (λ row x is null. absurd (cc)) rows.tariffs read.tariffs
 
   steps : StoredAs n 1 steps_kept db step_columns rows.steps
-  steps = hidden_found n 1 db sound steps_kept step_columns (there table.TariffSteps) (in_order table.TariffSteps) refl refl (λ row x is null. absurd (cc)) rows.steps read.steps
+  steps = hidden_found n 1 db sound steps_kept step_columns (there table.TariffSteps) (in_order table.TariffSteps) refl refl
+      (λ row x is null. absurd (cc)) rows.steps read.steps
 
   meters : StoredAs n 1 meters_kept db meter_columns rows.meters
-  meters = hidden_found n 1 db sound meters_kept meter_columns (there table.Meters) (in_order table.Meters) refl refl (λ row x is null. absurd (cc)) rows.meters read.meters
+  meters = hidden_found n 1 db sound meters_kept meter_columns (there table.Meters) (in_order table.Meters) refl refl
+      (λ row x is null. absurd (cc)) rows.meters read.meters
 
   last_ids : StoredAs n 2 last_ids_kept db last_id_columns rows.last_ids
-  last_ids = hidden_found n 2 db sound last_ids_kept last_id_columns (there table.LastIds) (in_order table.LastIds) refl refl (λ row x is null. absurd (cc)) rows.last_ids read.last_ids
+  last_ids = hidden_found n 2 db sound last_ids_kept last_id_columns (there table.LastIds) (in_order table.LastIds) refl refl
+      (λ row x is null. absurd (cc)) rows.last_ids read.last_ids
 
   month_tenths : StoredAs n 2 month_tenths_kept db month_columns rows.month_tenths
-  month_tenths = hidden_found n 2 db sound month_tenths_kept month_columns (there table.MonthTenths) (in_order table.MonthTenths) refl refl (λ row x is null. absurd (cc)) rows.month_tenths read.month_tenths
+  month_tenths = hidden_found n 2 db sound month_tenths_kept month_columns (there table.MonthTenths) (in_order table.MonthTenths) refl refl
+      (λ row x is null. absurd (cc)) rows.month_tenths read.month_tenths
 
   -- those of a format without bases are the present ones of its meters
   bases : StoredAs n 3 bases_kept db base_columns rows.bases
-  bases = hidden_found n 3 db sound bases_kept base_columns (there table.MeterBases) (in_order table.MeterBases) refl refl (λ row x is null. absurd (cc)) rows.bases read.bases
+  bases = hidden_found n 3 db sound bases_kept base_columns (there table.MeterBases) (in_order table.MeterBases) refl refl
+      (λ row x is null. absurd (cc)) rows.bases read.bases
 
   record BasesAre : Type 0 where
     pub list : List (List ℕ × Base)
@@ -86,7 +96,8 @@ module _ (n : ℕ) (db : Database) (sound : IsDatabase db) (has : HasOfficeOf n 
   bases_are = elim (cases_lt n 3) [
     | inl before ↦ record {
       list = map present_base meters.rows;
-      same = subst (λ (l : List (List ℕ × Base)). IsPermutation l (map present_base meters.rows)) (sym (read.of_format.bases before)) (IsPermutation-map present_base rows.meters meters.rows meters.same);
+      same = subst (λ (l : List (List ℕ × Base)). IsPermutation l (map present_base meters.rows)) (sym (read.of_format.bases before))
+          (IsPermutation-map present_base rows.meters meters.rows meters.same);
       of_format = λ _. refl;
       stored = λ come. absurd (omega (arith, before, come));
     }
@@ -94,7 +105,8 @@ module _ (n : ℕ) (db : Database) (sound : IsDatabase db) (has : HasOfficeOf n 
   ]
 
   dated_steps : StoredAs n 4 dated_steps_kept db dated_columns rows.dated_steps
-  dated_steps = hidden_found n 4 db sound dated_steps_kept dated_columns (there table.DatedSteps) (in_order table.DatedSteps) refl refl (λ row x is null. absurd (cc)) rows.dated_steps read.dated_steps
+  dated_steps = hidden_found n 4 db sound dated_steps_kept dated_columns (there table.DatedSteps) (in_order table.DatedSteps) refl refl
+      (λ row x is null. absurd (cc)) rows.dated_steps read.dated_steps
 
   -- ---- tables whose rows have numbers of their own
 
@@ -108,13 +120,15 @@ module _ (n : ℕ) (db : Database) (sound : IsDatabase db) (has : HasOfficeOf n 
   sales come =
       let stands = there table.Sales come in
       let e = numbered_so sales_kept sale_columns refl db (in_order table.Sales come) rows.sales (read.sales come) in
-      numbered_stored sales_kept sale_columns refl db sound stands _ _ refl refl refl rows.sales e (long_so sales_kept sale_columns refl db sound stands _ _ refl refl refl digits_there rows.sales e)
+      numbered_stored sales_kept sale_columns refl db sound stands _ _ refl refl refl rows.sales e
+      (long_so sales_kept sale_columns refl db sound stands _ _ refl refl refl digits_there rows.sales e)
 
   shift_totals : 2 ≤ n → rows_in db shift_totals_kept.table.name ≡ map (λ x. keyed (totals_columns x)) rows.shift_totals
   shift_totals come =
       let stands = there table.ShiftTotals come in
       let e = numbered_so shift_totals_kept totals_columns refl db (in_order table.ShiftTotals come) rows.shift_totals (read.shift_totals come) in
-      numbered_stored shift_totals_kept totals_columns refl db sound stands _ _ refl refl refl rows.shift_totals e (long_so shift_totals_kept totals_columns refl db sound stands _ _ refl refl refl (λ row x is null. absurd (cc)) rows.shift_totals e)
+      numbered_stored shift_totals_kept totals_columns refl db sound stands _ _ refl refl refl rows.shift_totals e
+      (long_so shift_totals_kept totals_columns refl db sound stands _ _ refl refl refl (λ row x is null. absurd (cc)) rows.shift_totals e)
 
   -- ---- all of them
 
@@ -164,7 +178,8 @@ module _ (n : ℕ) (db : Database) (sound : IsDatabase db) (has : HasOfficeOf n 
     reordered,
     record {
       has = has;
-      are = first_upto (HoldsRows db n ordered) n about_kept (filter (λ k. nat_le k.since n) (map kept_of read_tables)) (nat_le 1 n) refl (λ some. about_holds n db ordered some tells)
+      are = first_upto (HoldsRows db n ordered) n about_kept (filter (λ k. nat_le k.since n) (map kept_of read_tables)) (nat_le 1 n) refl
+          (λ some. about_holds n db ordered some tells)
           (all_upto (HoldsRows db n ordered) n read_tables each);
       of_format = record { bases = bases_are.of_format; dated_steps = λ before. dated_steps.before before ∙ read.of_format.dated_steps before };
     },

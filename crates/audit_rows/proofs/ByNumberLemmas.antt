@@ -33,7 +33,8 @@ columns_shown k row = map-map (λ t. eval t ([] ∷ row ∷ [])) (col 1) (places
 pub number_first : (k : Kept) (row : Row) → k.is_numbered ≡ true → column (columns_of k row) 0 ≡ column row 0
 number_first k row numbered = rw numbered refl
 
-module _ (k : Kept) (order : List (Term × Key)) (db : Database) (answer : List Row) (is : IsAnswer (list_query_by k order (tree_in db.schema k.table.name)) db.trees [] answer) where
+module _ (k : Kept) (order : List (Term × Key)) (db : Database) (answer : List Row)
+    (is : IsAnswer (list_query_by k order (tree_in db.schema k.table.name)) db.trees [] answer) where
   abbrev q : Query
   q = list_query_by k order (tree_in db.schema k.table.name)
 
@@ -47,18 +48,21 @@ module _ (k : Kept) (order : List (Term × Key)) (db : Database) (answer : List 
   out r = output q (whole r)
 
   arranged : IsPermutation (map out stored) is.ordered
-  arranged = subst (λ (l : List Output). IsPermutation l is.ordered) (is.distinct ∙ ap (map (output q)) (is.grouped ∙ one_each whole stored) ∙ map-map (output q) whole stored) is.same
+  arranged = subst (λ (l : List Output). IsPermutation l is.ordered)
+      (is.distinct ∙ ap (map (output q)) (is.grouped ∙ one_each whole stored) ∙ map-map (output q) whole stored) is.same
 
   back : (ys : List Row) × IsPermutation stored ys × (is.ordered ≡ map out ys)
   back = pull_back out (map out stored) is.ordered arranged stored refl
 
   shown : answer ≡ map (columns_of k) back.0
-  shown = is.shown ∙ ap (map (λ (o : Output). o.1)) back.2 ∙ map-map (λ (o : Output). o.1) out back.0 ∙ map_same (λ r. (out r).1) (columns_of k) (columns_shown k) back.0
+  shown = is.shown ∙ ap (map (λ (o : Output). o.1)) back.2 ∙ map-map (λ (o : Output). o.1) out back.0
+      ∙ map_same (λ r. (out r).1) (columns_of k) (columns_shown k) back.0
 
   all_answered : IsPermutation (all_columns k db) answer
   all_answered = subst (IsPermutation (all_columns k db)) (sym shown) (IsPermutation-map (columns_of k) stored back.0 back.1)
 
-module _ (k : Kept) (is_numbered : k.is_numbered ≡ true) (db : Database) (answer : List Row) (is : IsAnswer (list_query_by k (rising 0) (tree_in db.schema k.table.name)) db.trees [] answer) where
+module _ (k : Kept) (is_numbered : k.is_numbered ≡ true) (db : Database) (answer : List Row)
+    (is : IsAnswer (list_query_by k (rising 0) (tree_in db.schema k.table.name)) db.trees [] answer) where
   abbrev by : Query
   by = list_query_by k (rising 0) (tree_in db.schema k.table.name)
 
@@ -96,14 +100,18 @@ order_is : (k : Kept) → k.is_numbered ≡ true → order_of k ≡ rising 0
 order_is k numbered = rw numbered refl
 
 -- an answer is a listing
-pub answer_lists : (k : Kept) (db : Database) (answer : List Row) → IsAnswer (list_query k (tree_in db.schema k.table.name)) db.trees [] answer → IsTableListing k db answer
+pub answer_lists : (k : Kept) (db : Database) (answer : List Row)
+    → IsAnswer (list_query k (tree_in db.schema k.table.name)) db.trees [] answer → IsTableListing k db answer
 answer_lists k db answer is = record {
   same = IsPermutation-sym (all_columns k db) answer (all_answered k (order_of k) db answer is);
-  rises = λ numbered. rows_rise k numbered db answer (subst (λ (o : List (Term × Key)). IsAnswer (list_query_by k o (tree_in db.schema k.table.name)) db.trees [] answer) (order_is k numbered) is);
+  rises = λ numbered. rows_rise k numbered db answer
+      (subst (λ (o : List (Term × Key)). IsAnswer (list_query_by k o (tree_in db.schema k.table.name)) db.trees [] answer) (order_is k numbered) is);
 }
 
 -- records with numbers that rise have rows that rise
 module _ {X : Type 0} (k : Kept) (columns : X → Row) (number_of : X → ℕ) (numbered_by : (x : X) → column (columns x) 0 ≡ number (number_of x)) where
-  pub rise_keyed : (xs : List X) → IsKeyedBy (λ x. pos (number_of x)) xs → IsAscending (λ (a b : Row). value_cmp (column a 0) (column b 0) ≡ Less) (map columns xs)
+  pub rise_keyed : (xs : List X) → IsKeyedBy (λ x. pos (number_of x)) xs
+      → IsAscending (λ (a b : Row). value_cmp (column a 0) (column b 0) ≡ Less) (map columns xs)
   rise_keyed xs up = ascending-map (λ (a b : Row). value_cmp (column a 0) (column b 0) ≡ Less) columns xs
-      (ascending_weaker _ _ (λ (a b : X) h. ap₂ value_cmp (numbered_by a) (numbered_by b) ∙ value_cmp-Int (pos (number_of a)) (pos (number_of b)) ∙ Less-from_lt (pos (number_of a)) (pos (number_of b)) h) xs up)
+      (ascending_weaker _ _ (λ (a b : X) h. ap₂ value_cmp (numbered_by a) (numbered_by b)
+      ∙ value_cmp-Int (pos (number_of a)) (pos (number_of b)) ∙ Less-from_lt (pos (number_of a)) (pos (number_of b)) h) xs up)

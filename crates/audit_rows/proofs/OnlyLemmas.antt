@@ -77,7 +77,8 @@ module _ {X : Type 0} (R : X → X → Type 0) (turn : (x y : X) → R x y → R
     at_second d = exchanged b d ∙ get_or-set_same (set xs a (get_or xs b d)) b (get_or xs a d) d (omega (arith, length-set xs a (get_or xs b d), b_in))
 
     at_other : (m : ℕ) (d : X) → (m ≡ a → ⊥) → (m ≡ b → ⊥) → get_or (swap xs a b) m d ≡ get_or xs m d
-    at_other m d not_a not_b = exchanged m d ∙ get_or-set_other (set xs a (get_or xs b d)) b m (get_or xs a d) d not_b ∙ get_or-set_other xs a m (get_or xs b d) d not_a
+    at_other m d not_a not_b = exchanged m d ∙ get_or-set_other (set xs a (get_or xs b d)) b m (get_or xs a d) d not_b
+        ∙ get_or-set_other xs a m (get_or xs b d) d not_a
 
     at_first : (d : X) → (a ≡ b → ⊥) → get_or (swap xs a b) a d ≡ get_or xs b d
     at_first d other = exchanged a d ∙ get_or-set_other (set xs a (get_or xs b d)) b a (get_or xs a d) d other ∙ get_or-set_same xs a (get_or xs b d) d a_in
@@ -93,7 +94,13 @@ module _ {X : Type 0} (R : X → X → Type 0) (turn : (x y : X) → R x y → R
     stood m d low = elim (cases_eq m b) [
       | inl at_b ↦ record { place = a; low = a_in; is = ap (λ (k : ℕ). get_or (swap xs a b) k d) at_b ∙ at_second d; how = inr (inl (at_b, refl)) }
       | inr not_b ↦ elim (cases_eq m a) [
-        | inl at_a ↦ record { place = b; low = b_in; is = ap (λ (k : ℕ). get_or (swap xs a b) k d) at_a ∙ at_first d (λ same. not_b (at_a ∙ same)); how = inl (at_a, refl) }
+        | inl at_a ↦ record {
+          place = b;
+          low = b_in;
+          is = ap (λ (k : ℕ). get_or (swap xs a b) k d) at_a
+              ∙ at_first d (λ same. not_b (at_a ∙ same));
+          how = inl (at_a, refl);
+        }
         | inr not_a ↦ record { place = m; low = low; is = at_other m d not_a not_b; how = inr (inr (refl, (not_a, not_b))) }
       ]
     ]
@@ -120,7 +127,8 @@ module _ {X : Type 0} (R : X → X → Type 0) (turn : (x y : X) → R x y → R
         still p q (inr (inr (i_is, from))) (inr (inr (j_is, from_j))) same = other (i_is ∙ same ∙ sym j_is)
 
   pub pairs_reordered : (xs ys : List X) → IsPermutation xs ys → AllPairs R xs → AllPairs R ys
-  pairs_reordered xs ys same pairs = pairs_from_apart ys (IsPermutation-keeps xs Apart (apart_from_pairs xs pairs) (λ l i j i_in j_in apart. exchanged_apart l i j i_in j_in apart) ys same)
+  pairs_reordered xs ys same pairs = pairs_from_apart ys
+      (IsPermutation-keeps xs Apart (apart_from_pairs xs pairs) (λ l i j i_in j_in apart. exchanged_apart l i j i_in j_in apart) ys same)
 
 -- ---- members
 
@@ -156,7 +164,8 @@ members_reordered a b o same are = record {
   steps_once = pairs_reordered AreApart (λ x y other tariff place. other (sym tariff) (sym place)) a.steps b.steps same.steps are.steps_once;
   meters_once = pairs_reordered (λ (x y : List ℕ × Meter). x.0 ≢ y.0) apart_turned a.meters b.meters same.meters are.meters_once;
   bases_once = pairs_reordered (λ (x y : List ℕ × Base). x ≢ y) (λ x y other is. other (sym is)) a.bases b.bases same.bases are.bases_once;
-  dated_once = pairs_reordered AreDatedApart (λ x y other tariff day place. other (sym tariff) (sym day) (sym place)) a.dated_steps b.dated_steps same.dated_steps are.dated_once;
+  dated_once = pairs_reordered AreDatedApart (λ x y other tariff day place. other (sym tariff) (sym day) (sym place)) a.dated_steps
+      b.dated_steps same.dated_steps are.dated_once;
 }
 
 pub reordered_back : (a b : Rows) → AreReordered a b → AreReordered b a
@@ -175,7 +184,8 @@ reordered_back a b same = record {
 
 -- of values that are told by what is stored of those that pass, the list of what is stored tells
 -- the list
-one_list_of : {X Y : Type 0} (f : X → Y) (P : X → Type 0) → ((a b : X) → P a → P b → f a ≡ f b → a ≡ b) → (xs ys : List X) → All P xs → All P ys → map f xs ≡ map f ys → xs ≡ ys
+one_list_of : {X Y : Type 0} (f : X → Y) (P : X → Type 0) → ((a b : X) → P a → P b → f a ≡ f b → a ≡ b) → (xs ys : List X) → All P xs
+    → All P ys → map f xs ≡ map f ys → xs ≡ ys
 one_list_of f P one [] [] p q e = refl
 one_list_of f P one [] (y ∷ ys) p q e = cc
 one_list_of f P one (x ∷ xs) [] p q e = cc
@@ -187,19 +197,26 @@ one_list_of f P one (x ∷ xs) (y ∷ ys) p q e =
     cc
 
 module _ {X : Type 0} (k : Kept) (columns : X → Row) (P : X → Type 0) (one : (a b : X) → P a → P b → columns a ≡ columns b → a ≡ b) where
-  hidden_only : ((v : Value) (x : X) → columns_of k (v ∷ columns x) ≡ columns x) → ((x : X) → columns x ≡ [] → ⊥) → (db : Database) (xs rs : List X) → All P xs → All P rs → HasRowsOf columns k db xs → AreStoredRows false (rows_in db k.table.name) (map columns rs) → IsPermutation xs rs
+  hidden_only : ((v : Value) (x : X) → columns_of k (v ∷ columns x) ≡ columns x) → ((x : X) → columns x ≡ [] → ⊥)
+      → (db : Database) (xs rs : List X) → All P xs → All P rs → HasRowsOf columns k db xs
+      → AreStoredRows false (rows_in db k.table.name) (map columns rs) → IsPermutation xs rs
   hidden_only same some db xs rs keeps kept has held =
       let back = pull_back columns (map columns xs) (all_columns k db) has.same xs refl in
       let are : all_columns k db ≡ map columns rs = columns_hidden k columns same some (rows_in db k.table.name) rs held.0 in
       let is : back.0 ≡ rs = one_list_of columns P one back.0 rs (All-permutation P xs back.0 back.1 keeps) kept (sym back.2 ∙ are) in
       subst (λ (l : List X). IsPermutation xs l) is back.1
 
-  numbered_only : k.is_numbered ≡ true → (number_of : X → ℕ) → ((x : X) → column (columns x) 0 ≡ number (number_of x)) → ((x : X) → columns_of k (keyed (columns x)) ≡ columns x) → (db : Database) (xs rs : List X) → All P xs → All P rs → HasRowsOf columns k db xs → IsKeyedBy (λ x. pos (number_of x)) rs
+  numbered_only : k.is_numbered ≡ true → (number_of : X → ℕ) → ((x : X) → column (columns x) 0 ≡ number (number_of x))
+      → ((x : X) → columns_of k (keyed (columns x)) ≡ columns x) → (db : Database) (xs rs : List X) → All P xs → All P rs
+      → HasRowsOf columns k db xs → IsKeyedBy (λ x. pos (number_of x)) rs
       → rows_in db k.table.name ≡ map (λ x. keyed (columns x)) rs → xs ≡ rs
   numbered_only is_numbered number_of numbered_by same db xs rs keeps kept has up held =
       let are : all_columns k db ≡ map columns rs = columns_numbered k (λ x. keyed (columns x)) columns same (rows_in db k.table.name) rs held in
-      let back : IsPermutation (map columns rs) (map columns xs) = IsPermutation-sym (map columns xs) (map columns rs) (subst (λ (l : List Row). IsPermutation (map columns xs) l) are has.same) in
-      one_list_of columns P one xs rs keeps kept (sorted_unique (λ (a b : Row). value_cmp (column a 0) (column b 0)) (on_total (λ (r : Row). column r 0) value_cmp_total) (map columns rs) (map columns xs) (rise_keyed k columns number_of numbered_by rs up) back (has.rises is_numbered))
+      let back : IsPermutation (map columns rs) (map columns xs) =
+      IsPermutation-sym (map columns xs) (map columns rs) (subst (λ (l : List Row). IsPermutation (map columns xs) l) are has.same) in
+      one_list_of columns P one xs rs keeps kept (sorted_unique (λ (a b : Row). value_cmp (column a 0) (column b 0))
+      (on_total (λ (r : Row). column r 0) value_cmp_total) (map columns rs) (map columns xs)
+      (rise_keyed k columns number_of numbered_by rs up) back (has.rises is_numbered))
 
 abbrev present_base : List ℕ × Meter → List ℕ × Base
 present_base r = (r.0, r.1.base)
@@ -231,15 +248,18 @@ one_sale a b e = one_shown_sale a b (cc)
 one_key_meter : (a b : List ℕ × Meter) → IsKey a.1.key → IsKey b.1.key → meter_columns a ≡ meter_columns b → a ≡ b
 one_key_meter a b small_a small_b e = one_meter a b small_a small_b e
 
-module _ (n : ℕ) (some : 1 ≤ n) (db : Database) (rows : Rows) (read : HasAllRows n db rows) (keep : KeepRules rows) (o : Office) (office : IsOffice o) (r : Rows) (held : HoldsOf n n db r) (are : AreMembersOf r o) where
+module _ (n : ℕ) (some : 1 ≤ n) (db : Database) (rows : Rows) (read : HasAllRows n db rows) (keep : KeepRules rows) (o : Office)
+    (office : IsOffice o) (r : Rows) (held : HoldsOf n n db r) (are : AreMembersOf r o) where
   holds : (t : TableName) → (kept_of t).since ≤ n → HoldsRows db n r (kept_of t)
   holds t come = of_upto (HoldsRows db n r) n (kept_of t) kept (at t) (le-leb (kept_of t).since n come) held.are
 
   tariffs : IsPermutation rows.tariffs r.tariffs
-  tariffs = hidden_only tariffs_kept tariff_columns (λ _. ⊤) (λ a b _ _. one_tariff a b) (λ v x. refl) (λ x none. cc) db rows.tariffs r.tariffs (any rows.tariffs) (any r.tariffs) (read.tariffs some) (holds table.Tariffs some)
+  tariffs = hidden_only tariffs_kept tariff_columns (λ _. ⊤) (λ a b _ _. one_tariff a b) (λ v x. refl) (λ x none. cc) db rows.tariffs
+      r.tariffs (any rows.tariffs) (any r.tariffs) (read.tariffs some) (holds table.Tariffs some)
 
   steps : IsPermutation rows.steps r.steps
-  steps = hidden_only steps_kept step_columns (λ _. ⊤) (λ a b _ _. one_step a b) (λ v x. refl) (λ x none. cc) db rows.steps r.steps (any rows.steps) (any r.steps) (read.steps some) (holds table.TariffSteps some)
+  steps = hidden_only steps_kept step_columns (λ _. ⊤) (λ a b _ _. one_step a b) (λ v x. refl) (λ x none. cc) db rows.steps r.steps
+      (any rows.steps) (any r.steps) (read.steps some) (holds table.TariffSteps some)
 
   abbrev has_key : List ℕ × Meter → Type 0
   has_key m = IsKey m.1.key
@@ -248,31 +268,42 @@ module _ (n : ℕ) (some : 1 ≤ n) (db : Database) (rows : Rows) (read : HasAll
   keys = all_from_contains has_key r.meters (λ m there. (office.meters m.0 m.1 ((are.meters m.0 m.1).1 there)).key)
 
   meters : IsPermutation rows.meters r.meters
-  meters = hidden_only meters_kept meter_columns has_key one_key_meter (λ v x. refl) (λ x none. cc) db rows.meters r.meters (λ i d low. (keep.meters i d low).1.key) keys (read.meters some) (holds table.Meters some)
+  meters = hidden_only meters_kept meter_columns has_key one_key_meter (λ v x. refl) (λ x none. cc) db rows.meters r.meters
+      (λ i d low. (keep.meters i d low).1.key) keys (read.meters some) (holds table.Meters some)
 
   shifts : rows.shifts ≡ r.shifts
-  shifts = numbered_only shifts_kept shift_columns (λ _. ⊤) (λ a b _ _. one_shown_shift a b) refl (λ (x : Shift). x.number) (λ x. refl) (λ x. refl) db rows.shifts r.shifts (any rows.shifts) (any r.shifts) (read.shifts some)
-      (subst (IsKeyedBy (λ (x : Shift). pos x.number)) (sym are.shifts) (numbers_rise (λ (x : Shift). x.number) o.shifts office.shift_numbers)) (holds table.Shifts some)
+  shifts = numbered_only shifts_kept shift_columns (λ _. ⊤) (λ a b _ _. one_shown_shift a b) refl (λ (x : Shift). x.number) (λ x. refl)
+      (λ x. refl) db rows.shifts r.shifts (any rows.shifts) (any r.shifts) (read.shifts some)
+      (subst (IsKeyedBy (λ (x : Shift). pos x.number)) (sym are.shifts)
+      (numbers_rise (λ (x : Shift). x.number) o.shifts office.shift_numbers)) (holds table.Shifts some)
 
   sales : rows.sales ≡ r.sales
-  sales = numbered_only sales_kept sale_columns (λ _. ⊤) (λ a b _ _. one_sale a b) refl (λ (x : Sale). x.number) (λ x. refl) (λ x. refl) db rows.sales r.sales (any rows.sales) (any r.sales) (read.sales some)
-      (subst (IsKeyedBy (λ (x : Sale). pos x.number)) (sym are.sales) (numbers_rise (λ (x : Sale). x.number) o.sales office.sale_numbers)) (holds table.Sales some)
+  sales = numbered_only sales_kept sale_columns (λ _. ⊤) (λ a b _ _. one_sale a b) refl (λ (x : Sale). x.number) (λ x. refl) (λ x. refl) db
+      rows.sales r.sales (any rows.sales) (any r.sales) (read.sales some)
+      (subst (IsKeyedBy (λ (x : Sale). pos x.number)) (sym are.sales) (numbers_rise (λ (x : Sale). x.number) o.sales office.sale_numbers))
+      (holds table.Sales some)
 
   last_ids : 2 ≤ n → IsPermutation rows.last_ids r.last_ids
-  last_ids come = hidden_only last_ids_kept last_id_columns (λ _. ⊤) (λ a b _ _. one_last a b) (λ v x. refl) (λ x none. cc) db rows.last_ids r.last_ids (any rows.last_ids) (any r.last_ids) (read.last_ids come) (holds table.LastIds come)
+  last_ids come = hidden_only last_ids_kept last_id_columns (λ _. ⊤) (λ a b _ _. one_last a b) (λ v x. refl) (λ x none. cc) db
+      rows.last_ids r.last_ids (any rows.last_ids) (any r.last_ids) (read.last_ids come) (holds table.LastIds come)
 
   month_tenths : 2 ≤ n → IsPermutation rows.month_tenths r.month_tenths
-  month_tenths come = hidden_only month_tenths_kept month_columns (λ _. ⊤) (λ a b _ _. one_month a b) (λ v x. refl) (λ x none. cc) db rows.month_tenths r.month_tenths (any rows.month_tenths) (any r.month_tenths) (read.month_tenths come) (holds table.MonthTenths come)
+  month_tenths come = hidden_only month_tenths_kept month_columns (λ _. ⊤) (λ a b _ _. one_month a b) (λ v x. refl) (λ x none. cc) db
+      rows.month_tenths r.month_tenths (any rows.month_tenths) (any r.month_tenths) (read.month_tenths come) (holds table.MonthTenths come)
 
   shift_totals : 2 ≤ n → rows.shift_totals ≡ r.shift_totals
-  shift_totals come = numbered_only shift_totals_kept totals_columns (λ _. ⊤) (λ a b _ _. one_totals a b) refl (λ (x : ℕ × Totals). x.0) (λ x. refl) (λ x. refl) db rows.shift_totals r.shift_totals (any rows.shift_totals) (any r.shift_totals) (read.shift_totals come) are.totals.by_shift (holds table.ShiftTotals come)
+  shift_totals come = numbered_only shift_totals_kept totals_columns (λ _. ⊤) (λ a b _ _. one_totals a b) refl (λ (x : ℕ × Totals). x.0)
+      (λ x. refl) (λ x. refl) db rows.shift_totals r.shift_totals (any rows.shift_totals) (any r.shift_totals) (read.shift_totals come)
+      are.totals.by_shift (holds table.ShiftTotals come)
 
   bases : IsPermutation rows.bases r.bases
   bases = elim (cases_lt n 3) [
     | inl before ↦
         subst (λ (l : List (List ℕ × Base)). IsPermutation l r.bases) (sym (read.of_format.bases before))
-        (subst (λ (l : List (List ℕ × Base)). IsPermutation (map present_base rows.meters) l) (sym (held.of_format.bases before)) (IsPermutation-map present_base rows.meters r.meters meters))
-    | inr come ↦ hidden_only bases_kept base_columns (λ _. ⊤) (λ a b _ _. one_base_row a b) (λ v x. refl) (λ x none. cc) db rows.bases r.bases (any rows.bases) (any r.bases) (read.bases come) (holds table.MeterBases come)
+        (subst (λ (l : List (List ℕ × Base)). IsPermutation (map present_base rows.meters) l) (sym (held.of_format.bases before))
+        (IsPermutation-map present_base rows.meters r.meters meters))
+    | inr come ↦ hidden_only bases_kept base_columns (λ _. ⊤) (λ a b _ _. one_base_row a b) (λ v x. refl) (λ x none. cc) db rows.bases
+        r.bases (any rows.bases) (any r.bases) (read.bases come) (holds table.MeterBases come)
   ]
 
   dated_steps : IsPermutation rows.dated_steps r.dated_steps
@@ -280,11 +311,13 @@ module _ (n : ℕ) (some : 1 ≤ n) (db : Database) (rows : Rows) (read : HasAll
     | inl before ↦
         subst (λ (l : List DatedStepRow). IsPermutation l r.dated_steps) (sym (read.of_format.dated_steps before))
         (subst (IsPermutation []) (sym (held.of_format.dated_steps before)) (IsPermutation-refl []))
-    | inr come ↦ hidden_only dated_steps_kept dated_columns (λ _. ⊤) (λ a b _ _. one_dated a b) (λ v x. refl) (λ x none. cc) db rows.dated_steps r.dated_steps (any rows.dated_steps) (any r.dated_steps) (read.dated_steps come) (holds table.DatedSteps come)
+    | inr come ↦ hidden_only dated_steps_kept dated_columns (λ _. ⊤) (λ a b _ _. one_dated a b) (λ v x. refl) (λ x none. cc) db
+        rows.dated_steps r.dated_steps (any rows.dated_steps) (any r.dated_steps) (read.dated_steps come) (holds table.DatedSteps come)
   ]
 
   -- with totals that are those of the office, in some order
-  reordered_with : (totals : Rows) → IsPermutation totals.last_ids r.last_ids → IsPermutation totals.month_tenths r.month_tenths → totals.shift_totals ≡ r.shift_totals → AreReordered (with_totals rows totals) r
+  reordered_with : (totals : Rows) → IsPermutation totals.last_ids r.last_ids → IsPermutation totals.month_tenths r.month_tenths
+      → totals.shift_totals ≡ r.shift_totals → AreReordered (with_totals rows totals) r
   reordered_with totals ids tenths by_shift = record {
     tariffs = tariffs;
     steps = steps;

@@ -57,7 +57,9 @@ order_in s = record { operator = s.sale.operator; order_ref = s.sale.order_ref; 
 abbrev pub token_in : SaleRow → SaleToken
 token_in s = record { base = s.sale.base; tid = s.sale.tid; rnd = s.sale.rnd; tenths = s.sale.tenths; digits = s.sale.digits }
 
-pub shows_row : (r : Row) (entry : SaleEntry) (order : Order) (token : SaleToken) (price : ℕ) → length r ≡ 14 → shown_sale_entry entry ≡ sale_entry_columns r → shown_sale_order order ≡ sale_order_columns r → shown_sale_token token ≡ sale_token_columns r → number price ≡ column r 11 → shown_sale_row (row_from entry order token price) ≡ r
+pub shows_row : (r : Row) (entry : SaleEntry) (order : Order) (token : SaleToken) (price : ℕ) → length r ≡ 14 → shown_sale_entry entry
+    ≡ sale_entry_columns r → shown_sale_order order ≡ sale_order_columns r → shown_sale_token token ≡ sale_token_columns r → number price
+    ≡ column r 11 → shown_sale_row (row_from entry order token price) ≡ r
 shows_row r entry order token price count e o t p =
     let columns : shown_sale_row (row_from entry order token price) ≡ columns_from r 0 14 = cc in
     columns ∙ all_columns r count

@@ -55,13 +55,16 @@ module _ (old mid new : State) (same : IsUnchanged old mid) (survives : Survives
   lists_after e (inr why) = inr (why.0, unchanged_then old mid new same why.1)
 
 -- a read after one that left all as it was
-module _ {K L : State → Type 0} {T U E F : Type 0} {A : State → State → E → Type 0} {B C : State → State → F → Type 0} {x : T} {old mid new : State} (first : ReadsOnly K IsUnchanged A old mid (Ok x)) (there : K old → L mid) where
-  pub reads_then : (r : Result U F) → ReadsOnly L IsUnchanged B mid new r → (HasCleanDisk mid → K old → IsUnchanged old mid → Survives old mid (λ _. ⊥) → (e : F) → B mid new e → C old new e) → ReadsOnly K IsUnchanged C old new r
+module _ {K L : State → Type 0} {T U E F : Type 0} {A : State → State → E → Type 0} {B C : State → State → F → Type 0} {x : T}
+    {old mid new : State} (first : ReadsOnly K IsUnchanged A old mid (Ok x)) (there : K old → L mid) where
+  pub reads_then : (r : Result U F) → ReadsOnly L IsUnchanged B mid new r
+      → (HasCleanDisk mid → K old → IsUnchanged old mid → Survives old mid (λ _. ⊥) → (e : F) → B mid new e → C old new e) → ReadsOnly K IsUnchanged C old new r
   reads_then r second fails = record {
     same = λ clean known. on_ok_weaker r (unchanged_then old mid new (first.same (early known clean) known)) (second.same clean (there known));
     kept = λ clean known. on_err_weaker r (left_then old mid new (first.same (early known clean) known)) (second.kept clean (there known));
     mode = λ outside. second.mode (first.mode outside);
-    faults = λ clean known. IfErr-weaker r (B mid new) (C old new) (fails (early known clean) known (first.same (early known clean) known) (first.survives known)) (second.faults clean (there known));
+    faults = λ clean known. IfErr-weaker r (B mid new) (C old new)
+        (fails (early known clean) known (first.same (early known clean) known) (first.survives known)) (second.faults clean (there known));
     survives = λ known. survives_then old mid new _ _ (λ _. ⊥) (λ _ db none. none) (λ _ db none. none) (first.survives known) (second.survives (there known));
   }
     where
@@ -70,10 +73,12 @@ module _ {K L : State → Type 0} {T U E F : Type 0} {A : State → State → E 
 
 module _ (xs ys : List TableName) (db : Database) (all : HaveTables (xs ++ ys) db) where
   have_first : HaveTables xs db
-  have_first = all_from_contains (λ (t : TableName). IsKept db.schema (kept_of t)) xs (λ t there. All-contains (λ (u : TableName). IsKept db.schema (kept_of u)) (xs ++ ys) t all (Contains-append_left xs ys t there))
+  have_first = all_from_contains (λ (t : TableName). IsKept db.schema (kept_of t)) xs
+      (λ t there. All-contains (λ (u : TableName). IsKept db.schema (kept_of u)) (xs ++ ys) t all (Contains-append_left xs ys t there))
 
   have_after : HaveTables ys db
-  have_after = all_from_contains (λ (t : TableName). IsKept db.schema (kept_of t)) ys (λ t there. All-contains (λ (u : TableName). IsKept db.schema (kept_of u)) (xs ++ ys) t all (Contains-append_right xs ys t there))
+  have_after = all_from_contains (λ (t : TableName). IsKept db.schema (kept_of t)) ys
+      (λ t there. All-contains (λ (u : TableName). IsKept db.schema (kept_of u)) (xs ++ ys) t all (Contains-append_right xs ys t there))
 
 module _ (xs ys : List TableName) where
   -- a finding in the first tables, and one in those after them
@@ -108,7 +113,8 @@ module _ (xs ys : List TableName) where
   fails_first old new NoOffice why = why
   fails_first old new (Failed e) why = why
 
-  pub read_first : {T U : Type 0} {old new : State} (e : AuditFault) → ReadsOnly {T = T} (IsKnown (HaveTables xs)) IsUnchanged (FailsToReadTables xs) old new (Err e)
+  pub read_first : {T U : Type 0} {old new : State} (e : AuditFault)
+      → ReadsOnly {T = T} (IsKnown (HaveTables xs)) IsUnchanged (FailsToReadTables xs) old new (Err e)
       → ReadsOnly {T = U} (IsKnown (HaveTables (xs ++ ys))) IsUnchanged (FailsToReadTables (xs ++ ys)) old new (Err e)
   read_first {old = old} {new} e this = record {
     same = λ _ _. tt;
@@ -120,14 +126,16 @@ module _ (xs ys : List TableName) where
 
   -- ---- the first read succeeds
 
-  module _ {T U : Type 0} {x : T} {old mid new : State} (first : ReadsOnly (IsKnown (HaveTables xs)) IsUnchanged (FailsToReadTables xs) old mid (Ok x)) (shut : mid.is_clean ≡ false → mid.is_open ≡ false)
+  module _ {T U : Type 0} {x : T} {old mid new : State}
+      (first : ReadsOnly (IsKnown (HaveTables xs)) IsUnchanged (FailsToReadTables xs) old mid (Ok x)) (shut : mid.is_clean ≡ false → mid.is_open ≡ false)
       {r : Result U AuditFault} (second : ReadsOnly (IsKnown (HaveTables ys)) IsUnchanged (FailsToReadTables ys) mid new r) where
     pub known_first : IsKnown (HaveTables (xs ++ ys)) old → IsKnown (HaveTables xs) old
     known_first known runs = have_first xs ys old.now (known runs)
 
     pub known_between : IsKnown (HaveTables (xs ++ ys)) old → IsKnown (HaveTables ys) mid
     known_between known runs =
-        let same = first.same (no_doubt mid.is_clean (true_from_ne_false mid.is_clean (λ dirty. both_ways mid.is_open (shut dirty) runs))) (known_first known) in
+        let same = first.same (no_doubt mid.is_clean (true_from_ne_false mid.is_clean (λ dirty. both_ways mid.is_open (shut dirty) runs)))
+        (known_first known) in
         subst (HaveTables ys) (sym same.0.now_is) (have_after xs ys old.now (known same.0.was_open))
 
     pub clean_between : IsKnown (HaveTables (xs ++ ys)) old → HasCleanDisk new → HasCleanDisk mid
@@ -136,11 +144,17 @@ module _ (xs ys : List TableName) where
     pub same_between : IsKnown (HaveTables (xs ++ ys)) old → HasCleanDisk new → IsUnchanged old mid
     same_between known clean = first.same (clean_between known clean) (known_first known)
 
-    fails_after : All (HasTrueRows old.now) xs → IsUnchanged old mid → Survives old mid (λ _. ⊥) → (e : AuditFault) → FailsToReadTables ys mid new e → FailsToReadTables (xs ++ ys) old new e
-    fails_after whole same survives (Found f) why = (breaks_after f old.now whole (subst (Breaks ys f) same.0.now_is why.0), unchanged_then old mid new same why.1)
+    fails_after : All (HasTrueRows old.now) xs → IsUnchanged old mid → Survives old mid (λ _. ⊥) → (e : AuditFault)
+        → FailsToReadTables ys mid new e → FailsToReadTables (xs ++ ys) old new e
+    fails_after whole same survives (Found f) why = (
+      breaks_after f old.now whole (subst (Breaks ys f) same.0.now_is why.0),
+      unchanged_then old mid new same why.1,
+    )
     fails_after whole same survives NoOffice why = (subst HasNoFormat same.0.now_is why.0, unchanged_then old mid new same why.1)
     fails_after whole same survives (Failed e) why = lists_after old mid new same survives e why
 
     -- both reads, where each row of the first tables shows a record
-    pub read_after : (HasCleanDisk mid → IsKnown (HaveTables xs) old → All (HasTrueRows old.now) xs) → ReadsOnly (IsKnown (HaveTables (xs ++ ys))) IsUnchanged (FailsToReadTables (xs ++ ys)) old new r
-    read_after whole = reads_then {A = FailsToReadTables xs} {x = x} (read_so known_first first) known_between r second (λ was known same survives e why. fails_after (whole was (known_first known)) same survives e why)
+    pub read_after : (HasCleanDisk mid → IsKnown (HaveTables xs) old → All (HasTrueRows old.now) xs)
+        → ReadsOnly (IsKnown (HaveTables (xs ++ ys))) IsUnchanged (FailsToReadTables (xs ++ ys)) old new r
+    read_after whole = reads_then {A = FailsToReadTables xs} {x = x} (read_so known_first first) known_between r second
+        (λ was known same survives e why. fails_after (whole was (known_first known)) same survives e why)

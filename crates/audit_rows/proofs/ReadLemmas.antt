@@ -40,7 +40,8 @@ use Rattle.audit_rows.specs.declared.office_rows.OfficeRows.{OfficeRows}
 -- ---- one table
 
 -- what each record shows are the columns of its entry
-shows_entry : {T X : Type 0} (shown : T → Row) (columns : X → Row) (entry : T → X) → ((t : T) → columns (entry t) ≡ shown t) → (xs : List T) → map columns (map entry xs) ≡ map shown xs
+shows_entry : {T X : Type 0} (shown : T → Row) (columns : X → Row) (entry : T → X) → ((t : T) → columns (entry t) ≡ shown t)
+    → (xs : List T) → map columns (map entry xs) ≡ map shown xs
 shows_entry shown columns entry same xs = map-map columns entry xs ∙ map_same (λ t. columns (entry t)) shown same xs
 
 -- rows in their months show their sales
@@ -54,10 +55,12 @@ in_months (r ∷ rs) all =
     ap₂ ◌∷◌ (ap shown_sale_row same) (in_months rs (All-tail AreBookedValues r rs all))
 
 -- the rows are those of the entries
-listed_as : {T X : Type 0} {shown : T → Row} {keeps : T → Type 0} (columns : X → Row) (entry : T → X) (k : Kept) (db : Database) (xs : List T) → map columns (map entry xs) ≡ map shown xs → AreListed shown keeps k db xs → HasRowsOf columns k db (map entry xs)
+listed_as : {T X : Type 0} {shown : T → Row} {keeps : T → Type 0} (columns : X → Row) (entry : T → X) (k : Kept) (db : Database)
+    (xs : List T) → map columns (map entry xs) ≡ map shown xs → AreListed shown keeps k db xs → HasRowsOf columns k db (map entry xs)
 listed_as columns entry k db xs same are = subst (IsTableListing k db) (sym same) are.listed
 
-has_rows : {T X : Type 0} {shown : T → Row} {keeps : T → Type 0} (columns : X → Row) (entry : T → X) (k : Kept) → ((t : T) → columns (entry t) ≡ shown t) → (db : Database) (xs : List T) → AreListed shown keeps k db xs → HasRowsOf columns k db (map entry xs)
+has_rows : {T X : Type 0} {shown : T → Row} {keeps : T → Type 0} (columns : X → Row) (entry : T → X) (k : Kept)
+    → ((t : T) → columns (entry t) ≡ shown t) → (db : Database) (xs : List T) → AreListed shown keeps k db xs → HasRowsOf columns k db (map entry xs)
 has_rows {shown = shown} columns entry k same db xs are = listed_as columns entry k db xs (shows_entry shown columns entry same xs) are
 
 -- ---- the tables of the first format
@@ -67,11 +70,14 @@ module _ (db : Database) (r : OfficeRows) where
   rows = rows_of r
 
   pub present_bases : r.bases.items ≡ map present_base r.meters.items → rows.bases ≡ map (λ m. (m.0, m.1.base)) rows.meters
-  present_bases are = ap (map base_entry) are ∙ map-map base_entry present_base r.meters.items ∙ sym (map-map (λ (m : List ℕ × Meter). (m.0, m.1.base)) meter_entry r.meters.items)
+  present_bases are = ap (map base_entry) are ∙ map-map base_entry present_base r.meters.items
+      ∙ sym (map-map (λ (m : List ℕ × Meter). (m.0, m.1.base)) meter_entry r.meters.items)
 
   bases_keep : All AreMeterRowValues r.meters.items → r.bases.items ≡ map present_base r.meters.items → All (λ (b : List ℕ × Base). IsMeterNo b.0) rows.bases
   bases_keep keep are = All-map (λ (b : List ℕ × Base). IsMeterNo b.0) base_entry r.bases.items
-      (subst (All (λ (b : BaseRow). IsMeterNo b.meter)) (sym are) (All-map (λ (b : BaseRow). IsMeterNo b.meter) present_base r.meters.items (All-weaker AreMeterRowValues (λ (m : MeterRow). IsMeterNo m.number) (λ m values. values.0) r.meters.items keep)))
+      (subst (All (λ (b : BaseRow). IsMeterNo b.meter)) (sym are)
+      (All-map (λ (b : BaseRow). IsMeterNo b.meter) present_base r.meters.items
+      (All-weaker AreMeterRowValues (λ (m : MeterRow). IsMeterNo m.number) (λ m values. values.0) r.meters.items keep)))
 
   module _ (tariffs : AreListed tariff_columns IsName tariffs_kept db r.tariffs.items)
       (steps : AreListed shown_step_row AreStepRowValues steps_kept db r.steps.items)
@@ -89,7 +95,8 @@ module _ (db : Database) (r : OfficeRows) where
         steps = λ _. has_rows step_columns step_entry steps_kept (λ t. refl) db r.steps.items steps;
         meters = λ _. has_rows meter_columns meter_entry meters_kept (λ t. refl) db r.meters.items meters;
         shifts = λ _. shifts.listed;
-        sales = λ _. subst (HasRowsOf sale_columns sales_kept db) (sym are) (listed_as sale_columns sale_entry sales_kept db read (in_months read sales.kept) sales);
+        sales = λ _. subst (HasRowsOf sale_columns sales_kept db) (sym are)
+            (listed_as sale_columns sale_entry sales_kept db read (in_months read sales.kept) sales);
         last_ids = λ come. absurd (omega (arith, come));
         month_tenths = λ come. absurd (omega (arith, come));
         shift_totals = λ come. absurd (omega (arith, come));
@@ -99,12 +106,16 @@ module _ (db : Database) (r : OfficeRows) where
       };
       keep = record {
         tariffs = tariffs.kept;
-        steps = All-map (λ (s : StepRow). IsName s.tariff × AreStepValues s.step) step_entry r.steps.items (All-weaker AreStepRowValues (λ (s : StepRead). IsName s.tariff × AreStepValues s.step) (λ s values. (values.tariff, values.step)) r.steps.items steps.kept);
+        steps = All-map (λ (s : StepRow). IsName s.tariff × AreStepValues s.step) step_entry r.steps.items
+            (All-weaker AreStepRowValues (λ (s : StepRead). IsName s.tariff × AreStepValues s.step)
+            (λ s values. (values.tariff, values.step)) r.steps.items steps.kept);
         meters = All-map (λ (m : List ℕ × Meter). IsMeterNo m.0 × AreMeterValues m.1) meter_entry r.meters.items meters.kept;
         shifts = shifts.kept;
-        sales = subst (All AreSaleValues) (sym are) (All-map AreSaleValues sale_entry read (All-weaker AreBookedValues (λ (s : SaleRow). AreSaleValues s.sale) (λ s booked. booked.values.sale) read sales.kept));
+        sales = subst (All AreSaleValues) (sym are) (All-map AreSaleValues sale_entry read
+            (All-weaker AreBookedValues (λ (s : SaleRow). AreSaleValues s.sale) (λ s booked. booked.values.sale) read sales.kept));
         bases = bases_keep meters.kept bases;
-        dated_steps = subst (All (λ (s : DatedStepRow). IsName s.tariff × (IsDay s.day × AreStepValues s.step))) (sym (ap (map dated_entry) dated_steps)) (λ i d low. absurd (omega (arith, low)));
+        dated_steps = subst (All (λ (s : DatedStepRow). IsName s.tariff × (IsDay s.day × AreStepValues s.step)))
+            (sym (ap (map dated_entry) dated_steps)) (λ i d low. absurd (omega (arith, low)));
       };
     }
 
@@ -112,8 +123,14 @@ module _ (db : Database) (r : OfficeRows) where
 
 module _ (db : Database) (rows : Rows) where
   pub second_read : IsReadAs 1 db rows → (last_ids : List LastId) (month_tenths : List MonthTenths) (shift_totals : List ShiftTotals)
-      → AreListed shown_last_id AreLastIdValues last_ids_kept db last_ids → AreListed shown_month AreMonthValues month_tenths_kept db month_tenths → AreListed shown_shift_totals AreShiftTotalsValues shift_totals_kept db shift_totals
-      → IsReadAs 2 db (record rows { last_ids = map last_id_entry last_ids; month_tenths = map month_entry month_tenths; shift_totals = map totals_entry shift_totals })
+      → AreListed shown_last_id AreLastIdValues last_ids_kept db last_ids
+      → AreListed shown_month AreMonthValues month_tenths_kept db month_tenths
+      → AreListed shown_shift_totals AreShiftTotalsValues shift_totals_kept db shift_totals
+      → IsReadAs 2 db (record rows {
+        last_ids = map last_id_entry last_ids;
+        month_tenths = map month_entry month_tenths;
+        shift_totals = map totals_entry shift_totals;
+      })
   second_read first last_ids month_tenths shift_totals ids tenths totals = record {
     has = record {
       tariffs = λ _. first.has.tariffs (omega arith);
@@ -139,7 +156,8 @@ module _ (db : Database) (rows : Rows) where
     };
   }
 
-  pub third_read : IsReadAs 2 db rows → (bases : List BaseRow) → AreListed shown_base AreBaseValues bases_kept db bases → IsReadAs 3 db (record rows { bases = map base_entry bases })
+  pub third_read : IsReadAs 2 db rows → (bases : List BaseRow) → AreListed shown_base AreBaseValues bases_kept db bases
+      → IsReadAs 3 db (record rows { bases = map base_entry bases })
   third_read second bases are = record {
     has = record {
       tariffs = λ _. second.has.tariffs (omega arith);
@@ -165,7 +183,9 @@ module _ (db : Database) (rows : Rows) where
     };
   }
 
-  pub fourth_read : IsReadAs 3 db rows → (dated_steps : List DatedStepRead) → AreListed shown_dated_step AreDatedStepValues dated_steps_kept db dated_steps → IsReadAs 4 db (record rows { dated_steps = map dated_entry dated_steps })
+  pub fourth_read : IsReadAs 3 db rows → (dated_steps : List DatedStepRead)
+      → AreListed shown_dated_step AreDatedStepValues dated_steps_kept db dated_steps
+      → IsReadAs 4 db (record rows { dated_steps = map dated_entry dated_steps })
   fourth_read third dated_steps are = record {
     has = record {
       tariffs = λ _. third.has.tariffs (omega arith);
@@ -187,7 +207,9 @@ module _ (db : Database) (rows : Rows) where
       shifts = third.keep.shifts;
       sales = third.keep.sales;
       bases = third.keep.bases;
-      dated_steps = All-map (λ (s : DatedStepRow). IsName s.tariff × (IsDay s.day × AreStepValues s.step)) dated_entry dated_steps (All-weaker AreDatedStepValues (λ (s : DatedStepRead). IsName s.tariff × (IsDay s.day × AreStepValues s.step)) (λ s values. (values.tariff, (values.day, values.step))) dated_steps are.kept);
+      dated_steps = All-map (λ (s : DatedStepRow). IsName s.tariff × (IsDay s.day × AreStepValues s.step)) dated_entry dated_steps
+          (All-weaker AreDatedStepValues (λ (s : DatedStepRead). IsName s.tariff × (IsDay s.day × AreStepValues s.step))
+          (λ s values. (values.tariff, (values.day, values.step))) dated_steps are.kept);
     };
   }
 
@@ -200,6 +222,9 @@ module _ (tables : List TableName) (n format : ℕ) (reads : tables ≡ tables_o
   pub known_tables : (s : State) → IsKnown (HasTablesOf format) s → IsKnown (HaveTables tables) s
   known_tables s known runs = subst (λ (ts : List TableName). HaveTables ts s.now) (sym same_tables) (have_tables format s.now (known runs))
 
-  pub of_format : {T : Type 0} {old new : State} (r : Result T AuditFault) → ReadsOnly (IsKnown (HaveTables tables)) IsUnchanged (FailsToReadTables tables) old new r → ReadsOnly (IsKnown (HasTablesOf format)) IsUnchanged (FailsToReadTables (tables_of format)) old new r
-  of_format {old = old} {new} r this = subst (λ (ts : List TableName). ReadsOnly (IsKnown (HasTablesOf format)) IsUnchanged (FailsToReadTables ts) old new r) same_tables
+  pub of_format : {T : Type 0} {old new : State} (r : Result T AuditFault)
+      → ReadsOnly (IsKnown (HaveTables tables)) IsUnchanged (FailsToReadTables tables) old new r
+      → ReadsOnly (IsKnown (HasTablesOf format)) IsUnchanged (FailsToReadTables (tables_of format)) old new r
+  of_format {old = old} {new} r this = subst (λ (ts : List TableName). ReadsOnly (IsKnown (HasTablesOf format)) IsUnchanged
+      (FailsToReadTables ts) old new r) same_tables
       (read_where r (known_tables old) this (λ clean known. this.faults clean (known_tables old known)))

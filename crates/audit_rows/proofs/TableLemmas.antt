@@ -58,7 +58,8 @@ drop_end (suc at) (v ∷ row) long = drop_end at row (omega (arith, long))
 -- the columns from a place on are what is left of the row
 pub reads_on : {X : Type 0} (cs : List X) (at : ℕ) (row : Row) → length row ≡ at + length cs → map (column row) (places_from at cs) ≡ drop at row
 reads_on [] at row long = sym (drop_end at row (omega (arith, long)))
-reads_on (c ∷ cs) at row long = ap (λ (r : Row). column row at ∷ r) (reads_on cs (at + 1) row (omega (arith, long))) ∙ sym (drop_step at row (omega (arith, long)))
+reads_on (c ∷ cs) at row long = ap (λ (r : Row). column row at ∷ r) (reads_on cs (at + 1) row (omega (arith, long)))
+    ∙ sym (drop_step at row (omega (arith, long)))
 
 pub column_there : (row : Row) (at : ℕ) → column row at ≢ Null → at < length row
 column_there [] at some = absurd (some refl)
@@ -66,7 +67,8 @@ column_there (v ∷ row) zero some = omega arith
 column_there (v ∷ row) (suc at) some = let rest = column_there row at some in omega (arith, rest)
 
 -- a row behind a hidden number, of which the last column is there
-pub hidden_whole : (cs : List Column) (row : Row) → are_typed None 0 cs (drop 1 row) ≡ true → column row (length cs) ≢ Null → drop 1 row ≡ map (column row) (places_from 1 cs)
+pub hidden_whole : (cs : List Column) (row : Row) → are_typed None 0 cs (drop 1 row) ≡ true → column row (length cs) ≢ Null → drop 1 row
+    ≡ map (column row) (places_from 1 cs)
 hidden_whole cs [] typed some = absurd (some refl)
 hidden_whole cs (v ∷ vs) typed some =
     let short = typed_short None 0 cs vs typed in
@@ -81,7 +83,8 @@ null_of (Text t) is = absurd (false≢true is)
 null_of (Blob b) is = absurd (false≢true is)
 
 -- a row behind its own number
-pub numbered_whole : (c : Column) (cs : List Column) (row : Row) → are_typed (Some 0) 0 (c ∷ cs) (drop 1 row) ≡ true → length row ≡ 2 + length cs → row ≡ column row 0 ∷ Null ∷ map (column row) (places_from 2 cs)
+pub numbered_whole : (c : Column) (cs : List Column) (row : Row) → are_typed (Some 0) 0 (c ∷ cs) (drop 1 row) ≡ true → length row
+    ≡ 2 + length cs → row ≡ column row 0 ∷ Null ∷ map (column row) (places_from 2 cs)
 numbered_whole c cs [] typed long = absurd (omega (arith, long))
 numbered_whole c cs (n ∷ []) typed long = absurd (omega (arith, long))
 numbered_whole c cs (n ∷ v ∷ vs) typed long =
@@ -90,7 +93,8 @@ numbered_whole c cs (n ∷ v ∷ vs) typed long =
     ap (λ (x : Value). n ∷ x ∷ vs) null ∙ ap (λ (r : Row). n ∷ Null ∷ r) (sym rest)
 
 -- the same, of which the last column is there
-pub numbered_long : (c : Column) (cs : List Column) (row : Row) → are_typed (Some 0) 0 (c ∷ cs) (drop 1 row) ≡ true → column row (1 + length cs) ≢ Null → length row ≡ 2 + length cs
+pub numbered_long : (c : Column) (cs : List Column) (row : Row) → are_typed (Some 0) 0 (c ∷ cs) (drop 1 row) ≡ true
+    → column row (1 + length cs) ≢ Null → length row ≡ 2 + length cs
 numbered_long c cs [] typed some = absurd (some refl)
 numbered_long c cs (n ∷ vs) typed some =
     let short = typed_short (Some 0) 0 (c ∷ cs) vs typed in
@@ -104,13 +108,17 @@ IsTyped t row = are_typed t.key 0 t.columns (drop 1 row) ≡ true
 pub rows_typed : (db : Database) (k : Kept) → IsDatabase db → IsKept db.schema k → AllByRecursion (IsTyped k.table) (rows_in db k.table.name)
 rows_typed db k sound stands =
     let t : Table = record k.table { tree = tree_in db.schema k.table.name } in
-    let kinds = listed_holds (λ (u : Table). AllByRecursion (λ row. passes Datatype db.schema db.trees u row ≡ true) (db.trees u.tree)) db.schema.tables _ t stands.0.has.listed (sound.obeys.rules Datatype) in
-    all_weaker (λ (row : Row). passes Datatype db.schema db.trees t row ≡ true) (IsTyped k.table) (λ row kind. (and_parts (are_typed k.table.key 0 k.table.columns (drop 1 row)) (has_computed t row) kind).0) (rows_in db k.table.name) kinds
+    let kinds = listed_holds (λ (u : Table). AllByRecursion (λ row. passes Datatype db.schema db.trees u row ≡ true) (db.trees u.tree))
+    db.schema.tables _ t stands.0.has.listed (sound.obeys.rules Datatype) in
+    all_weaker (λ (row : Row). passes Datatype db.schema db.trees t row ≡ true) (IsTyped k.table)
+    (λ row kind. (and_parts (are_typed k.table.key 0 k.table.columns (drop 1 row)) (has_computed t row) kind).0) (rows_in db k.table.name) kinds
 
 -- ---- rows behind hidden numbers
 
-module _ {T : Type 0} (k : Kept) (shown : T → Row) (hidden : places k ≡ places_from 1 k.table.columns) (key : k.table.key ≡ None) (last : (row : Row) (y : T) → columns_of k row ≡ shown y → column row (length k.table.columns) ≢ Null) where
-  each_hidden : (rows : List Row) (ys : List T) → AllByRecursion (IsTyped k.table) rows → map (columns_of k) rows ≡ map shown ys → map (drop 1) rows ≡ map shown ys
+module _ {T : Type 0} (k : Kept) (shown : T → Row) (hidden : places k ≡ places_from 1 k.table.columns) (key : k.table.key ≡ None)
+    (last : (row : Row) (y : T) → columns_of k row ≡ shown y → column row (length k.table.columns) ≢ Null) where
+  each_hidden : (rows : List Row) (ys : List T) → AllByRecursion (IsTyped k.table) rows → map (columns_of k) rows ≡ map shown ys
+      → map (drop 1) rows ≡ map shown ys
   each_hidden [] [] typed e = refl
   each_hidden [] (y ∷ ys) typed e = absurd (cc)
   each_hidden (r ∷ rows) [] typed e = absurd (cc)
@@ -121,21 +129,26 @@ module _ {T : Type 0} (k : Kept) (shown : T → Row) (hidden : places k ≡ plac
       ap₂ ◌∷◌ (whole ∙ ap (map (column r)) (sym hidden) ∙ first) (each_hidden rows ys typed.1 rest)
 
   -- what is stored is the records, in some order
-  pub stored_hidden : (db : Database) → IsDatabase db → IsKept db.schema k → (xs : List T) → IsPermutation (map shown xs) (all_columns k db) → (ys : List T) × IsPermutation xs ys × (map (drop 1) (rows_in db k.table.name) ≡ map shown ys)
+  pub stored_hidden : (db : Database) → IsDatabase db → IsKept db.schema k → (xs : List T)
+      → IsPermutation (map shown xs) (all_columns k db) → (ys : List T) × IsPermutation xs ys × (map (drop 1) (rows_in db k.table.name) ≡ map shown ys)
   stored_hidden db sound stands xs same =
       let back = pull_back shown (map shown xs) (all_columns k db) same xs refl in
       (back.0, back.1, each_hidden (rows_in db k.table.name) back.0 (rows_typed db k sound stands) back.2)
 
 -- ---- rows behind their own numbers
 
-module _ {T : Type 0} (k : Kept) (shown : T → Row) (c : Column) (cs : List Column) (columns : k.table.columns ≡ c ∷ cs) (numbered : places k ≡ 0 ∷ places_from 2 cs) (key : k.table.key ≡ Some 0) where
+module _ {T : Type 0} (k : Kept) (shown : T → Row) (c : Column) (cs : List Column) (columns : k.table.columns ≡ c ∷ cs)
+    (numbered : places k ≡ 0 ∷ places_from 2 cs) (key : k.table.key ≡ Some 0) where
   numbered_row : (row : Row) (y : T) → IsTyped k.table row → length row ≡ 2 + length cs → columns_of k row ≡ shown y → row ≡ keyed (shown y)
   numbered_row row y typed long is =
-      let kinds : are_typed (Some 0) 0 (c ∷ cs) (drop 1 row) ≡ true = subst (λ (l : List Column). are_typed (Some 0) 0 l (drop 1 row) ≡ true) columns (subst (λ (o : Option ℕ). are_typed o 0 k.table.columns (drop 1 row) ≡ true) key typed) in
+      let kinds : are_typed (Some 0) 0 (c ∷ cs) (drop 1 row) ≡ true =
+      subst (λ (l : List Column). are_typed (Some 0) 0 l (drop 1 row) ≡ true) columns
+      (subst (λ (o : Option ℕ). are_typed o 0 k.table.columns (drop 1 row) ≡ true) key typed) in
       let all : map (column row) (0 ∷ places_from 2 cs) ≡ shown y = ap (map (column row)) (sym numbered) ∙ is in
       numbered_whole c cs row kinds long ∙ ap keyed all
 
-  pub each_numbered : (rows : List Row) (ys : List T) → AllByRecursion (IsTyped k.table) rows → AllByRecursion (λ (r : Row). length r ≡ 2 + length cs) rows → map (columns_of k) rows ≡ map shown ys → rows ≡ map (λ y. keyed (shown y)) ys
+  pub each_numbered : (rows : List Row) (ys : List T) → AllByRecursion (IsTyped k.table) rows
+      → AllByRecursion (λ (r : Row). length r ≡ 2 + length cs) rows → map (columns_of k) rows ≡ map shown ys → rows ≡ map (λ y. keyed (shown y)) ys
   each_numbered [] [] typed long e = refl
   each_numbered [] (y ∷ ys) typed long e = absurd (cc)
   each_numbered (r ∷ rows) [] typed long e = absurd (cc)
@@ -159,7 +172,8 @@ at table.DatedSteps = inr (inr (inr (inr (inr (inr (inr (inr (inr (inr (inl refl
 -- the tables of a format are there
 pub have_tables : (n : ℕ) (db : Database) → HasOfficeOf n db.schema → HaveTables (tables_of n) db
 have_tables n db has = All-weaker (λ (t : TableName). nat_le (kept_of t).since n ≡ true) (λ (t : TableName). IsKept db.schema (kept_of t))
-    (λ t come. of_upto (IsKept db.schema) n (kept_of t) kept (at t) come has.tables) (tables_of n) (filter_passes (λ (t : TableName). nat_le (kept_of t).since n) read_tables)
+    (λ t come. of_upto (IsKept db.schema) n (kept_of t) kept (at t) come has.tables) (tables_of n)
+    (filter_passes (λ (t : TableName). nat_le (kept_of t).since n) read_tables)
 
 -- the rows in the order in which they stand in the table, where the format has it; or as they are
 pub record StoredAs {X : Type 0} (n since : ℕ) (k : Kept) (db : Database) (columns : X → Row) (xs : List X) : Type 0 where
@@ -169,9 +183,11 @@ pub record StoredAs {X : Type 0} (n since : ℕ) (k : Kept) (db : Database) (col
   pub stored : since ≤ n → AreStoredRows false (rows_in db k.table.name) (map columns rows)
 
 -- what is asked of a table from a format on
-module _ (n since : ℕ) (db : Database) (sound : IsDatabase db) {X : Type 0} (k : Kept) (columns : X → Row) (there : since ≤ n → IsKept db.schema k) (order : since ≤ n → IsInOrder (rows_in db k.table.name)) where
+module _ (n since : ℕ) (db : Database) (sound : IsDatabase db) {X : Type 0} (k : Kept) (columns : X → Row)
+    (there : since ≤ n → IsKept db.schema k) (order : since ≤ n → IsInOrder (rows_in db k.table.name)) where
   -- behind hidden numbers
-  module _ (hidden : places k ≡ places_from 1 k.table.columns) (key : k.table.key ≡ None) (last : (row : Row) (x : X) → columns_of k row ≡ columns x → column row (length k.table.columns) ≢ Null) where
+  module _ (hidden : places k ≡ places_from 1 k.table.columns) (key : k.table.key ≡ None)
+      (last : (row : Row) (x : X) → columns_of k row ≡ columns x → column row (length k.table.columns) ≢ Null) where
     pub hidden_found : (xs : List X) → (since ≤ n → HasRowsOf columns k db xs) → StoredAs n since k db columns xs
     hidden_found xs has = elim (cases_lt n since) [
       | inl before ↦ record { rows = xs; same = IsPermutation-refl xs; before = λ _. refl; stored = λ come. absurd (omega (arith, before, come)) }
@@ -188,27 +204,35 @@ module _ {X : Type 0} (k : Kept) (columns : X → Row) (is_numbered : k.is_numbe
   -- the rows stand in the order of their numbers
   columns_rise : IsInOrder (rows_in db k.table.name) → IsAscending (λ a b. by_first a b ≡ Less) (all_columns k db)
   columns_rise order = ascending-map (λ a b. by_first a b ≡ Less) (columns_of k) (rows_in db k.table.name)
-      (ascending_weaker _ (λ a b. by_first (columns_of k a) (columns_of k b) ≡ Less) (λ a b below. ap₂ value_cmp (number_first k a is_numbered) (number_first k b is_numbered) ∙ below) (rows_in db k.table.name) order.rises)
+      (ascending_weaker _ (λ a b. by_first (columns_of k a) (columns_of k b) ≡ Less)
+      (λ a b below. ap₂ value_cmp (number_first k a is_numbered) (number_first k b is_numbered) ∙ below) (rows_in db k.table.name) order.rises)
 
   pub numbered_so : IsInOrder (rows_in db k.table.name) → (xs : List X) → HasRowsOf columns k db xs → all_columns k db ≡ map columns xs
-  numbered_so order xs has = sym (sorted_unique by_first (on_total (λ (r : Row). column r 0) value_cmp_total) (all_columns k db) (map columns xs) (columns_rise order) (IsPermutation-sym (map columns xs) (all_columns k db) has.same) (has.rises is_numbered))
+  numbered_so order xs has = sym (sorted_unique by_first (on_total (λ (r : Row). column r 0) value_cmp_total) (all_columns k db)
+      (map columns xs) (columns_rise order) (IsPermutation-sym (map columns xs) (all_columns k db) has.same) (has.rises is_numbered))
 
-  module _ (sound : IsDatabase db) (stands : IsKept db.schema k) (c : Column) (cs : List Column) (are : k.table.columns ≡ c ∷ cs) (numbered : places k ≡ 0 ∷ places_from 2 cs) (key : k.table.key ≡ Some 0) where
+  module _ (sound : IsDatabase db) (stands : IsKept db.schema k) (c : Column) (cs : List Column) (are : k.table.columns ≡ c ∷ cs)
+      (numbered : places k ≡ 0 ∷ places_from 2 cs) (key : k.table.key ≡ Some 0) where
     -- no row lacks a column
     abbrev AreLong : List Row → Type 0
     AreLong rows = AllByRecursion (λ (r : Row). length r ≡ 2 + length cs) rows
 
-    each_long : ((row : Row) (x : X) → columns_of k row ≡ columns x → column row (1 + length cs) ≢ Null) → (rows : List Row) (xs : List X) → AllByRecursion (IsTyped k.table) rows → map (columns_of k) rows ≡ map columns xs → AreLong rows
+    each_long : ((row : Row) (x : X) → columns_of k row ≡ columns x → column row (1 + length cs) ≢ Null) → (rows : List Row) (xs : List X)
+        → AllByRecursion (IsTyped k.table) rows → map (columns_of k) rows ≡ map columns xs → AreLong rows
     each_long last [] xs typed e = tt
     each_long last (r ∷ rows) [] typed e = absurd (cc)
     each_long last (r ∷ rows) (x ∷ xs) typed e =
         let first : columns_of k r ≡ columns x = cc in
         let rest : map (columns_of k) rows ≡ map columns xs = cc in
-        let kinds : are_typed (Some 0) 0 (c ∷ cs) (drop 1 r) ≡ true = subst (λ (l : List Column). are_typed (Some 0) 0 l (drop 1 r) ≡ true) are (subst (λ (o : Option ℕ). are_typed o 0 k.table.columns (drop 1 r) ≡ true) key typed.0) in
+        let kinds : are_typed (Some 0) 0 (c ∷ cs) (drop 1 r) ≡ true =
+        subst (λ (l : List Column). are_typed (Some 0) 0 l (drop 1 r) ≡ true) are
+        (subst (λ (o : Option ℕ). are_typed o 0 k.table.columns (drop 1 r) ≡ true) key typed.0) in
         (numbered_long c cs r kinds (last r x first), each_long last rows xs typed.1 rest)
 
-    pub long_so : ((row : Row) (x : X) → columns_of k row ≡ columns x → column row (1 + length cs) ≢ Null) → (xs : List X) → all_columns k db ≡ map columns xs → AreLong (rows_in db k.table.name)
+    pub long_so : ((row : Row) (x : X) → columns_of k row ≡ columns x → column row (1 + length cs) ≢ Null) → (xs : List X)
+        → all_columns k db ≡ map columns xs → AreLong (rows_in db k.table.name)
     long_so last xs e = each_long last (rows_in db k.table.name) xs (rows_typed db k sound stands) e
 
-    pub numbered_stored : (xs : List X) → all_columns k db ≡ map columns xs → AreLong (rows_in db k.table.name) → rows_in db k.table.name ≡ map (λ x. keyed (columns x)) xs
+    pub numbered_stored : (xs : List X) → all_columns k db ≡ map columns xs → AreLong (rows_in db k.table.name) → rows_in db k.table.name
+        ≡ map (λ x. keyed (columns x)) xs
     numbered_stored xs e long = each_numbered k columns c cs are numbered key (rows_in db k.table.name) xs (rows_typed db k sound stands) long e

@@ -76,7 +76,8 @@ no_format_none db o none stands = none stands.format stands.known stands.held.1.
 -- ---- the columns of rows that are stored
 
 -- behind hidden numbers
-pub columns_hidden : {X : Type 0} (k : Kept) (columns : X → Row) → ((v : Value) (x : X) → columns_of k (v ∷ columns x) ≡ columns x) → ((x : X) → columns x ≡ [] → ⊥) → (rows : List Row) (xs : List X) → map (drop 1) rows ≡ map columns xs
+pub columns_hidden : {X : Type 0} (k : Kept) (columns : X → Row) → ((v : Value) (x : X) → columns_of k (v ∷ columns x) ≡ columns x)
+    → ((x : X) → columns x ≡ [] → ⊥) → (rows : List Row) (xs : List X) → map (drop 1) rows ≡ map columns xs
     → map (columns_of k) rows ≡ map columns xs
 columns_hidden k columns same some [] [] e = refl
 columns_hidden k columns same some [] (x ∷ xs) e = absurd (cc)
@@ -88,8 +89,10 @@ columns_hidden k columns same some ((v ∷ r) ∷ rows) (x ∷ xs) e =
     ap₂ ◌∷◌ (ap (λ (c : Row). columns_of k (v ∷ c)) first ∙ same v x) (columns_hidden k columns same some rows xs rest)
 
 -- and with numbers of their own
-pub columns_numbered : {X : Type 0} (k : Kept) (stored columns : X → Row) → ((x : X) → columns_of k (stored x) ≡ columns x) → (rows : List Row) (xs : List X) → rows ≡ map stored xs → map (columns_of k) rows ≡ map columns xs
-columns_numbered k stored columns same rows xs e = ap (map (columns_of k)) e ∙ map-map (columns_of k) stored xs ∙ map_same (λ x. columns_of k (stored x)) columns same xs
+pub columns_numbered : {X : Type 0} (k : Kept) (stored columns : X → Row) → ((x : X) → columns_of k (stored x) ≡ columns x)
+    → (rows : List Row) (xs : List X) → rows ≡ map stored xs → map (columns_of k) rows ≡ map columns xs
+columns_numbered k stored columns same rows xs e =
+    ap (map (columns_of k)) e ∙ map-map (columns_of k) stored xs ∙ map_same (λ x. columns_of k (stored x)) columns same xs
 
 -- ---- a table that is there is one of the office's
 
@@ -107,21 +110,27 @@ came s n k there stands has true is = is
 came s n k there stands has false is = absurd (not_free s k stands (free_later s n k kept there is has.free))
 
 pub holds_of : (db : Database) (n told : ℕ) (rows : Rows) (k : Kept) → Member kept k → IsKept db.schema k → HoldsOf n told db rows → HoldsRows db told rows k
-holds_of db n told rows k there stands held = of_upto (HoldsRows db told rows) n k kept there (came db.schema n k there stands held.has (nat_le k.since n) refl) held.are
+holds_of db n told rows k there stands held = of_upto (HoldsRows db told rows) n k kept there
+    (came db.schema n k there stands held.has (nat_le k.since n) refl) held.are
 
 -- ---- each row of an office shows a record
 
-module _ {X T : Type 0} (k : Kept) (columns : X → Row) (shown : T → Row) (keeps : T → Type 0) (read : X → T) (same : (x : X) → shown (read x) ≡ columns x) (db : Database) (xs : List X) where
+module _ {X T : Type 0} (k : Kept) (columns : X → Row) (shown : T → Row) (keeps : T → Type 0) (read : X → T)
+    (same : (x : X) → shown (read x) ≡ columns x) (db : Database) (xs : List X) where
   each_true : all_columns k db ≡ map columns xs → ((x : X) → Contains xs x → keeps (read x)) → All (ShowsRecord shown keeps) (all_columns k db)
   each_true are kept = subst (All (ShowsRecord shown keeps)) (sym are)
-      (All-map (ShowsRecord shown keeps) columns xs (all_from_contains (λ (x : X). ShowsRecord shown keeps (columns x)) xs (λ x within. (read x, (same x, kept x within)))))
+      (All-map (ShowsRecord shown keeps) columns xs (all_from_contains (λ (x : X). ShowsRecord shown keeps (columns x)) xs
+      (λ x within. (read x, (same x, kept x within)))))
 
   -- behind a hidden number
-  pub hidden_true : ((v : Value) (x : X) → columns_of k (v ∷ columns x) ≡ columns x) → ((x : X) → columns x ≡ [] → ⊥) → AreStoredRows false (rows_in db k.table.name) (map columns xs) → ((x : X) → Contains xs x → keeps (read x)) → All (ShowsRecord shown keeps) (all_columns k db)
+  pub hidden_true : ((v : Value) (x : X) → columns_of k (v ∷ columns x) ≡ columns x) → ((x : X) → columns x ≡ [] → ⊥)
+      → AreStoredRows false (rows_in db k.table.name) (map columns xs) → ((x : X) → Contains xs x → keeps (read x))
+      → All (ShowsRecord shown keeps) (all_columns k db)
   hidden_true so some held = each_true (columns_hidden k columns so some (rows_in db k.table.name) xs held.0)
 
   -- behind a number of its own
-  pub numbered_true : (stored : X → Row) → ((x : X) → columns_of k (stored x) ≡ columns x) → rows_in db k.table.name ≡ map stored xs → ((x : X) → Contains xs x → keeps (read x)) → All (ShowsRecord shown keeps) (all_columns k db)
+  pub numbered_true : (stored : X → Row) → ((x : X) → columns_of k (stored x) ≡ columns x) → rows_in db k.table.name ≡ map stored xs
+      → ((x : X) → Contains xs x → keeps (read x)) → All (ShowsRecord shown keeps) (all_columns k db)
   numbered_true stored so held = each_true (columns_numbered k stored columns so (rows_in db k.table.name) xs held)
 
 pub all_at : {X : Type 0} (P : X → Type 0) (xs : List X) (i : ℕ) (x : X) → All P xs → slice_get xs i ≡ Some x → P x
@@ -199,7 +208,8 @@ module _ (db : Database) (o : Office) (s : StandsFor db o) where
   sale_read x = record { sale = x; month = month_at x.moment }
 
   sale_values : (x : Sale) → Contains o.sales x → AreSaleValues x
-  sale_values x within = All-contains AreSaleValues rows.sales x (sales_keep_values rows of_office) (subst (λ (l : List Sale). Contains l x) (sym are.sales) within)
+  sale_values x within = All-contains AreSaleValues rows.sales x (sales_keep_values rows of_office)
+      (subst (λ (l : List Sale). Contains l x) (sym are.sales) within)
 
   module _ (small : (secs : ℕ) → IsMoment secs → month_at secs < 2 ^ 32) where
     abbrev last_read : (List ℕ × Base) × ℕ → LastId
@@ -213,7 +223,9 @@ module _ (db : Database) (o : Office) (s : StandsFor db o) where
         let there = there_passes (λ (x : Sale). bytes_eq x.meter r.0.0 && base_eq x.base r.0.1) o.sales one.0 one.1 in
         let key : (one.0.meter, one.0.base) ≡ r.0 = (tells_under r.0 (one.0.meter, one.0.base)).0 there.1 in
         let all : All (λ (t : ℕ). t ≤ last_tid) (map (λ (x : Sale). x.tid) sold) =
-        All-map (λ (t : ℕ). t ≤ last_tid) (λ (x : Sale). x.tid) sold (λ i d low. (sale_values _ (there_passes (λ (x : Sale). bytes_eq x.meter r.0.0 && base_eq x.base r.0.1) o.sales _ (Contains-get_or sold i d low)).0).tid) in
+        All-map (λ (t : ℕ). t ≤ last_tid) (λ (x : Sale). x.tid) sold
+        (λ i d low. (sale_values _ (there_passes (λ (x : Sale). bytes_eq x.meter r.0.0 && base_eq x.base r.0.1) o.sales _
+        (Contains-get_or sold i d low)).0).tid) in
         record {
           meter = subst (λ (k : List ℕ × Base). IsMeterNo k.0) key (sale_values one.0 there.0).meter;
           tid = subst (λ (v : Option ℕ). IfSome v (λ t. t ≤ last_tid)) is (greatest_within last_tid (map (λ (x : Sale). x.tid) sold) all);
@@ -231,8 +243,11 @@ module _ (db : Database) (o : Office) (s : StandsFor db o) where
           let key : (one.0.meter, month_at one.0.moment) ≡ r.0 = (tells_month r.0 (one.0.meter, month_at one.0.moment)).0 there.1 in
           let values = sale_values one.0 there.0 in
           let sold = sales_in_month o.sales r.0 in
-          let few = length-filter_both (λ (x : Sale). bytes_eq x.meter r.0.0 && (month_at x.moment == r.0.1)) (λ (x : Sale). not (bytes_eq x.meter r.0.0 && (month_at x.moment == r.0.1))) (λ x. refl) o.sales in
-          let each : All (λ (x : Sale). x.tenths ≤ 18201624) sold = λ i d low. greatest _ (sale_values _ (there_passes (λ (x : Sale). bytes_eq x.meter r.0.0 && (month_at x.moment == r.0.1)) o.sales _ (Contains-get_or sold i d low)).0).tenths in
+          let few = length-filter_both (λ (x : Sale). bytes_eq x.meter r.0.0 && (month_at x.moment == r.0.1))
+          (λ (x : Sale). not (bytes_eq x.meter r.0.0 && (month_at x.moment == r.0.1))) (λ x. refl) o.sales in
+          let each : All (λ (x : Sale). x.tenths ≤ 18201624) sold =
+          λ i d low. greatest _ (sale_values _ (there_passes (λ (x : Sale). bytes_eq x.meter r.0.0 && (month_at x.moment == r.0.1))
+          o.sales _ (Contains-get_or sold i d low)).0).tenths in
           let sum = sum_by-le (λ (x : Sale). x.tenths) 18201624 sold each in
           let within : IsTotal (sum_by (λ (x : Sale). x.tenths) sold) = omega (arith, few, sum, s.office.sale_count) in
           record {
@@ -259,25 +274,37 @@ module _ (db : Database) (o : Office) (s : StandsFor db o) where
       -- ---- any table
 
       pub true_rows : (t : TableName) → IsKept db.schema (kept_of t) → HasTrueRows db t
-      true_rows table.Tariffs there = hidden_true tariffs_kept tariff_columns tariff_columns IsName (λ x. x) (λ x. refl) db rows.tariffs (λ v x. refl) (λ x none. cc) (holds table.Tariffs there)
+      true_rows table.Tariffs there = hidden_true tariffs_kept tariff_columns tariff_columns IsName (λ x. x) (λ x. refl) db rows.tariffs
+          (λ v x. refl) (λ x none. cc) (holds table.Tariffs there)
           (λ x within. All-contains IsName rows.tariffs x (tariff_names_keep rows of_office) within)
-      true_rows table.TariffSteps there = hidden_true steps_kept step_columns shown_step_row AreStepRowValues step_read (λ x. refl) db rows.steps (λ v x. refl) (λ x none. cc) (holds table.TariffSteps there) step_kept
-      true_rows table.Meters there = hidden_true meters_kept meter_columns shown_meter_row AreMeterRowValues meter_row (λ x. refl) db rows.meters (λ v x. refl) (λ x none. cc) (holds table.Meters there) meter_kept
-      true_rows table.Shifts there = numbered_true shifts_kept shift_columns shown_shift AreShiftValues (λ x. x) (λ x. refl) db rows.shifts shift_row (λ x. refl) (holds table.Shifts there)
+      true_rows table.TariffSteps there = hidden_true steps_kept step_columns shown_step_row AreStepRowValues step_read (λ x. refl) db
+          rows.steps (λ v x. refl) (λ x none. cc) (holds table.TariffSteps there) step_kept
+      true_rows table.Meters there = hidden_true meters_kept meter_columns shown_meter_row AreMeterRowValues meter_row (λ x. refl) db
+          rows.meters (λ v x. refl) (λ x none. cc) (holds table.Meters there) meter_kept
+      true_rows table.Shifts there = numbered_true shifts_kept shift_columns shown_shift AreShiftValues (λ x. x) (λ x. refl) db rows.shifts
+          shift_row (λ x. refl) (holds table.Shifts there)
           (λ x within. All-contains AreShiftValues rows.shifts x (shifts_keep_values rows of_office) within)
-      true_rows table.Sales there = numbered_true sales_kept sale_columns shown_sale_row AreBookedValues sale_read (λ x. refl) db rows.sales sale_row (λ x. refl) (holds table.Sales there)
+      true_rows table.Sales there = numbered_true sales_kept sale_columns shown_sale_row AreBookedValues sale_read (λ x. refl) db
+          rows.sales sale_row (λ x. refl) (holds table.Sales there)
           (λ x within.
           let values = All-contains AreSaleValues rows.sales x (sales_keep_values rows of_office) within in
           record { values = record { sale = values; month = small x.moment values.moment }; month = refl })
-      true_rows table.LastIds there = hidden_true last_ids_kept last_id_columns shown_last_id AreLastIdValues last_read (λ x. refl) db rows.last_ids (λ v x. refl) (λ x none. cc) (holds table.LastIds there) last_kept
-      true_rows table.MonthTenths there = hidden_true month_tenths_kept month_columns shown_month AreMonthValues month_read (λ x. refl) db rows.month_tenths (λ v x. refl) (λ x none. cc) (holds table.MonthTenths there) month_kept
-      true_rows table.ShiftTotals there = numbered_true shift_totals_kept totals_columns shown_shift_totals AreShiftTotalsValues totals_read (λ x. refl) db rows.shift_totals totals_row (λ x. refl) (holds table.ShiftTotals there) totals_kept
-      true_rows table.MeterBases there = hidden_true bases_kept base_columns shown_base AreBaseValues base_read (λ x. refl) db rows.bases (λ v x. refl) (λ x none. cc) (holds table.MeterBases there) base_kept
-      true_rows table.DatedSteps there = hidden_true dated_steps_kept dated_columns shown_dated_step AreDatedStepValues dated_read (λ x. refl) db rows.dated_steps (λ v x. refl) (λ x none. cc) (holds table.DatedSteps there) dated_kept
+      true_rows table.LastIds there = hidden_true last_ids_kept last_id_columns shown_last_id AreLastIdValues last_read (λ x. refl) db
+          rows.last_ids (λ v x. refl) (λ x none. cc) (holds table.LastIds there) last_kept
+      true_rows table.MonthTenths there = hidden_true month_tenths_kept month_columns shown_month AreMonthValues month_read (λ x. refl) db
+          rows.month_tenths (λ v x. refl) (λ x none. cc) (holds table.MonthTenths there) month_kept
+      true_rows table.ShiftTotals there = numbered_true shift_totals_kept totals_columns shown_shift_totals AreShiftTotalsValues
+          totals_read (λ x. refl) db rows.shift_totals totals_row (λ x. refl) (holds table.ShiftTotals there) totals_kept
+      true_rows table.MeterBases there = hidden_true bases_kept base_columns shown_base AreBaseValues base_read (λ x. refl) db rows.bases
+          (λ v x. refl) (λ x none. cc) (holds table.MeterBases there) base_kept
+      true_rows table.DatedSteps there = hidden_true dated_steps_kept dated_columns shown_dated_step AreDatedStepValues dated_read
+          (λ x. refl) db rows.dated_steps (λ v x. refl) (λ x none. cc) (holds table.DatedSteps there) dated_kept
 
       -- the first false row of a table is none
       pub breaks_none : (tables : List TableName) (f : Finding) → Breaks tables f db → ⊥
       breaks_none tables f broken =
           let first = broken.first in
-          let within : Contains (first.before ++ (broken.row ∷ first.after)) broken.row = Contains-append_right first.before (broken.row ∷ first.after) broken.row (contains_first broken.row first.after) in
-          first.shows_none (All-contains (ShowsOf f.table) (all_columns (kept_of f.table) db) broken.row (true_rows f.table broken.there) (Contains-permutation (first.before ++ (broken.row ∷ first.after)) (all_columns (kept_of f.table) db) broken.row first.listed.same within))
+          let within : Contains (first.before ++ (broken.row ∷ first.after)) broken.row =
+          Contains-append_right first.before (broken.row ∷ first.after) broken.row (contains_first broken.row first.after) in
+          first.shows_none (All-contains (ShowsOf f.table) (all_columns (kept_of f.table) db) broken.row (true_rows f.table broken.there)
+          (Contains-permutation (first.before ++ (broken.row ∷ first.after)) (all_columns (kept_of f.table) db) broken.row first.listed.same within))

@@ -35,16 +35,57 @@ use Rattle.audit_rows.specs.declared.seen.Seen.TheVariants as seen
 
 pub lists : (t : TableName) → ListsAll (kept_of t) (list_of t)
 unfolding everything is_whole meant select_meant text_meant
-lists table.Tariffs = record { table = tariffs_table; asks = record { is = λ tree. record { means = refl; from = refl }; bare = λ tree. refl; typed = λ tree. refl; whole = refl }; stands = λ s has. has.0.has }
-lists table.TariffSteps = record { table = tariff_steps_table; asks = record { is = λ tree. record { means = refl; from = refl }; bare = λ tree. refl; typed = λ tree. refl; whole = refl }; stands = λ s has. has.0.has }
-lists table.Meters = record { table = meters_table; asks = record { is = λ tree. record { means = refl; from = refl }; bare = λ tree. refl; typed = λ tree. refl; whole = refl }; stands = λ s has. has.0.has }
-lists table.Shifts = record { table = shifts_table; asks = record { is = λ tree. record { means = refl; from = refl }; bare = λ tree. refl; typed = λ tree. refl; whole = refl }; stands = λ s has. has.0.has }
-lists table.Sales = record { table = sales_table; asks = record { is = λ tree. record { means = refl; from = refl }; bare = λ tree. refl; typed = λ tree. refl; whole = refl }; stands = λ s has. has.0.has }
-lists table.LastIds = record { table = last_ids_table; asks = record { is = λ tree. record { means = refl; from = refl }; bare = λ tree. refl; typed = λ tree. refl; whole = refl }; stands = λ s has. has.0.has }
-lists table.MonthTenths = record { table = month_tenths_table; asks = record { is = λ tree. record { means = refl; from = refl }; bare = λ tree. refl; typed = λ tree. refl; whole = refl }; stands = λ s has. has.0.has }
-lists table.ShiftTotals = record { table = shift_totals_table; asks = record { is = λ tree. record { means = refl; from = refl }; bare = λ tree. refl; typed = λ tree. refl; whole = refl }; stands = λ s has. has.0.has }
-lists table.MeterBases = record { table = meter_bases_table; asks = record { is = λ tree. record { means = refl; from = refl }; bare = λ tree. refl; typed = λ tree. refl; whole = refl }; stands = λ s has. has.0.has }
-lists table.DatedSteps = record { table = dated_steps_table; asks = record { is = λ tree. record { means = refl; from = refl }; bare = λ tree. refl; typed = λ tree. refl; whole = refl }; stands = λ s has. has.0.has }
+lists table.Tariffs = record {
+  table = tariffs_table;
+  asks = record { is = λ tree. record { means = refl; from = refl }; bare = λ tree. refl; typed = λ tree. refl; whole = refl };
+  stands = λ s has. has.0.has;
+}
+lists table.TariffSteps = record {
+  table = tariff_steps_table;
+  asks = record { is = λ tree. record { means = refl; from = refl }; bare = λ tree. refl; typed = λ tree. refl; whole = refl };
+  stands = λ s has. has.0.has;
+}
+lists table.Meters = record {
+  table = meters_table;
+  asks = record { is = λ tree. record { means = refl; from = refl }; bare = λ tree. refl; typed = λ tree. refl; whole = refl };
+  stands = λ s has. has.0.has;
+}
+lists table.Shifts = record {
+  table = shifts_table;
+  asks = record { is = λ tree. record { means = refl; from = refl }; bare = λ tree. refl; typed = λ tree. refl; whole = refl };
+  stands = λ s has. has.0.has;
+}
+lists table.Sales = record {
+  table = sales_table;
+  asks = record
+      { is = λ tree. record { means = refl; from = refl }; bare = λ tree. refl; typed = λ tree. refl; whole = refl };
+  stands = λ s has. has.0.has;
+}
+lists table.LastIds = record {
+  table = last_ids_table;
+  asks = record { is = λ tree. record { means = refl; from = refl }; bare = λ tree. refl; typed = λ tree. refl; whole = refl };
+  stands = λ s has. has.0.has;
+}
+lists table.MonthTenths = record {
+  table = month_tenths_table;
+  asks = record { is = λ tree. record { means = refl; from = refl }; bare = λ tree. refl; typed = λ tree. refl; whole = refl };
+  stands = λ s has. has.0.has;
+}
+lists table.ShiftTotals = record {
+  table = shift_totals_table;
+  asks = record { is = λ tree. record { means = refl; from = refl }; bare = λ tree. refl; typed = λ tree. refl; whole = refl };
+  stands = λ s has. has.0.has;
+}
+lists table.MeterBases = record {
+  table = meter_bases_table;
+  asks = record { is = λ tree. record { means = refl; from = refl }; bare = λ tree. refl; typed = λ tree. refl; whole = refl };
+  stands = λ s has. has.0.has;
+}
+lists table.DatedSteps = record {
+  table = dated_steps_table;
+  asks = record { is = λ tree. record { means = refl; from = refl }; bare = λ tree. refl; typed = λ tree. refl; whole = refl };
+  stands = λ s has. has.0.has;
+}
 
 -- ---- the rows that were seen
 
@@ -58,11 +99,17 @@ module _ {T : Type 0} (shown : T → Row) (keeps : T → Type 0) where
       (ap₂ ◌∷◌ all.0.0 rest.0, All-cons keeps x xs all.0.1 rest.1)
 
   -- the rows before the first that shows no record, and those after it
-  first_none : (rows : List Row) (before : List T) (row : Row) (after : List (Seen T)) → AllZip (Sees shown keeps) rows (map seen.Whole before ++ (seen.False row ∷ after))
+  first_none : (rows : List Row) (before : List T) (row : Row) (after : List (Seen T))
+      → AllZip (Sees shown keeps) rows (map seen.Whole before ++ (seen.False row ∷ after))
       → (rest : List Row) × (map shown before ++ (row ∷ rest) ≡ rows) × All keeps before × ¬ ShowsRecord shown keeps row
   first_none [] [] row after all = absurd all
   first_none [] (x ∷ before) row after all = absurd all
-  first_none (r ∷ rows) [] row after all = (rows, ap (λ (x : Row). x ∷ rows) all.0.0, All-nil keeps, subst (λ (x : Row). ¬ ShowsRecord shown keeps x) (sym all.0.0) all.0.1)
+  first_none (r ∷ rows) [] row after all = (
+    rows,
+    ap (λ (x : Row). x ∷ rows) all.0.0,
+    All-nil keeps,
+    subst (λ (x : Row). ¬ ShowsRecord shown keeps x) (sym all.0.0) all.0.1,
+  )
   first_none (r ∷ rows) (x ∷ before) row after all =
       let rest = first_none rows before row after all.1 in
       (rest.0, ap₂ ◌∷◌ all.0.0 rest.1, All-cons keeps x before all.0.1 rest.2, rest.3)
@@ -71,13 +118,16 @@ module _ {T : Type 0} (shown : T → Row) (keeps : T → Type 0) where
 
   module _ (t : TableName) (shows : (row : Row) → ShowsRecord shown keeps row ↔ ShowsOf t row) where
     all_show : (xs : List T) → All keeps xs → All (ShowsOf t) (map shown xs)
-    all_show xs kept = All-map (ShowsOf t) shown xs (All-weaker keeps (λ (x : T). ShowsOf t (shown x)) (λ x rules. (shows (shown x)).0 (x, (refl, rules))) xs kept)
+    all_show xs kept = All-map (ShowsOf t) shown xs (All-weaker keeps (λ (x : T). ShowsOf t (shown x))
+        (λ x rules. (shows (shown x)).0 (x, (refl, rules))) xs kept)
 
     -- where a record of each row is known, each row shows one
     pub listed_true : (db : Database) (xs : List T) → AreListed shown keeps (kept_of t) db xs → All (HasTrueRows db) (t ∷ [])
-    listed_true db xs are = All-cons (HasTrueRows db) t [] (All-permutation (ShowsOf t) (map shown xs) (all_columns (kept_of t) db) are.listed.same (all_show xs are.kept)) (All-nil (HasTrueRows db))
+    listed_true db xs are = All-cons (HasTrueRows db) t []
+        (All-permutation (ShowsOf t) (map shown xs) (all_columns (kept_of t) db) are.listed.same (all_show xs are.kept)) (All-nil (HasTrueRows db))
 
-    module _ (old new : State) (there : IsKept old.now.schema (kept_of t)) (all : List (Seen T)) (given : GivesAll (Sees shown keeps) (list_of t) [] old new all) where
+    module _ (old new : State) (there : IsKept old.now.schema (kept_of t)) (all : List (Seen T))
+        (given : GivesAll (Sees shown keeps) (list_of t) [] old new all) where
       listing : IsTableListing (kept_of t) old.now given.rows
       listing = answer_lists (kept_of t) old.now given.rows (read.answer_is (lists t).asks (kept_of t) (lists t).stands old new there given.rows given.shown)
 
@@ -88,13 +138,20 @@ module _ {T : Type 0} (shown : T → Row) (keeps : T → Type 0) where
           record { listed = subst (IsTableListing (kept_of t) old.now) (sym records.0) listing; kept = records.1 }
 
       -- or the first is told that is none
-      pub is_broken : (before : List T) (row : Row) (after : List (Seen T)) → all ≡ map seen.Whole before ++ (seen.False row ∷ after) → (f : Finding) → (¬ ShowsOf t row → IsBroken t row f) → Breaks (t ∷ []) f old.now
+      pub is_broken : (before : List T) (row : Row) (after : List (Seen T)) → all ≡ map seen.Whole before ++ (seen.False row ∷ after)
+          → (f : Finding) → (¬ ShowsOf t row → IsBroken t row f) → Breaks (t ∷ []) f old.now
       is_broken before row after is f broken =
           let found = first_none given.rows before row after (subst (AllZip (Sees shown keeps) given.rows) is given.read) in
           let none : ¬ ShowsOf t row = λ s. found.3 ((shows row).1 s) in
           let told = broken none in
           let first : IsFirstFalse t old.now row =
-          record { before = map shown before; after = found.0; listed = subst (IsTableListing (kept_of t) old.now) (sym found.1) listing; shown = all_show before found.2; shows_none = none } in
+          record {
+            before = map shown before;
+            after = found.0;
+            listed = subst (IsTableListing (kept_of t) old.now) (sym found.1) listing;
+            shown = all_show before found.2;
+            shows_none = none;
+          } in
           record {
             before = [];
             after = [];
@@ -121,23 +178,29 @@ module _ (t : TableName) (sql : List ℕ) (is : sql ≡ list_of t) (old new : St
   list_fails known fault.Row (bad, same) = inr (refl, same)
 
   -- one that fails
-  pub list_stops : {T U : Type 0} (why : ReadFault) (e : Error) → e ≡ cause_of why → ReadsOnly {T = T} (OnlyAsks sql) IsUnchanged (FailsToAnswer (λ _. ⊤) sql []) old new (Err why)
+  pub list_stops : {T U : Type 0} (why : ReadFault) (e : Error) → e ≡ cause_of why
+      → ReadsOnly {T = T} (OnlyAsks sql) IsUnchanged (FailsToAnswer (λ _. ⊤) sql []) old new (Err why)
       → ReadsOnly {T = U} (IsKnown (HaveTables (t ∷ []))) IsUnchanged (FailsToReadTables (t ∷ [])) old new (Err (Failed e))
   list_stops why e told this = record {
     same = λ _ _. tt;
     kept = λ clean known. this.kept clean (asks_by known);
     mode = this.mode;
-    faults = λ clean known. subst (FailsToList old new) (sym told) (list_fails known why (subst (λ (text : List ℕ). FailsToAnswer (λ _. ⊤) text [] old new why) is (this.faults clean (asks_by known))));
+    faults = λ clean known. subst (FailsToList old new) (sym told)
+        (list_fails known why (subst (λ (text : List ℕ). FailsToAnswer (λ _. ⊤) text [] old new why) is (this.faults clean (asks_by known))));
     survives = λ known. this.survives (asks_by known);
   }
 
   -- one that succeeds
   module _ {V : Type 0} {v : V} (this : ReadsOnly (OnlyAsks sql) IsUnchanged (FailsToAnswer (λ _. ⊤) sql []) old new (Ok v)) where
-    pub list_passes : {U : Type 0} (r : Result U AuditFault) → (HasCleanDisk new → IsKnown (HaveTables (t ∷ [])) old → IsUnchanged old new → IfErr r (FailsToReadTables (t ∷ []) old new))
+    pub list_passes : {U : Type 0} (r : Result U AuditFault)
+        → (HasCleanDisk new → IsKnown (HaveTables (t ∷ [])) old → IsUnchanged old new → IfErr r (FailsToReadTables (t ∷ []) old new))
         → ReadsOnly (IsKnown (HaveTables (t ∷ []))) IsUnchanged (FailsToReadTables (t ∷ [])) old new r
-    list_passes r why = read_into {A = FailsToAnswer (λ _. ⊤) sql []} {x = v} r (read_so asks_by this) (λ clean known. why clean known (this.same clean (asks_by known)))
+    list_passes r why = read_into {A = FailsToAnswer (λ _. ⊤) sql []} {x = v} r (read_so asks_by this)
+        (λ clean known. why clean known (this.same clean (asks_by known)))
 
-    module _ {T : Type 0} (shown : T → Row) (keeps : T → Type 0) (shows : (row : Row) → ShowsRecord shown keeps row ↔ ShowsOf t row) (all : List (Seen T)) (gives : HasCleanDisk new → OnlyAsks sql old → GivesAll (Sees shown keeps) sql [] old new all) (clean : HasCleanDisk new) (known : IsKnown (HaveTables (t ∷ [])) old) where
+    module _ {T : Type 0} (shown : T → Row) (keeps : T → Type 0) (shows : (row : Row) → ShowsRecord shown keeps row ↔ ShowsOf t row)
+        (all : List (Seen T)) (gives : HasCleanDisk new → OnlyAsks sql old → GivesAll (Sees shown keeps) sql [] old new all)
+        (clean : HasCleanDisk new) (known : IsKnown (HaveTables (t ∷ [])) old) where
       same : IsUnchanged old new
       same = this.same clean (asks_by known)
 
@@ -150,5 +213,10 @@ module _ (t : TableName) (sql : List ℕ) (is : sql ≡ list_of t) (old new : St
       pub table_true : (xs : List T) → all ≡ map seen.Whole xs → All (HasTrueRows old.now) (t ∷ [])
       table_true xs are = listed_true shown keeps t shows old.now xs (table_listed xs are)
 
-      pub table_broken : (before : List T) (row : Row) (after : List (Seen T)) → all ≡ map seen.Whole before ++ (seen.False row ∷ after) → (f : Finding) → (¬ ShowsOf t row → IsBroken t row f) → FailsToReadTables (t ∷ []) old new (Found f)
-      table_broken before row after are f broken = (is_broken shown keeps t shows old new (there known same.0.was_open) all given before row after are f broken, same)
+      pub table_broken : (before : List T) (row : Row) (after : List (Seen T)) → all ≡ map seen.Whole before ++ (seen.False row ∷ after)
+          → (f : Finding) → (¬ ShowsOf t row → IsBroken t row f) → FailsToReadTables (t ∷ []) old new (Found f)
+      table_broken before row after are f broken = (
+        is_broken shown keeps t shows old new (there known same.0.was_open) all given before
+            row after are f broken,
+        same,
+      )

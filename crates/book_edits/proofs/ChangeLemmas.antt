@@ -51,12 +51,14 @@ abbrev AreOurs : List (List ℕ) → Type 0
 AreOurs names = (s : Schema) (tree : ℕ) → IsOfNone s table_names tree → IsOfNone s names tree
 
 same_in : (s : Schema) (names : List (List ℕ)) (old new : Trees) → AreOurs names → (tables : List Table)
-    → AllByRecursion (λ u. IsOfNone s names u.tree → new u.tree ≡ old u.tree) tables → AllByRecursion (λ u. IsOfNone s table_names u.tree → new u.tree ≡ old u.tree) tables
+    → AllByRecursion (λ u. IsOfNone s names u.tree → new u.tree ≡ old u.tree) tables
+    → AllByRecursion (λ u. IsOfNone s table_names u.tree → new u.tree ≡ old u.tree) tables
 same_in s names old new ours [] kept = tt
 same_in s names old new ours (t ∷ tables) kept = (λ none. kept.0 (ours s t.tree none), same_in s names old new ours tables kept.1)
 
 same_then : (s : Schema) (old mid new : Trees) (tables : List Table) → AllByRecursion (λ u. IsOfNone s table_names u.tree → mid u.tree ≡ old u.tree) tables
-    → AllByRecursion (λ u. IsOfNone s table_names u.tree → new u.tree ≡ mid u.tree) tables → AllByRecursion (λ u. IsOfNone s table_names u.tree → new u.tree ≡ old u.tree) tables
+    → AllByRecursion (λ u. IsOfNone s table_names u.tree → new u.tree ≡ mid u.tree) tables
+    → AllByRecursion (λ u. IsOfNone s table_names u.tree → new u.tree ≡ old u.tree) tables
 same_then s old mid new [] first second = tt
 same_then s old mid new (t ∷ tables) first second = (λ none. second.0 none ∙ first.0 none, same_then s old mid new tables first.1 second.1)
 
@@ -64,7 +66,8 @@ same_then s old mid new (t ∷ tables) first second = (λ none. second.0 none �
 
 -- what the edit makes of the members is told, and the write leaves the rest
 makes : (edit : Edit) (names : List (List ℕ)) (old new : State) → AreOurs names → WritesOnly names old new
-    → (AreInOrder table_names old.now → KeepsRows (edit_keys edit) old.now new.now) → ((o : Office) → IsOffice o → Meets edit o → HoldsMembers old.now o → HoldsMembers new.now (applied edit o)) → MakesEdit edit old.now new.now
+    → (AreInOrder table_names old.now → KeepsRows (edit_keys edit) old.now new.now)
+    → ((o : Office) → IsOffice o → Meets edit o → HoldsMembers old.now o → HoldsMembers new.now (applied edit o)) → MakesEdit edit old.now new.now
 makes edit names old new ours only kept members = record {
   members = members;
   kept = kept;
@@ -74,7 +77,8 @@ makes edit names old new ours only kept members = record {
 }
 
 makes_row : (row : Row) (names : List (List ℕ)) (old new : State) → AreOurs names → WritesOnly names old new
-    → KeepsRows (flat_map row_keys (row ∷ [])) old.now new.now → ((o : Office) → MeetsRow row o → HoldsMembers old.now o → HoldsMembers new.now (with_row row o)) → MakesRows (row ∷ []) old.now new.now
+    → KeepsRows (flat_map row_keys (row ∷ [])) old.now new.now
+    → ((o : Office) → MeetsRow row o → HoldsMembers old.now o → HoldsMembers new.now (with_row row o)) → MakesRows (row ∷ []) old.now new.now
 makes_row row names old new ours only kept members = record {
   members = λ o meets held. members o meets.0 held;
   kept = kept;
@@ -95,7 +99,9 @@ module _ (law : KeepsMembers) (old new : State) where
 
   pub makes_sale : (s : Sale) → AddsSold s old new → MakesEdit (edits.AddSale s) old.now new.now
   makes_sale s adds =
-      makes (edits.AddSale s) (codes "sales" ∷ totals_names) old new (λ t tree none. (none.1.1.1.1.1.0, (none.1.1.1.1.1.1.0, (none.1.1.1.1.1.1.1.0, (none.1.1.1.1.1.1.1.1.0, tt))))) adds.only (λ order. adds.kept (order.1.1.1.1.1.1.0, (order.1.1.1.1.1.1.1.0, (order.1.1.1.1.1.1.1.1.0, tt)))) adds.members
+      makes (edits.AddSale s) (codes "sales" ∷ totals_names) old new
+      (λ t tree none. (none.1.1.1.1.1.0, (none.1.1.1.1.1.1.0, (none.1.1.1.1.1.1.1.0, (none.1.1.1.1.1.1.1.1.0, tt))))) adds.only
+      (λ order. adds.kept (order.1.1.1.1.1.1.0, (order.1.1.1.1.1.1.1.0, (order.1.1.1.1.1.1.1.1.0, tt)))) adds.members
 
   pub makes_shift : (s : Shift) → AddsShift s old new → MakesEdit (edits.OpenShift s) old.now new.now
   makes_shift s adds =
@@ -109,7 +115,8 @@ module _ (law : KeepsMembers) (old new : State) where
 
   pub makes_closing : (number moment : ℕ) → ClosesShift number moment old new → MakesEdit (edits.CloseShift number moment) old.now new.now
   makes_closing number moment closes =
-      makes (edits.CloseShift number moment) (codes "shifts" ∷ []) old new (λ t tree none. (none.1.1.1.1.0, tt)) closes.only (λ order. closes.kept (order.1.1.1.1.0, tt)) (λ o office meets held.
+      makes (edits.CloseShift number moment) (codes "shifts" ∷ []) old new (λ t tree none. (none.1.1.1.1.0, tt)) closes.only
+      (λ order. closes.kept (order.1.1.1.1.0, tt)) (λ o office meets held.
       let are = held.2 in
       let numbered = subst (λ (l : List Shift). AreNumbered (λ (s : Shift). s.number) l) (sym are.shifts) office.shift_numbers in
       (edited (edits.CloseShift number moment) held.0, closes.rows held.0 held.1 numbered, law held.0 o (edits.CloseShift number moment) are meets refl))
@@ -118,7 +125,8 @@ module _ (law : KeepsMembers) (old new : State) where
 
   pub makes_setting : (number name : List ℕ) → SetsTariff number name old new → MakesEdit (edits.SetTariff number name) old.now new.now
   makes_setting number name sets =
-      makes (edits.SetTariff number name) (codes "meters" ∷ []) old new (λ t tree none. (none.1.1.1.0, tt)) sets.only (λ order. sets.kept (order.1.1.1.0, tt)) (λ o office meets held.
+      makes (edits.SetTariff number name) (codes "meters" ∷ []) old new (λ t tree none. (none.1.1.1.0, tt)) sets.only
+      (λ order. sets.kept (order.1.1.1.0, tt)) (λ o office meets held.
       let are = held.2 in
       (edited (edits.SetTariff number name) held.0, sets.rows held.0 held.1 are.meters_once, law held.0 o (edits.SetTariff number name) are meets refl))
 
@@ -128,7 +136,8 @@ module _ (law : KeepsMembers) (old new : State) where
       let are = held.2 in
       (edited (edits.MoveBase number base) held.0, moves.rows held.0 held.1 are.meters_once, law held.0 o (edits.MoveBase number base) are meets refl))
 
-  with_steps_row : (name : List ℕ) (day : ℕ) (steps : List Step) → AddsSteps name day steps old new → (o : Office) → MeetsRow (kinds.Steps name day steps) o → HoldsMembers old.now o
+  with_steps_row : (name : List ℕ) (day : ℕ) (steps : List Step) → AddsSteps name day steps old new → (o : Office)
+      → MeetsRow (kinds.Steps name day steps) o → HoldsMembers old.now o
       → HoldsMembers new.now (with_row (kinds.Steps name day steps) o)
   with_steps_row name day steps adds o meets held =
       (edited (edits.AddSteps name day steps) held.0, adds.rows held.0 held.1, law held.0 o (edits.AddSteps name day steps) held.2 meets refl)
@@ -140,13 +149,17 @@ module _ (law : KeepsMembers) (old new : State) where
 
   of_steps : (name : List ℕ) (day : ℕ) (steps : List Step) → AddsSteps name day steps old new → MakesRows (kinds.Steps name day steps ∷ []) old.now new.now
   of_steps name day steps adds =
-      makes_row (kinds.Steps name day steps) (codes "dated_steps" ∷ []) old new (λ t tree none. (none.1.1.1.1.1.1.1.1.1.1.0, tt)) adds.only adds.kept (with_steps_row name day steps adds)
+      makes_row (kinds.Steps name day steps) (codes "dated_steps" ∷ []) old new (λ t tree none. (none.1.1.1.1.1.1.1.1.1.1.0, tt)) adds.only
+      adds.kept (with_steps_row name day steps adds)
 
-  pub makes_steps_row : (row : Row) (name : List ℕ) (day : ℕ) (steps listed : List Step) → row ≡ kinds.Steps name day steps → listed ≡ steps → AddsSteps name day listed old new → MakesRows (row ∷ []) old.now new.now
+  pub makes_steps_row : (row : Row) (name : List ℕ) (day : ℕ) (steps listed : List Step) → row ≡ kinds.Steps name day steps → listed
+      ≡ steps → AddsSteps name day listed old new → MakesRows (row ∷ []) old.now new.now
   makes_steps_row row name day steps listed is same adds =
-      subst (λ (r : Row). MakesRows (r ∷ []) old.now new.now) (sym is) (of_steps name day steps (subst (λ (l : List Step). AddsSteps name day l old new) same adds))
+      subst (λ (r : Row). MakesRows (r ∷ []) old.now new.now) (sym is)
+      (of_steps name day steps (subst (λ (l : List Step). AddsSteps name day l old new) same adds))
 
-  with_tariff_row : (name : List ℕ) (steps : List Step) → AddsTariff name steps old new → (o : Office) → MeetsRow (kinds.Tariff name steps) o → HoldsMembers old.now o
+  with_tariff_row : (name : List ℕ) (steps : List Step) → AddsTariff name steps old new → (o : Office)
+      → MeetsRow (kinds.Tariff name steps) o → HoldsMembers old.now o
       → HoldsMembers new.now (with_row (kinds.Tariff name steps) o)
   with_tariff_row name steps adds o meets held =
       (edited (edits.AddTariff name steps) held.0, adds.rows held.0 held.1, law held.0 o (edits.AddTariff name steps) held.2 meets refl)
@@ -158,7 +171,8 @@ module _ (law : KeepsMembers) (old new : State) where
 
   pub makes_tariff : (name : List ℕ) (steps : List Step) → AddsTariff name steps old new → MakesEdit (edits.AddTariff name steps) old.now new.now
   makes_tariff name steps adds =
-      makes (edits.AddTariff name steps) (codes "tariffs" ∷ codes "tariff_steps" ∷ []) old new (λ t tree none. (none.1.0, (none.1.1.0, tt))) adds.only (λ order. adds.kept)
+      makes (edits.AddTariff name steps) (codes "tariffs" ∷ codes "tariff_steps" ∷ []) old new
+      (λ t tree none. (none.1.0, (none.1.1.0, tt))) adds.only (λ order. adds.kept)
       (λ o office meets held. with_tariff_row name steps adds o meets held)
 
   pub makes_meter : (number : List ℕ) (m : Meter) → AddsMeter number m old new → MakesEdit (edits.AddMeter number m) old.now new.now
@@ -168,18 +182,21 @@ module _ (law : KeepsMembers) (old new : State) where
 
   of_tariff : (name : List ℕ) (steps : List Step) → AddsTariff name steps old new → MakesRows (kinds.Tariff name steps ∷ []) old.now new.now
   of_tariff name steps adds =
-      makes_row (kinds.Tariff name steps) (codes "tariffs" ∷ codes "tariff_steps" ∷ []) old new (λ t tree none. (none.1.0, (none.1.1.0, tt))) adds.only adds.kept
+      makes_row (kinds.Tariff name steps) (codes "tariffs" ∷ codes "tariff_steps" ∷ []) old new
+      (λ t tree none. (none.1.0, (none.1.1.0, tt))) adds.only adds.kept
       (with_tariff_row name steps adds)
 
   of_meter : (number : List ℕ) (m : Meter) → AddsMeter number m old new → MakesRows (kinds.Meter number m ∷ []) old.now new.now
   of_meter number m adds =
       makes_row (kinds.Meter number m) both_meters old new of_meters adds.only adds.kept (with_meter_row number m adds)
 
-  pub makes_tariff_row : (row : Row) (name : List ℕ) (steps listed : List Step) → row ≡ kinds.Tariff name steps → listed ≡ steps → AddsTariff name listed old new → MakesRows (row ∷ []) old.now new.now
+  pub makes_tariff_row : (row : Row) (name : List ℕ) (steps listed : List Step) → row ≡ kinds.Tariff name steps → listed ≡ steps
+      → AddsTariff name listed old new → MakesRows (row ∷ []) old.now new.now
   makes_tariff_row row name steps listed is same adds =
       subst (λ (r : Row). MakesRows (r ∷ []) old.now new.now) (sym is) (of_tariff name steps (subst (λ (l : List Step). AddsTariff name l old new) same adds))
 
-  pub makes_meter_row : (row : Row) (number : List ℕ) (m : Meter) → row ≡ kinds.Meter number m → AddsMeter number m old new → MakesRows (row ∷ []) old.now new.now
+  pub makes_meter_row : (row : Row) (number : List ℕ) (m : Meter) → row ≡ kinds.Meter number m → AddsMeter number m old new
+      → MakesRows (row ∷ []) old.now new.now
   makes_meter_row row number m is adds = subst (λ (r : Row). MakesRows (r ∷ []) old.now new.now) (sym is) (of_meter number m adds)
 
 -- ---- rows one after another
@@ -201,7 +218,8 @@ pub makes_more : (xs : List Row) (y : Row) (old mid new : Database) → MakesRow
 makes_more xs y old mid new first second = record {
   members = λ o meets held.
       subst (HoldsMembers new) (with_last xs y o) (second.members (with_rows xs o) (meets_last xs y o meets) (first.members o (meets_first xs y o meets) held));
-  kept = subst (λ (keys : Keys). KeepsRows keys old new) (sym (flat_map-append row_keys xs (y ∷ []))) (keeps_then (flat_map row_keys xs) (flat_map row_keys (y ∷ [])) old mid new first.kept second.kept);
+  kept = subst (λ (keys : Keys). KeepsRows keys old new) (sym (flat_map-append row_keys xs (y ∷ [])))
+      (keeps_then (flat_map row_keys xs) (flat_map row_keys (y ∷ [])) old mid new first.kept second.kept);
   schema = second.schema ∙ first.schema;
   others = same_then old.schema old.trees mid.trees new.trees old.schema.tables first.others
       (subst (λ (s : Schema). SameOthers s mid.trees new.trees) first.schema second.others);
@@ -226,26 +244,31 @@ on_ok (Err e) f p = tt
 -- ---- inside one transaction
 
 -- the office's tables are still there
-pub still_has : (rows : List Row) (old mid : State) → MakesRows rows old.now mid.now → Shows old mid mid.now old.committed true → HasAllTables old → HasAllTables mid
+pub still_has : (rows : List Row) (old mid : State) → MakesRows rows old.now mid.now → Shows old mid mid.now old.committed true
+    → HasAllTables old → HasAllTables mid
 still_has rows old mid makes inside has = λ _. subst HasOffice (sym makes.schema) (has inside.was_open)
 
 -- ---- an edit
 
 -- what the statement of an edit did is what the edit makes, and what is told of it is as computed
-pub made_by : {A E P : Type 0} (r : Result A E) (found edit : Edit) (prior : ℕ) (old new : State) → found ≡ edit → (HasAllTables old → OnOk r P) → (P → MakesEdit edit old.now new.now × IsCounted edit prior old.now)
+pub made_by : {A E P : Type 0} (r : Result A E) (found edit : Edit) (prior : ℕ) (old new : State) → found ≡ edit
+    → (HasAllTables old → OnOk r P) → (P → MakesEdit edit old.now new.now × IsCounted edit prior old.now)
     → OnOk r (MakesAsComputed found prior old.now new.now)
-made_by (Ok x) found edit prior old new is did makes = λ has. subst (λ (e : Edit). MakesEdit e old.now new.now × IsCounted e prior old.now) (sym is) (makes (did (λ _. has)))
+made_by (Ok x) found edit prior old new is did makes =
+    λ has. subst (λ (e : Edit). MakesEdit e old.now new.now × IsCounted e prior old.now) (sym is) (makes (did (λ _. has)))
 made_by (Err e) found edit prior old new is did makes = tt
 
 -- ---- why an edit is not made
 
 -- where its tables are there
-pub told_where : {A : Type 0} (edit : Edit) (prior : ℕ) (old new : State) (r : Result A TableError) → (HasAllTables old → IfErr r (FailsToMakeEdit edit prior old new)) → IfErr r (λ e. HasAllTables old → FailsToMakeEdit edit prior old new e)
+pub told_where : {A : Type 0} (edit : Edit) (prior : ℕ) (old new : State) (r : Result A TableError)
+    → (HasAllTables old → IfErr r (FailsToMakeEdit edit prior old new)) → IfErr r (λ e. HasAllTables old → FailsToMakeEdit edit prior old new e)
 told_where edit prior old new (Ok x) told = tt
 told_where edit prior old new (Err e) told = told
 
 -- where it is this one
-pub refused_by : {A : Type 0} (r : Result A TableError) (found edit : Edit) (prior : ℕ) (old new : State) → found ≡ edit → IfErr r (FailsToMakeEdit edit prior old new) → IfErr r (FailsToMakeEdit found prior old new)
+pub refused_by : {A : Type 0} (r : Result A TableError) (found edit : Edit) (prior : ℕ) (old new : State) → found ≡ edit
+    → IfErr r (FailsToMakeEdit edit prior old new) → IfErr r (FailsToMakeEdit found prior old new)
 refused_by r found edit prior old new is why = subst (λ (e : Edit). IfErr r (FailsToMakeEdit e prior old new)) (sym is) why
 
 all_err : {A E : Type 0} {P : E → Type 0} (r : Result A E) → ((e : E) → P e) → IfErr r P
@@ -257,16 +280,19 @@ pub writes_more : (rows : List Row) (row : Row) → flat_map row_writes rows ++ 
 writes_more rows row = flat_map_more row_writes [] rows row
 
 -- so a row ends that is this one
-pub row_ends : {A : Type 0} (r : Result A TableError) (found row : Row) (old new : State) → found ≡ row → End FailsToWriteAll (row_writes row) old new r → End FailsToWriteAll (row_writes found) old new r
+pub row_ends : {A : Type 0} (r : Result A TableError) (found row : Row) (old new : State) → found ≡ row
+    → End FailsToWriteAll (row_writes row) old new r → End FailsToWriteAll (row_writes found) old new r
 row_ends r found row old new is ends = subst (λ (x : Row). End FailsToWriteAll (row_writes x) old new r) (sym is) ends
 
 -- where its writes fail
-pub edit_refused : {A : Type 0} (r : Result A TableError) (found edit : Edit) (prior : ℕ) (old new : State) → found ≡ edit → (HasAllTables old → IfErr r (FailsToWriteAll (writes_of edit) old new)) → IfErr r (λ e. HasAllTables old → FailsToMakeEdit found prior old new e)
+pub edit_refused : {A : Type 0} (r : Result A TableError) (found edit : Edit) (prior : ℕ) (old new : State) → found ≡ edit
+    → (HasAllTables old → IfErr r (FailsToWriteAll (writes_of edit) old new)) → IfErr r (λ e. HasAllTables old → FailsToMakeEdit found prior old new e)
 edit_refused r found edit prior old new is why =
     told_where found prior old new r (λ has. if_err r (λ e fails. inl (subst (λ (x : Edit). FailsToWriteAll (writes_of x) old new e) (sym is) fails)) (why has))
 
 -- no office has an import of no rows to add
-pub rows_refused : {A : Type 0} (r : Result A TableError) (rows listed : List Row) (prior : ℕ) (old new : State) → listed ≡ rows → (1 ≤ length listed → IfErr r (FailsToWriteAll (flat_map row_writes listed) old new)) → IfErr r (FailsToMakeEdit (edits.AddRows rows) prior old new)
+pub rows_refused : {A : Type 0} (r : Result A TableError) (rows listed : List Row) (prior : ℕ) (old new : State) → listed ≡ rows
+    → (1 ≤ length listed → IfErr r (FailsToWriteAll (flat_map row_writes listed) old new)) → IfErr r (FailsToMakeEdit (edits.AddRows rows) prior old new)
 rows_refused r rows listed prior old new same why = elim (cases_order 0 (length listed)) [
   | inl none ↦ all_err r (λ e. inr (inl (λ is_open o office meets held. omega (arith, meets.0, none, ap length same))))
   | inr (inl some) ↦ if_err r (λ e fails. inl (subst (λ (l : List Row). FailsToWriteAll (flat_map row_writes l) old new e) same fails)) (why (omega arith))
@@ -274,7 +300,9 @@ rows_refused r rows listed prior old new same why = elim (cases_order 0 (length 
 ]
 
 -- totals that are told to be no office's show that there is none that the sale meets
-pub sold_refused : (s : Sale) (prior : ℕ) (old new : State) (e : TableError) → IsUnderWay old → HasCleanDisk new → FailsToMergeAll (sale_writes s) old new e → FindsNoFalseRow {T = SaleTotals} (MayAddSold s) old new (Err e) → FailsToMakeEdit (edits.AddSale s) prior old new e
+pub sold_refused : (s : Sale) (prior : ℕ) (old new : State) (e : TableError) → IsUnderWay old → HasCleanDisk new
+    → FailsToMergeAll (sale_writes s) old new e → FindsNoFalseRow {T = SaleTotals} (MayAddSold s) old new (Err e)
+    → FailsToMakeEdit (edits.AddSale s) prior old new e
 sold_refused s prior old new e way clean (inl fails) never = inl fails
 sold_refused s prior old new e way clean (inr is) never =
     inr (inl (λ is_open o office meets held. never clean way present_format held.0 (λ _. held.1) (refl, (o, office, meets, held.2)) (ap (λ e. Err e) is)))

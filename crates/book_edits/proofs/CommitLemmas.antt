@@ -73,7 +73,8 @@ module _ (edit : Edit) (prior : ℕ) (old new : State) (tables : HasAllTables ol
 
 -- ---- other tables
 
-same_others : (edit : Edit) (old : State) (made : Database) → MakesEdit edit old.now made → (trees : Trees) → trees ≡ made.trees → SameOthers old.now.schema old.now.trees trees
+same_others : (edit : Edit) (old : State) (made : Database) → MakesEdit edit old.now made → (trees : Trees) → trees ≡ made.trees
+    → SameOthers old.now.schema old.now.trees trees
 same_others edit old made makes trees same = subst (SameOthers old.now.schema old.now.trees) (sym same) makes.others
 
 edit_others : (edit : Edit) (old new : State) → HasEdit edit old new → LeavesOthers old new
@@ -85,17 +86,20 @@ edit_others edit old new has = record {
   limit = has.limit;
 }
 
-doubt_others : {Been : (State → Type 0) → Type 0} (edit : Edit) (prior : ℕ) (old new : State) → HasCleanDisk new → DoubtsEdit Been edit prior old new → LeavesOthers old new
+doubt_others : {Been : (State → Type 0) → Type 0} (edit : Edit) (prior : ℕ) (old new : State) → HasCleanDisk new
+    → DoubtsEdit Been edit prior old new → LeavesOthers old new
 doubt_others edit prior old new clean h = record {
   was_open = λ _. h.was_open;
   schema = λ is_open. ap (λ (d : Database). d.schema) (h.same.now_is is_open);
   now = λ is_open. same_trees old.now.schema old.now.trees new.now.trees (ap (λ (d : Database). d.trees) (h.same.now_is is_open));
-  crash = λ trees may. elim (h.survives.crash clean trees may) [ inl was ↦ inl was | inr made ↦ inr (h.was_open, same_others edit old made.0 made.1 trees made.2) ];
+  crash = λ trees may. elim (h.survives.crash clean trees may)
+      [ inl was ↦ inl was | inr made ↦ inr (h.was_open, same_others edit old made.0 made.1 trees made.2) ];
   limit = h.survives.limit;
 }
 
 -- however the commit of an edit ends, it leaves the tables of other names as they were
-pub commits_others : {Been : (State → Type 0) → Type 0} (edit : Edit) (prior : ℕ) (r : Result (Unit {0}) Refusal) (old new : State) → HasCleanDisk new → Commits Been edit prior r old new → LeavesOthers old new
+pub commits_others : {Been : (State → Type 0) → Type 0} (edit : Edit) (prior : ℕ) (r : Result (Unit {0}) Refusal) (old new : State)
+    → HasCleanDisk new → Commits Been edit prior r old new → LeavesOthers old new
 commits_others edit prior (Ok x) old new clean h = edit_others edit old new h.done
 commits_others edit prior (Err refusal) old new clean h = elim h.failed [
   | inl unmade ↦ nothing_others old new clean unmade.nothing
@@ -129,7 +133,8 @@ module _ (edit : Edit) (old mid new : State) (clean : HasCleanDisk new) (before 
   counted_after prior is_open told = subst (IsCounted edit prior) (before.same.now_is is_open) told
 
   -- what failed at the commit after the reads failed so after what was before them
-  failed_after : (prior : ℕ) (held : State) (e : Error) → FailsAtCommit (MakesAsComputed edit prior) mid held new e → FailsAtCommit (MakesAsComputed edit prior) old held new e
+  failed_after : (prior : ℕ) (held : State) (e : Error) → FailsAtCommit (MakesAsComputed edit prior) mid held new e
+      → FailsAtCommit (MakesAsComputed edit prior) old held new e
   failed_after prior held e h = record {
     was_open = before.same.was_open h.was_open;
     makes = subst (λ (db : Database). MakesAsComputed edit prior db held.now) (before.same.now_is h.was_open) h.makes;
@@ -146,7 +151,8 @@ module _ (edit : Edit) (old mid new : State) (clean : HasCleanDisk new) (before 
       was_open = λ _. before.same.was_open h.was_open;
       now_is = λ is_open. h.same.now_is is_open ∙ before.same.now_is h.was_open;
     };
-    survives = survives_then old mid new _ _ (LeavesMade (MakesEdit edit) old.now) (λ _ _ none. absurd none) (λ _ trees made. leaves_after h.was_open trees made) before.survives h.survives;
+    survives = survives_then old mid new _ _ (LeavesMade (MakesEdit edit) old.now) (λ _ _ none. absurd none)
+        (λ _ trees made. leaves_after h.was_open trees made) before.survives h.survives;
     error = h.error;
     failed = (h.failed.0, failed_after prior (state g h.failed.0) h.error h.failed.1);
   }
@@ -172,7 +178,8 @@ module _ (edit : Edit) (old mid new : State) (clean : HasCleanDisk new) (before 
     by_state : (error : TableError) → (IsTrue mid.is_open → EditHasFailed edit prior error old new) → EditHasFailed edit prior error old new
     by_state error if_open = elim (cases_Bool mid.is_open) [ inl runs ↦ if_open runs | inr shut ↦ shut_told error (was_shut shut) ]
 
-    refused_before : (error : TableError) (e : Error) → error ≡ table.Database e → IsRefused (writes_of edit) mid e → IsTrue mid.is_open → EditHasFailed edit prior error old new
+    refused_before : (error : TableError) (e : Error) → error ≡ table.Database e → IsRefused (writes_of edit) mid e → IsTrue mid.is_open
+        → EditHasFailed edit prior error old new
     refused_before error e is it runs = inr (inr (inl (
       e,
       is,
@@ -182,8 +189,10 @@ module _ (edit : Edit) (old mid new : State) (clean : HasCleanDisk new) (before 
         after = it.after;
         among = it.among;
         db = it.db;
-        made = subst (λ (db : Database). Make old.step_limit it.before db it.db) (before.same.now_is runs) (subst (λ (l : Option ℕ). Make l it.before mid.now it.db) before.survives.limit it.made);
-        refused = subst (λ (l : Option ℕ). EndsWith l it.tried it.db (Err (Some e)) ⊎ ((e ≡ SqliteFailure TooBig) × EndsWith l it.tried it.db (Err None))) before.survives.limit it.refused;
+        made = subst (λ (db : Database). Make old.step_limit it.before db it.db) (before.same.now_is runs)
+            (subst (λ (l : Option ℕ). Make l it.before mid.now it.db) before.survives.limit it.made);
+        refused = subst (λ (l : Option ℕ). EndsWith l it.tried it.db (Err (Some e))
+            ⊎ ((e ≡ SqliteFailure TooBig) × EndsWith l it.tried it.db (Err None))) before.survives.limit it.refused;
       },
     )))
 
@@ -192,10 +201,13 @@ module _ (edit : Edit) (old mid new : State) (clean : HasCleanDisk new) (before 
     cause_after error (inr (inl shut)) = shut_told error (was_shut shut)
     cause_after error (inr (inr (inl (e, is, refused)))) = by_state error (refused_before error e is refused)
     cause_after error (inr (inr (inr (inl none)))) =
-        by_state error (λ runs. inr (inr (inr (inl (λ _. subst (λ (db : Database). (o : Office) → IsOffice o → Meets edit o → ¬ HoldsMembers db o) (before.same.now_is runs) (none runs))))))
-    cause_after error (inr (inr (inr (inr told)))) = by_state error (λ runs. inr (inr (inr (inr (subst (IsMiscounted edit prior) (before.same.now_is runs) told)))))
+        by_state error (λ runs. inr (inr (inr (inl (λ _. subst
+        (λ (db : Database). (o : Office) → IsOffice o → Meets edit o → ¬ HoldsMembers db o) (before.same.now_is runs) (none runs))))))
+    cause_after error (inr (inr (inr (inr told)))) = by_state error
+        (λ runs. inr (inr (inr (inr (subst (IsMiscounted edit prior) (before.same.now_is runs) told)))))
 
-  pub fails_after : {S : Type 0} (g : Ghosts S) (prior : ℕ) (refusal : Refusal) → FailsToEdit (HasBeen g) edit prior mid new refusal → FailsToEdit (HasBeen g) edit prior old new refusal
+  pub fails_after : {S : Type 0} (g : Ghosts S) (prior : ℕ) (refusal : Refusal) → FailsToEdit (HasBeen g) edit prior mid new refusal
+      → FailsToEdit (HasBeen g) edit prior old new refusal
   fails_after g prior refusal (inl unmade) =
       let early : HasCleanDisk mid = omega (arith, unmade.nothing.survives.clean) in inl (record {
         error = unmade.error;
@@ -210,7 +222,12 @@ module _ (edit : Edit) (old mid new : State) (clean : HasCleanDisk new) (before 
 
 module _ (edit : Edit) (o : Office) (old new : State) (at : Stores old o) (meets : Meets edit o) (office : IsOffice (applied edit o)) where
   left_made : IsTrue old.is_open → (made : Database) → MakesEdit edit old.now made → (trees : Trees) → trees ≡ made.trees → RecoversTo trees (applied edit o)
-  left_made was_open made makes trees same = (made, makes.sound, same, stands_present made (applied edit o) office (makes.members o at.office meets (at.members was_open)))
+  left_made was_open made makes trees same = (
+    made,
+    makes.sound,
+    same,
+    stands_present made (applied edit o) office (makes.members o at.office meets (at.members was_open)),
+  )
 
   -- the store holds the office after the edit
   pub edit_held : HasEdit edit old new → Stores new (applied edit o)
@@ -222,4 +239,5 @@ module _ (edit : Edit) (o : Office) (old new : State) (at : Stores old o) (meets
 
   -- it may be opened again with the office before the edit, or after it
   pub edit_doubted : {Been : (State → Type 0) → Type 0} (prior : ℕ) → HasCleanDisk new → DoubtsEdit Been edit prior old new → MayBeLeft new o (applied edit o)
-  edit_doubted prior clean h = λ trees may. elim (h.survives.crash clean trees may) [ inl was ↦ inl (at.left trees was) | inr made ↦ inr (left_made h.was_open made.0 made.1 trees made.2) ]
+  edit_doubted prior clean h = λ trees may. elim (h.survives.crash clean trees may)
+      [ inl was ↦ inl (at.left trees was) | inr made ↦ inr (left_made h.was_open made.0 made.1 trees made.2) ]

@@ -13,7 +13,8 @@ use Rattle.book_states.specs.Failing.{AreRead, IsChangeRead, RefusesUnchanged, p
 use Rattle.book_facts.specs.Deciding.{change_in}
 use Rattle.book_facts.specs.declared.decided.Decided.{Decided}
 
-module _ (forward : BlockFunction) (at : Stamped) (next : ℕ) (old new : State) (facts : Facts) (read : AreRead at next old facts) (r : Result Decided Refusal) where
+module _ (forward : BlockFunction) (at : Stamped) (next : ℕ) (old new : State) (facts : Facts) (read : AreRead at next old facts)
+    (r : Result Decided Refusal) where
   abbrev IsDecided : Result Decided Refusal → Type 0
   IsDecided r = (o : Office) → AreFacts o at facts → IsUnlessMemory (change_in r) (decision forward o at)
 
@@ -24,9 +25,11 @@ module _ (forward : BlockFunction) (at : Stamped) (next : ℕ) (old new : State)
       by_result (Ok decided) is never = tt
       by_result (Err why) is never = inr ((λ same. never (ap (λ e. Err e) same)), record { facts = facts; read = read; decided = is })
 
-  pub granted_by_facts : IsDecided r → IfOk r (λ decided. decided.prior ≡ prior_of_account facts.account) → IfOk r (λ decided. IsChangeRead forward at next old decided.change decided.prior)
+  pub granted_by_facts : IsDecided r → IfOk r (λ decided. decided.prior ≡ prior_of_account facts.account)
+      → IfOk r (λ decided. IsChangeRead forward at next old decided.change decided.prior)
   granted_by_facts = by_result r
     where
-      by_result : (r : Result Decided Refusal) → IsDecided r → IfOk r (λ decided. decided.prior ≡ prior_of_account facts.account) → IfOk r (λ decided. IsChangeRead forward at next old decided.change decided.prior)
+      by_result : (r : Result Decided Refusal) → IsDecided r → IfOk r (λ decided. decided.prior ≡ prior_of_account facts.account)
+          → IfOk r (λ decided. IsChangeRead forward at next old decided.change decided.prior)
       by_result (Ok decided) is prior = (record { facts = facts; read = read; decided = is }, prior)
       by_result (Err why) is prior = tt

@@ -40,7 +40,8 @@ first_of_one f p [] None one = refl
 first_of_one f p [] (Some y) one = absurd (let e = one in cc)
 first_of_one {X} {Y} f p (x ∷ xs) o one = by_test (p x) o (first_of_one f p xs o) one
   where
-    by_test : (b : Bool) (o : Option Y) → (map f (filter p xs) ≡ option_to_list o → option_map f (find p xs) ≡ o) → map f (cond b (x ∷ filter p xs) (filter p xs)) ≡ option_to_list o
+    by_test : (b : Bool) (o : Option Y) → (map f (filter p xs) ≡ option_to_list o → option_map f (find p xs) ≡ o)
+        → map f (cond b (x ∷ filter p xs) (filter p xs)) ≡ option_to_list o
         → option_map f (cond b (Some x) (find p xs)) ≡ o
     by_test true None rest one = absurd (let e = one in cc)
     by_test true (Some y) rest one = cc
@@ -68,64 +69,82 @@ told_there None y some = absurd (false≢true (sym some))
 told_there (Some x) y some = refl
 
 -- reads leave an open connection its members
-pub members_after : (o : Office) {old mid new : State} → HasMembers old o → HasPassed old mid → (HasAllTables mid → Survives mid new (λ _. ⊥)) → HasCleanDisk new → HasMembers mid o
+pub members_after : (o : Office) {old mid new : State} → HasMembers old o → HasPassed old mid
+    → (HasAllTables mid → Survives mid new (λ _. ⊥)) → HasCleanDisk new → HasMembers mid o
 members_after o {old} {mid} {new} members before survives clean is_open =
     let so_far = earlier old mid new before survives (tables_of old o members) clean in
     subst (λ (db : Database). HoldsMembers db o) (sym so_far.now_is) (members (sym so_far.is_open ∙ is_open))
 
-module _ {T : Type 0} {value : T} {o : Office} {old mid new : State} (office : IsOffice o) (members : HasMembers old o) (before : HasPassed old mid) (this : OnlyReads IsUnchanged mid new (Ok value)) (clean : HasCleanDisk new) where
+module _ {T : Type 0} {value : T} {o : Office} {old mid new : State} (office : IsOffice o) (members : HasMembers old o)
+    (before : HasPassed old mid) (this : OnlyReads IsUnchanged mid new (Ok value)) (clean : HasCleanDisk new) where
   -- a read tells it of rows that are the office's
-  told : {k : Kept} (in_office : IsInOffice k) (Says : Rows → Type 0) → ((rows : Rows) → HasTableRows k mid rows → AreOfOffice rows → Says rows) → (rows : Rows) × AreMembersOf rows o × Says rows
+  told : {k : Kept} (in_office : IsInOffice k) (Says : Rows → Type 0)
+      → ((rows : Rows) → HasTableRows k mid rows → AreOfOffice rows → Says rows) → (rows : Rows) × AreMembersOf rows o × Says rows
   told in_office Says given =
       let tables = tables_of old o members in
       let so_far = earlier old mid new before this.survives tables clean in
       let same = this.same clean (tables_after before tables) in
-      let held = members (sym so_far.is_open ∙ same.0.was_open) in
-      (held.0, held.2, given held.0 (has_table_rows in_office mid held.0 (λ _. subst (λ (db : Database). Holds db held.0) (sym so_far.now_is) held.1)) (o, office, held.2))
+      let held = members (sym so_far.is_open ∙ same.0.was_open) in (
+        held.0,
+        held.2,
+        given held.0 (has_table_rows in_office mid held.0
+            (λ _. subst (λ (db : Database). Holds db held.0) (sym so_far.now_is) held.1)) (o, office, held.2),
+      )
 
   -- the disk was clean before
   pub was_clean : HasCleanDisk mid
   was_clean = clean_before before this.survives (tables_of old o members) clean
 
-  pub shifts_told : {X : Type 0} (f : List Shift → X) (x : X) → ((rows : Rows) → HasTableRows shifts_kept mid rows → AreOfOffice rows → x ≡ f rows.shifts) → x ≡ f o.shifts
+  pub shifts_told : {X : Type 0} (f : List Shift → X) (x : X)
+      → ((rows : Rows) → HasTableRows shifts_kept mid rows → AreOfOffice rows → x ≡ f rows.shifts) → x ≡ f o.shifts
   shifts_told f x given = let it = told shifts_in (λ rows. x ≡ f rows.shifts) given in it.2 ∙ ap f it.1.shifts
 
-  pub sales_told : {k : Kept} (in_office : IsInOffice k) {X : Type 0} (f : List Sale → X) (x : X) → ((rows : Rows) → HasTableRows k mid rows → AreOfOffice rows → x ≡ f rows.sales) → x ≡ f o.sales
+  pub sales_told : {k : Kept} (in_office : IsInOffice k) {X : Type 0} (f : List Sale → X) (x : X)
+      → ((rows : Rows) → HasTableRows k mid rows → AreOfOffice rows → x ≡ f rows.sales) → x ≡ f o.sales
   sales_told in_office f x given = let it = told in_office (λ rows. x ≡ f rows.sales) given in it.2 ∙ ap f it.1.sales
 
   pub open_shift_told : (operator : List ℕ) (found : Option Shift)
-      → ((rows : Rows) → HasTableRows shifts_kept mid rows → AreOfOffice rows → found ≡ find (λ s. bytes_eq s.operator operator && is_none s.closed) rows.shifts) → found ≡ open_shift o operator
+      → ((rows : Rows) → HasTableRows shifts_kept mid rows → AreOfOffice rows → found
+      ≡ find (λ s. bytes_eq s.operator operator && is_none s.closed) rows.shifts) → found ≡ open_shift o operator
   open_shift_told operator = shifts_told (find (λ s. bytes_eq s.operator operator && is_none s.closed))
 
-  pub tariff_told : (name : List ℕ) (there : Bool) → ((rows : Rows) → HasTableRows tariffs_kept mid rows → AreOfOffice rows → IsTrue there ↔ Contains rows.tariffs name) → there ≡ is_some (o.tariffs name)
+  pub tariff_told : (name : List ℕ) (there : Bool) →
+      ((rows : Rows) → HasTableRows tariffs_kept mid rows → AreOfOffice rows → IsTrue there ↔ Contains rows.tariffs name) → there ≡ is_some (o.tariffs name)
   tariff_told name there given =
       let it = told tariffs_in (λ rows. IsTrue there ↔ Contains rows.tariffs name) given in
       test_is there (o.tariffs name) (Contains it.0.tariffs name) it.2 (it.1.tariffs name)
 
-  pub meter_told : ((rows : Rows) (o : Office) (number : List ℕ) → AreMembersOf rows o → map (λ r. r.1) (meters_numbered rows number) ≡ option_to_list (o.meters number)) → (number : List ℕ) (found : Option Meter)
-      → ((rows : Rows) → HasTableRows meters_kept mid rows → AreOfOffice rows → found ≡ option_map (λ r. r.1) (find (λ r. bytes_eq r.0 number) rows.meters)) → found ≡ o.meters number
+  pub meter_told : ((rows : Rows) (o : Office) (number : List ℕ) → AreMembersOf rows o → map (λ r. r.1) (meters_numbered rows number)
+      ≡ option_to_list (o.meters number)) → (number : List ℕ) (found : Option Meter)
+      → ((rows : Rows) → HasTableRows meters_kept mid rows → AreOfOffice rows → found
+      ≡ option_map (λ r. r.1) (find (λ r. bytes_eq r.0 number) rows.meters)) → found ≡ o.meters number
   meter_told law number found given =
       let it = told meters_in (λ rows. found ≡ option_map (λ r. r.1) (find (λ r. bytes_eq r.0 number) rows.meters)) given in
       it.2 ∙ first_of_one (λ (r : List ℕ × Meter). r.1) (λ r. bytes_eq r.0 number) it.0.meters (o.meters number) (law it.0 o number it.1)
 
   -- what a read says of whichever office the rows are, it says of this one
-  pub office_says : {k : Kept} (in_office : IsInOffice k) (Says : Office → Type 0) → ((rows : Rows) (o : Office) → HasTableRows k mid rows → IsOffice o → AreMembersOf rows o → Says o) → Says o
+  pub office_says : {k : Kept} (in_office : IsInOffice k) (Says : Office → Type 0)
+      → ((rows : Rows) (o : Office) → HasTableRows k mid rows → IsOffice o → AreMembersOf rows o → Says o) → Says o
   office_says in_office Says given =
-      let it = told in_office (λ rows. (o : Office) → IsOffice o → AreMembersOf rows o → Says o) (λ rows has _ p office_p members_p. given rows p has office_p members_p) in
+      let it = told in_office (λ rows. (o : Office) → IsOffice o → AreMembersOf rows o → Says o)
+      (λ rows has _ p office_p members_p. given rows p has office_p members_p) in
       it.2 o office it.1
 
   -- what a read gives of whichever office the rows are, it gives of this one
-  pub office_told : {k : Kept} (in_office : IsInOffice k) {X : Type 0} (f : Office → X) (x : X) → ((rows : Rows) (o : Office) → HasTableRows k mid rows → IsOffice o → AreMembersOf rows o → x ≡ f o) → x ≡ f o
+  pub office_told : {k : Kept} (in_office : IsInOffice k) {X : Type 0} (f : Office → X) (x : X)
+      → ((rows : Rows) (o : Office) → HasTableRows k mid rows → IsOffice o → AreMembersOf rows o → x ≡ f o) → x ≡ f o
   office_told in_office f x given = office_says in_office (λ o. x ≡ f o) given
 
 -- the same of the last read, whatever it answers
-pub office_told_of : {T : Type 0} (r : Result T TableError) (o : Office) {old mid new : State} → IsOffice o → HasMembers old o → HasPassed old mid → OnlyReads IsUnchanged mid new r → HasCleanDisk new → {k : Kept} (in_office : IsInOffice k) (f : Office → T)
+pub office_told_of : {T : Type 0} (r : Result T TableError) (o : Office) {old mid new : State} → IsOffice o → HasMembers old o
+    → HasPassed old mid → OnlyReads IsUnchanged mid new r → HasCleanDisk new → {k : Kept} (in_office : IsInOffice k) (f : Office → T)
     → ((rows : Rows) (o : Office) → HasTableRows k mid rows → IsOffice o → AreMembersOf rows o → IfOk r (λ x. x ≡ f o)) → IfOk r (λ x. x ≡ f o)
 office_told_of (Ok x) o office members before this clean in_office f given = office_told office members before this clean in_office f x given
 office_told_of (Err e) o office members before this clean in_office f given = tt
 
 -- what was read, and is that of no office
-pub of_no_office : {T : Type 0} {x : T} {old new : State} → OnlyReads IsUnchanged old new (Ok x) → HasCleanDisk new → HasAllTables old → ((o : Office) → IsOffice o → HasMembers old o → ⊥) → FailsToRead old new RowOfNoOffice
+pub of_no_office : {T : Type 0} {x : T} {old new : State} → OnlyReads IsUnchanged old new (Ok x) → HasCleanDisk new → HasAllTables old
+    → ((o : Office) → IsOffice o → HasMembers old o → ⊥) → FailsToRead old new RowOfNoOffice
 of_no_office this clean has none = (λ rows held of_office. none of_office.0 of_office.1 (λ _. (rows, held, of_office.2)), this.same clean has)
 
 -- ---- a account
@@ -146,7 +165,8 @@ abbrev steps_found : Office → List ℕ → ℕ → Option (List Step)
 steps_found o name day = option_or (latest (o.dated_steps name) day) (o.tariffs name)
 
 -- an office has the tariff of each of its meters
-pub has_steps : (o : Office) → IsOffice o → (number : List ℕ) (day : ℕ) (there : Option Meter) (m : Meter) (found : Option (List Step)) → there ≡ o.meters number → there ≡ Some m → found ≡ steps_found o m.tariff day → found ≡ None → ⊥
+pub has_steps : (o : Office) → IsOffice o → (number : List ℕ) (day : ℕ) (there : Option Meter) (m : Meter) (found : Option (List Step))
+    → there ≡ o.meters number → there ≡ Some m → found ≡ steps_found o m.tariff day → found ≡ None → ⊥
 has_steps o office number day there m found there_is here found_is gone =
     none_found (latest (o.dated_steps m.tariff) day) (o.tariffs m.tariff) (office.meters number m (sym there_is ∙ here)).tariff (sym found_is ∙ gone)
   where
@@ -156,18 +176,25 @@ has_steps o office number day there m found there_is here found_is gone =
     none_found (Some steps) first some none = cc
 
 -- the account of a meter with its steps
-pub account_is : (o : Office) (number : List ℕ) (moment : ℕ) (there : Option Meter) (m : Meter) (found : Option (List Step)) (steps : List Step) (b : MeterAccount)
+pub account_is : (o : Office) (number : List ℕ) (moment : ℕ) (there : Option Meter) (m : Meter) (found : Option (List Step))
+    (steps : List Step) (b : MeterAccount)
     → there ≡ o.meters number → there ≡ Some m → found ≡ steps_found o m.tariff (day_at moment) → found ≡ Some steps
     → b ≡ record { meter = m; steps = steps; last = greatest_of (used o number m.base); prior = prior o number (month_at moment) }
     → Some b ≡ account_of o number moment
 account_is o number moment there m found steps b there_is here found_is known is =
     let steps_are : steps ≡ steps_on o m.tariff (day_at moment) = ap (λ (s : Option (List Step)). unwrap_or s []) (sym known ∙ found_is) in
     ap (λ (b : MeterAccount). let some : Option MeterAccount = Some b in some)
-    (is ∙ ap (λ (s : List Step). let b : MeterAccount = record { meter = m; steps = s; last = greatest_of (used o number m.base); prior = prior o number (month_at moment) } in b) steps_are)
+    (is ∙ ap (λ (s : List Step). let b : MeterAccount = record
+    { meter = m; steps = s; last = greatest_of (used o number m.base); prior = prior o number (month_at moment) } in b) steps_are)
     ∙ ap (λ (there : Option Meter). option_map (account_with o number moment) there) (sym here ∙ there_is)
   where
     account_with : Office → List ℕ → ℕ → Meter → MeterAccount
-    account_with o number moment m = record { meter = m; steps = steps_on o m.tariff (day_at moment); last = greatest_of (used o number m.base); prior = prior o number (month_at moment) }
+    account_with o number moment m = record {
+      meter = m;
+      steps = steps_on o m.tariff (day_at moment);
+      last = greatest_of (used o number m.base);
+      prior = prior o number (month_at moment);
+    }
 
 -- the first where there is one, or else the second
 pub begun_or_first : {X : Type 0} (begun first found : Option X) → is_some begun ≡ false → found ≡ first → found ≡ option_or begun first
@@ -181,9 +208,11 @@ begun_alone (Some x) first some = refl
 -- ---- the rows of an import
 
 -- one row more: the last one that is looked at, or with what is found for the others
-pub rows_more : (o : Office) (today : ℕ) (rows : List Row) (i : ℕ) (row : Row) (found more : List RowFacts) (f : RowFacts) → i < length rows → row ≡ get_or rows i row → f ≡ row_facts o row
+pub rows_more : (o : Office) (today : ℕ) (rows : List Row) (i : ℕ) (row : Row) (found more : List RowFacts) (f : RowFacts)
+    → i < length rows → row ≡ get_or rows i row → f ≡ row_facts o row
     → (row_decision o today row ≡ Err Differs) ⊎ AreRowsFacts o today (drop (i + 1) rows) more
-    → ((more : List RowFacts) → AreRowsFacts o today (drop i rows) more → AreRowsFacts o today rows (found ++ more)) → AreRowsFacts o today rows (found ++ f ∷ [] ++ more)
+    → ((more : List RowFacts) → AreRowsFacts o today (drop i rows) more → AreRowsFacts o today rows (found ++ more))
+    → AreRowsFacts o today rows (found ++ f ∷ [] ++ more)
 rows_more o today rows i row found more f within read is rest so_far =
     let next : drop i rows ≡ row ∷ drop (i + 1) rows = (let e = drop-cons rows i row in rw (add-one, e) (ap (λ (r : Row). r ∷ drop (suc i) rows) (sym read))) in
     rw append_assoc (so_far (f ∷ more) (rw next (is, rest)))

@@ -37,7 +37,8 @@ module _ (dated : ℕ → Option (List Step)) (day : ℕ) where
       next_after : last < next
       next_after = begins.after
 
-      more_has : (from : ℕ) (given : List Step) → (day < from) × (from ≤ next) × (dated from ≡ Some given) → Contains (later ++ this ∷ []) (record { from = from; steps = given })
+      more_has : (from : ℕ) (given : List Step) → (day < from) × (from ≤ next) × (dated from ≡ Some given)
+          → Contains (later ++ this ∷ []) (record { from = from; steps = given })
       more_has from given at =
           elim (cases_lt last from) [
             | inr until ↦ Contains-append_left later (this ∷ []) _ ((so_far.are from given).0 (at.0, until, at.2))
@@ -50,10 +51,12 @@ module _ (dated : ℕ → Option (List Step)) (day : ℕ) where
             ]
           ]
         where
-          cast_last : (from : ℕ) (given : List Step) → from ≡ next → Some given ≡ Some steps → Contains (later ++ this ∷ []) (record { from = from; steps = given })
+          cast_last : (from : ℕ) (given : List Step) → from ≡ next → Some given ≡ Some steps
+              → Contains (later ++ this ∷ []) (record { from = from; steps = given })
           cast_last from given same given_is = rw same (let e : given ≡ steps = cc in rw e (Contains-push later this))
 
-      more_is : (from : ℕ) (given : List Step) → Contains (later ++ this ∷ []) (record { from = from; steps = given }) → (day < from) × (from ≤ next) × (dated from ≡ Some given)
+      more_is : (from : ℕ) (given : List Step) → Contains (later ++ this ∷ []) (record { from = from; steps = given }) → (day < from)
+          × (from ≤ next) × (dated from ≡ Some given)
       more_is from given has =
           let after = next_after in
           let before = so_far.not_before in
@@ -109,12 +112,14 @@ module _ (dated : ℕ → Option (List Step)) (last : ℕ) (found : Option ℕ) 
       absurd (omega (arith, after, before))
 
   -- so its steps come behind those so far
-  pub until_found : (day : ℕ) (later : List LaterSteps) (there : Option (List Step)) (steps : List Step) → AreUntil dated day last later → IsNextDay dated last found → found ≡ Some next
+  pub until_found : (day : ℕ) (later : List LaterSteps) (there : Option (List Step)) (steps : List Step) → AreUntil dated day last later
+      → IsNextDay dated last found → found ≡ Some next
       → there ≡ dated next → there ≡ Some steps → AreUntil dated day next (later ++ record { from = next; steps = steps } ∷ [])
   until_found day later there steps so_far is found_is told read =
       let begins : IsNextBegun dated last next = subst (IsNextDay dated last) found_is is in
       until_next dated day last later so_far next steps begins (sym told ∙ read)
 
 -- where no day was found, they are all
-pub until_none : (dated : ℕ → Option (List Step)) (day last : ℕ) (later : List LaterSteps) (found : Option ℕ) → AreUntil dated day last later → IsNextDay dated last found → found ≡ None → AreLaterSteps dated day later
+pub until_none : (dated : ℕ → Option (List Step)) (day last : ℕ) (later : List LaterSteps) (found : Option ℕ)
+    → AreUntil dated day last later → IsNextDay dated last found → found ≡ None → AreLaterSteps dated day later
 until_none dated day last later found so_far is gone = until_end dated day last later so_far (subst (IsNextDay dated last) gone is)

@@ -22,7 +22,8 @@ use Rattle.book_facts.specs.declared.lookup.ListedTariff.{ListedTariff}
 pub take_more : {X : Type 0} (xs : List X) (i : ℕ) (x : X) → i < length xs → x ≡ get_or xs i x → take (i + 1) xs ≡ take i xs ++ x ∷ []
 take_more xs i x within is = rw add-one (take-suc xs i x within ∙ ap (λ y. take i xs ++ y ∷ []) (sym is))
 
-pub map_more : {X Y : Type 0} (f : X → Y) (xs : List X) (i : ℕ) (x : X) → i < length xs → x ≡ get_or xs i x → map f (take (i + 1) xs) ≡ map f (take i xs) ++ f x ∷ []
+pub map_more : {X Y : Type 0} (f : X → Y) (xs : List X) (i : ℕ) (x : X) → i < length xs → x ≡ get_or xs i x → map f (take (i + 1) xs)
+    ≡ map f (take i xs) ++ f x ∷ []
 map_more f xs i x within is = ap (map f) (take_more xs i x within is) ∙ map-append f (take i xs) (x ∷ [])
 
 -- ---- meters
@@ -33,9 +34,12 @@ numbers_of (row ∷ rows) = ap (λ ns. row.number ∷ ns) (numbers_of rows)
 
 -- a page of rows of meters is one of meters
 pub meters_listed : (o : Office) (after : List ℕ) (rows : List MeterRow) (listed : List ListedMeter) → listed ≡ map listed_meter rows
-    → All (λ (m : MeterRow). o.meters m.number ≡ Some m.meter) rows → AreFirstAfter (λ number. IsSome (o.meters number)) after (map (λ (m : MeterRow). m.number) rows) → AreMetersAfter o after listed
+    → All (λ (m : MeterRow). o.meters m.number ≡ Some m.meter) rows
+    → AreFirstAfter (λ number. IsSome (o.meters number)) after (map (λ (m : MeterRow). m.number) rows) → AreMetersAfter o after listed
 meters_listed o after rows listed is each first = rw is (record {
-  each = All-map (IsListedMeter o) listed_meter rows (All-weaker (λ (m : MeterRow). o.meters m.number ≡ Some m.meter) (λ m. IsListedMeter o (listed_meter m)) (λ m there. (m.meter, there, refl, refl)) rows each);
+  each = All-map (IsListedMeter o) listed_meter rows
+      (All-weaker (λ (m : MeterRow). o.meters m.number ≡ Some m.meter) (λ m. IsListedMeter o (listed_meter m))
+      (λ m there. (m.meter, there, refl, refl)) rows each);
   first = subst (AreFirstAfter (λ number. IsSome (o.meters number)) after) (sym (numbers_of rows)) first;
 })
 
@@ -49,15 +53,20 @@ pub record TellTariffs (o : Office) (day : ℕ) (names : List (List ℕ)) (liste
 pub tell_none : (o : Office) (day : ℕ) → TellTariffs o day [] []
 tell_none o day = record { names_are = refl; told = all_from_contains (TellsSteps o day) [] (λ t none. absurd (contains_none t none)) }
 
-pub tell_more : (o : Office) (day : ℕ) (names : List (List ℕ)) (i : ℕ) (name : List ℕ) (listed : List ListedTariff) (t : ListedTariff) → i < length names → name ≡ get_or names i name
+pub tell_more : (o : Office) (day : ℕ) (names : List (List ℕ)) (i : ℕ) (name : List ℕ) (listed : List ListedTariff) (t : ListedTariff)
+    → i < length names → name ≡ get_or names i name
     → TellTariffs o day (take i names) listed → (t.name ≡ name) × TellsSteps o day t → TellTariffs o day (take (i + 1) names) (listed ++ t ∷ [])
 tell_more o day names i name listed t within is so_far this = record {
-  names_are = map-append (λ (t : ListedTariff). t.name) listed (t ∷ []) ∙ ap (λ ns. ns ++ t.name ∷ []) so_far.names_are ∙ ap (λ n. take i names ++ n ∷ []) this.0 ∙ sym (take_more names i name within is);
-  told = All-append (TellsSteps o day) listed (t ∷ []) so_far.told (all_from_contains (TellsSteps o day) (t ∷ []) (λ u one. elim (contains_cases t u [] one) [ inl same ↦ subst (TellsSteps o day) same this.1 | inr none ↦ absurd (contains_none u none) ]));
+  names_are = map-append (λ (t : ListedTariff). t.name) listed (t ∷ []) ∙ ap (λ ns. ns ++ t.name ∷ []) so_far.names_are
+      ∙ ap (λ n. take i names ++ n ∷ []) this.0 ∙ sym (take_more names i name within is);
+  told = All-append (TellsSteps o day) listed (t ∷ []) so_far.told
+      (all_from_contains (TellsSteps o day) (t ∷ []) (λ u one. elim (contains_cases t u [] one)
+      [ inl same ↦ subst (TellsSteps o day) same this.1 | inr none ↦ absurd (contains_none u none) ]));
 }
 
 -- a page of names is one of tariffs
-pub tariffs_listed : (o : Office) (day : ℕ) (after : List ℕ) (names : List (List ℕ)) (listed : List ListedTariff) → AreFirstAfter (λ name. IsSome (o.tariffs name)) after names → TellTariffs o day names listed → AreTariffsAfter o day after listed
+pub tariffs_listed : (o : Office) (day : ℕ) (after : List ℕ) (names : List (List ℕ)) (listed : List ListedTariff)
+    → AreFirstAfter (λ name. IsSome (o.tariffs name)) after names → TellTariffs o day names listed → AreTariffsAfter o day after listed
 tariffs_listed o day after names listed first tell = record {
   each = all_from_contains (IsListedTariff o day) listed (λ t has.
       let named : Contains names t.name = subst (λ ns. Contains ns t.name) tell.names_are (contains_map (λ (t : ListedTariff). t.name) listed t has) in
@@ -68,7 +77,8 @@ tariffs_listed o day after names listed first tell = record {
 }
 
 -- where steps are found on a day, they are those of the day; and where none are, there is no tariff
-pub steps_told : (o : Office) (name : List ℕ) (day : ℕ) (found : Option (List Step)) (steps : List Step) → found ≡ option_or (latest (o.dated_steps name) day) (o.tariffs name) → found ≡ Some steps → steps ≡ steps_on o name day
+pub steps_told : (o : Office) (name : List ℕ) (day : ℕ) (found : Option (List Step)) (steps : List Step) → found
+    ≡ option_or (latest (o.dated_steps name) day) (o.tariffs name) → found ≡ Some steps → steps ≡ steps_on o name day
 steps_told o name day found steps is there = ap (λ (s : Option (List Step)). unwrap_or s []) (sym there ∙ is)
 
 pub none_told : (begun first : Option (List Step)) → None ≡ option_or begun first → first ≡ None
@@ -76,7 +86,8 @@ none_told None first none = sym none
 none_told (Some steps) first none = absurd (let e = none in cc)
 
 -- a name of a page is that of a tariff, which has steps
-pub never_none : (o : Office) (day : ℕ) (after : List ℕ) (names : List (List ℕ)) (i : ℕ) (name : List ℕ) (found : Option ListedTariff) → AreFirstAfter (λ name. IsSome (o.tariffs name)) after names → i < length names → name ≡ get_or names i name
+pub never_none : (o : Office) (day : ℕ) (after : List ℕ) (names : List (List ℕ)) (i : ℕ) (name : List ℕ) (found : Option ListedTariff)
+    → AreFirstAfter (λ name. IsSome (o.tariffs name)) after names → i < length names → name ≡ get_or names i name
     → TellsOf o day name found → found ≡ None → ⊥
 never_none o day after names i name found first within is told gone =
     let there = All-contains (λ key. IsSome (o.tariffs key) × ComesBefore after key) names name first.there (i, within, sym is) in

@@ -33,13 +33,15 @@ pub looks_none : {T : Type 0} {Same : State → State → Type 0} {Says : Office
     → OnlyReads {T = T} Same old new (Err e) → LooksUp Same Says AreRead old new (Err e)
 looks_none this = record { facts = λ _ _ _ _. tt; shown = λ _ _. tt; reads = this }
 
-pub looks_on : {T U : Type 0} {Same : State → State → Type 0} {Says : Office → T → Type 0} {AreRead : Database → T → Type 0} {e : TableError} {old new : State} (r : Result T TableError)
+pub looks_on : {T U : Type 0} {Same : State → State → Type 0} {Says : Office → T → Type 0} {AreRead : Database → T → Type 0}
+    {e : TableError} {old new : State} (r : Result T TableError)
     → IsErrAnd r (λ x. x ≡ e) → OnlyReads {T = U} Same old new (Err e) → LooksUp Same Says AreRead old new r
 looks_on (Ok x) is this = absurd is
 looks_on (Err x) is this = looks_none (fail_on (Err x) is this)
 
 -- what a read of one table has seen
-pub first_shown : {k : Kept} (in_office : IsInOffice k) {T : Type 0} {IsSeen : Database → T → Type 0} {IsSpoilt : Database → Type 0} {r : Result T TableError} {old new : State}
+pub first_shown : {k : Kept} (in_office : IsInOffice k) {T : Type 0} {IsSeen : Database → T → Type 0} {IsSpoilt : Database → Type 0}
+    {r : Result T TableError} {old new : State}
     → Sees k IsSeen IsSpoilt old new r → HasCleanDisk new → HasAllTables old → IfOk r (IsSeen old.now)
 first_shown in_office {old = old} sees clean has = sees.seen clean (has_table in_office old has)
 
@@ -51,7 +53,8 @@ module _ {old mid new : State} (before : HasPassed old mid) where
       let as_was = earlier old mid new before (read_in_office in_office this).survives has clean in
       subst (λ (db : Database). IfOk r (IsSeen db)) as_was.now_is (sees.seen clean (has_table in_office mid (tables_after before has)))
 
-  module _ {T : Type 0} {Says : Office → T → Type 0} {AreRead : Database → T → Type 0} {r : Result T TableError} (this : LooksUp IsUnchanged Says AreRead mid new r) where
+  module _ {T : Type 0} {Says : Office → T → Type 0} {AreRead : Database → T → Type 0} {r : Result T TableError}
+      (this : LooksUp IsUnchanged Says AreRead mid new r) where
     pub looks_shown : HasCleanDisk new → HasAllTables old → IfOk r (AreRead old.now)
     looks_shown clean has =
         let as_was = earlier old mid new before this.reads.survives has clean in
@@ -66,12 +69,15 @@ module _ {old mid new : State} (before : HasPassed old mid) where
     }
 
 -- what is unchanged is the same
-pub looks_same : {T : Type 0} {Says : Office → T → Type 0} {AreRead : Database → T → Type 0} {r : Result T TableError} {old new : State} → LooksUp IsUnchanged Says AreRead old new r → LooksUp IsSame Says AreRead old new r
+pub looks_same : {T : Type 0} {Says : Office → T → Type 0} {AreRead : Database → T → Type 0} {r : Result T TableError} {old new : State}
+    → LooksUp IsUnchanged Says AreRead old new r → LooksUp IsSame Says AreRead old new r
 looks_same this = record { facts = this.facts; shown = this.shown; reads = same_on this.reads }
 
 -- what implies what is said, and what was seen
-pub looks_weaker : {T : Type 0} {Same : State → State → Type 0} {Says Others : Office → T → Type 0} {AreRead AreSeen : Database → T → Type 0} {r : Result T TableError} {old new : State}
-    → ((o : Office) (x : T) → Says o x → Others o x) → ((db : Database) (x : T) → AreRead db x → AreSeen db x) → LooksUp Same Says AreRead old new r → LooksUp Same Others AreSeen old new r
+pub looks_weaker : {T : Type 0} {Same : State → State → Type 0} {Says Others : Office → T → Type 0}
+    {AreRead AreSeen : Database → T → Type 0} {r : Result T TableError} {old new : State}
+    → ((o : Office) (x : T) → Says o x → Others o x) → ((db : Database) (x : T) → AreRead db x → AreSeen db x)
+    → LooksUp Same Says AreRead old new r → LooksUp Same Others AreSeen old new r
 looks_weaker {Says = Says} {Others = Others} {AreRead = AreRead} {AreSeen = AreSeen} {r = r} {old = old} says seen this = record {
   facts = λ clean o office members. IfOk-weaker r (Says o) (Others o) (says o) (this.facts clean o office members);
   shown = λ clean has. IfOk-weaker r (AreRead old.now) (AreSeen old.now) (seen old.now) (this.shown clean has);
@@ -86,16 +92,20 @@ there_is_one None some P seen = absurd (false≢true (sym some))
 there_is_one (Some x) some P seen = (x, seen)
 
 -- the account of a meter with its steps
-pub account_seen : (db : Database) (number : List ℕ) (moment : ℕ) (m : Meter) (steps : List Step) (account : MeterAccount) → ShowsFirst (the_meter number) db (Some m)
-    → AreStepsSeenOn m.tariff (day_at moment) db (Some steps) → (account.meter ≡ m) × (account.steps ≡ steps) × IsSoldSeen number moment db account → IsAccountSeen number moment db (Some account)
+pub account_seen : (db : Database) (number : List ℕ) (moment : ℕ) (m : Meter) (steps : List Step) (account : MeterAccount)
+    → ShowsFirst (the_meter number) db (Some m)
+    → AreStepsSeenOn m.tariff (day_at moment) db (Some steps) → (account.meter ≡ m) × (account.steps ≡ steps)
+    × IsSoldSeen number moment db account → IsAccountSeen number moment db (Some account)
 account_seen db number moment m steps account there on sold = (
   subst (λ (m : Meter). ShowsFirst (the_meter number) db (Some m)) (sym sold.0) there,
-  subst (λ (m : Meter). AreStepsSeenOn m.tariff (day_at moment) db (Some account.steps)) (sym sold.0) (subst (λ (steps : List Step). AreStepsSeenOn m.tariff (day_at moment) db (Some steps)) (sym sold.1) on),
+  subst (λ (m : Meter). AreStepsSeenOn m.tariff (day_at moment) db (Some account.steps)) (sym sold.0)
+      (subst (λ (steps : List Step). AreStepsSeenOn m.tariff (day_at moment) db (Some steps)) (sym sold.1) on),
   sold.2,
 )
 
 -- one row of an import more: the last one that is looked at, or with what is seen for the others
-pub rows_seen_more : (db : Database) (rows : List Row) (i : ℕ) (row : Row) (found more : List RowFacts) (f : RowFacts) → i < length rows → row ≡ get_or rows i row → IsRowSeen row db f
+pub rows_seen_more : (db : Database) (rows : List Row) (i : ℕ) (row : Row) (found more : List RowFacts) (f : RowFacts) → i < length rows
+    → row ≡ get_or rows i row → IsRowSeen row db f
     → (IsRefusedFor row f × (more ≡ [])) ⊎ (IsPassedBy row f × AreRowsSeen (drop (i + 1) rows) db more)
     → ((more : List RowFacts) → AreRowsSeen (drop i rows) db more → AreRowsSeen rows db (found ++ more)) → AreRowsSeen rows db (found ++ f ∷ [] ++ more)
 rows_seen_more db rows i row found more f within read is rest so_far =
@@ -117,8 +127,10 @@ zip_push R [] (z ∷ zs) x y all here = absurd all
 zip_push R (z ∷ zs) [] x y all here = absurd all
 zip_push R (z ∷ zs) (w ∷ ws) x y all here = (all.0, zip_push R zs ws x y all.1 here)
 
-pub zip_more : {X Y : Type 0} (R : X → Y → Type 0) (xs : List X) (i : ℕ) (ys : List Y) (x : X) (y : Y) → i < length xs → x ≡ get_or xs i x → AllZip R (take i xs) ys → R x y → AllZip R (take (i + 1) xs) (ys ++ y ∷ [])
-zip_more {X} R xs i ys x y within is all here = subst (λ (taken : List X). AllZip R taken (ys ++ y ∷ [])) (sym (take_more xs i x within is)) (zip_push R (take i xs) ys x y all here)
+pub zip_more : {X Y : Type 0} (R : X → Y → Type 0) (xs : List X) (i : ℕ) (ys : List Y) (x : X) (y : Y) → i < length xs → x ≡ get_or xs i x
+    → AllZip R (take i xs) ys → R x y → AllZip R (take (i + 1) xs) (ys ++ y ∷ [])
+zip_more {X} R xs i ys x y within is all here = subst (λ (taken : List X). AllZip R taken (ys ++ y ∷ []))
+    (sym (take_more xs i x within is)) (zip_push R (take i xs) ys x y all here)
 
 -- a day that is not until another comes after it
 pub after_from_not_le : (from last : ℕ) → is_le (nat_cmp from last) ≡ false → last < from

@@ -34,7 +34,8 @@ told_of number m tenths last =
     Ok (found.Meter (record { number = number; base = m.base; tariff = m.tariff; tenths = tenths; last_sale = last }))
 
 -- the greatest identifier of an office is that of a sale
-pub sale_there : (o : Office) (number : List ℕ) (base : Base) (tid : ℕ) (s : Sale) → IsLastSale o number base s → s.tid ≡ tid → sale_of_tid o number base tid ≡ None → ⊥
+pub sale_there : (o : Office) (number : List ℕ) (base : Base) (tid : ℕ) (s : Sale) → IsLastSale o number base s → s.tid ≡ tid
+    → sale_of_tid o number base tid ≡ None → ⊥
 sale_there o number base tid s last is none =
     let test = λ (t : Sale). bytes_eq t.meter number && (base_eq t.base base && (t.tid == tid)) in
     let fails : test s ≡ false = All-contains (λ (t : Sale). test t ≡ false) o.sales s (found_none test o.sales none) last.stands in
@@ -48,7 +49,8 @@ last_there None last some = absurd (false≢true (sym some))
 last_there (Some m) last some = refl
 
 -- what is told of a meter, of what was read
-pub meter_is_told : (number : List ℕ) (m : Meter) (there : Option Meter) (tenths sold : ℕ) (last is_last : Option Sale) (last_number : Option ℕ) → last_number ≡ option_map (λ s. s.number) last → tenths ≡ sold → last ≡ is_last → Some m ≡ there
+pub meter_is_told : (number : List ℕ) (m : Meter) (there : Option Meter) (tenths sold : ℕ) (last is_last : Option Sale)
+    (last_number : Option ℕ) → last_number ≡ option_map (λ s. s.number) last → tenths ≡ sold → last ≡ is_last → Some m ≡ there
     → told_of number m tenths last_number ≡ meter_found number there sold is_last
 meter_is_told number m there tenths sold last is_last last_number number_is tenths_are last_is there_is =
     ap (λ (n : Option ℕ). told_of number m tenths n) number_is
@@ -74,7 +76,8 @@ never_stopped given own is =
     of_rules.not_stopped refl
 
 -- a test and those after it refuse by the rules
-then_rules : {A B : Type 0} (r : Result A Refusal) (f : A → Result B Refusal) → IfErr r IsOfRules → ((x : A) → IfErr (f x) IsOfRules) → IfErr (r >>= f) IsOfRules
+then_rules : {A B : Type 0} (r : Result A Refusal) (f : A → Result B Refusal) → IfErr r IsOfRules → ((x : A) → IfErr (f x) IsOfRules)
+    → IfErr (r >>= f) IsOfRules
 then_rules (Ok x) f first later = later x
 then_rules (Err why) f first later = first
 
@@ -99,23 +102,27 @@ next_rules count = by_test (nat_lt count greatest_count)
     by_test true = tt
     by_test false = record { not_memory = λ is. absurd cc; not_store = λ is. absurd cc; not_stopped = λ is. absurd cc }
 
-pub quote_rules : (moment : ℕ) (number : List ℕ) (tender : ℕ) (account : Option MeterAccount) (count : ℕ) → IfErr (quote_for moment number tender account count) IsOfRules
+pub quote_rules : (moment : ℕ) (number : List ℕ) (tender : ℕ) (account : Option MeterAccount) (count : ℕ)
+    → IfErr (quote_for moment number tender account count) IsOfRules
 quote_rules moment number tender account count =
     then_rules (ok_or account refusals.NoMeter) _ (there_rules account refusals.NoMeter no_meter) (λ m.
     then_rules (or_refusal (minute_of m.meter.base moment)) _ (tid_rules (minute_of m.meter.base moment)) (λ now.
     then_rules (or_refusal (fresh_after now m.last)) _ (tid_rules (fresh_after now m.last)) (λ tid.
-    then_rules (ok_or (purchase_of m.steps m.prior tender) refusals.TooLittle) _ (there_rules (purchase_of m.steps m.prior tender) refusals.TooLittle too_little) (λ bought.
+    then_rules (ok_or (purchase_of m.steps m.prior tender) refusals.TooLittle) _
+    (there_rules (purchase_of m.steps m.prior tender) refusals.TooLittle too_little) (λ bought.
     then_rules (next_number count) _ (next_rules count) (λ next. tt)))))
 
 -- ---- a quote and the sale
 
 -- the same test, and then what agrees
-then_both : {A : Type 0} (r : Result A Refusal) (f : A → Result Found Refusal) (g : A → Result Change Refusal) → ((x : A) → IsQuoted (f x) (g x)) → IsQuoted (r >>= f) (r >>= g)
+then_both : {A : Type 0} (r : Result A Refusal) (f : A → Result Found Refusal) (g : A → Result Change Refusal)
+    → ((x : A) → IsQuoted (f x) (g x)) → IsQuoted (r >>= f) (r >>= g)
 then_both (Ok x) f g later = later x
 then_both (Err why) f g later = refl
 
 -- the sale grants what is quoted, where a shift is open
-pub sale_quoted : (forward : BlockFunction) (moment nibble : ℕ) (order : Order) (shift : Option Shift) (account : Option MeterAccount) (count : ℕ) → IsSome shift
+pub sale_quoted : (forward : BlockFunction) (moment nibble : ℕ) (order : Order) (shift : Option Shift) (account : Option MeterAccount)
+    (count : ℕ) → IsSome shift
     → IsQuoted (quote_for moment order.meter order.tender account count) (sell forward moment nibble order shift account count)
 sale_quoted forward moment nibble order None account count some = absurd (false≢true some)
 sale_quoted forward moment nibble order (Some s) account count some =

@@ -13,7 +13,9 @@ use Rattle.book_states.specs.Stores.{Stores}
 
 -- the rows of the sales are the office's sales
 pub page_of : (o : Office) (s : State) (number limit : ℕ) (found : List Sale) → Stores s o → IsTrue s.is_open
-    → ((rows : Rows) → HasTableRows sales_kept s rows → AreOfOffice rows → found ≡ take limit (filter (λ sale. nat_lt number sale.number) rows.sales)) → found ≡ sales_above o number limit
+    → ((rows : Rows) → HasTableRows sales_kept s rows → AreOfOffice rows → found
+    ≡ take limit (filter (λ sale. nat_lt number sale.number) rows.sales)) → found ≡ sales_above o number limit
 page_of o s number limit found at is_open given =
     let held = at.members is_open in
-    given held.0 (has_table_rows sales_in s held.0 (λ _. held.1)) (o, at.office, held.2) ∙ ap (λ sales. take limit (filter (λ sale. nat_lt number sale.number) sales)) held.2.sales
+    given held.0 (has_table_rows sales_in s held.0 (λ _. held.1)) (o, at.office, held.2)
+    ∙ ap (λ sales. take limit (filter (λ sale. nat_lt number sale.number) sales)) held.2.sales

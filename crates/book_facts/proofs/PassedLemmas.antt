@@ -113,7 +113,12 @@ passed_none s shut = record {
 }
 
 pub passed : {T : Type 0} {x : T} {old new : State} → OnlyReads IsUnchanged old new (Ok x) → (new.is_clean ≡ false → new.is_open ≡ false) → HasPassed old new
-passed {T} {x} {old} {new} this shut = record { survives = this.survives; same = λ clean has. untouched_if old new (this.same clean has); mode = this.mode; shut = shut }
+passed {T} {x} {old} {new} this shut = record {
+  survives = this.survives;
+  same = λ clean has. untouched_if old new (this.same clean has);
+  mode = this.mode;
+  shut = shut;
+}
 
 -- what is open is clean
 clean_if_open : (s : State) → (s.is_clean ≡ false → s.is_open ≡ false) → IsTrue s.is_open → HasCleanDisk s
@@ -133,13 +138,16 @@ module _ (old mid new : State) (before : HasPassed old mid) (survives : HasAllTa
   earlier clean = before.same (omega (arith, (survives (tables_after before has)).clean, clean)) has
 
 -- a disk that is clean after a read was clean before it
-pub clean_before : {old mid new : State} → HasPassed old mid → (HasAllTables mid → Survives mid new (λ _. ⊥)) → HasAllTables old → HasCleanDisk new → HasCleanDisk mid
+pub clean_before : {old mid new : State} → HasPassed old mid → (HasAllTables mid → Survives mid new (λ _. ⊥)) → HasAllTables old
+    → HasCleanDisk new → HasCleanDisk mid
 clean_before before survives has clean = omega (arith, (survives (tables_after before has)).clean, clean)
 
-pub passed_after : {T : Type 0} {x : T} {old mid new : State} → HasPassed old mid → OnlyReads IsUnchanged mid new (Ok x) → (new.is_clean ≡ false → new.is_open ≡ false) → HasPassed old new
+pub passed_after : {T : Type 0} {x : T} {old mid new : State} → HasPassed old mid → OnlyReads IsUnchanged mid new (Ok x)
+    → (new.is_clean ≡ false → new.is_open ≡ false) → HasPassed old new
 passed_after {T} {x} {old} {mid} {new} before this shut = record {
   survives = survives_after old mid new before this.survives;
-  same = λ clean has. untouched_after old mid new (earlier old mid new before this.survives has clean) (untouched_if mid new (this.same clean (tables_after before has)));
+  same = λ clean has. untouched_after old mid new (earlier old mid new before this.survives has clean)
+      (untouched_if mid new (this.same clean (tables_after before has)));
   mode = λ outside. this.mode (before.mode outside);
   shut = shut;
 }
@@ -154,7 +162,8 @@ passed_then {old} {mid} {new} before after = record {
 }
 
 -- a read after others
-pub read_after : {T : Type 0} {r : Result T TableError} {old mid new : State} → HasPassed old mid → OnlyReads IsUnchanged mid new r → OnlyReads IsUnchanged old new r
+pub read_after : {T : Type 0} {r : Result T TableError} {old mid new : State} → HasPassed old mid → OnlyReads IsUnchanged mid new r
+    → OnlyReads IsUnchanged old new r
 read_after {T} {r = Ok x} {old} {mid} {new} before this = record {
   same = λ clean has. unchanged_after old mid new (earlier old mid new before this.survives has clean) (this.same clean (tables_after before has));
   kept = λ _ _. tt;
@@ -166,12 +175,14 @@ read_after {T} {r = Err e} {old} {mid} {new} before this = record {
   same = λ _ _. tt;
   kept = λ clean has. left_after old mid new (earlier old mid new before this.survives has clean) (this.kept clean (tables_after before has));
   mode = λ outside. this.mode (before.mode outside);
-  faults = λ clean has. fails_after old mid new (earlier old mid new before this.survives has clean) (before.survives has) e (this.faults clean (tables_after before has));
+  faults = λ clean has. fails_after old mid new (earlier old mid new before this.survives has clean) (before.survives has) e
+      (this.faults clean (tables_after before has));
   survives = survives_after old mid new before this.survives;
 }
 
 -- a failure for which a read that succeeded gives a reason
-pub stops_on : {T U : Type 0} {x : T} {old new : State} (e : TableError) → OnlyReads IsUnchanged old new (Ok x) → (HasCleanDisk new → HasAllTables old → FailsToRead old new e) → OnlyReads {T = U} IsUnchanged old new (Err e)
+pub stops_on : {T U : Type 0} {x : T} {old new : State} (e : TableError) → OnlyReads IsUnchanged old new (Ok x)
+    → (HasCleanDisk new → HasAllTables old → FailsToRead old new e) → OnlyReads {T = U} IsUnchanged old new (Err e)
 stops_on e this why = record { same = λ _ _. tt; kept = λ clean has. inl (this.same clean has); mode = this.mode; faults = why; survives = this.survives }
 
 -- what the reads leave
@@ -183,5 +194,11 @@ passed_reads before = record { same = passed_same before; kept = λ _ _. tt; mod
 
 -- what is unchanged is the same
 pub same_on : {T : Type 0} {r : Result T TableError} {old new : State} → OnlyReads IsUnchanged old new r → OnlyReads IsSame old new r
-same_on {T} {r = Ok x} {old} {new} this = record { same = λ clean has. same_if old new (untouched_if old new (this.same clean has)); kept = λ _ _. tt; mode = this.mode; faults = λ _ _. tt; survives = this.survives }
+same_on {T} {r = Ok x} {old} {new} this = record {
+  same = λ clean has. same_if old new (untouched_if old new (this.same clean has));
+  kept = λ _ _. tt;
+  mode = this.mode;
+  faults = λ _ _. tt;
+  survives = this.survives;
+}
 same_on {T} {r = Err e} this = record { same = λ _ _. tt; kept = this.kept; mode = this.mode; faults = this.faults; survives = this.survives }

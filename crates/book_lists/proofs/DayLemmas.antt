@@ -67,7 +67,8 @@ module _ (name : List ℕ) (day : ℕ) where
         contains_map day_of (filter is_later rows.dated_steps) r (passes_there is_later rows.dated_steps r there (begins_later r refl after))
 
     least_is_next : (found : Option ℕ) → IsLeast (later_days rows) found → IsNextDay (o.dated_steps name) day found
-    least_is_next None none = λ next after. none_such (o.dated_steps name next) (λ steps e. contains_none next (subst (λ ns. Contains ns next) none (there_begin next steps e after)))
+    least_is_next None none = λ next after. none_such (o.dated_steps name next)
+        (λ steps e. contains_none next (subst (λ ns. Contains ns next) none (there_begin next steps e after)))
     least_is_next (Some next) (there, least) =
         let begins = begin_on next there in
         record {
@@ -100,5 +101,11 @@ module _ (name : List ℕ) (day : ℕ) where
     kept = λ rows of_office. keeps_day rows of_office.0 of_office.1 of_office.2 (least_of (later_days rows)) (least_is (later_days rows));
     answers = λ db rows held of_office answer is.
         least_hidden {stored = dated_columns} {xs = rows.dated_steps} {p = is_later} day_of
-        (record { holds_them = held.1.1.0; some = λ r none. cc; passes = λ hidden r. then_term (text_is r.tariff name) (last_term (number_above r.day day)); shows = λ hidden r. refl }) 2 (λ hidden r. refl) answer is;
+        (record {
+          holds_them = held.1.1.0;
+          some = λ r none. cc;
+          passes = λ hidden r. then_term (text_is r.tariff name) (last_term (number_above r.day day));
+          shows = λ hidden r. refl;
+        }) 2
+        (λ hidden r. refl) answer is;
   }

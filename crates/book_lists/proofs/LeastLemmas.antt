@@ -42,7 +42,10 @@ least_more n ns None none = (contains_first n ns, All-cons (λ m. n ≤ m) n ns 
 least_more n ns (Some m) (there, least) = elim (cases_lt n m) [
   | inl below ↦
       let is : min n m ≡ n = omega (arith, below) in
-      subst (λ k. IsLeast (n ∷ ns) (Some k)) (sym is) (contains_first n ns, All-cons (λ k. n ≤ k) n ns (omega arith) (All-weaker (λ k. m ≤ k) (λ k. n ≤ k) (λ k h. omega (arith, below, h)) ns least))
+      subst (λ k. IsLeast (n ∷ ns) (Some k)) (sym is) (
+        contains_first n ns,
+        All-cons (λ k. n ≤ k) n ns (omega arith) (All-weaker (λ k. m ≤ k) (λ k. n ≤ k) (λ k h. omega (arith, below, h)) ns least),
+      )
   | inr above ↦
       let is : min n m ≡ m = omega (arith, above) in
       subst (λ k. IsLeast (n ∷ ns) (Some k)) (sym is) (contains_further n m ns there, All-cons (λ k. m ≤ k) n ns above least)
@@ -81,7 +84,8 @@ empty (x ∷ xs) same = absurd (omega (arith, length_permutation (x ∷ xs) [] s
 -- ---- rows that hold values
 
 module _ {X : Type 0} {db : Trees} {tree : ℕ} {tests shown : List Term} {params : Row} {stored : X → Row} {xs : List X} {p : X → Bool} (key : X → ℕ)
-    (l : IsListing db tree tests shown params stored xs p (λ x. shown_number (key x))) (at : ℕ) (keeps_key : (x : X) → column (stored x) at ≡ Int (pos (key x))) where
+    (l : IsListing db tree tests shown params stored xs p (λ x. shown_number (key x))) (at : ℕ)
+    (keeps_key : (x : X) → column (stored x) at ≡ Int (pos (key x))) where
   abbrev limit : Term
   limit = lit (Int (pos 1))
 
@@ -108,7 +112,8 @@ module _ {X : Type 0} {db : Trees} {tree : ℕ} {tests shown : List Term} {param
     pub is_least : IsLeast (map key (filter p xs)) first
     pub row : rows ≡ map shown_number (option_to_list first)
 
-  of_order : (ys : List X) → IsPermutation (filter p xs) ys → IsSorted (output_cmp q) (map out_of ys) → (rows : List Row) → rows ≡ take 1 (map (λ x. shown_number (key x)) ys) → Least rows
+  of_order : (ys : List X) → IsPermutation (filter p xs) ys → IsSorted (output_cmp q) (map out_of ys) → (rows : List Row) → rows
+      ≡ take 1 (map (λ x. shown_number (key x)) ys) → Least rows
   of_order [] same sorted rows is = record { first = None; is_least = ap (map key) (empty (filter p xs) same); row = is }
   of_order (y ∷ ys) same sorted rows is =
       let back = IsPermutation-sym (filter p xs) (y ∷ ys) same in
@@ -116,7 +121,8 @@ module _ {X : Type 0} {db : Trees} {tree : ℕ} {tests shown : List Term} {param
         first = Some (key y);
         is_least = (
           contains_map key (filter p xs) y (Contains-permutation (y ∷ ys) (filter p xs) y back (contains_first y ys)),
-          All-map (λ n. key y ≤ n) key (filter p xs) (All-permutation (λ z. key y ≤ key z) (y ∷ ys) (filter p xs) back (least_first key out_of (output_cmp q) out_rises y ys sorted)),
+          All-map (λ n. key y ≤ n) key (filter p xs) (All-permutation (λ z. key y ≤ key z) (y ∷ ys) (filter p xs) back
+              (least_first key out_of (output_cmp q) out_rises y ys sorted)),
         );
         row = is;
       }
@@ -127,14 +133,18 @@ module _ {X : Type 0} {db : Trees} {tree : ℕ} {tests shown : List Term} {param
 -- ---- rows that hold them behind hidden numbers
 
 module _ {X : Type 0} {db : Trees} {tree : ℕ} {tests shown : List Term} {params : Row} {stored : X → Row} {xs : List X} {p : X → Bool} (key : X → ℕ)
-    (l : IsHiddenListing db tree tests shown params stored xs p (λ x. shown_number (key x))) (at : ℕ) (keeps_key : (number : Value) (x : X) → column (number ∷ stored x) at ≡ Int (pos (key x))) where
+    (l : IsHiddenListing db tree tests shown params stored xs p (λ x. shown_number (key x))) (at : ℕ)
+    (keeps_key : (number : Value) (x : X) → column (number ∷ stored x) at ≡ Int (pos (key x))) where
   -- the rows of an answer show the least number of those that pass
-  pub least_hidden : (rows : List Row) → IsAnswer (query_on tree tests shown (rising at) (lit (Int (pos 1)))) db params rows → rows ≡ map shown_number (option_to_list (least_of (map key (filter p xs))))
+  pub least_hidden : (rows : List Row) → IsAnswer (query_on tree tests shown (rising at) (lit (Int (pos 1)))) db params rows → rows
+      ≡ map shown_number (option_to_list (least_of (map key (filter p xs))))
   least_hidden rows answer =
       let both = numbered stored l.some (db tree) xs l.holds_them in
       let beside : IsListing db tree tests shown params (with_number stored) both.0 (λ x. p x.1) (λ x. shown_number (key x.1)) =
       record { holds_them = both.1; passes = λ x. l.passes x.0 x.1; shows = λ x. l.shows x.0 x.1 } in
       let found = least_shown (λ (x : Value × X). key x.1) beside at (λ x. keeps_key x.0 x.1) rows answer in
-      let keys : map (λ (x : Value × X). key x.1) (filter (λ x. p x.1) both.0) ≡ map key (filter p xs) = without_numbers stored key p both.0 ∙ ap (λ (l : List X). map key (filter p l)) both.2 in
-      let is = one_least (map key (filter p xs)) found.first (least_of (map key (filter p xs))) (subst (λ (ns : List ℕ). IsLeast ns found.first) keys found.is_least) (least_is (map key (filter p xs))) in
+      let keys : map (λ (x : Value × X). key x.1) (filter (λ x. p x.1) both.0) ≡ map key (filter p xs) =
+      without_numbers stored key p both.0 ∙ ap (λ (l : List X). map key (filter p l)) both.2 in
+      let is = one_least (map key (filter p xs)) found.first (least_of (map key (filter p xs)))
+      (subst (λ (ns : List ℕ). IsLeast ns found.first) keys found.is_least) (least_is (map key (filter p xs))) in
       found.row ∙ ap (λ (o : Option ℕ). map shown_number (option_to_list o)) is

@@ -26,7 +26,8 @@ abbrev pub tariffs_after_query : ℕ → Query
 tariffs_after_query tree = query_on tree is_after_text (col 1 1 ∷ []) (rising 1) (col 0 1)
 
 -- what the text that lists tariffs asks
-pub tariffs_after_asks : (after : List ℕ) (limit : ℕ) → Asks tariffs_table tariffs_after_query (codes "name" ∷ []) tariffs_after_text (Text after ∷ number limit ∷ [])
+pub tariffs_after_asks : (after : List ℕ) (limit : ℕ)
+    → Asks tariffs_table tariffs_after_query (codes "name" ∷ []) tariffs_after_text (Text after ∷ number limit ∷ [])
 unfolding everything is_whole meant select_meant text_meant
 tariffs_after_asks after limit =
     record { is = λ tree. record { means = refl; from = refl }; bare = λ tree. refl; typed = λ tree. refl; whole = refl }

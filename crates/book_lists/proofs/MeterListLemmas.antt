@@ -58,11 +58,15 @@ module _ (after : List ℕ) where
     one = one_shown_row;
     kept = λ rows of_office found are. All-weaker (StandsIn rows) keeps_row (row_keeps rows of_office) found are.0;
     answers = λ db rows held of_office answer is.
-        let page = page_by_text number_in after {xs = rows.meters} {show = λ m. shown_row (meter_row m)} (record { holds_them = held.1.1.0; some = λ r none. cc; passes = λ hidden r. last_term (at_texts false Gt r.0 after); shows = λ hidden r. refl })
+        let page = page_by_text number_in after {xs = rows.meters} {show = λ m. shown_row (meter_row m)}
+        (record { holds_them = held.1.1.0; some = λ r none. cc; passes = λ hidden r. last_term (at_texts false Gt r.0 after); shows = λ hidden r. refl })
         1 (λ hidden r. refl) of_office.2.meters_once (col 0 1) refl answer is in
         let numbers : map number_in page.found ≡ map number_of (map meter_row page.found) = sym (map-map number_of meter_row page.found) in (
           map meter_row page.found,
-          (All-map (StandsIn rows) meter_row page.found page.there, subst (AreFirstAfter (λ k. Contains (map number_in rows.meters) k) after) numbers page.first),
+          (
+            All-map (StandsIn rows) meter_row page.found page.there,
+            subst (AreFirstAfter (λ k. Contains (map number_in rows.meters) k) after) numbers page.first,
+          ),
           page.row ∙ sym (map-map shown_row meter_row page.found),
         );
   }
@@ -82,7 +86,8 @@ module _ (after : List ℕ) where
     )
 
     -- the meters of the rows are the office's
-    pub office_meters : (found : List MeterRow) → AreMetersAfter rows found → All (λ (m : MeterRow). o.meters m.number ≡ Some m.meter) found × AreFirstAfter (λ k. IsSome (o.meters k)) after (map number_of found)
+    pub office_meters : (found : List MeterRow) → AreMetersAfter rows found
+        → All (λ (m : MeterRow). o.meters m.number ≡ Some m.meter) found × AreFirstAfter (λ k. IsSome (o.meters k)) after (map number_of found)
     office_meters found (there, first) = (
       All-weaker (StandsIn rows) (λ (m : MeterRow). o.meters m.number ≡ Some m.meter) (λ m here. (are.meters m.number m.meter).1 here) found there,
       page_of (λ k. Contains (map number_in rows.meters) k) (λ k. IsSome (o.meters k)) numbers_same after (map number_of found) first,

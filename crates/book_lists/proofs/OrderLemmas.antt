@@ -34,13 +34,15 @@ before a b not_after apart = by_order (text_cmp a b) refl
 -- texts that do not fall rise where no two are the same
 pub texts_rise : (ks : List (List ℕ)) → IsSorted text_cmp ks → AllPairs (λ a b. a ≢ b) ks → AllPairs ComesBefore ks
 texts_rise ks sorted apart i j d first within =
-    before (get_or ks i d) (get_or ks j d) (sorted_far (λ a b. is_lt (text_cmp a b)) (ranks_by nat_list_cmp_total (λ k. k)) ks sorted i j d (omega (arith, first)) within) (apart i j d first within)
+    before (get_or ks i d) (get_or ks j d) (sorted_far (λ a b. is_lt (text_cmp a b)) (ranks_by nat_list_cmp_total (λ k. k)) ks sorted i j d
+    (omega (arith, first)) within) (apart i j d first within)
 
 -- ---- texts that are keys
 
 module _ {X : Type 0} (key : X → List ℕ) where
   -- what is sorted by something that goes by the keys has its keys sorted
-  pub keys_sorted : {Y : Type 0} (out : X → Y) (cmp : Y → Y → Ordering) → ((a b : X) → cmp (out a) (out b) ≡ text_cmp (key a) (key b)) → (xs : List X) → IsSorted cmp (map out xs) → IsSorted text_cmp (map key xs)
+  pub keys_sorted : {Y : Type 0} (out : X → Y) (cmp : Y → Y → Ordering) → ((a b : X) → cmp (out a) (out b) ≡ text_cmp (key a) (key b))
+      → (xs : List X) → IsSorted cmp (map out xs) → IsSorted text_cmp (map key xs)
   keys_sorted out cmp tells [] sorted k d from within = absurd (omega (arith, within))
   keys_sorted out cmp tells (x ∷ more) sorted k d from within =
       let xs = x ∷ more in
@@ -75,4 +77,5 @@ bytes_turned a b =
 -- texts of which no two are the same, in another order
 pub apart_permuted : (xs ys : List (List ℕ)) → IsPermutation xs ys → AllPairs (λ a b. a ≢ b) xs → AllPairs (λ a b. a ≢ b) ys
 apart_permuted xs ys same apart =
-    AllPairs-from_IsDistinct bytes_eq-Decides ys (IsDistinct-IsPermutation bytes_eq bytes_turned xs ys same (IsDistinct-from_AllPairs bytes_eq-Decides xs apart))
+    AllPairs-from_IsDistinct bytes_eq-Decides ys (IsDistinct-IsPermutation bytes_eq bytes_turned xs ys same
+    (IsDistinct-from_AllPairs bytes_eq-Decides xs apart))

@@ -38,9 +38,11 @@ module _ {X : Type 0} {db : Trees} {tree : ℕ} {tests shown : List Term} {param
   pub ordered : (rows : List Row) → IsAnswer q db params rows → Ordered rows
   ordered rows answer =
       let arranged : IsPermutation (map out (filter p xs)) answer.ordered =
-      subst (λ l. IsPermutation l answer.ordered) (answer.distinct ∙ ap (map (output q)) (answer.grouped ∙ matches_are) ∙ map-map (output q) (λ x. params ∷ stored x ∷ []) (filter p xs)) answer.same in
+      subst (λ l. IsPermutation l answer.ordered) (answer.distinct ∙ ap (map (output q)) (answer.grouped ∙ matches_are)
+      ∙ map-map (output q) (λ x. params ∷ stored x ∷ []) (filter p xs)) answer.same in
       let back = pull_back out (map out (filter p xs)) answer.ordered arranged (filter p xs) refl in
-      let shown_are : map (λ (o : Output). o.1) (map out back.0) ≡ map show back.0 = map-map (λ (o : Output). o.1) out back.0 ∙ map_same (λ x. (out x).1) show l.shows back.0 in
+      let shown_are : map (λ (o : Output). o.1) (map out back.0) ≡ map show back.0 =
+      map-map (λ (o : Output). o.1) out back.0 ∙ map_same (λ x. (out x).1) show l.shows back.0 in
       record {
         found = back.0;
         same = back.1;

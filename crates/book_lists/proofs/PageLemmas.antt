@@ -21,7 +21,8 @@ module _ (size : ℕ) (ks : List (List ℕ)) (rise : AllPairs ComesBefore ks) wh
       (subst (λ b. ComesBefore (get_or ks i d) b) (sym (get_or-take size ks j d right.0)) (rise i j d first right.1))
 
   -- one of them is on the page, or the page is full and it comes after all of it
-  on_page_or_after : (key : List ℕ) → Contains ks key → Contains (take size ks) key ⊎ ((length (take size ks) ≡ size) × All (λ other. ComesBefore other key) (take size ks))
+  on_page_or_after : (key : List ℕ) → Contains ks key → Contains (take size ks) key
+      ⊎ ((length (take size ks) ≡ size) × All (λ other. ComesBefore other key) (take size ks))
   on_page_or_after key (at, within, is) =
       elim (cases_lt at size) [
         | inl early ↦ inl (at, omega (arith, length-take size ks, early, within), get_or-take size ks at key early ∙ is)
@@ -36,7 +37,8 @@ module _ (size : ℕ) (ks : List (List ℕ)) (rise : AllPairs ComesBefore ks) wh
       ]
 
 -- the first of all that come after a text, in the order of their bytes, are a page
-pub first_page : (Has : List ℕ → Type 0) (after : List ℕ) (ks : List (List ℕ)) → AllPairs ComesBefore ks → All (λ key. Has key × ComesBefore after key) ks → ((key : List ℕ) → Has key → ComesBefore after key → Contains ks key)
+pub first_page : (Has : List ℕ → Type 0) (after : List ℕ) (ks : List (List ℕ)) → AllPairs ComesBefore ks
+    → All (λ key. Has key × ComesBefore after key) ks → ((key : List ℕ) → Has key → ComesBefore after key → Contains ks key)
     → AreFirstAfter Has after (take page_size ks)
 first_page Has after ks rise there whole = record {
   there = All-take (λ key. Has key × ComesBefore after key) page_size ks there;
@@ -46,7 +48,8 @@ first_page Has after ks rise there whole = record {
 }
 
 -- a page of the same texts, told otherwise
-pub page_of : (P Q : List ℕ → Type 0) → ((key : List ℕ) → P key ↔ Q key) → (after : List ℕ) (page : List (List ℕ)) → AreFirstAfter P after page → AreFirstAfter Q after page
+pub page_of : (P Q : List ℕ → Type 0) → ((key : List ℕ) → P key ↔ Q key) → (after : List ℕ) (page : List (List ℕ))
+    → AreFirstAfter P after page → AreFirstAfter Q after page
 page_of P Q same after page first = record {
   there = All-weaker (λ key. P key × ComesBefore after key) (λ key. Q key × ComesBefore after key) (λ key has. ((same key).0 has.0, has.1)) page first.there;
   in_order = first.in_order;

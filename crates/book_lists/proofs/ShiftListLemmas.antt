@@ -29,7 +29,8 @@ module _ (after limit : ℕ) where
   is_after s = nat_lt after s.number
 
   -- what a page of shifts has
-  pub shifts_after : Lists shifts_kept shifts_after_text (number after ∷ number limit ∷ []) shown_shift AreShiftValues (λ rows found. found ≡ take limit (filter is_after rows.shifts))
+  pub shifts_after : Lists shifts_kept shifts_after_text (number after ∷ number limit ∷ []) shown_shift AreShiftValues
+      (λ rows found. found ≡ take limit (filter is_after rows.shifts))
   shifts_after = record {
     table = shifts_table;
     query = shifts_after_query;
@@ -43,7 +44,8 @@ module _ (after limit : ℕ) where
     answers = λ db rows held of_office answer is. (
       take limit (filter is_after rows.shifts),
       refl,
-      first_by_key (record { holds_them = held.1.1; passes = λ s. last_term (number_above s.number after); shows = λ s. refl }) 0 (λ s. pos s.number) (λ s. refl) (col 0 1) answer (shifts_rise rows of_office) is
+      first_by_key (record { holds_them = held.1.1; passes = λ s. last_term (number_above s.number after); shows = λ s. refl }) 0
+          (λ s. pos s.number) (λ s. refl) (col 0 1) answer (shifts_rise rows of_office) is
           ∙ take-map shown_shift limit (filter is_after rows.shifts),
     );
   }

@@ -39,15 +39,18 @@ module _ (after : List ℕ) where
     stands = λ s has. has.0.has;
     one = λ a b keeps_a keeps_b same. one_tariff a b same;
     kept = λ rows of_office found first.
-        All-weaker (λ name. Contains rows.tariffs name × ComesBefore after name) IsName (λ name has. All-contains IsName rows.tariffs name (tariff_names_keep rows of_office) has.0) found first.there;
+        All-weaker (λ name. Contains rows.tariffs name × ComesBefore after name) IsName
+        (λ name has. All-contains IsName rows.tariffs name (tariff_names_keep rows of_office) has.0) found first.there;
     answers = λ db rows held of_office answer is.
-        let page = page_by_text itself after {xs = rows.tariffs} {show = tariff_columns} (record { holds_them = held.1.1.0; some = λ r none. cc; passes = λ hidden r. last_term (at_texts false Gt r after); shows = λ hidden r. refl })
+        let page = page_by_text itself after {xs = rows.tariffs} {show = tariff_columns}
+        (record { holds_them = held.1.1.0; some = λ r none. cc; passes = λ hidden r. last_term (at_texts false Gt r after); shows = λ hidden r. refl })
         1 (λ hidden r. refl) of_office.2.tariffs_once (col 0 1) refl answer is in
         let first = subst (λ (names : List (List ℕ)). AreFirstAfter (λ k. Contains names k) after (map itself page.found)) (map-id rows.tariffs) page.first in
         (page.found, subst (AreFirstAfter (λ name. Contains rows.tariffs name) after) (map-id page.found) first, page.row);
   }
 
 -- the names of the rows are those of the office's tariffs
-pub office_names : (after : List ℕ) (rows : Rows) (o : Office) → AreMembersOf rows o → (found : List (List ℕ)) → AreNamesAfter after rows found → AreFirstAfter (λ name. IsSome (o.tariffs name)) after found
+pub office_names : (after : List ℕ) (rows : Rows) (o : Office) → AreMembersOf rows o → (found : List (List ℕ))
+    → AreNamesAfter after rows found → AreFirstAfter (λ name. IsSome (o.tariffs name)) after found
 office_names after rows o are found =
     page_of (λ name. Contains rows.tariffs name) (λ name. IsSome (o.tariffs name)) (λ name. ((are.tariffs name).1, (are.tariffs name).0)) after found

@@ -36,7 +36,8 @@ module _ {X : Type 0} (key : X → List ℕ) (after : List ℕ) where
     pub row : rows ≡ map show found
 
   module _ {db : Trees} {tree : ℕ} {tests shown : List Term} {params : Row} {stored : X → Row} {xs : List X} {show : X → Row}
-      (l : IsHiddenListing db tree tests shown params stored xs comes_after show) (at : ℕ) (keeps_key : (number : Value) (x : X) → column (number ∷ stored x) at ≡ Text (key x))
+      (l : IsHiddenListing db tree tests shown params stored xs comes_after show) (at : ℕ)
+      (keeps_key : (number : Value) (x : X) → column (number ∷ stored x) at ≡ Text (key x))
       (once : AllPairs (λ a b. key a ≡ key b → ⊥) xs) (limit : Term) (counts : as_count (eval limit (params ∷ [])) ≡ Some page_size) where
     module _ (found : List X) (same : IsPermutation (filter comes_after xs) found) (sorted : IsSorted text_cmp (map key found)) where
       keys_rise : AllPairs ComesBefore (map key found)
@@ -47,13 +48,15 @@ module _ {X : Type 0} (key : X → List ℕ) (after : List ℕ) where
 
       -- what is found is there and passes, and what is there and passes is found
       from_there : (x : X) → Contains found x → Contains xs x × (comes_after x ≡ true)
-      from_there x in_found = there_passes comes_after xs x (Contains-permutation found (filter comes_after xs) x (IsPermutation-sym (filter comes_after xs) found same) in_found)
+      from_there x in_found = there_passes comes_after xs x
+          (Contains-permutation found (filter comes_after xs) x (IsPermutation-sym (filter comes_after xs) found same) in_found)
 
       keys_there : All (λ k. Contains (map key xs) k × ComesBefore after k) (map key found)
       keys_there i d within =
           let source = map_source key found (get_or (map key found) i d) (Contains-get_or (map key found) i d within) in
           let parts = from_there source.0 source.1 in
-          subst (λ k. Contains (map key xs) k × ComesBefore after k) source.2 (contains_map key xs source.0 parts.0, is_less (text_cmp after (key source.0)) parts.1)
+          subst (λ k. Contains (map key xs) k × ComesBefore after k) source.2
+          (contains_map key xs source.0 parts.0, is_less (text_cmp after (key source.0)) parts.1)
 
       all_found : (k : List ℕ) → Contains (map key xs) k → ComesBefore after k → Contains (map key found) k
       all_found k there later =
@@ -75,16 +78,22 @@ module _ {X : Type 0} (key : X → List ℕ) (after : List ℕ) where
         let beside : IsListing db tree tests shown params (with_number stored) both.0 (λ x. comes_after x.1) (λ x. show x.1) =
         record { holds_them = both.1; passes = λ x. l.passes x.0 x.1; shows = λ x. l.shows x.0 x.1 } in
         let all = ordered beside at limit rows answer in
-        let by_key : (a b : Value × X) → output_cmp (query_on tree tests shown (rising at) limit) (out beside at limit a) (out beside at limit b) ≡ text_cmp (key a.1) (key b.1) =
+        let by_key : (a b : Value × X) → output_cmp (query_on tree tests shown (rising at) limit) (out beside at limit a)
+        (out beside at limit b) ≡ text_cmp (key a.1) (key b.1) =
         λ a b. then-Equal _ ∙ ap₂ value_cmp (keeps_key a.0 a.1) (keeps_key b.0 b.1) ∙ value_cmp-Text (key a.1) (key b.1) in
         let found = map value all.found in
-        let found_are : map value (filter (λ x. comes_after x.1) both.0) ≡ filter comes_after xs = sym (filter-map comes_after value both.0) ∙ ap (filter comes_after) both.2 in
-        let same : IsPermutation (filter comes_after xs) found = subst (λ (l : List X). IsPermutation l found) found_are (IsPermutation-map value (filter (λ x. comes_after x.1) both.0) all.found all.same) in
+        let found_are : map value (filter (λ x. comes_after x.1) both.0) ≡ filter comes_after xs =
+        sym (filter-map comes_after value both.0) ∙ ap (filter comes_after) both.2 in
+        let same : IsPermutation (filter comes_after xs) found =
+        subst (λ (l : List X). IsPermutation l found) found_are (IsPermutation-map value (filter (λ x. comes_after x.1) both.0) all.found all.same) in
         let sorted : IsSorted text_cmp (map key found) = subst (IsSorted text_cmp) (sym (map-map key value all.found))
-        (keys_sorted (λ (x : Value × X). key x.1) (out beside at limit) (output_cmp (query_on tree tests shown (rising at) limit)) by_key all.found all.sorted) in
+        (keys_sorted (λ (x : Value × X). key x.1) (out beside at limit) (output_cmp (query_on tree tests shown (rising at) limit)) by_key
+        all.found all.sorted) in
         record {
           found = take page_size found;
-          there = All-take (λ x. Contains xs x) page_size found (λ i d within. (from_there found same sorted (get_or found i d) (Contains-get_or found i d within)).0);
+          there = All-take (λ x. Contains xs x) page_size found
+              (λ i d within. (from_there found same sorted (get_or found i d) (Contains-get_or found i d within)).0);
           first = page_first found same sorted;
-          row = all.row ∙ ap (λ (n : Option ℕ). limited n (map (λ (x : Value × X). show x.1) all.found)) counts ∙ ap (take page_size) (sym (map-map show value all.found)) ∙ take-map show page_size found;
+          row = all.row ∙ ap (λ (n : Option ℕ). limited n (map (λ (x : Value × X). show x.1) all.found)) counts
+              ∙ ap (take page_size) (sym (map-map show value all.found)) ∙ take-map show page_size found;
         }

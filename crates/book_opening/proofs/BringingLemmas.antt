@@ -39,7 +39,8 @@ use Rattle.book_opening.proofs.LookingLemmas.{of_failure}
 module _ (rows : OfficeRows) (o : Office) (are : AreRowsOfOffice rows o) where
   meters_there : (number : List ℕ) (m : Meter) → (o.meters number ≡ Some m) ↔ Contains rows.meters.items (meter_row (number, m))
   meters_there number m = (
-    λ has. let from = map_source meter_entry rows.meters.items (number, m) ((are.members.meters number m).0 has) in subst (Contains rows.meters.items) (ap meter_row from.2) from.1,
+    λ has. let from = map_source meter_entry rows.meters.items (number, m) ((are.members.meters number m).0 has) in
+        subst (Contains rows.meters.items) (ap meter_row from.2) from.1,
     λ there. (are.members.meters number m).1 (contains_map meter_entry rows.meters.items (meter_row (number, m)) there),
   )
 
@@ -106,7 +107,8 @@ none_of f db (by_row n own breaks none) = none
 none_of f db (by_lists n rows told broken none) = none
 
 -- it shows that the store stands for no office
-pub audit_tells : (Says : Finding → Database → Type 0) (old new : State) → ((f : Finding) → Says f old.now → StandsForNone old.now) → (e : AuditFault) (fault : OpenFault)
+pub audit_tells : (Says : Finding → Database → Type 0) (old new : State) → ((f : Finding) → Says f old.now → StandsForNone old.now)
+    → (e : AuditFault) (fault : OpenFault)
     → ((why : Error) → e ≡ audit.Failed why → (fault ≡ Store) ⊎ (fault ≡ Memory)) → fault ≡ fault_of_audit e → StopsBy Says old new e → FaultFitsStore old fault
 audit_tells Says old new says (audit.Found f) fault kind is stops = rw is (λ o at. says f stops.0 o (at.now stops.1.0.was_open))
 audit_tells Says old new says audit.NoOffice fault kind is stops = rw is (λ o at. stops.0.1 o (at.now stops.1.0.was_open))

@@ -55,13 +55,15 @@ module _ {S : Type 0} (g : Ghosts S) (old new : State) where
   fails_open e fault is fails = λ named. inl (e, is, inl (inl fails))
 
   -- a table of it is not read
-  pub fails_table : (Has : Database → Rows → Type 0) (e : TableError) (fault : OpenFault) → fault ≡ fault_of_table e → IsTrue old.is_open → FailsToReadOf Has old new e
+  pub fails_table : (Has : Database → Rows → Type 0) (e : TableError) (fault : OpenFault) → fault ≡ fault_of_table e → IsTrue old.is_open
+      → FailsToReadOf Has old new e
       → FailsToOpen g old new fault
   fails_table Has (table.Database why) fault is runs fails = λ named. inl (why, is, looked old new why runs fails)
   fails_table Has table.RowOfNoOffice fault is runs fails = λ named. absurd (named is)
 
   -- nor are all
-  pub fails_audit : (Says : Finding → Database → Type 0) (e : AuditFault) (fault : OpenFault) → fault ≡ fault_of_audit e → IsTrue old.is_open → StopsBy Says old new e
+  pub fails_audit : (Says : Finding → Database → Type 0) (e : AuditFault) (fault : OpenFault) → fault ≡ fault_of_audit e
+      → IsTrue old.is_open → StopsBy Says old new e
       → FailsToOpen g old new fault
   fails_audit Says (audit.Failed why) fault is runs fails = λ named. inl (why, is, looked old new why runs fails)
   fails_audit Says (audit.Found f) fault is runs fails = λ named. absurd (named is)
@@ -114,12 +116,14 @@ module _ {S : Type 0} (g : Ghosts S) (from : ℕ) (conn : Held S) (new : State) 
   module _ (meters : List MeterRow) (sales : List Sale) (with : IsSoundWith from meters sales (state g conn)) where
     -- a write of it failed
     pub fails_unmade : (e : TableError) (fault : OpenFault) → fault ≡ fault_of_table e
-        → FailsInside g (λ (s t : State) (why : TableError). IsSoundOfFormat from s → FailsToBring g from meters sales s t why) conn new (Unmade e) → FailsToBringUp g from conn new fault
+        → FailsInside g (λ (s t : State) (why : TableError). IsSoundOfFormat from s → FailsToBring g from meters sales s t why) conn new
+        (Unmade e) → FailsToBringUp g from conn new fault
     fails_unmade (table.Database why) fault is fails = inl (meters, sales, with, why, is, (fails.0, fails.1 (λ runs. ((with runs).0, (with runs).1)), fails.2))
     fails_unmade table.RowOfNoOffice fault is fails = absurd (fails.1 (λ runs. ((with runs).0, (with runs).1)))
 
     -- its commit failed
-    pub fails_commit : (e : Error) → HasBeen g (λ (made : State). FailsAtCommit (BringsSound from meters sales) (state g conn) made new e) → FailsToBringUp g from conn new Store
+    pub fails_commit : (e : Error) → HasBeen g (λ (made : State). FailsAtCommit (BringsSound from meters sales) (state g conn) made new e)
+        → FailsToBringUp g from conn new Store
     fails_commit e been =
         let at = been.1 in
         let it = with at.was_open in

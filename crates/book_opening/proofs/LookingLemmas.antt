@@ -84,7 +84,8 @@ module _ {old new : State} where
   }
 
   -- what was read shows that there is no office
-  pub look_denies : {T U : Type 0} {x : T} → OnlyReads IsUnchanged old new (Ok x) → (HasCleanDisk new → IsSoundOfFormat present_format old → FaultFitsStore old NotAnOffice)
+  pub look_denies : {T U : Type 0} {x : T} → OnlyReads IsUnchanged old new (Ok x)
+      → (HasCleanDisk new → IsSoundOfFormat present_format old → FaultFitsStore old NotAnOffice)
       → Looks {T = U} (IsSoundOfFormat present_format) old new (Err NotAnOffice)
   look_denies this told = record {
     same = λ _ _. tt;
@@ -120,11 +121,13 @@ module _ (old : State) (has : IsSoundOfFormat present_format old) (runs : IsTrue
   of_office = (o, at.office, held.2)
 
   -- the last number counts its sales
-  pub next_counted : (last : Option ℕ) → ((rows : Rows) → HasTableRows sales_kept old rows → AreOfOffice rows → unwrap_or last 0 ≡ length rows.sales) → unwrap_or last 0 + 1 ≡ length o.sales + 1
+  pub next_counted : (last : Option ℕ) → ((rows : Rows) → HasTableRows sales_kept old rows → AreOfOffice rows → unwrap_or last 0
+      ≡ length rows.sales) → unwrap_or last 0 + 1 ≡ length o.sales + 1
   next_counted last counted = ap (λ n. n + 1) (counted held.0 sales_there of_office) ∙ ap (λ (sales : List Sale). length sales + 1) held.2.sales
 
   -- the sale of the last number is there
-  pub last_there : (last : ℕ) → ((rows : Rows) → HasTableRows sales_kept old rows → AreOfOffice rows → Some last ≡ option_map (λ (s : Sale). s.number) (last_or None rows.sales))
+  pub last_there : (last : ℕ) → ((rows : Rows) → HasTableRows sales_kept old rows → AreOfOffice rows → Some last
+      ≡ option_map (λ (s : Sale). s.number) (last_or None rows.sales))
       → ((rows : Rows) → HasTableRows sales_kept old rows → AreOfOffice rows → None ≡ find (λ (s : Sale). s.number == last) rows.sales) → ⊥
   last_there last is none =
       none_last last None held.0.sales (λ same. absurd (let e = same in cc)) (sym (none held.0 sales_there of_office)) (sym (is held.0 sales_there of_office))

@@ -22,7 +22,8 @@ use Rattle.book_states.specs.Failing.{EditHasFailed, FailsToMakeEdit, HasFailedA
 -- a read that is answered as a failure of the store has one of its causes, where a row of no office
 -- is told only for this
 module _ (old new : State) (IsSpoilt : Database → Type 0) where
-  caused : (e : Error) → refusal_for (fails.Database e) ≡ Store → (cause : StoreError) → e ≡ store_error cause → HasCause old new ⊥ cause → HasFailedAt IsSpoilt old new
+  caused : (e : Error) → refusal_for (fails.Database e) ≡ Store → (cause : StoreError) → e ≡ store_error cause → HasCause old new ⊥ cause
+      → HasFailedAt IsSpoilt old new
   caused e is OutOfMemory same why = absurd (let told = rw same at is in cc)
   caused e is Io same why = inl why
   caused e is Corrupt same why = inl why
@@ -34,13 +35,15 @@ module _ (old new : State) (IsSpoilt : Database → Type 0) where
   plainly e is (inl why) = caused e is why.0 why.1 why.2
   plainly e is (inr limit) = inr (inr (inl limit.1))
 
-  pub has_failed : (e : TableError) → FailsToRead old new e → (e ≡ fails.RowOfNoOffice → IsSpoilt old.now) → refusal_for e ≡ Store → HasFailedAt IsSpoilt old new
+  pub has_failed : (e : TableError) → FailsToRead old new e → (e ≡ fails.RowOfNoOffice → IsSpoilt old.now) → refusal_for e ≡ Store
+      → HasFailedAt IsSpoilt old new
   has_failed (fails.Database e) (inl why) spoilt is = elim (cases_Bool old.is_open) [ inl is_open ↦ plainly e is (why is_open) | inr shut ↦ inr (inl shut) ]
   has_failed (fails.Database e) (inr why) spoilt is = absurd (let told = rw why.0 at is in cc)
   has_failed fails.RowOfNoOffice why spoilt is = inr (inr (inr (spoilt refl)))
 
 module _ (old new : State) where
-  pub told_of_read : (e : TableError) (refusal : Refusal) → refusal ≡ refusal_for e → FailsToRead old new e → HasCleanDisk new → Survives old new (λ _. ⊥) → IsToldOfRead refusal old new
+  pub told_of_read : (e : TableError) (refusal : Refusal) → refusal ≡ refusal_for e → FailsToRead old new e → HasCleanDisk new
+      → Survives old new (λ _. ⊥) → IsToldOfRead refusal old new
   told_of_read e refusal answered why clean survives = record {
     error = e;
     answered = answered;
@@ -58,7 +61,8 @@ module _ {S : Type 0} (g : Ghosts S) (edit : Edit) (prior : ℕ) (old left : Hel
   refused_before : (e : Error) → IsRefused (writes_of edit) (state g begun) e → IsRefused (writes_of edit) (state g old) e
   refused_before e it = record { before = it.before; tried = it.tried; after = it.after; among = it.among; db = it.db; made = it.made; refused = it.refused }
 
-  by_cause : (e : TableError) → refusal_for e ≡ Store → FailsToMakeEdit edit prior (state g begun) (state g left) e → EditHasFailed edit prior e (state g old) new
+  by_cause : (e : TableError) → refusal_for e ≡ Store → FailsToMakeEdit edit prior (state g begun) (state g left) e
+      → EditHasFailed edit prior e (state g old) new
   by_cause (fails.Database e) is (inl (inl none)) = absurd (let told = rw none at is in cc)
   by_cause (fails.Database e) is (inl (inr (inl more))) = inl (omega (arith, more, later.counts))
   by_cause (fails.Database e) is (inl (inr (inr (inl shut)))) = inr (inl shut)
@@ -67,5 +71,6 @@ module _ {S : Type 0} (g : Ghosts S) (edit : Edit) (prior : ℕ) (old left : Hel
   by_cause e is (inr (inl none)) = inr (inr (inr (inl none)))
   by_cause e is (inr (inr told)) = inr (inr (inr (inr told)))
 
-  pub edit_failed : (e : TableError) → refusal_for e ≡ Store → HasAllTables (state g old) → (HasAllTables (state g begun) → FailsToMakeEdit edit prior (state g begun) (state g left) e) → EditHasFailed edit prior e (state g old) new
+  pub edit_failed : (e : TableError) → refusal_for e ≡ Store → HasAllTables (state g old)
+      → (HasAllTables (state g begun) → FailsToMakeEdit edit prior (state g begun) (state g left) e) → EditHasFailed edit prior e (state g old) new
   edit_failed e is has why = by_cause e is (why has)

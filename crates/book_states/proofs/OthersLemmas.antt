@@ -21,7 +21,8 @@ all_both P Q R step [] p q = tt
 all_both P Q R step (t ∷ ts) p q = (step t p.0 q.0, all_both P Q R step ts p.1 q.1)
 
 pub trees_then : (s : Schema) (a b c : Trees) → SameOthers s a b → SameOthers s b c → SameOthers s a c
-trees_then s a b c = all_both (λ (u : Table). IsOfNone s table_names u.tree → b u.tree ≡ a u.tree) (λ (u : Table). IsOfNone s table_names u.tree → c u.tree ≡ b u.tree)
+trees_then s a b c = all_both (λ (u : Table). IsOfNone s table_names u.tree → b u.tree ≡ a u.tree)
+    (λ (u : Table). IsOfNone s table_names u.tree → c u.tree ≡ b u.tree)
     (λ (u : Table). IsOfNone s table_names u.tree → c u.tree ≡ a u.tree) (λ u p q none. q none ∙ p none) s.tables
 
 pub others_then : (a b c : State) → LeavesOthers a b → LeavesOthers b c → LeavesOthers a c
@@ -37,7 +38,8 @@ others_then a b c p q = record {
 }
   where
     on_top : IsTrue b.is_open → (trees : Trees) → SameOthers b.now.schema b.now.trees trees → SameOthers a.now.schema a.now.trees trees
-    on_top is_open trees later = trees_then a.now.schema a.now.trees b.now.trees trees (p.now is_open) (subst (λ (s : Schema). SameOthers s b.now.trees trees) (p.schema is_open) later)
+    on_top is_open trees later = trees_then a.now.schema a.now.trees b.now.trees trees (p.now is_open)
+        (subst (λ (s : Schema). SameOthers s b.now.trees trees) (p.schema is_open) later)
 
 -- nothing has changed
 pub others_same : (s : State) → LeavesOthers s s

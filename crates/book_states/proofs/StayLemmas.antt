@@ -14,7 +14,8 @@ pub has_tables : (o : Office) (s : State) → Stores s o → HasAllTables s
 has_tables o s at is_open = (at.members is_open).1.has
 
 -- a disk that returned something else is no base to read the tables on: the store shows as shut
-pub clean_before : (old new : State) (P : Trees → Type 0) → (old.is_clean ≡ false → old.is_open ≡ false) → (HasAllTables old → Survives old new P) → HasCleanDisk new → HasCleanDisk old
+pub clean_before : (old new : State) (P : Trees → Type 0) → (old.is_clean ≡ false → old.is_open ≡ false)
+    → (HasAllTables old → Survives old new P) → HasCleanDisk new → HasCleanDisk old
 clean_before old new P shut survives clean = elim (cases_Bool old.is_clean) [
   | inl sure ↦ no_doubt old.is_clean sure
   | inr dirty ↦ let early = survives (λ is_open. absurd (false≢true (sym (shut dirty) ∙ is_open))) in omega (arith, early.clean)
@@ -26,7 +27,14 @@ unchanged_same old new same = record { was_open = λ _. same.0.was_open; now_is 
 pub nothing_same : (s : State) → ChangesNothing s s
 nothing_same s = record {
   same = record { was_open = λ is_open. is_open; now_is = λ _. refl };
-  survives = record { clean = omega arith; shield = λ is. is; counts = omega arith; limit = refl; closes = λ _ is_open. inl is_open; crash = λ _ trees may. inl may };
+  survives = record {
+    clean = omega arith;
+    shield = λ is. is;
+    counts = omega arith;
+    limit = refl;
+    closes = λ _ is_open. inl is_open;
+    crash = λ _ trees may. inl may;
+  };
 }
 
 -- a read that failed undoes at most a transaction in which nothing was written

@@ -16,8 +16,10 @@ use Rattle.book_tables.proofs.SalesOfLemmas.{kept_last, tells_under}
 -- so few sales of what a token can carry and of a tender at the most add up to no more
 pub office_within : ((t : ℕ) → IsRepresentable t → t ≤ 18201624) → (o : Office) → IsOffice o → AreWithinTotals o.sales
 office_within greatest o office =
-    let tenths = sum_by-le (λ (t : Sale). t.tenths) 18201624 o.sales (All-weaker (IsSaleRow o) (λ t. t.tenths ≤ 18201624) (λ t row. greatest t.tenths row.tenths) o.sales office.sales) in
-    let cash = sum_by-le (λ (t : Sale). t.price) 100000000 o.sales (All-weaker (IsSaleRow o) (λ t. t.price ≤ 100000000) (λ t row. omega (arith, row.price, row.tender.1)) o.sales office.sales) in
+    let tenths = sum_by-le (λ (t : Sale). t.tenths) 18201624 o.sales
+    (All-weaker (IsSaleRow o) (λ t. t.tenths ≤ 18201624) (λ t row. greatest t.tenths row.tenths) o.sales office.sales) in
+    let cash = sum_by-le (λ (t : Sale). t.price) 100000000 o.sales
+    (All-weaker (IsSaleRow o) (λ t. t.price ≤ 100000000) (λ t row. omega (arith, row.price, row.tender.1)) o.sales office.sales) in
     let count : length o.sales ≤ greatest_count = office.sale_count in
     (omega (arith, count), omega (arith, tenths, count), omega (arith, cash, count))
 
@@ -37,7 +39,8 @@ tids_more [] s = refl
 tids_more (t ∷ sales) s = ap (λ l. t.tid ∷ l) (tids_more sales s)
 
 -- with one sale more
-pub last_with : (sales : List Sale) (s : Sale) → greatest_of (map (λ (t : Sale). t.tid) (sales_under (sales ++ s ∷ []) (s.meter, s.base))) ≡ Some (max (unwrap_or (greatest_of (map (λ (t : Sale). t.tid) (sales_under sales (s.meter, s.base)))) 0) s.tid)
+pub last_with : (sales : List Sale) (s : Sale) → greatest_of (map (λ (t : Sale). t.tid) (sales_under (sales ++ s ∷ []) (s.meter, s.base)))
+    ≡ Some (max (unwrap_or (greatest_of (map (λ (t : Sale). t.tid) (sales_under sales (s.meter, s.base)))) 0) s.tid)
 last_with sales s =
     let key : List ℕ × Base = (s.meter, s.base) in
     ap (λ (l : List Sale). greatest_of (map (λ (t : Sale). t.tid) l)) (kept_last (λ t. is_under key (t.meter, t.base)) sales s ((tells_under key key).1 refl))

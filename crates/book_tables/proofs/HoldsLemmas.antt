@@ -23,7 +23,8 @@ use Rattle.book_tables.proofs.MemberLemmas.{SameMembers, one_office}
 use Rattle.book_tables.proofs.RowLemmas.RecordLemmas.{one_base_row, one_dated, one_list, one_meter, one_sale, one_shift, one_step, one_tariff}
 
 -- meters whose keys have 64 bits are told by what is stored of them
-one_meters : (xs ys : List (List ℕ × Meter)) → ((m : List ℕ × Meter) → Contains xs m → IsKey m.1.key) → ((m : List ℕ × Meter) → Contains ys m → IsKey m.1.key) → map meter_columns xs ≡ map meter_columns ys → xs ≡ ys
+one_meters : (xs ys : List (List ℕ × Meter)) → ((m : List ℕ × Meter) → Contains xs m → IsKey m.1.key)
+    → ((m : List ℕ × Meter) → Contains ys m → IsKey m.1.key) → map meter_columns xs ≡ map meter_columns ys → xs ≡ ys
 one_meters [] [] small_x small_y e = refl
 one_meters [] (y ∷ ys) small_x small_y e = cc
 one_meters (x ∷ xs) [] small_x small_y e = cc
@@ -52,14 +53,16 @@ first_is_enough false y z e = absurd (false≢true e)
 -- ---- the tables of a format, by the list of all
 
 -- what holds of the tables of a format holds of each that came up to it
-of_first : (P : Kept → Type 0) (n : ℕ) (k j : Kept) (ks : List Kept) (b : Bool) → nat_le j.since n ≡ b → AllByRecursion P (cond b (j ∷ filter (λ k. nat_le k.since n) ks) (filter (λ k. nat_le k.since n) ks)) → Member (j ∷ ks) k → nat_le k.since n ≡ true
+of_first : (P : Kept → Type 0) (n : ℕ) (k j : Kept) (ks : List Kept) (b : Bool) → nat_le j.since n ≡ b
+    → AllByRecursion P (cond b (j ∷ filter (λ k. nat_le k.since n) ks) (filter (λ k. nat_le k.since n) ks)) → Member (j ∷ ks) k → nat_le k.since n ≡ true
     → (Member ks k → AllByRecursion P (filter (λ k. nat_le k.since n) ks) → P k) → P k
 of_first P n k j ks true is all (inl same) came rest = subst P (sym same) all.0
 of_first P n k j ks true is all (inr later) came rest = rest later all.1
 of_first P n k j ks false is all (inl same) came rest = absurd (false≢true (sym is ∙ ap (λ (k : Kept). nat_le k.since n) (sym same) ∙ came))
 of_first P n k j ks false is all (inr later) came rest = rest later all
 
-pub of_upto : (P : Kept → Type 0) (n : ℕ) (k : Kept) (ks : List Kept) → Member ks k → nat_le k.since n ≡ true → AllByRecursion P (filter (λ k. nat_le k.since n) ks) → P k
+pub of_upto : (P : Kept → Type 0) (n : ℕ) (k : Kept) (ks : List Kept) → Member ks k → nat_le k.since n ≡ true
+    → AllByRecursion P (filter (λ k. nat_le k.since n) ks) → P k
 of_upto P n k [] there came all = absurd there
 of_upto P n k (j ∷ ks) there came all = of_first P n k j ks (nat_le j.since n) refl all there came (λ later rest. of_upto P n k ks later came rest)
 
@@ -67,14 +70,17 @@ of_upto P n k (j ∷ ks) there came all = of_first P n k j ks (nat_le j.since n)
 abbrev AreFree : Schema → List Kept → Type 0
 AreFree s ks = list_all (λ name. not (is_used s name)) (kept_names ks) ≡ true
 
-free_first : (s : Schema) (n : ℕ) (k j : Kept) (ks : List Kept) (b : Bool) → nat_le j.since n ≡ b → AreFree s (cond (not b) (j ∷ filter (λ k. not (nat_le k.since n)) ks) (filter (λ k. not (nat_le k.since n)) ks)) → Member (j ∷ ks) k → nat_le k.since n ≡ false
+free_first : (s : Schema) (n : ℕ) (k j : Kept) (ks : List Kept) (b : Bool) → nat_le j.since n ≡ b
+    → AreFree s (cond (not b) (j ∷ filter (λ k. not (nat_le k.since n)) ks) (filter (λ k. not (nat_le k.since n)) ks)) → Member (j ∷ ks) k
+    → nat_le k.since n ≡ false
     → (Member ks k → AreFree s (filter (λ k. not (nat_le k.since n)) ks) → not (is_used s k.table.name) ≡ true) → not (is_used s k.table.name) ≡ true
 free_first s n k j ks true is free (inl same) later rest = absurd (false≢true (sym later ∙ ap (λ (k : Kept). nat_le k.since n) same ∙ is))
 free_first s n k j ks true is free (inr there) later rest = rest there free
 free_first s n k j ks false is free (inl same) later rest = ap (λ (k : Kept). not (is_used s k.table.name)) same ∙ first_true _ _ free
 free_first s n k j ks false is free (inr there) later rest = rest there (second_true _ _ free)
 
-pub free_later : (s : Schema) (n : ℕ) (k : Kept) (ks : List Kept) → Member ks k → nat_le k.since n ≡ false → AreFree s (filter (λ k. not (nat_le k.since n)) ks) → not (is_used s k.table.name) ≡ true
+pub free_later : (s : Schema) (n : ℕ) (k : Kept) (ks : List Kept) → Member ks k → nat_le k.since n ≡ false
+    → AreFree s (filter (λ k. not (nat_le k.since n)) ks) → not (is_used s k.table.name) ≡ true
 free_later s n k [] there later free = absurd there
 free_later s n k (j ∷ ks) there later free = free_first s n k j ks (nat_le j.since n) refl free there later (λ there rest. free_later s n k ks there later rest)
 
@@ -105,7 +111,8 @@ at_dated : Member kept dated_steps_kept
 at_dated = inr (inr (inr (inr (inr (inr (inr (inr (inr (inr (inl refl))))))))))
 
 -- the rows of two holdings of one format are the same, but for the totals of the first
-module _ (n : ℕ) (some : 1 ≤ n) (db : Database) (a b : Rows) (o p : Office) (is_o : IsOffice o) (is_p : IsOffice p) (in_a : HoldsOf n n db a) (in_b : HoldsOf n n db b) (are_a : AreMembersOf a o) (are_b : AreMembersOf b p) where
+module _ (n : ℕ) (some : 1 ≤ n) (db : Database) (a b : Rows) (o p : Office) (is_o : IsOffice o) (is_p : IsOffice p)
+    (in_a : HoldsOf n n db a) (in_b : HoldsOf n n db b) (are_a : AreMembersOf a o) (are_b : AreMembersOf b p) where
   rows_of : (k : Kept) (rows : Rows) → HoldsOf n n db rows → Member kept k → nat_le k.since n ≡ true → HoldsRows db n rows k
   rows_of k rows held there came = of_upto (λ k. HoldsRows db n rows k) n k kept there came held.are
 
@@ -117,22 +124,28 @@ module _ (n : ℕ) (some : 1 ≤ n) (db : Database) (a b : Rows) (o p : Office) 
   bases_are : a.bases ≡ b.bases
   bases_are = elim (cases_lt n 3) [
     | inl before ↦ in_a.of_format.bases before ∙ ap (map (λ (r : List ℕ × Meter). (r.0, r.1.base))) meters_are ∙ sym (in_b.of_format.bases before)
-    | inr since ↦ one_list base_columns one_base_row a.bases b.bases (sym (rows_of bases_kept a in_a at_bases (le-leb 3 n since)).0 ∙ (rows_of bases_kept b in_b at_bases (le-leb 3 n since)).0)
+    | inr since ↦ one_list base_columns one_base_row a.bases b.bases
+        (sym (rows_of bases_kept a in_a at_bases (le-leb 3 n since)).0 ∙ (rows_of bases_kept b in_b at_bases (le-leb 3 n since)).0)
   ]
 
   dated_are : a.dated_steps ≡ b.dated_steps
   dated_are = elim (cases_lt n 4) [
     | inl before ↦ in_a.of_format.dated_steps before ∙ sym (in_b.of_format.dated_steps before)
-    | inr since ↦ one_list dated_columns one_dated a.dated_steps b.dated_steps (sym (rows_of dated_steps_kept a in_a at_dated (le-leb 4 n since)).0 ∙ (rows_of dated_steps_kept b in_b at_dated (le-leb 4 n since)).0)
+    | inr since ↦ one_list dated_columns one_dated a.dated_steps b.dated_steps
+        (sym (rows_of dated_steps_kept a in_a at_dated (le-leb 4 n since)).0 ∙ (rows_of dated_steps_kept b in_b at_dated (le-leb 4 n since)).0)
   ]
 
   same_members : SameMembers a b
   same_members = record {
-    tariffs = one_list tariff_columns one_tariff a.tariffs b.tariffs (sym (rows_of tariffs_kept a in_a at_tariffs (le-leb 1 n some)).0 ∙ (rows_of tariffs_kept b in_b at_tariffs (le-leb 1 n some)).0);
-    steps = one_list step_columns one_step a.steps b.steps (sym (rows_of steps_kept a in_a at_steps (le-leb 1 n some)).0 ∙ (rows_of steps_kept b in_b at_steps (le-leb 1 n some)).0);
+    tariffs = one_list tariff_columns one_tariff a.tariffs b.tariffs
+        (sym (rows_of tariffs_kept a in_a at_tariffs (le-leb 1 n some)).0 ∙ (rows_of tariffs_kept b in_b at_tariffs (le-leb 1 n some)).0);
+    steps = one_list step_columns one_step a.steps b.steps
+        (sym (rows_of steps_kept a in_a at_steps (le-leb 1 n some)).0 ∙ (rows_of steps_kept b in_b at_steps (le-leb 1 n some)).0);
     meters = meters_are;
-    shifts = one_list shift_row one_shift a.shifts b.shifts (sym (rows_of shifts_kept a in_a at_shifts (le-leb 1 n some)) ∙ rows_of shifts_kept b in_b at_shifts (le-leb 1 n some));
-    sales = one_list sale_row one_sale a.sales b.sales (sym (rows_of sales_kept a in_a at_sales (le-leb 1 n some)) ∙ rows_of sales_kept b in_b at_sales (le-leb 1 n some));
+    shifts = one_list shift_row one_shift a.shifts b.shifts
+        (sym (rows_of shifts_kept a in_a at_shifts (le-leb 1 n some)) ∙ rows_of shifts_kept b in_b at_shifts (le-leb 1 n some));
+    sales = one_list sale_row one_sale a.sales b.sales
+        (sym (rows_of sales_kept a in_a at_sales (le-leb 1 n some)) ∙ rows_of sales_kept b in_b at_sales (le-leb 1 n some));
     bases = bases_are;
     dated_steps = dated_are;
   }
@@ -178,13 +191,20 @@ one_format s m n known_m known_n in_m in_n = elim (cases_lt m n) [
 ]
 
 -- what the database holds is told by the format that it has
-pub held_as : (db : Database) (o : Office) (n : ℕ) → StandsFor db o → n ≤ present_format → HasOfficeOf n db.schema → HoldsMembersOf n db o × (n ≡ 0 → o ≡ empty_office)
+pub held_as : (db : Database) (o : Office) (n : ℕ) → StandsFor db o → n ≤ present_format → HasOfficeOf n db.schema → HoldsMembersOf n db o
+    × (n ≡ 0 → o ≡ empty_office)
 held_as db o n stands known has =
     let same = one_format db.schema stands.format n stands.known known stands.held.1.has has in
     (subst (λ n. HoldsMembersOf n db o) same stands.held, λ none. stands.empty (same ∙ none))
 
 pub stands_present : (db : Database) (o : Office) → IsOffice o → HoldsMembers db o → StandsFor db o
-stands_present db o office held = record { office = office; format = present_format; known = omega arith; held = held; empty = λ none. absurd (omega (arith, none)) }
+stands_present db o office held = record {
+  office = office;
+  format = present_format;
+  known = omega arith;
+  held = held;
+  empty = λ none. absurd (omega (arith, none));
+}
 
 pub untaken_stands : (db : Database) → IsUntaken db.schema → StandsFor db empty_office
 untaken_stands db untaken = record {

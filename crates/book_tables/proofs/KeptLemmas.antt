@@ -44,7 +44,8 @@ trees_differ s t u in_t in_u apart same =
     apart (ap (λ (v : Table). v.name) (same_Some t_there u_there by_tree))
 
 -- the rows of a table of another name
-pub rows_kept : (a b : Database) (t changed : Table) → ChangesOnly changed.name a b → Stands a.schema t → Stands a.schema changed → t.name ≢ changed.name → rows_in b t.name ≡ rows_in a t.name
+pub rows_kept : (a b : Database) (t changed : Table) → ChangesOnly changed.name a b → Stands a.schema t → Stands a.schema changed
+    → t.name ≢ changed.name → rows_in b t.name ≡ rows_in a t.name
 rows_kept a b t changed only in_t in_changed apart =
     let t_there : Table = record t { tree = tree_in a.schema t.name } in
     let kept : b.trees (tree_in a.schema t.name) ≡ a.trees (tree_in a.schema t.name) =
@@ -64,13 +65,16 @@ module _ (before told : ℕ) (a b : Database) (rows new : Rows) (k : Kept) (ther
   held_still j stands holds (inr now) = now
   held_still j stands holds (inl (apart, same)) =
       let kept = rows_kept a b j.table k.table only stands.0 there.0 apart in
-      subst (λ stored. AreStoredRows j.is_numbered (rows_in b j.table.name) stored) (sym same) (subst (λ found. AreStoredRows j.is_numbered found (j.stored before rows)) (sym kept) holds)
+      subst (λ stored. AreStoredRows j.is_numbered (rows_in b j.table.name) stored) (sym same)
+      (subst (λ found. AreStoredRows j.is_numbered found (j.stored before rows)) (sym kept) holds)
 
-  all_still : (ks : List Kept) → AllByRecursion (IsKept a.schema) ks → AllByRecursion (HoldsRows a before rows) ks → AllByRecursion (Becomes b before told rows new k.table.name) ks → AllByRecursion (HoldsRows b told new) ks
+  all_still : (ks : List Kept) → AllByRecursion (IsKept a.schema) ks → AllByRecursion (HoldsRows a before rows) ks
+      → AllByRecursion (Becomes b before told rows new k.table.name) ks → AllByRecursion (HoldsRows b told new) ks
   all_still [] stand hold become = tt
   all_still (j ∷ ks) stand hold become = (held_still j stand.0 hold.0 become.0, all_still ks stand.1 hold.1 become.1)
 
-  pub changed : HoldsOf present_format before a rows → AllByRecursion (Becomes b before told rows new k.table.name) (upto present_format) → HoldsOf present_format told b new
+  pub changed : HoldsOf present_format before a rows → AllByRecursion (Becomes b before told rows new k.table.name) (upto present_format)
+      → HoldsOf present_format told b new
   changed held become = record {
     has = subst HasOffice (sym only.schema) held.has;
     are = all_still (upto present_format) held.has.tables held.are become;
@@ -83,51 +87,358 @@ module _ (before told : ℕ) (a b : Database) (rows new : Rows) (k : Kept) (ther
 own_rows : (a b : Database) (name : List ℕ) → b.schema ≡ a.schema → rows_in b name ≡ b.trees (tree_in a.schema name)
 own_rows a b name same = ap (λ (s : Schema). b.trees (tree_in s name)) same
 
-own_hidden : (a b : Database) (name : List ℕ) (stored : List Row) → b.schema ≡ a.schema → map (drop 1) (b.trees (tree_in a.schema name)) ≡ stored → IsInOrder (b.trees (tree_in a.schema name)) → AreStoredRows false (rows_in b name) stored
+own_hidden : (a b : Database) (name : List ℕ) (stored : List Row) → b.schema ≡ a.schema → map (drop 1) (b.trees (tree_in a.schema name))
+    ≡ stored → IsInOrder (b.trees (tree_in a.schema name)) → AreStoredRows false (rows_in b name) stored
 own_hidden a b name stored same are order = (ap (map (drop 1)) (own_rows a b name same) ∙ are, subst IsInOrder (sym (own_rows a b name same)) order)
 
 module _ (told : ℕ) (a b : Database) (rows : Rows) (in_a : HoldsOf present_format told a rows) where
-  pub tariffs_changed : (new : List (List ℕ)) → ChangesOnly (codes "tariffs") a b → map (drop 1) (b.trees (tree_in a.schema (codes "tariffs"))) ≡ map tariff_columns new → IsInOrder (b.trees (tree_in a.schema (codes "tariffs"))) → HoldsOf present_format told b (record rows { tariffs = new })
+  pub tariffs_changed : (new : List (List ℕ)) → ChangesOnly (codes "tariffs") a b
+      → map (drop 1) (b.trees (tree_in a.schema (codes "tariffs"))) ≡ map tariff_columns new
+      → IsInOrder (b.trees (tree_in a.schema (codes "tariffs"))) → HoldsOf present_format told b (record rows { tariffs = new })
   tariffs_changed new only are order =
-      changed told told a b rows (record rows { tariffs = new }) tariffs_kept (tariffs_in.there a.schema in_a.has) only in_a (inl (names_differ _ _ refl, refl), (inr (own_hidden a b (codes "tariffs") (map tariff_columns new) only.schema are order), (inl (names_differ _ _ refl, refl), (inl (names_differ _ _ refl, refl), (inl (names_differ _ _ refl, refl), (inl (names_differ _ _ refl, refl), (inl (names_differ _ _ refl, refl), (inl (names_differ _ _ refl, refl), (inl (names_differ _ _ refl, refl), (inl (names_differ _ _ refl, refl), (inl (names_differ _ _ refl, refl), tt)))))))))))
+      changed told told a b rows (record rows { tariffs = new }) tariffs_kept (tariffs_in.there a.schema in_a.has) only in_a (
+        inl (names_differ _ _ refl, refl),
+        (
+          inr (own_hidden a b (codes "tariffs") (map tariff_columns new) only.schema are order),
+          (
+            inl (names_differ _ _ refl, refl),
+            (
+              inl (names_differ _ _ refl, refl),
+              (
+                inl (names_differ _ _ refl, refl),
+                (
+                  inl (names_differ _ _ refl, refl),
+                  (
+                    inl (names_differ _ _ refl, refl),
+                    (
+                      inl (names_differ _ _ refl, refl),
+                      (inl (names_differ _ _ refl, refl), (inl (names_differ _ _ refl, refl), (inl (names_differ _ _ refl, refl), tt))),
+                    ),
+                  ),
+                ),
+              ),
+            ),
+          ),
+        ),
+      )
 
-  pub steps_changed : (new : List StepRow) → ChangesOnly (codes "tariff_steps") a b → map (drop 1) (b.trees (tree_in a.schema (codes "tariff_steps"))) ≡ map step_columns new → IsInOrder (b.trees (tree_in a.schema (codes "tariff_steps"))) → HoldsOf present_format told b (record rows { steps = new })
+  pub steps_changed : (new : List StepRow) → ChangesOnly (codes "tariff_steps") a b
+      → map (drop 1) (b.trees (tree_in a.schema (codes "tariff_steps"))) ≡ map step_columns new
+      → IsInOrder (b.trees (tree_in a.schema (codes "tariff_steps"))) → HoldsOf present_format told b (record rows { steps = new })
   steps_changed new only are order =
-      changed told told a b rows (record rows { steps = new }) steps_kept (steps_in.there a.schema in_a.has) only in_a (inl (names_differ _ _ refl, refl), (inl (names_differ _ _ refl, refl), (inr (own_hidden a b (codes "tariff_steps") (map step_columns new) only.schema are order), (inl (names_differ _ _ refl, refl), (inl (names_differ _ _ refl, refl), (inl (names_differ _ _ refl, refl), (inl (names_differ _ _ refl, refl), (inl (names_differ _ _ refl, refl), (inl (names_differ _ _ refl, refl), (inl (names_differ _ _ refl, refl), (inl (names_differ _ _ refl, refl), tt)))))))))))
+      changed told told a b rows (record rows { steps = new }) steps_kept (steps_in.there a.schema in_a.has) only in_a (
+        inl (names_differ _ _ refl, refl),
+        (
+          inl (names_differ _ _ refl, refl),
+          (
+            inr (own_hidden a b (codes "tariff_steps") (map step_columns new) only.schema are order),
+            (
+              inl (names_differ _ _ refl, refl),
+              (
+                inl (names_differ _ _ refl, refl),
+                (
+                  inl (names_differ _ _ refl, refl),
+                  (
+                    inl (names_differ _ _ refl, refl),
+                    (
+                      inl (names_differ _ _ refl, refl),
+                      (
+                        inl (names_differ _ _ refl, refl),
+                        (inl (names_differ _ _ refl, refl), (inl (names_differ _ _ refl, refl), tt)),
+                      ),
+                    ),
+                  ),
+                ),
+              ),
+            ),
+          ),
+        ),
+      )
 
-  pub meters_changed : (new : List (List ℕ × Meter)) → ChangesOnly (codes "meters") a b → map (drop 1) (b.trees (tree_in a.schema (codes "meters"))) ≡ map meter_columns new → IsInOrder (b.trees (tree_in a.schema (codes "meters"))) → HoldsOf present_format told b (record rows { meters = new })
+  pub meters_changed : (new : List (List ℕ × Meter)) → ChangesOnly (codes "meters") a b
+      → map (drop 1) (b.trees (tree_in a.schema (codes "meters"))) ≡ map meter_columns new
+      → IsInOrder (b.trees (tree_in a.schema (codes "meters"))) → HoldsOf present_format told b (record rows { meters = new })
   meters_changed new only are order =
-      changed told told a b rows (record rows { meters = new }) meters_kept (meters_in.there a.schema in_a.has) only in_a (inl (names_differ _ _ refl, refl), (inl (names_differ _ _ refl, refl), (inl (names_differ _ _ refl, refl), (inr (own_hidden a b (codes "meters") (map meter_columns new) only.schema are order), (inl (names_differ _ _ refl, refl), (inl (names_differ _ _ refl, refl), (inl (names_differ _ _ refl, refl), (inl (names_differ _ _ refl, refl), (inl (names_differ _ _ refl, refl), (inl (names_differ _ _ refl, refl), (inl (names_differ _ _ refl, refl), tt)))))))))))
+      changed told told a b rows (record rows { meters = new }) meters_kept (meters_in.there a.schema in_a.has) only in_a (
+        inl (names_differ _ _ refl, refl),
+        (
+          inl (names_differ _ _ refl, refl),
+          (
+            inl (names_differ _ _ refl, refl),
+            (
+              inr (own_hidden a b (codes "meters") (map meter_columns new) only.schema are order),
+              (
+                inl (names_differ _ _ refl, refl),
+                (
+                  inl (names_differ _ _ refl, refl),
+                  (
+                    inl (names_differ _ _ refl, refl),
+                    (
+                      inl (names_differ _ _ refl, refl),
+                      (inl (names_differ _ _ refl, refl), (inl (names_differ _ _ refl, refl), (inl (names_differ _ _ refl, refl), tt))),
+                    ),
+                  ),
+                ),
+              ),
+            ),
+          ),
+        ),
+      )
 
-  pub shifts_changed : (new : List Shift) → ChangesOnly (codes "shifts") a b → b.trees (tree_in a.schema (codes "shifts")) ≡ map shift_row new → HoldsOf present_format told b (record rows { shifts = new })
+  pub shifts_changed : (new : List Shift) → ChangesOnly (codes "shifts") a b → b.trees (tree_in a.schema (codes "shifts"))
+      ≡ map shift_row new → HoldsOf present_format told b (record rows { shifts = new })
   shifts_changed new only are =
-      changed told told a b rows (record rows { shifts = new }) shifts_kept (shifts_in.there a.schema in_a.has) only in_a (inl (names_differ _ _ refl, refl), (inl (names_differ _ _ refl, refl), (inl (names_differ _ _ refl, refl), (inl (names_differ _ _ refl, refl), (inr (own_rows a b (codes "shifts") only.schema ∙ are), (inl (names_differ _ _ refl, refl), (inl (names_differ _ _ refl, refl), (inl (names_differ _ _ refl, refl), (inl (names_differ _ _ refl, refl), (inl (names_differ _ _ refl, refl), (inl (names_differ _ _ refl, refl), tt)))))))))))
+      changed told told a b rows (record rows { shifts = new }) shifts_kept (shifts_in.there a.schema in_a.has) only in_a (
+        inl (names_differ _ _ refl, refl),
+        (
+          inl (names_differ _ _ refl, refl),
+          (
+            inl (names_differ _ _ refl, refl),
+            (
+              inl (names_differ _ _ refl, refl),
+              (
+                inr (own_rows a b (codes "shifts") only.schema ∙ are),
+                (
+                  inl (names_differ _ _ refl, refl),
+                  (
+                    inl (names_differ _ _ refl, refl),
+                    (
+                      inl (names_differ _ _ refl, refl),
+                      (
+                        inl (names_differ _ _ refl, refl),
+                        (inl (names_differ _ _ refl, refl), (inl (names_differ _ _ refl, refl), tt)),
+                      ),
+                    ),
+                  ),
+                ),
+              ),
+            ),
+          ),
+        ),
+      )
 
-  pub sales_changed : (new : List Sale) → ChangesOnly (codes "sales") a b → b.trees (tree_in a.schema (codes "sales")) ≡ map sale_row new → HoldsOf present_format told b (record rows { sales = new })
+  pub sales_changed : (new : List Sale) → ChangesOnly (codes "sales") a b → b.trees (tree_in a.schema (codes "sales")) ≡ map sale_row new
+      → HoldsOf present_format told b (record rows { sales = new })
   sales_changed new only are =
-      changed told told a b rows (record rows { sales = new }) sales_kept (sales_in.there a.schema in_a.has) only in_a (inl (names_differ _ _ refl, refl), (inl (names_differ _ _ refl, refl), (inl (names_differ _ _ refl, refl), (inl (names_differ _ _ refl, refl), (inl (names_differ _ _ refl, refl), (inr (own_rows a b (codes "sales") only.schema ∙ are), (inl (names_differ _ _ refl, refl), (inl (names_differ _ _ refl, refl), (inl (names_differ _ _ refl, refl), (inl (names_differ _ _ refl, refl), (inl (names_differ _ _ refl, refl), tt)))))))))))
+      changed told told a b rows (record rows { sales = new }) sales_kept (sales_in.there a.schema in_a.has) only in_a (
+        inl (names_differ _ _ refl, refl),
+        (
+          inl (names_differ _ _ refl, refl),
+          (
+            inl (names_differ _ _ refl, refl),
+            (
+              inl (names_differ _ _ refl, refl),
+              (
+                inl (names_differ _ _ refl, refl),
+                (
+                  inr (own_rows a b (codes "sales") only.schema ∙ are),
+                  (
+                    inl (names_differ _ _ refl, refl),
+                    (
+                      inl (names_differ _ _ refl, refl),
+                      (inl (names_differ _ _ refl, refl), (inl (names_differ _ _ refl, refl), (inl (names_differ _ _ refl, refl), tt))),
+                    ),
+                  ),
+                ),
+              ),
+            ),
+          ),
+        ),
+      )
 
-  pub last_ids_changed : (new : List ((List ℕ × Base) × ℕ)) → ChangesOnly (codes "last_ids") a b → map (drop 1) (b.trees (tree_in a.schema (codes "last_ids"))) ≡ map last_id_columns new → IsInOrder (b.trees (tree_in a.schema (codes "last_ids"))) → HoldsOf present_format told b (record rows { last_ids = new })
+  pub last_ids_changed : (new : List ((List ℕ × Base) × ℕ)) → ChangesOnly (codes "last_ids") a b
+      → map (drop 1) (b.trees (tree_in a.schema (codes "last_ids"))) ≡ map last_id_columns new
+      → IsInOrder (b.trees (tree_in a.schema (codes "last_ids"))) → HoldsOf present_format told b (record rows { last_ids = new })
   last_ids_changed new only are order =
-      changed told told a b rows (record rows { last_ids = new }) last_ids_kept (last_ids_in.there a.schema in_a.has) only in_a (inl (names_differ _ _ refl, refl), (inl (names_differ _ _ refl, refl), (inl (names_differ _ _ refl, refl), (inl (names_differ _ _ refl, refl), (inl (names_differ _ _ refl, refl), (inl (names_differ _ _ refl, refl), (inr (own_hidden a b (codes "last_ids") (map last_id_columns new) only.schema are order), (inl (names_differ _ _ refl, refl), (inl (names_differ _ _ refl, refl), (inl (names_differ _ _ refl, refl), (inl (names_differ _ _ refl, refl), tt)))))))))))
+      changed told told a b rows (record rows { last_ids = new }) last_ids_kept (last_ids_in.there a.schema in_a.has) only in_a (
+        inl (names_differ _ _ refl, refl),
+        (
+          inl (names_differ _ _ refl, refl),
+          (
+            inl (names_differ _ _ refl, refl),
+            (
+              inl (names_differ _ _ refl, refl),
+              (
+                inl (names_differ _ _ refl, refl),
+                (
+                  inl (names_differ _ _ refl, refl),
+                  (
+                    inr (own_hidden a b (codes "last_ids") (map last_id_columns new) only.schema are order),
+                    (
+                      inl (names_differ _ _ refl, refl),
+                      (
+                        inl (names_differ _ _ refl, refl),
+                        (inl (names_differ _ _ refl, refl), (inl (names_differ _ _ refl, refl), tt)),
+                      ),
+                    ),
+                  ),
+                ),
+              ),
+            ),
+          ),
+        ),
+      )
 
-  pub month_tenths_changed : (new : List ((List ℕ × ℕ) × ℕ)) → ChangesOnly (codes "month_tenths") a b → map (drop 1) (b.trees (tree_in a.schema (codes "month_tenths"))) ≡ map month_columns new → IsInOrder (b.trees (tree_in a.schema (codes "month_tenths"))) → HoldsOf present_format told b (record rows { month_tenths = new })
+  pub month_tenths_changed : (new : List ((List ℕ × ℕ) × ℕ)) → ChangesOnly (codes "month_tenths") a b
+      → map (drop 1) (b.trees (tree_in a.schema (codes "month_tenths"))) ≡ map month_columns new
+      → IsInOrder (b.trees (tree_in a.schema (codes "month_tenths"))) → HoldsOf present_format told b (record rows { month_tenths = new })
   month_tenths_changed new only are order =
-      changed told told a b rows (record rows { month_tenths = new }) month_tenths_kept (month_tenths_in.there a.schema in_a.has) only in_a (inl (names_differ _ _ refl, refl), (inl (names_differ _ _ refl, refl), (inl (names_differ _ _ refl, refl), (inl (names_differ _ _ refl, refl), (inl (names_differ _ _ refl, refl), (inl (names_differ _ _ refl, refl), (inl (names_differ _ _ refl, refl), (inr (own_hidden a b (codes "month_tenths") (map month_columns new) only.schema are order), (inl (names_differ _ _ refl, refl), (inl (names_differ _ _ refl, refl), (inl (names_differ _ _ refl, refl), tt)))))))))))
+      changed told told a b rows (record rows { month_tenths = new }) month_tenths_kept (month_tenths_in.there a.schema in_a.has) only in_a (
+        inl (names_differ _ _ refl, refl),
+        (
+          inl (names_differ _ _ refl, refl),
+          (
+            inl (names_differ _ _ refl, refl),
+            (
+              inl (names_differ _ _ refl, refl),
+              (
+                inl (names_differ _ _ refl, refl),
+                (
+                  inl (names_differ _ _ refl, refl),
+                  (
+                    inl (names_differ _ _ refl, refl),
+                    (
+                      inr (own_hidden a b (codes "month_tenths") (map month_columns new) only.schema are order),
+                      (inl (names_differ _ _ refl, refl), (inl (names_differ _ _ refl, refl), (inl (names_differ _ _ refl, refl), tt))),
+                    ),
+                  ),
+                ),
+              ),
+            ),
+          ),
+        ),
+      )
 
-  pub shift_totals_changed : (new : List (ℕ × Totals)) → ChangesOnly (codes "shift_totals") a b → b.trees (tree_in a.schema (codes "shift_totals")) ≡ map totals_row new → HoldsOf present_format told b (record rows { shift_totals = new })
+  pub shift_totals_changed : (new : List (ℕ × Totals)) → ChangesOnly (codes "shift_totals") a b
+      → b.trees (tree_in a.schema (codes "shift_totals")) ≡ map totals_row new → HoldsOf present_format told b (record rows { shift_totals = new })
   shift_totals_changed new only are =
-      changed told told a b rows (record rows { shift_totals = new }) shift_totals_kept (shift_totals_in.there a.schema in_a.has) only in_a (inl (names_differ _ _ refl, refl), (inl (names_differ _ _ refl, refl), (inl (names_differ _ _ refl, refl), (inl (names_differ _ _ refl, refl), (inl (names_differ _ _ refl, refl), (inl (names_differ _ _ refl, refl), (inl (names_differ _ _ refl, refl), (inl (names_differ _ _ refl, refl), (inr (own_rows a b (codes "shift_totals") only.schema ∙ are), (inl (names_differ _ _ refl, refl), (inl (names_differ _ _ refl, refl), tt)))))))))))
+      changed told told a b rows (record rows { shift_totals = new }) shift_totals_kept (shift_totals_in.there a.schema in_a.has) only in_a (
+        inl (names_differ _ _ refl, refl),
+        (
+          inl (names_differ _ _ refl, refl),
+          (
+            inl (names_differ _ _ refl, refl),
+            (
+              inl (names_differ _ _ refl, refl),
+              (
+                inl (names_differ _ _ refl, refl),
+                (
+                  inl (names_differ _ _ refl, refl),
+                  (
+                    inl (names_differ _ _ refl, refl),
+                    (
+                      inl (names_differ _ _ refl, refl),
+                      (inr (own_rows a b (codes "shift_totals") only.schema ∙ are), (inl (names_differ _ _ refl, refl), (inl (names_differ _ _ refl, refl), tt))),
+                    ),
+                  ),
+                ),
+              ),
+            ),
+          ),
+        ),
+      )
 
-  pub bases_changed : (new : List (List ℕ × Base)) → ChangesOnly (codes "meter_bases") a b → map (drop 1) (b.trees (tree_in a.schema (codes "meter_bases"))) ≡ map base_columns new → IsInOrder (b.trees (tree_in a.schema (codes "meter_bases"))) → HoldsOf present_format told b (record rows { bases = new })
+  pub bases_changed : (new : List (List ℕ × Base)) → ChangesOnly (codes "meter_bases") a b
+      → map (drop 1) (b.trees (tree_in a.schema (codes "meter_bases"))) ≡ map base_columns new
+      → IsInOrder (b.trees (tree_in a.schema (codes "meter_bases"))) → HoldsOf present_format told b (record rows { bases = new })
   bases_changed new only are order =
-      changed told told a b rows (record rows { bases = new }) bases_kept (bases_in.there a.schema in_a.has) only in_a (inl (names_differ _ _ refl, refl), (inl (names_differ _ _ refl, refl), (inl (names_differ _ _ refl, refl), (inl (names_differ _ _ refl, refl), (inl (names_differ _ _ refl, refl), (inl (names_differ _ _ refl, refl), (inl (names_differ _ _ refl, refl), (inl (names_differ _ _ refl, refl), (inl (names_differ _ _ refl, refl), (inr (own_hidden a b (codes "meter_bases") (map base_columns new) only.schema are order), (inl (names_differ _ _ refl, refl), tt)))))))))))
+      changed told told a b rows (record rows { bases = new }) bases_kept (bases_in.there a.schema in_a.has) only in_a (
+        inl (names_differ _ _ refl, refl),
+        (
+          inl (names_differ _ _ refl, refl),
+          (
+            inl (names_differ _ _ refl, refl),
+            (
+              inl (names_differ _ _ refl, refl),
+              (
+                inl (names_differ _ _ refl, refl),
+                (
+                  inl (names_differ _ _ refl, refl),
+                  (
+                    inl (names_differ _ _ refl, refl),
+                    (
+                      inl (names_differ _ _ refl, refl),
+                      (
+                        inl (names_differ _ _ refl, refl),
+                        (
+                          inr (own_hidden a b (codes "meter_bases") (map base_columns new) only.schema are order),
+                          (inl (names_differ _ _ refl, refl), tt),
+                        ),
+                      ),
+                    ),
+                  ),
+                ),
+              ),
+            ),
+          ),
+        ),
+      )
 
-  pub dated_steps_changed : (new : List DatedStepRow) → ChangesOnly (codes "dated_steps") a b → map (drop 1) (b.trees (tree_in a.schema (codes "dated_steps"))) ≡ map dated_columns new → IsInOrder (b.trees (tree_in a.schema (codes "dated_steps"))) → HoldsOf present_format told b (record rows { dated_steps = new })
+  pub dated_steps_changed : (new : List DatedStepRow) → ChangesOnly (codes "dated_steps") a b
+      → map (drop 1) (b.trees (tree_in a.schema (codes "dated_steps"))) ≡ map dated_columns new
+      → IsInOrder (b.trees (tree_in a.schema (codes "dated_steps"))) → HoldsOf present_format told b (record rows { dated_steps = new })
   dated_steps_changed new only are order =
-      changed told told a b rows (record rows { dated_steps = new }) dated_steps_kept (dated_steps_in.there a.schema in_a.has) only in_a (inl (names_differ _ _ refl, refl), (inl (names_differ _ _ refl, refl), (inl (names_differ _ _ refl, refl), (inl (names_differ _ _ refl, refl), (inl (names_differ _ _ refl, refl), (inl (names_differ _ _ refl, refl), (inl (names_differ _ _ refl, refl), (inl (names_differ _ _ refl, refl), (inl (names_differ _ _ refl, refl), (inl (names_differ _ _ refl, refl), (inr (own_hidden a b (codes "dated_steps") (map dated_columns new) only.schema are order), tt)))))))))))
+      changed told told a b rows (record rows { dated_steps = new }) dated_steps_kept (dated_steps_in.there a.schema in_a.has) only in_a (
+        inl (names_differ _ _ refl, refl),
+        (
+          inl (names_differ _ _ refl, refl),
+          (
+            inl (names_differ _ _ refl, refl),
+            (
+              inl (names_differ _ _ refl, refl),
+              (
+                inl (names_differ _ _ refl, refl),
+                (
+                  inl (names_differ _ _ refl, refl),
+                  (
+                    inl (names_differ _ _ refl, refl),
+                    (
+                      inl (names_differ _ _ refl, refl),
+                      (
+                        inl (names_differ _ _ refl, refl),
+                        (
+                          inl (names_differ _ _ refl, refl),
+                          (inr (own_hidden a b (codes "dated_steps") (map dated_columns new) only.schema are order), tt),
+                        ),
+                      ),
+                    ),
+                  ),
+                ),
+              ),
+            ),
+          ),
+        ),
+      )
 
 -- `about` tells the present format, whatever it told before
-pub about_changed : (before : ℕ) (a b : Database) (rows : Rows) → HoldsOf present_format before a rows → ChangesOnly (codes "about") a b → b.trees (tree_in a.schema (codes "about")) ≡ about_rows present_format → HoldsOf present_format present_format b rows
+pub about_changed : (before : ℕ) (a b : Database) (rows : Rows) → HoldsOf present_format before a rows → ChangesOnly (codes "about") a b
+    → b.trees (tree_in a.schema (codes "about")) ≡ about_rows present_format → HoldsOf present_format present_format b rows
 about_changed before a b rows in_a only is =
-    changed before present_format a b rows rows about_kept (about_in.there a.schema in_a.has) only in_a (inr (own_rows a b (codes "about") only.schema ∙ is), (inl (names_differ _ _ refl, refl), (inl (names_differ _ _ refl, refl), (inl (names_differ _ _ refl, refl), (inl (names_differ _ _ refl, refl), (inl (names_differ _ _ refl, refl), (inl (names_differ _ _ refl, refl), (inl (names_differ _ _ refl, refl), (inl (names_differ _ _ refl, refl), (inl (names_differ _ _ refl, refl), (inl (names_differ _ _ refl, refl), tt)))))))))))
+    changed before present_format a b rows rows about_kept (about_in.there a.schema in_a.has) only in_a (
+      inr (own_rows a b (codes "about") only.schema ∙ is),
+      (
+        inl (names_differ _ _ refl, refl),
+        (
+          inl (names_differ _ _ refl, refl),
+          (
+            inl (names_differ _ _ refl, refl),
+            (
+              inl (names_differ _ _ refl, refl),
+              (
+                inl (names_differ _ _ refl, refl),
+                (
+                  inl (names_differ _ _ refl, refl),
+                  (
+                    inl (names_differ _ _ refl, refl),
+                    (
+                      inl (names_differ _ _ refl, refl),
+                      (inl (names_differ _ _ refl, refl), (inl (names_differ _ _ refl, refl), tt)),
+                    ),
+                  ),
+                ),
+              ),
+            ),
+          ),
+        ),
+      ),
+    )

@@ -28,7 +28,8 @@ contains_cases x y xs there = elim (Contains-append_cases (x ∷ []) xs y there)
 -- what stands after some of a list stands in it
 pub listed_at : {X : Type 0} (before rest : List X) (x : X) (after all : List X) → rest ≡ x ∷ after → before ++ rest ≡ all → Contains all x
 listed_at before rest x after all step split =
-    subst (λ (l : List _). Contains l x) (ap (λ (l : List _). before ++ l) (sym step) ∙ split) (Contains-append_right before (x ∷ after) x (contains_first x after))
+    subst (λ (l : List _). Contains l x) (ap (λ (l : List _). before ++ l) (sym step) ∙ split)
+    (Contains-append_right before (x ∷ after) x (contains_first x after))
 
 -- what stands in a changed list comes from a row, and each row is there, changed
 pub contains_map : {X Y : Type 0} (f : X → Y) (xs : List X) (x : X) → Contains xs x → Contains (map f xs) (f x)
@@ -45,7 +46,8 @@ map_source f (x ∷ xs) y there =
     ]
 
 -- pairs within two lists, and across them
-pub pairs_append : {X : Type 0} (R : X → X → Type 0) (xs ys : List X) → AllPairs R xs → AllPairs R ys → ((x y : X) → Contains xs x → Contains ys y → R x y) → AllPairs R (xs ++ ys)
+pub pairs_append : {X : Type 0} (R : X → X → Type 0) (xs ys : List X) → AllPairs R xs → AllPairs R ys
+    → ((x y : X) → Contains xs x → Contains ys y → R x y) → AllPairs R (xs ++ ys)
 pairs_append R xs ys in_xs in_ys across i j d before within =
     let whole = length-append xs ys in
     elim (cases_lt j (length xs)) [
@@ -120,7 +122,8 @@ fails_by : (b : Bool) → (b ≡ true → ⊥) → b ≡ false
 fails_by true not = absurd (not refl)
 fails_by false not = refl
 
-passes_one : {X : Type 0} (p : X → Bool) (y : X) (ys : List X) (x : X) (b : Bool) → p y ≡ b → AllPairs (NotBothPass p) (y ∷ ys) → Contains (y ∷ ys) x → p x ≡ true → (Contains ys x → filter p ys ≡ x ∷ []) → cond b (y ∷ filter p ys) (filter p ys) ≡ x ∷ []
+passes_one : {X : Type 0} (p : X → Bool) (y : X) (ys : List X) (x : X) (b : Bool) → p y ≡ b → AllPairs (NotBothPass p) (y ∷ ys)
+    → Contains (y ∷ ys) x → p x ≡ true → (Contains ys x → filter p ys ≡ x ∷ []) → cond b (y ∷ filter p ys) (filter p ys) ≡ x ∷ []
 passes_one p y ys x true is pairs there passes rest =
     let none = none_pass p ys (λ z in_ys. fails_by (p z) (λ z_passes. pairs_first (NotBothPass p) y z ys pairs in_ys is z_passes)) in
     elim (contains_cases y x ys there) [
@@ -139,7 +142,8 @@ one_passes p [] x pairs there passes = absurd (contains_none x there)
 one_passes p (y ∷ ys) x pairs there passes =
     passes_one p y ys x (p y) refl pairs there passes (λ further. one_passes p ys x (pairs_rest (NotBothPass p) y ys pairs) further passes)
 
-first_here : {X : Type 0} (p : X → Bool) (x : X) (xs : List X) (b : Bool) → p x ≡ b → AllPairs (NotBothPass p) (x ∷ xs) → filter p xs ≡ option_to_list (find p xs) → cond b (x ∷ filter p xs) (filter p xs) ≡ option_to_list (cond b (Some x) (find p xs))
+first_here : {X : Type 0} (p : X → Bool) (x : X) (xs : List X) (b : Bool) → p x ≡ b → AllPairs (NotBothPass p) (x ∷ xs) → filter p xs
+    ≡ option_to_list (find p xs) → cond b (x ∷ filter p xs) (filter p xs) ≡ option_to_list (cond b (Some x) (find p xs))
 first_here p x xs true is pairs rest =
     ap (λ ys. x ∷ ys) (none_pass p xs (λ y there. fails_by (p y) (λ passes. pairs_first (NotBothPass p) x y xs pairs there is passes)))
 first_here p x xs false is pairs rest = rest

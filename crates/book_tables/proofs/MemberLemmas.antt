@@ -49,13 +49,15 @@ module _ (a b : Rows) (same : SameMembers a b) (o p : Office) (these : AreMember
   base_of_other : (number : List ℕ) (base : Base) → o.bases number base ≡ true → p.bases number base ≡ true
   base_of_other number base e = (those.bases number base).1 (subst (λ l. Contains l (number, base)) same.bases ((these.bases number base).0 e))
 
-  step_there : (name : List ℕ) (xs ys : List Step) → o.tariffs name ≡ Some xs → p.tariffs name ≡ Some ys → (i : ℕ) (x : Step) → slice_get xs i ≡ Some x → slice_get ys i ≡ Some x
+  step_there : (name : List ℕ) (xs ys : List Step) → o.tariffs name ≡ Some xs → p.tariffs name ≡ Some ys → (i : ℕ) (x : Step)
+      → slice_get xs i ≡ Some x → slice_get ys i ≡ Some x
   step_there name xs ys e f i x at =
       let has = step_of_other (record { tariff = name; place = i; step = x }) (xs, e, at) in
       let is : has.0 ≡ ys = same_Some has.0 ys (sym has.1 ∙ f) in
       subst (λ (steps : List Step). slice_get steps i ≡ Some x) is has.2
 
-  dated_there : (name : List ℕ) (day : ℕ) (xs ys : List Step) → o.dated_steps name day ≡ Some xs → p.dated_steps name day ≡ Some ys → (i : ℕ) (x : Step) → slice_get xs i ≡ Some x → slice_get ys i ≡ Some x
+  dated_there : (name : List ℕ) (day : ℕ) (xs ys : List Step) → o.dated_steps name day ≡ Some xs → p.dated_steps name day ≡ Some ys
+      → (i : ℕ) (x : Step) → slice_get xs i ≡ Some x → slice_get ys i ≡ Some x
   dated_there name day xs ys e f i x at =
       let has = dated_of_other (record { tariff = name; day = day; place = i; step = x }) (xs, e, at) in
       let is : has.0 ≡ ys = same_Some has.0 ys (sym has.1 ∙ f) in
@@ -122,9 +124,13 @@ module _ (a b : Rows) (same : SameMembers a b) (o p : Office) (these : AreMember
     pub one_office : o ≡ p
     one_office =
         let tariffs : o.tariffs ≡ p.tariffs = fun_ext same_tariff in
-        let meters : o.meters ≡ p.meters = fun_ext (λ number. one_option (o.meters number) (p.meters number) (meter_of_other a b same o p these those number) (meter_of_other b a back p o those these number)) in
-        let bases : o.bases ≡ p.bases = fun_ext (λ number. fun_ext (λ base. one_bool (o.bases number base) (p.bases number base) (base_of_other a b same o p these those number base) (base_of_other b a back p o those these number base))) in
-        let dated : o.dated_steps ≡ p.dated_steps = fun_ext (λ name. fun_ext (λ day. one_dated name day (o.dated_steps name day) (p.dated_steps name day) refl refl)) in
+        let meters : o.meters ≡ p.meters = fun_ext (λ number. one_option (o.meters number) (p.meters number)
+        (meter_of_other a b same o p these those number) (meter_of_other b a back p o those these number)) in
+        let bases : o.bases ≡ p.bases = fun_ext (λ number. fun_ext
+        (λ base. one_bool (o.bases number base) (p.bases number base) (base_of_other a b same o p these those number base)
+        (base_of_other b a back p o those these number base))) in
+        let dated : o.dated_steps ≡ p.dated_steps = fun_ext
+        (λ name. fun_ext (λ day. one_dated name day (o.dated_steps name day) (p.dated_steps name day) refl refl)) in
         let O : Office = record { tariffs = o.tariffs; meters = o.meters; bases = o.bases; dated_steps = o.dated_steps; shifts = o.shifts; sales = o.sales } in
         let P : Office = record { tariffs = p.tariffs; meters = p.meters; bases = p.bases; dated_steps = p.dated_steps; shifts = p.shifts; sales = p.sales } in
         let shifts = sym these.shifts ∙ same.shifts ∙ those.shifts in

@@ -66,4 +66,5 @@ module _ {k : Kept} (in_office : IsInOffice k) where
 
   -- a read of the table is a read of the office's tables
   pub read_in_office : {A : Type 0} {old new : State} {r : Result A TableError} → ReadsTable k old new r → OnlyReads IsUnchanged old new r
-  read_in_office {old = old} {new = new} {r = r} this = read_where r (has_table old) this (λ clean has. fails_in_office old new r (this.faults clean (has_table old has)))
+  read_in_office {old = old} {new = new} {r = r} this =
+      read_where r (has_table old) this (λ clean has. fails_in_office old new r (this.faults clean (has_table old has)))

@@ -45,7 +45,8 @@ rows_of_same rows has other same are = record {
   once = are.once;
 }
 
-module _ {K V : Type 0} (is_key : K → Bool) (key : K) (tells : (k : K) → (is_key k ≡ true) ↔ (k ≡ key)) (rows : List (K × V)) (has : K → Option V) (are : AreRowsOf rows has) where
+module _ {K V : Type 0} (is_key : K → Bool) (key : K) (tells : (k : K) → (is_key k ≡ true) ↔ (k ≡ key)) (rows : List (K × V))
+    (has : K → Option V) (are : AreRowsOf rows has) where
   abbrev picks : K × V → Bool
   picks r = is_key r.0
 
@@ -130,7 +131,11 @@ module _ {K V : Type 0} (is_key : K → Bool) (key : K) (tells : (k : K) → (is
     at_end : (r : K × V) → Contains (rows ++ (key, value) ∷ []) r ↔ IsPut value r
     at_end r = (
       λ there. elim (Contains-push_cases rows (key, value) r there) [ inl old ↦ inr (other_key r old, old) | inr is ↦ inl (the_new r is) ],
-      λ put. elim put [ inl new ↦ subst (Contains (rows ++ (key, value) ∷ [])) (is_new r new) (Contains-push rows (key, value)) | inr kept ↦ Contains-append_left rows ((key, value) ∷ []) r kept.1 ],
+      λ put. elim put [
+        | inl new ↦ subst (Contains (rows ++ (key, value) ∷ [])) (is_new r new) (Contains-push rows (key, value))
+        | inr kept
+            ↦ Contains-append_left rows ((key, value) ∷ []) r kept.1
+      ],
     )
 
     -- where a row with it stands at the end
@@ -166,7 +171,8 @@ module _ {K V : Type 0} (is_key : K → Bool) (key : K) (tells : (k : K) → (is
       λ there. let from = map_source one rows r there in comes_from r from.0 (picks from.0) refl from.1 from.2,
       λ put. elim put [
         | inl new ↦
-            subst (Contains (map one rows)) (the_set ∙ same_pair key (f old) r ((tells r.0).0 new.0) new.1) (contains_map one rows (key, old) ((are.members key old).0 some))
+            subst (Contains (map one rows)) (the_set ∙ same_pair key (f old) r ((tells r.0).0 new.0) new.1)
+            (contains_map one rows (key, old) ((are.members key old).0 some))
         | inr kept ↦ subst (Contains (map one rows)) (left_so r (picks r) refl kept.0) (contains_map one rows r kept.1)
       ],
     )
@@ -224,17 +230,24 @@ module _ {V : Type 0} where
       let is : number r ≡ number s = ap pos same in
       grind (arith, ints, below, is))
 
-  module _ (is_key : ℕ → Bool) (key : ℕ) (tells : (k : ℕ) → (is_key k ≡ true) ↔ (k ≡ key)) (rows : List (ℕ × V)) (has : ℕ → Option V) (are : AreRowsOf rows has) (up : IsKeyedBy number rows) where
+  module _ (is_key : ℕ → Bool) (key : ℕ) (tells : (k : ℕ) → (is_key k ≡ true) ↔ (k ≡ key)) (rows : List (ℕ × V)) (has : ℕ → Option V)
+      (are : AreRowsOf rows has) (up : IsKeyedBy number rows) where
     -- where a row with the value stands at its number
-    pub rows_inserted : (value : V) → has key ≡ None → AreRowsOf (insert_by number rows (key, value)) (put_under is_key value has) × IsKeyedBy number (insert_by number rows (key, value))
+    pub rows_inserted : (value : V) → has key ≡ None → AreRowsOf (insert_by number rows (key, value)) (put_under is_key value has)
+        × IsKeyedBy number (insert_by number rows (key, value))
     rows_inserted value none =
         let new : ℕ × V = (key, value) in
         let in_order = IsKeyedBy-insert_by number rows new up in
-        let apart = λ (r : ℕ × V) (there : Contains rows r) (same : number r ≡ number new). key_differs is_key key tells rows has are value none r there (one_number r.0 key same) in
+        let apart = λ (r : ℕ × V) (there : Contains rows r) (same : number r ≡ number new). key_differs is_key key tells rows has are value
+        none r there (one_number r.0 key same) in
         let at = inserted number new rows apart in (
           rows_put is_key key tells rows has are value (insert_by number rows new)
               (λ r. (
-                λ there. elim ((at r).0 there) [ inl is ↦ inl (the_new is_key key tells rows has are value none r is) | inr old ↦ inr (other_key is_key key tells rows has are value none r old, old) ],
+                λ there. elim ((at r).0 there) [
+                  | inl is ↦ inl (the_new is_key key tells rows has are value none r is)
+                  | inr old ↦
+                      inr (other_key is_key key tells rows has are value none r old, old)
+                ],
                 λ put. (at r).1 (elim put [ inl new ↦ inl (is_new is_key key tells rows has are value none r new) | inr kept ↦ inr kept.1 ]),
               )) (keyed_once (insert_by number rows new) in_order),
           in_order,

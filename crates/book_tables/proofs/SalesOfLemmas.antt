@@ -39,7 +39,8 @@ tells_under key k = (
       let base : k.1 ≡ key.1 = one_base k.1 key.1 ((Decides-eqb (year_of k.1) (year_of key.1)).0 parts.1) in
       let same : (k.0, k.1) ≡ (key.0, key.1) = cc in
       same,
-  λ same. both_true (bytes_eq k.0 key.0) (base_eq k.1 key.1) ((bytes_eq-Decides k.0 key.0).1 (ap (λ (x : List ℕ × Base). x.0) same)) ((Decides-eqb (year_of k.1) (year_of key.1)).1 (ap (λ (x : List ℕ × Base). year_of x.1) same)),
+  λ same. both_true (bytes_eq k.0 key.0) (base_eq k.1 key.1) ((bytes_eq-Decides k.0 key.0).1 (ap (λ (x : List ℕ × Base). x.0) same))
+      ((Decides-eqb (year_of k.1) (year_of key.1)).1 (ap (λ (x : List ℕ × Base). year_of x.1) same)),
 )
 
 pub tells_month : (key k : List ℕ × ℕ) → (is_in_month key k ≡ true) ↔ (k ≡ key)
@@ -50,7 +51,8 @@ tells_month key k = (
       let month : k.1 ≡ key.1 = (Decides-eqb k.1 key.1).0 parts.1 in
       let same : (k.0, k.1) ≡ (key.0, key.1) = cc in
       same,
-  λ same. both_true (bytes_eq k.0 key.0) (k.1 == key.1) ((bytes_eq-Decides k.0 key.0).1 (ap (λ (x : List ℕ × ℕ). x.0) same)) ((Decides-eqb k.1 key.1).1 (ap (λ (x : List ℕ × ℕ). x.1) same)),
+  λ same. both_true (bytes_eq k.0 key.0) (k.1 == key.1) ((bytes_eq-Decides k.0 key.0).1 (ap (λ (x : List ℕ × ℕ). x.0) same))
+      ((Decides-eqb k.1 key.1).1 (ap (λ (x : List ℕ × ℕ). x.1) same)),
 )
 
 -- ---- totals and sums
@@ -80,7 +82,8 @@ same_totals a b sales tenths cash =
 totals_more : (xs : List Sale) (s : Sale) → totals_of (xs ++ s ∷ []) ≡ Some (one_more s.tenths s.price (unwrap_or (totals_of xs) no_totals))
 totals_more [] s = refl
 totals_more (x ∷ xs) s =
-    same_totals (all_totals ((x ∷ xs) ++ s ∷ [])) (one_more s.tenths s.price (all_totals (x ∷ xs))) (length-append (x ∷ xs) (s ∷ [])) (sum_by_push (λ (t : Sale). t.tenths) (x ∷ xs) s)
+    same_totals (all_totals ((x ∷ xs) ++ s ∷ [])) (one_more s.tenths s.price (all_totals (x ∷ xs))) (length-append (x ∷ xs) (s ∷ []))
+    (sum_by_push (λ (t : Sale). t.tenths) (x ∷ xs) s)
     (sum_by_push (λ (t : Sale). t.price) (x ∷ xs) s)
 
 -- ---- one sale more
@@ -98,18 +101,22 @@ same_test false true to from = from refl
 same_test false false to from = refl
 
 -- what is found of the sales that pass a test of their keys, with a sale of this key more
-module _ {K V : Type 0} (is_key : K → K → Bool) (tells : (key k : K) → (is_key key k ≡ true) ↔ (k ≡ key)) (key_of : Sale → K) (found : List Sale → Option V) (sales : List Sale) (s : Sale) (value : V) where
+module _ {K V : Type 0} (is_key : K → K → Bool) (tells : (key k : K) → (is_key key k ≡ true) ↔ (k ≡ key)) (key_of : Sale → K)
+    (found : List Sale → Option V) (sales : List Sale) (s : Sale) (value : V) where
   abbrev of : List Sale → K → List Sale
   of xs k = filter (λ t. is_key k (key_of t)) xs
 
   turned : (k : K) → is_key k (key_of s) ≡ is_key (key_of s) k
-  turned k = same_test (is_key k (key_of s)) (is_key (key_of s) k) (λ is. (tells (key_of s) k).1 (sym ((tells k (key_of s)).0 is))) (λ is. (tells k (key_of s)).1 (sym ((tells (key_of s) k).0 is)))
+  turned k = same_test (is_key k (key_of s)) (is_key (key_of s) k) (λ is. (tells (key_of s) k).1 (sym ((tells k (key_of s)).0 is)))
+      (λ is. (tells k (key_of s)).1 (sym ((tells (key_of s) k).0 is)))
 
-  by_test : (k : K) (b : Bool) → is_key (key_of s) k ≡ b → found (of (sales ++ s ∷ []) (key_of s)) ≡ Some value → found (of (sales ++ s ∷ []) k) ≡ (if b then Some value else found (of sales k))
+  by_test : (k : K) (b : Bool) → is_key (key_of s) k ≡ b → found (of (sales ++ s ∷ []) (key_of s)) ≡ Some value
+      → found (of (sales ++ s ∷ []) k) ≡ (if b then Some value else found (of sales k))
   by_test k true is own = ap (λ (x : K). found (of (sales ++ s ∷ []) x)) ((tells (key_of s) k).0 is) ∙ own
   by_test k false is own = ap found (left_last (λ t. is_key k (key_of t)) sales s (turned k ∙ is))
 
-  found_more : found (of (sales ++ s ∷ []) (key_of s)) ≡ Some value → (k : K) → found (of (sales ++ s ∷ []) k) ≡ put_under (is_key (key_of s)) value (λ x. found (of sales x)) k
+  found_more : found (of (sales ++ s ∷ []) (key_of s)) ≡ Some value → (k : K) → found (of (sales ++ s ∷ []) k)
+      ≡ put_under (is_key (key_of s)) value (λ x. found (of sales x)) k
   found_more own k = by_test k (is_key (key_of s) k) refl own
 
 pub sum_of_some : (p : Sale → Bool) (f : Sale → ℕ) (xs : List Sale) → sum_by f (filter p xs) ≤ sum_by f xs
@@ -133,9 +140,11 @@ module _ (sales : List Sale) (s : Sale) where
   month_sum = unwrap_or (tenths_of (sales_in_month sales (month_key s))) 0 + s.tenths
 
   pub month_own : tenths_of (sales_in_month (sales ++ s ∷ []) (month_key s)) ≡ Some month_sum
-  month_own = ap tenths_of (kept_last (λ t. is_in_month (month_key s) (month_key t)) sales s ((tells_month (month_key s) (month_key s)).1 refl)) ∙ tenths_more (sales_in_month sales (month_key s)) s
+  month_own = ap tenths_of (kept_last (λ t. is_in_month (month_key s) (month_key t)) sales s
+      ((tells_month (month_key s) (month_key s)).1 refl)) ∙ tenths_more (sales_in_month sales (month_key s)) s
 
-  pub month_more : (k : List ℕ × ℕ) → tenths_of (sales_in_month (sales ++ s ∷ []) k) ≡ put_under (is_in_month (month_key s)) month_sum (λ x. tenths_of (sales_in_month sales x)) k
+  pub month_more : (k : List ℕ × ℕ) → tenths_of (sales_in_month (sales ++ s ∷ []) k)
+      ≡ put_under (is_in_month (month_key s)) month_sum (λ x. tenths_of (sales_in_month sales x)) k
   month_more = found_more is_in_month tells_month month_key tenths_of sales s month_sum month_own
 
   abbrev pub shift_sum : Totals
@@ -144,7 +153,8 @@ module _ (sales : List Sale) (s : Sale) where
   pub shift_own : totals_of (sales_in_shift (sales ++ s ∷ []) s.shift) ≡ Some shift_sum
   shift_own = ap totals_of (kept_last (λ t. t.shift == s.shift) sales s ((tells_number s.shift s.shift).1 refl)) ∙ totals_more (sales_in_shift sales s.shift) s
 
-  pub shift_more : (k : ℕ) → totals_of (sales_in_shift (sales ++ s ∷ []) k) ≡ put_under (λ n. n == s.shift) shift_sum (λ x. totals_of (sales_in_shift sales x)) k
+  pub shift_more : (k : ℕ) → totals_of (sales_in_shift (sales ++ s ∷ []) k)
+      ≡ put_under (λ n. n == s.shift) shift_sum (λ x. totals_of (sales_in_shift sales x)) k
   shift_more = found_more (λ n k. k == n) tells_number (λ t. t.shift) totals_of sales s shift_sum shift_own
 
   -- ---- what a column can hold
@@ -161,7 +171,8 @@ module _ (sales : List Sale) (s : Sale) where
       )
 
   -- and so of a shift
-  pub shift_within : (shift_sum.sales ≤ length (sales ++ s ∷ [])) × (shift_sum.tenths ≤ sum_by (λ t. t.tenths) (sales ++ s ∷ [])) × (shift_sum.cash ≤ cash_of (sales ++ s ∷ []))
+  pub shift_within : (shift_sum.sales ≤ length (sales ++ s ∷ [])) × (shift_sum.tenths ≤ sum_by (λ t. t.tenths) (sales ++ s ∷ []))
+      × (shift_sum.cash ≤ cash_of (sales ++ s ∷ []))
   shift_within =
       let of_shift = sales_in_shift sales s.shift in
       let total = totals_sum of_shift in
@@ -215,17 +226,21 @@ greatest_last (m ∷ ns) n all =
     ap (λ (o : Option ℕ). Some (max m (unwrap_or o 0))) rest ∙ some_same (max m n) n (omega (arith, first))
 
 -- the identifier of a new sale is the last one of its meter under its base
-pub own_last : (o : Office) (s : Sale) → MeetsNewSale o s → greatest_of (map (λ (t : Sale). t.tid) (sales_under (o.sales ++ s ∷ []) (s.meter, s.base))) ≡ Some s.tid
+pub own_last : (o : Office) (s : Sale) → MeetsNewSale o s
+    → greatest_of (map (λ (t : Sale). t.tid) (sales_under (o.sales ++ s ∷ []) (s.meter, s.base))) ≡ Some s.tid
 own_last o s meets =
     let key : List ℕ × Base = (s.meter, s.base) in
     ap (λ (l : List Sale). greatest_of (map (λ (t : Sale). t.tid) l)) (kept_last (λ t. is_under key (t.meter, t.base)) o.sales s ((tells_under key key).1 refl))
-    ∙ ap greatest_of (map-append (λ (t : Sale). t.tid) (sales_under o.sales key) (s ∷ [])) ∙ greatest_last (map (λ (t : Sale). t.tid) (sales_under o.sales key)) s.tid meets.above_used
+    ∙ ap greatest_of (map-append (λ (t : Sale). t.tid) (sales_under o.sales key) (s ∷ []))
+    ∙ greatest_last (map (λ (t : Sale). t.tid) (sales_under o.sales key)) s.tid meets.above_used
 
 -- so few sales of what a token can carry and of a tender at the most add up to no more
 pub sales_within : ((t : ℕ) → IsRepresentable t → t ≤ 18201624) → (o : Office) (s : Sale) → IsOffice o → MeetsNewSale o s → AreWithinTotals (o.sales ++ s ∷ [])
 sales_within greatest o s office meets =
-    let tenths = sum_by-le (λ (t : Sale). t.tenths) 18201624 o.sales (All-weaker (IsSaleRow o) (λ t. t.tenths ≤ 18201624) (λ t row. greatest t.tenths row.tenths) o.sales office.sales) in
-    let cash = sum_by-le (λ (t : Sale). t.price) 100000000 o.sales (All-weaker (IsSaleRow o) (λ t. t.price ≤ 100000000) (λ t row. omega (arith, row.price, row.tender.1)) o.sales office.sales) in
+    let tenths = sum_by-le (λ (t : Sale). t.tenths) 18201624 o.sales
+    (All-weaker (IsSaleRow o) (λ t. t.tenths ≤ 18201624) (λ t row. greatest t.tenths row.tenths) o.sales office.sales) in
+    let cash = sum_by-le (λ (t : Sale). t.price) 100000000 o.sales
+    (All-weaker (IsSaleRow o) (λ t. t.price ≤ 100000000) (λ t row. omega (arith, row.price, row.tender.1)) o.sales office.sales) in
     let room : length o.sales < greatest_count = meets.room in (
       omega (arith, length-append o.sales (s ∷ []), room),
       omega (arith, tenths, room, sum_by_push (λ (t : Sale). t.tenths) o.sales s, greatest s.tenths meets.values.tenths),

@@ -45,8 +45,10 @@ served_none books law = record {
 }
 
 -- one reply more: before it nothing changes, and it is as the books are then
-stopped_more : (old mid : Bool) (replies : List (Result Answer Refusal)) (reply : Result Answer Refusal) → StopAtFailure old replies mid → (reply ≡ Err Stopped) ↔ (mid ≡ true)
-    → (i : ℕ) (r : Result Answer Refusal) → slice_get (replies ++ reply ∷ []) i ≡ Some r → (r ≡ Err Stopped) ↔ ((old ≡ true) ⊎ Contains (take i (replies ++ reply ∷ [])) (Err Store))
+stopped_more : (old mid : Bool) (replies : List (Result Answer Refusal)) (reply : Result Answer Refusal) → StopAtFailure old replies mid
+    → (reply ≡ Err Stopped) ↔ (mid ≡ true)
+    → (i : ℕ) (r : Result Answer Refusal) → slice_get (replies ++ reply ∷ []) i ≡ Some r
+    → (r ≡ Err Stopped) ↔ ((old ≡ true) ⊎ Contains (take i (replies ++ reply ∷ [])) (Err Store))
 stopped_more old mid replies reply stops last i r there =
     let within = slice_get_within (replies ++ reply ∷ []) i r there in
     let is = get_or_from_slice_get (replies ++ reply ∷ []) i r r there in
@@ -56,21 +58,24 @@ stopped_more old mid replies reply stops last i r there =
           rw (take-append-le i replies (reply ∷ []) (omega arith)) (stops.stopped i r (slice_get-get_or replies i r before ∙ ap (λ x. Some x) earlier))
       | inr at ↦
           let same : reply ≡ r = sym (get_or_push replies reply r i (sym at)) ∙ is in
-          let front : take i (replies ++ reply ∷ []) ≡ replies = subst (λ n. take n (replies ++ reply ∷ []) ≡ replies) (sym at) (take-append_seam replies (reply ∷ [])) in
+          let front : take i (replies ++ reply ∷ []) ≡ replies =
+          subst (λ n. take n (replies ++ reply ∷ []) ≡ replies) (sym at) (take-append_seam replies (reply ∷ [])) in
           rw (front, ← same) (λ h. stops.stops.0 (last.0 h), λ h. last.1 (stops.stops.1 h))
     ]
   where
     le_cases : (i n : ℕ) → i < n + 1 → (i < n) ⊎ (i ≡ n)
     le_cases i n h = elim (cases_order i n) [ inl same ↦ inr same | inr (inl below) ↦ inl below | inr (inr above) ↦ absurd (omega arith) ]
 
-stops_more : (old mid new : Bool) (replies : List (Result Answer Refusal)) (reply : Result Answer Refusal) → StopAtFailure old replies mid → (reply ≡ Err Stopped) ↔ (mid ≡ true)
+stops_more : (old mid new : Bool) (replies : List (Result Answer Refusal)) (reply : Result Answer Refusal) → StopAtFailure old replies mid
+    → (reply ≡ Err Stopped) ↔ (mid ≡ true)
     → (new ≡ true) ↔ ((reply ≡ Err Store) ⊎ (reply ≡ Err Stopped)) → StopAtFailure old (replies ++ reply ∷ []) new
 stops_more old mid new replies reply stops last then = record {
   stopped = stopped_more old mid replies reply stops last;
   stops = (
     λ h. elim (then.0 h) [
       | inl failed ↦ inr (subst (Contains (replies ++ reply ∷ [])) failed (Contains-push replies reply))
-      | inr stopped ↦ elim (stops.stops.0 (last.0 stopped)) [ inl was ↦ inl was | inr failed ↦ inr (Contains-append_left replies (reply ∷ []) (Err Store) failed) ]
+      | inr stopped ↦ elim (stops.stops.0 (last.0 stopped))
+          [ inl was ↦ inl was | inr failed ↦ inr (Contains-append_left replies (reply ∷ []) (Err Store) failed) ]
     ],
     λ h. elim h [
       | inl was ↦ then.1 (inr (last.1 (stops.stops.1 (inl was))))
@@ -82,10 +87,14 @@ stops_more old mid new replies reply stops last then = record {
   );
 }
 
-pub served_more : (old mid new : Seen) (ats : List Stamped) (replies : List (Result Answer Refusal)) (at : Stamped) (reply : Result Answer Refusal) → HaveServed old mid ats replies
-    → ((life : Life) → length ats ≡ length replies → extended_by (extended_along life ats replies) at reply ≡ extended_along life (ats ++ at ∷ []) (replies ++ reply ∷ []))
-    → ((life : Life) → Represents life mid → Represents (extended_by life at reply) new) → (BooksHaveTables mid → BooksHaveTables new) → (HasCleanDisk new.state → BooksHaveTables mid → LeavesOthers mid.state new.state)
-    → (HasCleanDisk new.state → HasCleanDisk mid.state) → (reply ≡ Err Stopped) ↔ (mid.stopped ≡ true) → (new.stopped ≡ true) ↔ ((reply ≡ Err Store) ⊎ (reply ≡ Err Stopped))
+pub served_more : (old mid new : Seen) (ats : List Stamped) (replies : List (Result Answer Refusal)) (at : Stamped)
+    (reply : Result Answer Refusal) → HaveServed old mid ats replies
+    → ((life : Life) → length ats ≡ length replies → extended_by (extended_along life ats replies) at reply
+    ≡ extended_along life (ats ++ at ∷ []) (replies ++ reply ∷ []))
+    → ((life : Life) → Represents life mid → Represents (extended_by life at reply) new) → (BooksHaveTables mid → BooksHaveTables new)
+    → (HasCleanDisk new.state → BooksHaveTables mid → LeavesOthers mid.state new.state)
+    → (HasCleanDisk new.state → HasCleanDisk mid.state) → (reply ≡ Err Stopped) ↔ (mid.stopped ≡ true)
+    → (new.stopped ≡ true) ↔ ((reply ≡ Err Store) ⊎ (reply ≡ Err Stopped))
     → HaveServed old new (ats ++ at ∷ []) (replies ++ reply ∷ [])
 served_more old mid new ats replies at reply so_far law keeps tables others clean last stops = record {
   count = omega (arith, so_far.count, length-append ats (at ∷ []), length-append replies (reply ∷ []));
@@ -97,9 +106,11 @@ served_more old mid new ats replies at reply so_far law keeps tables others clea
 }
 
 -- one request more is served, after the others
-pub served_on : {B : Type 0} (see : B → Seen) (old mid new : B) (ats : List Stamped) (replies : List (Result Answer Refusal)) (at : Stamped) (reply : Result Answer Refusal)
+pub served_on : {B : Type 0} (see : B → Seen) (old mid new : B) (ats : List Stamped) (replies : List (Result Answer Refusal))
+    (at : Stamped) (reply : Result Answer Refusal)
     → AreServedInTurn see old ats replies mid → Replies at reply (see mid) (see new) → AreServedInTurn see old (ats ++ at ∷ []) (replies ++ reply ∷ []) new
 served_on see old mid new [] [] at reply so_far this = (new, subst (λ b. Replies at reply (see b) (see new)) so_far this, refl)
-served_on see old mid new (first ∷ ats) (told ∷ replies) at reply so_far this = (so_far.0, so_far.1, served_on see so_far.0 mid new ats replies at reply so_far.2 this)
+served_on see old mid new (first ∷ ats) (told ∷ replies) at reply so_far this =
+    (so_far.0, so_far.1, served_on see so_far.0 mid new ats replies at reply so_far.2 this)
 served_on see old mid new [] (told ∷ replies) at reply so_far this = absurd so_far
 served_on see old mid new (first ∷ ats) [] at reply so_far this = absurd so_far

@@ -62,16 +62,19 @@ sales_after (CloseShift number moment) o = inl refl
 sales_after (AddSale s) o = inr (length-append o.sales (s ∷ []))
 
 -- nor does a request
-pub sales_step : (o : Office) (decided : Result Change Refusal) → (length (office_after o decided).sales ≡ length o.sales) ⊎ (length (office_after o decided).sales ≡ length o.sales + 1)
+pub sales_step : (o : Office) (decided : Result Change Refusal) → (length (office_after o decided).sales ≡ length o.sales)
+    ⊎ (length (office_after o decided).sales ≡ length o.sales + 1)
 sales_step o (Err refusal) = inl refl
 sales_step o (Ok change) = by_edit change.edit
   where
-    by_edit : (e : Option Edit) → (length (option_map_or (λ edit. applied edit o) e o).sales ≡ length o.sales) ⊎ (length (option_map_or (λ edit. applied edit o) e o).sales ≡ length o.sales + 1)
+    by_edit : (e : Option Edit) → (length (option_map_or (λ edit. applied edit o) e o).sales ≡ length o.sales)
+        ⊎ (length (option_map_or (λ edit. applied edit o) e o).sales ≡ length o.sales + 1)
     by_edit None = inl refl
     by_edit (Some edit) = sales_after edit o
 
 -- a request that was refused before it changed anything
-pub refused_ends : (forward : BlockFunction) (o : Office) (at : Stamped) (refusal : Refusal) (old new : Seen) → HoldsOffice o old → IsDecided forward o at (Err refusal) → HasCleanDisk new.state
+pub refused_ends : (forward : BlockFunction) (o : Office) (at : Stamped) (refusal : Refusal) (old new : Seen) → HoldsOffice o old
+    → IsDecided forward o at (Err refusal) → HasCleanDisk new.state
     → ChangesNothing old.state new.state → new.next_number ≡ old.next_number → ServingEnds forward o at (Err refusal) new
 refused_ends forward o at refusal old new held decided clean nothing next =
     let here = still_held o old.state new.state clean held.at nothing in
@@ -101,11 +104,17 @@ module _ (forward : BlockFunction) (o : Office) (at : Stamped) (change : Change)
       is_applied = ap (office_after o) is_decision ∙ ap (λ (e : Option Edit). option_map_or (λ edit. applied edit o) e o) some
 
       module _ (mid : State) (held : Stores mid o) (meets : Meets edit o) (office : IsOffice (applied edit o)) where
-        pub committed_ends : {Been : (State → Type 0) → Type 0} (prior : ℕ) → Commits Been edit prior (Ok tt) mid new.state → new.next_number ≡ length (applied edit o).sales + 1 → ServingEnds forward o at (Ok change.answer) new
+        pub committed_ends : {Been : (State → Type 0) → Type 0} (prior : ℕ) → Commits Been edit prior (Ok tt) mid new.state
+            → new.next_number ≡ length (applied edit o).sales + 1 → ServingEnds forward o at (Ok change.answer) new
         committed_ends prior commits next =
-            inl (replies, subst (λ (p : Office). HoldsOffice p new) (sym is_applied) (record { at = edit_held edit o mid new.state held meets office commits.done; next = next }))
+            inl (
+              replies,
+              subst (λ (p : Office). HoldsOffice p new) (sym is_applied)
+                  (record { at = edit_held edit o mid new.state held meets office commits.done; next = next }),
+            )
 
-        pub failed_ends : {Been : (State → Type 0) → Type 0} (prior : ℕ) (refusal : Refusal) → HasCleanDisk new.state → Commits Been edit prior (Err refusal) mid new.state → new.next_number ≡ length o.sales + 1 → ServingEnds forward o at (Err refusal) new
+        pub failed_ends : {Been : (State → Type 0) → Type 0} (prior : ℕ) (refusal : Refusal) → HasCleanDisk new.state
+            → Commits Been edit prior (Err refusal) mid new.state → new.next_number ≡ length o.sales + 1 → ServingEnds forward o at (Err refusal) new
         failed_ends prior refusal clean commits next = elim commits.failed [
           | inl unmade ↦
               (let here = still_held o mid new.state clean held unmade.nothing in
@@ -113,5 +122,9 @@ module _ (forward : BlockFunction) (o : Office) (at : Stamped) (change : Change)
                 | inl memory ↦ inr (inl (ap (λ r. Err r) memory, record { at = here; next = next }))
                 | inr failed ↦ inr (inr (ap (λ r. Err r) failed, λ trees may. inl (here.left trees may), next))
               ])
-          | inr (failed, doubted) ↦ inr (inr (ap (λ r. Err r) failed, subst (MayBeLeft new.state o) (sym is_applied) (edit_doubted edit o mid new.state held meets office prior clean doubted), next))
+          | inr (failed, doubted) ↦ inr (inr (
+            ap (λ r. Err r) failed,
+            subst (MayBeLeft new.state o) (sym is_applied) (edit_doubted edit o mid new.state held meets office prior clean doubted),
+            next,
+          ))
         ]

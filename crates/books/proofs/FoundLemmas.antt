@@ -24,9 +24,13 @@ module _ (db : Database) where
   abbrev pub AreTablesInOrder : Type 0
   AreTablesInOrder = (t : Table) → Stands db.schema t → IsInOrder (rows_in db t.name)
 
-  each_stored : AreTablesInOrder → (n : ℕ) (rows : Rows) (ks : List Kept) → AllByRecursion (IsKept db.schema) ks → AllByRecursion (ShowsTable db n rows) ks → AllByRecursion (HoldsRows db n rows) ks
+  each_stored : AreTablesInOrder → (n : ℕ) (rows : Rows) (ks : List Kept) → AllByRecursion (IsKept db.schema) ks
+      → AllByRecursion (ShowsTable db n rows) ks → AllByRecursion (HoldsRows db n rows) ks
   each_stored ordered n rows [] has shown = tt
-  each_stored ordered n rows (k ∷ ks) has shown = (stored_if_ordered k.is_numbered _ _ (ordered k.table has.0.0) shown.0, each_stored ordered n rows ks has.1 shown.1)
+  each_stored ordered n rows (k ∷ ks) has shown = (
+    stored_if_ordered k.is_numbered _ _ (ordered k.table has.0.0) shown.0,
+    each_stored ordered n rows ks has.1 shown.1,
+  )
 
   each_shown : (n : ℕ) (rows : Rows) (ks : List Kept) → AllByRecursion (HoldsRows db n rows) ks → AllByRecursion (ShowsTable db n rows) ks
   each_shown n rows [] held = tt

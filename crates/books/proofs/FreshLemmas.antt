@@ -18,7 +18,8 @@ bare = record { tables = []; indexes = []; views = [] }
 pub bare_untaken : IsUntaken bare
 bare_untaken = record { tables = tt; free = refl; unreferred = refl; harmless = refl }
 
-pub memory_stands : (c : Held MemStore) → ((db : Database) → IsUntaken db.schema → StandsFor db empty_office) → IsEmpty (state over_memory c) → StoreStandsFor (state over_memory c) empty_office
+pub memory_stands : (c : Held MemStore) → ((db : Database) → IsUntaken db.schema → StandsFor db empty_office)
+    → IsEmpty (state over_memory c) → StoreStandsFor (state over_memory c) empty_office
 memory_stands c untaken h =
     let s = state over_memory c in
     let stands = untaken s.now (subst IsUntaken (sym h.2) bare_untaken) in

@@ -7,7 +7,8 @@ use Rattle.books.specs.Headline.{RepresentTheLast, with_last}
 use Rattle.book_states.specs.Stores.{RecoversTo}
 use Rattle.books.specs.Keeps.{Seen}
 
-module _ (goes_on : (lives : List Life) (life : Life) (o p : Office) → AreLives lives o → IsLife life → life.opening ≡ o → MayLeave life p → AreLives (lives ++ life ∷ []) p)
+module _ (goes_on : (lives : List Life) (life : Life) (o p : Office) → AreLives lives o → IsLife life → life.opening ≡ o → MayLeave life p
+    → AreLives (lives ++ life ∷ []) p)
     (lives : List Life) (life : Life) (books : Seen) (h : RepresentTheLast lives life books) where
   -- the lives lead to each office that the last one may leave
   pub lead_to : (p : Office) → MayLeave life p → AreLives (with_last lives life) p

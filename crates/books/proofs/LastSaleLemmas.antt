@@ -52,7 +52,8 @@ used_by : (o : Office) (number : List ℕ) (base : Base) (s : Sale) → Contains
 used_by o number base s there same_meter under =
     let test = λ (s : Sale). bytes_eq s.meter number && base_eq s.base base in
     let is_under : base_eq s.base base ≡ true = rw under (base_eq-refl base) in
-    contains_map (λ (s : Sale). s.tid) (filter test o.sales) s (kept test o.sales s there (both_true _ _ ((bytes_eq-Decides s.meter number).1 same_meter) is_under))
+    contains_map (λ (s : Sale). s.tid) (filter test o.sales) s
+    (kept test o.sales s there (both_true _ _ ((bytes_eq-Decides s.meter number).1 same_meter) is_under))
 
 none_greatest : (ns : List ℕ) (n : ℕ) → greatest_of ns ≡ None → Contains ns n → ⊥
 none_greatest [] n none there = omega (arith, there.1)
@@ -117,7 +118,8 @@ module _ (o : Office) (has_last : HasLast o) (number : List ℕ) where
   is_latest : (s : Sale) → last_sale o number ≡ Some s → IsLatest s
   is_latest s is = by_bases (last_under o number Y2035) (last_under o number Y2014) (last_under o number Y1993) refl refl refl is
     where
-      by_bases : (x y z : Option Sale) → last_under o number Y2035 ≡ x → last_under o number Y2014 ≡ y → last_under o number Y1993 ≡ z → option_or x (option_or y z) ≡ Some s → IsLatest s
+      by_bases : (x y z : Option Sale) → last_under o number Y2035 ≡ x → last_under o number Y2014 ≡ y → last_under o number Y1993 ≡ z
+          → option_or x (option_or y z) ≡ Some s → IsLatest s
       by_bases (Some a) y z is_x is_y is_z e = record { base = Y2035; last = is_last Y2035 s (is_x ∙ e); none_later = λ t there same. not_after_2035 t.base }
       by_bases None (Some b) z is_x is_y is_z e = record {
         base = Y2014;
@@ -127,7 +129,8 @@ module _ (o : Office) (has_last : HasLast o) (number : List ℕ) where
       by_bases None None (Some c) is_x is_y is_z e = record {
         base = Y1993;
         last = is_last Y1993 s (is_z ∙ e);
-        none_later = λ t there same. not_after_1993 t.base (λ under. some_under Y2035 t there same under is_x) (λ under. some_under Y2014 t there same under is_y);
+        none_later = λ t there same. not_after_1993 t.base (λ under. some_under Y2035 t there same under is_x)
+            (λ under. some_under Y2014 t there same under is_y);
       }
       by_bases None None None is_x is_y is_z e = absurd (let none = e in cc)
 
@@ -140,7 +143,8 @@ module _ (o : Office) (has_last : HasLast o) (number : List ℕ) where
       by_base Y2014 under x y z = some_under Y2014 t there same under y
       by_base Y2035 under x y z = some_under Y2035 t there same under x
 
-      by_bases : (x y z : Option Sale) → last_under o number Y2035 ≡ x → last_under o number Y2014 ≡ y → last_under o number Y1993 ≡ z → option_or x (option_or y z) ≡ None → ⊥
+      by_bases : (x y z : Option Sale) → last_under o number Y2035 ≡ x → last_under o number Y2014 ≡ y → last_under o number Y1993 ≡ z
+          → option_or x (option_or y z) ≡ None → ⊥
       by_bases (Some a) y z is_x is_y is_z e = absurd (let none = e in cc)
       by_bases None (Some b) z is_x is_y is_z e = absurd (let none = e in cc)
       by_bases None None (Some c) is_x is_y is_z e = absurd (let none = e in cc)
@@ -157,15 +161,22 @@ module _ (o : Office) (has_last : HasLast o) (number : List ℕ) where
         let t_is = office.sale_numbers i t at in
         let s_is = office.sale_numbers j s at_s in
         let before : j < i = omega (arith, t_is, s_is, after) in
-        let earlier : Contains (take i o.sales) s = (j, omega (arith, before, latest.last.stands.1, length-take i o.sales), get_or-take i o.sales j s before ∙ latest.last.stands.2) in
+        let earlier : Contains (take i o.sales) s = (
+          j,
+          omega (arith, before, latest.last.stands.1, length-take i o.sales),
+          get_or-take i o.sales j s before ∙ latest.last.stands.2,
+        ) in
         let granted = plausible.sales i t at in
         let same_meter : s.meter ≡ t.meter = latest.last.meter ∙ sym same in
-        let up : year_of s.base ≤ year_of t.base = All-contains (λ (a : Sale). a.meter ≡ t.meter → year_of a.base ≤ year_of t.base) (take i o.sales) s granted.base earlier same_meter in
+        let up : year_of s.base ≤ year_of t.base = All-contains (λ (a : Sale). a.meter ≡ t.meter → year_of a.base ≤ year_of t.base)
+        (take i o.sales) s granted.base earlier same_meter in
         let down : year_of t.base ≤ year_of latest.base = latest.none_later t there same in
         let under : s.base ≡ latest.base = latest.last.under in
         let one_base : t.base ≡ s.base = same_year t.base s.base (omega (arith, up, down, ap (λ (b : Base). year_of b) under)) in
-        let taken : Contains (used (sales_alone (take i o.sales)) t.meter t.base) s.tid = used_by (sales_alone (take i o.sales)) t.meter t.base s earlier same_meter (sym one_base) in
-        let rises : s.tid < t.tid = All-contains (λ (u : ℕ). u < t.tid) (used (sales_alone (take i o.sales)) t.meter t.base) s.tid granted.tid.fresh.0.may_sell.above_used taken in
+        let taken : Contains (used (sales_alone (take i o.sales)) t.meter t.base) s.tid =
+        used_by (sales_alone (take i o.sales)) t.meter t.base s earlier same_meter (sym one_base) in
+        let rises : s.tid < t.tid = All-contains (λ (u : ℕ). u < t.tid) (used (sales_alone (take i o.sales)) t.meter t.base) s.tid
+        granted.tid.fresh.0.may_sell.above_used taken in
         let falls : t.tid ≤ s.tid = latest.last.greatest t there same (one_base ∙ under) in
         omega (arith, rises, falls)
 

@@ -28,7 +28,8 @@ module _ (size : ℕ) (image : Image) (pages : PageMap) (found : Adopts size ima
       let begins : slice_index page 0 ≡ 83 = sym (get_or-take size page 0 0 (omega arith)) ∙ sym (get_or-take 100 (take size page) 0 0 (omega arith))
       ∙ sym (get_or-take 16 (take 100 (take size page)) 0 0 (omega arith)) ∙ ap (λ (b : List ℕ). slice_index b 0) magic in
       let never = λ (other : ℕ) (some : 0 < other). let gate = first_byte other some in
-      begun_is_not_blank (sealed (first_page other)) page (stored_size size) image found.stored found.found is (found.whole.sized 1 page is) (omega arith) (begins ∙ sym gate) (λ none. let no = sym gate ∙ none in omega arith) in
+      begun_is_not_blank (sealed (first_page other)) page (stored_size size) image found.stored found.found is
+      (found.whole.sized 1 page is) (omega arith) (begins ∙ sym gate) (λ none. let no = sym gate ∙ none in omega arith) in
       elim nothing [ inl plain ↦ never (used_size 4096 false) (omega arith) plain | inr summed ↦ never (used_size 4096 true) (omega arith) summed ]
 
 pub found_nothing : (image : Image) (trees : Trees) → IsNothing image → AreFoundIn image trees → IsEmpty trees

@@ -12,7 +12,8 @@ use Rattle.book_states.specs.Stores.{Stores}
 use Rattle.books.specs.Keeps.{IsRepresented, Seen}
 use Rattle.book_opening.specs.Opening.{OpensAs}
 
-pub keeps_opened : (forward : BlockFunction) (o : Office) (books : Seen) → IsRunning (opened forward o) o → ((p : Office) → MayLeave (opened forward o) p ↔ (p ≡ o)) → forward ≡ books.forward
+pub keeps_opened : (forward : BlockFunction) (o : Office) (books : Seen) → IsRunning (opened forward o) o
+    → ((p : Office) → MayLeave (opened forward o) p ↔ (p ≡ o)) → forward ≡ books.forward
     → Stores books.state o × (books.next_number ≡ length o.sales + 1) → IsRepresented (opened forward o) books
 keeps_opened forward o books running leaves same at = record {
   opening = at.0.office;
@@ -25,4 +26,8 @@ keeps_opened forward o books running leaves same at = record {
 
 -- what is opened has the office's tables
 pub opened_tables : (old new : State) → OpensAs old new → HasAllTables new
-opened_tables old new h = λ _. elim h.now [ inl brought ↦ brought.2.tables.has | inr found ↦ subst (λ (db : Database). HasOffice db.schema) (sym found.2) found.0 ]
+opened_tables old new h = λ _. elim h.now [
+  | inl brought ↦ brought.2.tables.has
+  | inr found ↦
+      subst (λ (db : Database). HasOffice db.schema) (sym found.2) found.0
+]

@@ -5,7 +5,8 @@ use Rattle.book_states.specs.Stores.{Stores}
 use Rattle.books.specs.Keeps.{IsRepresented, IsPresent, Seen}
 
 -- books that were read keep their life
-pub kept_read : (life : Life) (old new : Seen) → IsRepresented life old → (here : IsPresent life old) → new.forward ≡ old.forward → new.next_number ≡ old.next_number → Stores new.state here.present → IsRepresented life new
+pub kept_read : (life : Life) (old new : Seen) → IsRepresented life old → (here : IsPresent life old) → new.forward ≡ old.forward
+    → new.next_number ≡ old.next_number → Stores new.state here.present → IsRepresented life new
 kept_read life old new kept here forward next at = record {
   opening = kept.opening;
   is_life = kept.is_life;

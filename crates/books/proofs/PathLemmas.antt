@@ -20,7 +20,8 @@ use Rattle.book_opening.specs.declared.fault.OpenFault.TheVariants.{NotAnOffice}
 
 -- a connection that was just opened stands for the office that its trees show
 abbrev pub OpensAgain : (D : Type 0) → (g : Ghosts D) → Type 0
-OpensAgain D g = (c : Held (FileStore D g)) (o : Office) → Opens (file_state c) → IsLive (file_state c) → FindsOffice (file_state c).committed.trees o → StoreStandsFor (file_state c) o
+OpensAgain D g = (c : Held (FileStore D g)) (o : Office) → Opens (file_state c) → IsLive (file_state c)
+    → FindsOffice (file_state c).committed.trees o → StoreStandsFor (file_state c) o
 
 -- it has its tables in order
 abbrev pub OpensInOrder : (D : Type 0) → (g : Ghosts D) → Type 0
@@ -28,16 +29,31 @@ OpensInOrder D g = (c : Held (FileStore D g)) → Opens (file_state c) → IsLiv
 
 module _ {D : Type 0} {g : Ghosts D} where
   module _ (image : Image) (first last : Held (FileStore D g)) (opens : HasCleanDisk (file_state first) → Opens (file_state first) × IsLive (file_state first))
-      (finds : HasCleanDisk (file_state first) → FindsIn image (file_state first)) (ordered : OpensInOrder D g) (none : (file_state first).step_limit ≡ None) where
+      (finds : HasCleanDisk (file_state first) → FindsIn image (file_state first)) (ordered : OpensInOrder D g)
+      (none : (file_state first).step_limit ≡ None) where
     pub connected : HasCleanDisk (file_state first) → IsConnected image (file_state first)
     connected clean =
         let it = finds clean in
         let open_is = opens clean in
-        record { opens = open_is.0; live = open_is.1; in_order = ordered first open_is.0 open_is.1; found = record { holds = it.holds; reads = it.reads }; unlimited = none }
+        record {
+          opens = open_is.0;
+          live = open_is.1;
+          in_order = ordered first open_is.0 open_is.1;
+          found = record { holds = it.holds; reads = it.reads };
+          unlimited = none;
+        }
 
-    pub opens_files : (HasCleanDisk (file_state first) → IsBlankAs false image → (view first.store).has_sums ≡ false) → (HasCleanDisk (file_state last) → OpensAs (file_state first) (file_state last))
+    pub opens_files : (HasCleanDisk (file_state first) → IsBlankAs false image → (view first.store).has_sums ≡ false)
+        → (HasCleanDisk (file_state last) → OpensAs (file_state first) (file_state last))
         → Survives (file_state first) (file_state last) (LeavesBrought (file_state first)) → OpensFiles image last
-    opens_files plain finds survives = record { first = first; connected = connected; plain = plain; finds = finds; survives = survives; unlimited = survives.limit ∙ none }
+    opens_files plain finds survives = record {
+      first = first;
+      connected = connected;
+      plain = plain;
+      finds = finds;
+      survives = survives;
+      unlimited = survives.limit ∙ none;
+    }
 
     module _ (again : OpensAgain D g) where
       pub stands_first : (o : Office) → HasCleanDisk (file_state first) → StandsIn image o → StoreStandsFor (file_state first) o
@@ -47,7 +63,8 @@ module _ {D : Type 0} {g : Ghosts D} where
           → (HasCleanDisk (file_state last) → fault ≡ NotAnOffice → (o : Office) → ¬ StoreStandsFor (file_state first) o)
           → (HasCleanDisk (file_state last) → FailsToOpen {S = FileStore D g} over_files (file_state first) (file_state last) fault)
           → (HasCleanDisk (file_state last) → IsSame (file_state first) (file_state last))
-          → (HasCleanDisk (file_state last) → (o : Office) → StoreStandsFor (file_state first) o → StoreStandsFor (file_state last) o) → last.in_transaction ≡ false
+          → (HasCleanDisk (file_state last) → (o : Office) → StoreStandsFor (file_state first) o → StoreStandsFor (file_state last) o)
+          → last.in_transaction ≡ false
           → Survives (file_state first) (file_state last) (LeavesRefused (file_state first) fault) → RefusesConnection image fault last
       refuses_connection fault other fails same refused rests survives =
           let early : HasCleanDisk (file_state last) → HasCleanDisk (file_state first) = λ clean. omega (arith, survives.clean) in record {

@@ -24,7 +24,8 @@ use Rattle.books.proofs.PageLemmas.{kept_read}
 use Rattle.books.proofs.ServeLemmas.{stops_on}
 
 -- books that were stopped are not read
-pub read_stopped : {A : Type 0} {IsSeen : Database → Result A Refusal → Type 0} (Own : Refusal → Type 0) (books : Seen) → books.stopped ≡ true → ReadsBooks {A = A} Own IsSeen (Err Stopped) books books
+pub read_stopped : {A : Type 0} {IsSeen : Database → Result A Refusal → Type 0} (Own : Refusal → Type 0) (books : Seen) → books.stopped
+    ≡ true → ReadsBooks {A = A} Own IsSeen (Err Stopped) books books
 read_stopped Own books was = record {
   keeps = λ life keeps. keeps;
   tables = λ has. has;
@@ -51,13 +52,16 @@ or_stopped Own (Err why) (inl own) = inl own
 or_stopped Own (Err why) (inr (inl memory)) = inr (inl memory)
 or_stopped Own (Err why) (inr (inr store)) = inr (inr (inl store))
 
-never_stopped : {A : Type 0} (Own : Refusal → Type 0) (given : Result A Refusal) → ¬ Own Stopped → IfErr given (λ why. Own why ⊎ ((why ≡ Memory) ⊎ (why ≡ Store))) → given ≢ Err Stopped
+never_stopped : {A : Type 0} (Own : Refusal → Type 0) (given : Result A Refusal) → ¬ Own Stopped
+    → IfErr given (λ why. Own why ⊎ ((why ≡ Memory) ⊎ (why ≡ Store))) → given ≢ Err Stopped
 never_stopped {A} Own given never told is =
-    let stopped : Own Stopped ⊎ ((Stopped ≡ Memory) ⊎ (Stopped ≡ Store)) = subst (λ (r : Result A Refusal). IfErr r (λ why. Own why ⊎ ((why ≡ Memory) ⊎ (why ≡ Store)))) is told in
+    let stopped : Own Stopped ⊎ ((Stopped ≡ Memory) ⊎ (Stopped ≡ Store)) =
+    subst (λ (r : Result A Refusal). IfErr r (λ why. Own why ⊎ ((why ≡ Memory) ⊎ (why ≡ Store)))) is told in
     elim stopped [ inl own ↦ never own | inr (inl memory) ↦ absurd cc | inr (inr store) ↦ absurd cc ]
 
 -- books that were not stopped were read, by what the read makes of their tables
-pub was_read : {A : Type 0} {IsSeen : Database → Result A Refusal → Type 0} (Own : Refusal → Type 0) (given : Result A Refusal) (old new : Seen) → old.stopped ≡ false → new.forward ≡ old.forward → new.next_number ≡ old.next_number
+pub was_read : {A : Type 0} {IsSeen : Database → Result A Refusal → Type 0} (Own : Refusal → Type 0) (given : Result A Refusal)
+    (old new : Seen) → old.stopped ≡ false → new.forward ≡ old.forward → new.next_number ≡ old.next_number
     → (HasCleanDisk new.state → HasAllTables old.state → ChangesNothing old.state new.state) → (HasCleanDisk new.state → HasCleanDisk old.state)
     → (HasCleanDisk new.state → HasAllTables old.state → IfErr given (λ why. Own why ⊎ IsToldOfRead why old.state new.state))
     → IfErr given (λ why. Own why ⊎ ((why ≡ Memory) ⊎ (why ≡ Store))) → ¬ Own Stopped → (IsTrue new.stopped ↔ (given ≡ Err Store))
@@ -67,7 +71,8 @@ was_read Own given old new runs forward next nothing back failures refusals own 
       keeps = λ life keeps clean.
           let kept = keeps (back clean) in
           let here = kept.running runs in
-          kept_read life old new kept here forward next (still_held here.present old.state new.state clean here.at (nothing clean (has_tables here.present old.state here.at)));
+          kept_read life old new kept here forward next (still_held here.present old.state new.state clean here.at
+          (nothing clean (has_tables here.present old.state here.at)));
       tables = λ has clean running.
           let before = has (back clean) runs in
           tables_stay old.state new.state (nothing_others old.state new.state clean (nothing clean before)) before;

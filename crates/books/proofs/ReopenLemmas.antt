@@ -29,7 +29,8 @@ same_database a b p q same =
     same_parts a b schema same
 
 -- a connection that has just been opened stands for what its trees stand for
-pub opened_stands : (s : State) (o : Office) → ((trees : Trees) → s.may_leave trees → IsTrue s.is_open → trees ≡ s.committed.trees) → Opens s → IsLive s → RecoversTo s.committed.trees o → StoreStandsFor s o
+pub opened_stands : (s : State) (o : Office) → ((trees : Trees) → s.may_leave trees → IsTrue s.is_open → trees ≡ s.committed.trees)
+    → Opens s → IsLive s → RecoversTo s.committed.trees o → StoreStandsFor s o
 opened_stands s o settled opens live left =
     let same = same_database left.0 s.committed left.1 (live opens.is_open).1 (sym left.2) in
     let stands = subst (λ (db : Database). StandsFor db o) same left.3 in
@@ -39,7 +40,8 @@ opened_stands s o settled opens live left =
       left = λ trees may. subst (λ (t : Trees). RecoversTo t o) (sym (settled trees may opens.is_open)) left;
     }
 
-pub one_office_left : ((db : Database) (o p : Office) → StandsFor db o → StandsFor db p → o ≡ p) → (trees : Trees) (o p : Office) → RecoversTo trees o → RecoversTo trees p → o ≡ p
+pub one_office_left : ((db : Database) (o p : Office) → StandsFor db o → StandsFor db p → o ≡ p) → (trees : Trees) (o p : Office)
+    → RecoversTo trees o → RecoversTo trees p → o ≡ p
 one_office_left once trees o p a b =
     let same = same_database a.0 b.0 a.1 b.1 (sym a.2 ∙ b.2) in
     once b.0 o p (subst (λ (db : Database). StandsFor db o) same a.3) b.3
@@ -49,7 +51,8 @@ pub finds_if_left : (trees : Trees) (o : Office) → RecoversTo trees o → Find
 finds_if_left trees o left = (left.0, left.1, left.2, shows_if_stands left.0 o left.3)
 
 -- what a stop may leave of a store that keeps order stands for the office that it shows
-pub left_if_found : (Leaves : Trees → Type 0) → ((db : Database) → Leaves db.trees → IsDatabase db → AreTablesInOrder db) → (trees : Trees) (o : Office) → Leaves trees → FindsOffice trees o → RecoversTo trees o
+pub left_if_found : (Leaves : Trees → Type 0) → ((db : Database) → Leaves db.trees → IsDatabase db → AreTablesInOrder db)
+    → (trees : Trees) (o : Office) → Leaves trees → FindsOffice trees o → RecoversTo trees o
 left_if_found Leaves ordered trees o may found =
     (found.0, found.1, found.2, stands_if_ordered found.0 o (ordered found.0 (subst Leaves found.2 may) found.1) found.3)
 

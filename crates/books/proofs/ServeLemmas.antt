@@ -18,11 +18,13 @@ use Rattle.book_edits.specs.Transaction.{MayBeLeft}
 use Rattle.books.proofs.AttemptLemmas.{sales_step}
 
 -- books are stopped where the store failed, which answer none as stopped
-pub stops_on : {A : Type 0} (stopped : Bool) (answer : Result A Refusal) → (IsTrue stopped ↔ (answer ≡ Err Store)) → answer ≢ Err Stopped → (stopped ≡ true) ↔ ((answer ≡ Err Store) ⊎ (answer ≡ Err Stopped))
+pub stops_on : {A : Type 0} (stopped : Bool) (answer : Result A Refusal) → (IsTrue stopped ↔ (answer ≡ Err Store)) → answer ≢ Err Stopped
+    → (stopped ≡ true) ↔ ((answer ≡ Err Store) ⊎ (answer ≡ Err Stopped))
 stops_on stopped answer failed never = (λ is. inl (failed.0 is), λ either. elim either [ inl store ↦ failed.1 store | inr was ↦ absurd (never was) ])
 
 -- the life goes on with this office, which the books hold
-pub kept_on : (life : Life) (o : Office) (books : Seen) → IsOffice life.opening → life.forward ≡ books.forward → IsRunning life o → ((p : Office) → MayLeave life p ↔ (p ≡ o)) → HoldsOffice o books → IsRepresented life books
+pub kept_on : (life : Life) (o : Office) (books : Seen) → IsOffice life.opening → life.forward ≡ books.forward → IsRunning life o
+    → ((p : Office) → MayLeave life p ↔ (p ≡ o)) → HoldsOffice o books → IsRepresented life books
 kept_on life o books opening forward running law held = record {
   opening = opening;
   is_life = running.is_life;
@@ -33,13 +35,16 @@ kept_on life o books opening forward running law held = record {
 }
 
 -- an office with at most one sale more has this next number, or one that is greater by one
-near : (o p : Office) (next : ℕ) → next ≡ length o.sales + 1 → (length p.sales ≡ length o.sales) ⊎ (length p.sales ≡ length o.sales + 1) → IsNextOrOneBefore p next
+near : (o p : Office) (next : ℕ) → next ≡ length o.sales + 1 → (length p.sales ≡ length o.sales) ⊎ (length p.sales ≡ length o.sales + 1)
+    → IsNextOrOneBefore p next
 near o p next is (inl same) = inl (is ∙ ap (λ n. n + 1) (sym same))
 near o p next is (inr more) = inr (is ∙ sym more)
 
 -- the store failed, and the books are stopped
-pub kept_in_doubt : (life : Life) (o p : Office) (books : Seen) → IsOffice life.opening → life.forward ≡ books.forward → IsLife life → ((q : Office) → MayLeave life q ↔ ((q ≡ o) ⊎ (q ≡ p))) → MayBeLeft books.state o p
-    → books.next_number ≡ length o.sales + 1 → (length p.sales ≡ length o.sales) ⊎ (length p.sales ≡ length o.sales + 1) → books.stopped ≡ true → IsRepresented life books
+pub kept_in_doubt : (life : Life) (o p : Office) (books : Seen) → IsOffice life.opening → life.forward ≡ books.forward → IsLife life
+    → ((q : Office) → MayLeave life q ↔ ((q ≡ o) ⊎ (q ≡ p))) → MayBeLeft books.state o p
+    → books.next_number ≡ length o.sales + 1 → (length p.sales ≡ length o.sales) ⊎ (length p.sales ≡ length o.sales + 1) → books.stopped
+    ≡ true → IsRepresented life books
 kept_in_doubt life o p books opening forward is_life law left next more stopped = record {
   opening = opening;
   is_life = is_life;
@@ -53,7 +58,8 @@ kept_in_doubt life o p books opening forward is_life law left next more stopped 
 }
 
 -- books that are stopped stay as they are
-pub kept_stopped : (life : Life) (at : Stamped) (books : Seen) → IsLife (extended_by life at (Err Stopped)) → ((p : Office) → MayLeave (extended_by life at (Err Stopped)) p ↔ MayLeave life p) → books.stopped ≡ true
+pub kept_stopped : (life : Life) (at : Stamped) (books : Seen) → IsLife (extended_by life at (Err Stopped))
+    → ((p : Office) → MayLeave (extended_by life at (Err Stopped)) p ↔ MayLeave life p) → books.stopped ≡ true
     → IsRepresented life books → IsRepresented (extended_by life at (Err Stopped)) books
 kept_stopped life at books is_life law stopped kept = record {
   opening = kept.opening;
@@ -73,7 +79,8 @@ pub record GoesOnWith (life : Life) (o : Office) (at : Stamped) : Type 0 where
   pub alone : (more : Life) (p q : Office) → IsRunning more p → (MayLeave more q ↔ (q ≡ p))
 
 -- what a change left is so whether the books are stopped or not
-made_on : (edit : Option Edit) (prior : ℕ) (old books : Seen) (stopped : Bool) → IsMade edit prior old books → IsMade edit prior old (record books { stopped = stopped })
+made_on : (edit : Option Edit) (prior : ℕ) (old books : Seen) (stopped : Bool) → IsMade edit prior old books
+    → IsMade edit prior old (record books { stopped = stopped })
 made_on None prior old books stopped made = made
 made_on (Some edit) prior old books stopped made = made
 
@@ -91,20 +98,24 @@ granted_on at (Ok answer) old books stopped granted = record {
 granted_on at (Err refusal) old books stopped granted = granted
 
 -- whether books are stopped says nothing of what they hold
-pub with_stopped : (forward : BlockFunction) (o : Office) (at : Stamped) (answer : Result Answer Refusal) (books : Seen) (stopped : Bool) → ServingEnds forward o at answer books
+pub with_stopped : (forward : BlockFunction) (o : Office) (at : Stamped) (answer : Result Answer Refusal) (books : Seen) (stopped : Bool)
+    → ServingEnds forward o at answer books
     → ServingEnds forward o at answer (record books { stopped = stopped })
 with_stopped forward o at answer books stopped (inl served) = inl (served.0, record { at = served.1.at; next = served.1.next })
 with_stopped forward o at answer books stopped (inr (inl none)) = inr (inl (none.0, record { at = none.1.at; next = none.1.next }))
 with_stopped forward o at answer books stopped (inr (inr failed)) = inr (inr failed)
 
 -- a request at books that are not stopped
-pub kept_attempted : (life : Life) (o : Office) (at : Stamped) (answer : Result Answer Refusal) (new : Seen) → GoesOnWith life o at → IsOffice life.opening → life.forward ≡ new.forward → ServingEnds life.forward o at answer new
+pub kept_attempted : (life : Life) (o : Office) (at : Stamped) (answer : Result Answer Refusal) (new : Seen) → GoesOnWith life o at
+    → IsOffice life.opening → life.forward ≡ new.forward → ServingEnds life.forward o at answer new
     → (answer ≡ Err Store → new.stopped ≡ true) → IsRepresented (extended_by life at answer) new
 kept_attempted life o at answer new laws opening forward (inl served) stops =
     subst (λ (r : Result Answer Refusal). IsRepresented (extended_by life at r) new) (sym served.0)
-    (kept_on (extended_by life at (reply life.forward o at)) (step life.forward o at) new opening forward laws.served (λ p. laws.alone _ _ p laws.served) served.1)
+    (kept_on (extended_by life at (reply life.forward o at)) (step life.forward o at) new opening forward laws.served
+    (λ p. laws.alone _ _ p laws.served) served.1)
 kept_attempted life o at answer new laws opening forward (inr (inl none)) stops =
-    subst (λ (r : Result Answer Refusal). IsRepresented (extended_by life at r) new) (sym none.0) (kept_on (extended_by life at (Err Memory)) o new opening forward laws.no_memory (λ p. laws.alone _ _ p laws.no_memory) none.1)
+    subst (λ (r : Result Answer Refusal). IsRepresented (extended_by life at r) new) (sym none.0)
+    (kept_on (extended_by life at (Err Memory)) o new opening forward laws.no_memory (λ p. laws.alone _ _ p laws.no_memory) none.1)
 kept_attempted life o at answer new laws opening forward (inr (inr failed)) stops =
     subst (λ (r : Result Answer Refusal). IsRepresented (extended_by life at r) new) (sym failed.0)
     (kept_in_doubt (extended_by life at (Err Store)) o (step life.forward o at) new opening forward laws.failed laws.doubted failed.1 failed.2

@@ -22,31 +22,39 @@ use Rattle.command_line.specs.Line.{IsDescribed, command_in, faults_in, line_of_
 use Rattle.command_line.specs.Said.{argument_rows}
 
 pub is_simple_line : is_simple vend_line ≡ true
-unfolding clap_on_literals trial_command import_command base_command shift_command sell_command report_command show_command list_command offer_command meter_command quote_command serve_command selfcheck_command audit_command desk_import_command desk_shift_command desk_sell_command desk_report_command desk_show_command desk_list_command desk_quote_command desk_base_command
+unfolding clap_on_literals trial_command import_command base_command shift_command sell_command report_command show_command list_command
+    offer_command meter_command quote_command serve_command selfcheck_command audit_command desk_import_command desk_shift_command
+    desk_sell_command desk_report_command desk_show_command desk_list_command desk_quote_command desk_base_command
 is_simple_line = refl
 
 pub is_free_line : is_simple_and_free vend_line ≡ true
-unfolding clap_on_literals trial_command import_command base_command shift_command sell_command report_command show_command list_command offer_command meter_command quote_command serve_command selfcheck_command audit_command desk_import_command desk_shift_command desk_sell_command desk_report_command desk_show_command desk_list_command desk_quote_command desk_base_command
+unfolding clap_on_literals trial_command import_command base_command shift_command sell_command report_command show_command list_command
+    offer_command meter_command quote_command serve_command selfcheck_command audit_command desk_import_command desk_shift_command
+    desk_sell_command desk_report_command desk_show_command desk_list_command desk_quote_command desk_base_command
 is_free_line = refl
 
 -- what a parse of the line gives
-pub parsed : (r : Result ArgMatches Error) (app : App) (meant words : List Text) → meant ≡ meant_by words → app ≡ vend_line → (is_simple_and_free app ≡ true → FailsBy (fault_of app meant) r) → IfOk r (HasMatchesOf app meant)
+pub parsed : (r : Result ArgMatches Error) (app : App) (meant words : List Text) → meant ≡ meant_by words → app ≡ vend_line
+    → (is_simple_and_free app ≡ true → FailsBy (fault_of app meant) r) → IfOk r (HasMatchesOf app meant)
     → MatchResult r (λ matches. (faults_in words ≡ []) × (subcommand_rows_of matches ≡ command_in words)) (HasKind (faults_in words))
 unfolding faults_in command_in
 parsed (Ok m) app meant words means is kinds matches =
     let same = subst (λ (a : App). FailsBy (fault_of a meant) (Ok m)) is (kinds (ap is_simple_and_free is ∙ is_free_line)) in
     let rows = subst (λ (a : App). HasMatchesOf a meant m) is matches in
-    subst (λ (texts : List Text). (fault_of vend_line texts ≡ []) × (subcommand_rows_of m ≡ subcommand_of vend_line texts)) means (same, (rows is_simple_line).1)
+    subst (λ (texts : List Text). (fault_of vend_line texts ≡ []) × (subcommand_rows_of m ≡ subcommand_of vend_line texts)) means
+    (same, (rows is_simple_line).1)
 parsed (Err e) app meant words means is kinds matches =
     let same = subst (λ (a : App). HasKind (fault_of a meant) e) is (kinds (ap is_simple_and_free is ∙ is_free_line)) in
     subst (λ (texts : List Text). HasKind (fault_of vend_line texts) e) means same
 
 -- a command more
-pub one_more : (before : List Shape) (shape : Shape) (line sub : Command) (r : Result Command AllocError) → app_of line ≡ line_of_commands before → IsDescribed shape sub → IfOk r (λ new. AddsSubcommand line sub new)
+pub one_more : (before : List Shape) (shape : Shape) (line sub : Command) (r : Result Command AllocError) → app_of line
+    ≡ line_of_commands before → IsDescribed shape sub → IfOk r (λ new. AddsSubcommand line sub new)
     → IfOk r (λ new. app_of new ≡ line_of_commands (before ++ shape ∷ []))
 one_more before shape line sub (Err e) is described adds = tt
 one_more [] shape line sub (Ok new) is described adds = adds.shape described.no_globals ∙ ap₂ with_subcommand is (ap (λ (a : App). a.top) described.app)
-one_more (first ∷ rest) shape line sub (Ok new) is described adds = adds.shape described.no_globals ∙ ap₂ with_subcommand is (ap (λ (a : App). a.top) described.app)
+one_more (first ∷ rest) shape line sub (Ok new) is described adds =
+    adds.shape described.no_globals ∙ ap₂ with_subcommand is (ap (λ (a : App). a.top) described.app)
 
 -- commands that were added one after another
 three_joined : (before : List Shape) (a b c : Shape) → ((before ++ a ∷ []) ++ b ∷ []) ++ c ∷ [] ≡ before ++ a ∷ b ∷ c ∷ []
@@ -57,11 +65,13 @@ four_joined : (before : List Shape) (a b c d : Shape) → (((before ++ a ∷ [])
 four_joined [] a b c d = refl
 four_joined (s ∷ before) a b c d = ap (λ (rest : List Shape). s ∷ rest) (four_joined before a b c d)
 
-pub three_more : (before : List Shape) (a b c : Shape) (r : Result Command AllocError) → IfOk r (λ line. app_of line ≡ line_of_commands (((before ++ a ∷ []) ++ b ∷ []) ++ c ∷ []))
+pub three_more : (before : List Shape) (a b c : Shape) (r : Result Command AllocError)
+    → IfOk r (λ line. app_of line ≡ line_of_commands (((before ++ a ∷ []) ++ b ∷ []) ++ c ∷ []))
     → IfOk r (λ line. app_of line ≡ line_of_commands (before ++ a ∷ b ∷ c ∷ []))
 three_more before a b c r is = subst (λ (shapes : List Shape). IfOk r (λ line. app_of line ≡ line_of_commands shapes)) (three_joined before a b c) is
 
-pub four_more : (before : List Shape) (a b c d : Shape) (r : Result Command AllocError) → IfOk r (λ line. app_of line ≡ line_of_commands ((((before ++ a ∷ []) ++ b ∷ []) ++ c ∷ []) ++ d ∷ []))
+pub four_more : (before : List Shape) (a b c d : Shape) (r : Result Command AllocError)
+    → IfOk r (λ line. app_of line ≡ line_of_commands ((((before ++ a ∷ []) ++ b ∷ []) ++ c ∷ []) ++ d ∷ []))
     → IfOk r (λ line. app_of line ≡ line_of_commands (before ++ a ∷ b ∷ c ∷ d ∷ []))
 four_more before a b c d r is = subst (λ (shapes : List Shape). IfOk r (λ line. app_of line ≡ line_of_commands shapes)) (four_joined before a b c d) is
 
@@ -69,7 +79,8 @@ four_more before a b c d r is = subst (λ (shapes : List Shape). IfOk r (λ line
 in_order_joined : (a b c d e f g : List Shape) → (((((a ++ b) ++ c) ++ d) ++ e) ++ f) ++ g ≡ a ++ (b ++ (c ++ (d ++ (e ++ (f ++ g)))))
 in_order_joined a b c d e f g = simp append_assoc
 
-pub in_order : (a b c d e f g : List Shape) (r : Result Command AllocError) → IfOk r (λ line. app_of line ≡ line_of_commands ((((((([] ++ a) ++ b) ++ c) ++ d) ++ e) ++ f) ++ g))
+pub in_order : (a b c d e f g : List Shape) (r : Result Command AllocError)
+    → IfOk r (λ line. app_of line ≡ line_of_commands ((((((([] ++ a) ++ b) ++ c) ++ d) ++ e) ++ f) ++ g))
     → IfOk r (λ line. app_of line ≡ line_of_commands (a ++ (b ++ (c ++ (d ++ (e ++ (f ++ g)))))))
 in_order a b c d e f g r is = subst (λ (shapes : List Shape). IfOk r (λ line. app_of line ≡ line_of_commands shapes)) (in_order_joined a b c d e f g) is
 
@@ -83,7 +94,8 @@ pub met_name : (m : ArgMatches) → subcommand_name_of m ≡ option_map (λ p. p
 met_name m = name_there (out-ArgMatches m).subcommand
 
 -- the command that was met, by its name and its rows
-pub met : (r : Option (Bor Text × Bor ArgMatches)) (o : Option (Text × List Row)) → option_map (λ p. p.0.now) r ≡ option_map (λ p. p.0) o → option_map (λ p. rows_of (found_of p.1.now)) r ≡ option_map (λ p. p.1) o
+pub met : (r : Option (Bor Text × Bor ArgMatches)) (o : Option (Text × List Row)) → option_map (λ p. p.0.now) r ≡ option_map (λ p. p.0) o
+    → option_map (λ p. rows_of (found_of p.1.now)) r ≡ option_map (λ p. p.1) o
     → option_map (λ p. (p.0.now, argument_rows p.1.now)) r ≡ o
 unfolding argument_rows
 met None None name rows = refl

@@ -114,8 +114,11 @@ pub told_end : {O : Type 0} (step : Step O) (refusal : MessageFault → List ℕ
     → Written end held holds (λ text. EndsEarly step refusal old text old rest end)
 told_end step refusal old held holds rest fault Closed ever x = absurd x
 told_end step refusal old held holds rest fault ReadFault ever x = absurd x
-told_end step refusal old held holds rest fault BadMessage ever x =
-    (refusal fault, record { writes = x.writes; ends = x.open_still }, (fault, λ stop more. refused_conversation step refusal old stop (rest ++ more) fault (ever stop more)))
+told_end step refusal old held holds rest fault BadMessage ever x = (
+  refusal fault,
+  record { writes = x.writes; ends = x.open_still },
+  (fault, λ stop more. refused_conversation step refusal old stop (rest ++ more) fault (ever stop more)),
+)
 told_end step refusal old held holds rest fault WriteFault ever (part, short, written) = (
   take part (refusal fault),
   written,

@@ -41,7 +41,8 @@ module _ {O L : Type 0} (step : Step O) (live : Step L) (IsOf : L → O → Type
       let goes = served_along life old p.exchanges new is p.served well in
       (goes.0, record { exchanges = p.exchanges; begins = p.begins; served = goes.1; text_is = p.text_is }, goes.2)
 
-  conversation_along : (refusal : MessageFault → List ℕ) (life : L) (stop : Stop) (input : List ℕ) (old : Timed O) (text : List ℕ) (ending : Ending) (new : Timed O)
+  conversation_along : (refusal : MessageFault → List ℕ) (life : L) (stop : Stop) (input : List ℕ) (old : Timed O) (text : List ℕ)
+      (ending : Ending) (new : Timed O)
       → IsOf life old.0 → Conversation (timed step) refusal stop input old text ending new → Well new.0
       → Goes new.0 (λ after. Conversation (timed live) refusal stop input (life, old.1) text ending (after, new.1))
   conversation_along refusal life stop input old text ending new is c well =

@@ -248,4 +248,11 @@ finds_next input (NeedBody missing) is = record {
 pub message_takes : (input : List ℕ) (m : Message) (n : ℕ) → BeginsMessage input m (drop n input) → n ≤ length input → 0 < n
 message_takes input m n x h =
     let all = ap length x.begins.reads.1 in
-    omega (arith, head_some x.head, length-append (print_request x.head) (m.body ++ drop n input), length-append m.body (drop n input), length-drop n input, all)
+    omega (
+      arith,
+      head_some x.head,
+      length-append (print_request x.head) (m.body ++ drop n input),
+      length-append m.body (drop n input),
+      length-drop n input,
+      all,
+    )

@@ -58,7 +58,8 @@ failed_run step refusal old new unread left held holds taken rest text w c writt
     (taken, c, record { text = text; written = written; conversation = rw append-nil at all })
 
 -- a read that failed, or had no room
-pub read_run : {O : Type 0} (step : Step O) (refusal : MessageFault → List ℕ) (old new : Timed O) (told tells : Option (List Use)) (a b c held holds : Option (List ℕ))
+pub read_run : {O : Type 0} (step : Step O) (refusal : MessageFault → List ℕ) (old new : Timed O) (told tells : Option (List Use))
+    (a b c held holds : Option (List ℕ))
     (wanted : ℕ) (taken rest after text : List ℕ) (w : Wants) (end : End) → Consumes a b taken → IsInputRead told tells b c wanted rest after (Err end)
     → Appends held holds text → Progress (timed step) taken rest old text new → IsAwaited rest w
     → IsRun step refusal old new a c held holds end
@@ -109,11 +110,13 @@ used_none step old told unread held =
     record { told_are = Grows-nil told; paced = record { in_turn = tt; reads = Consumes-nil unread; writes = Appends-nil held } }
 
 -- a read that was made where this was left and awaited
-pub used_read : {O : Type 0} (step : Step O) (old new : Timed O) (told mid tells : Option (List Use)) (unread left now held holds : Option (List ℕ)) (uses : List Use)
+pub used_read : {O : Type 0} (step : Step O) (old new : Timed O) (told mid tells : Option (List Use))
+    (unread left now held holds : Option (List ℕ)) (uses : List Use)
     (rest : List ℕ) (w : Wants) (wanted : ℕ) (passed : Passed) → wanted ≡ count_of w → Used step old told mid unread left held holds uses → AreOpen uses
     → Progress (timed step) (received uses) rest old (written uses) new → IsAwaited rest w → (asks : AsksOnce mid tells wanted passed)
     → Consumes left now (bytes_in passed) → Used step old told tells unread now held holds (uses ++ asked asks.0 passed ∷ [])
-used_read step old new told mid tells unread left now held holds uses rest w wanted passed all used opened answered awaited (count, least, fits_in, grows) reads =
+used_read step old new told mid tells unread left now held holds uses rest w wanted passed all used opened answered awaited
+    (count, least, fits_in, grows) reads =
     let within : count ≤ count_of w = omega (arith, least, all) in
     let more : List Use = asked count passed ∷ [] in
     let fits = awaited_fits rest w awaited in
@@ -131,7 +134,8 @@ used_read step old new told mid tells unread left now held holds uses rest w wan
     }
 
 -- texts that were handed over where nothing had failed
-pub used_sends : {O : Type 0} (step : Step O) (old : Timed O) (told mid tells : Option (List Use)) (unread left held holds now : Option (List ℕ)) (uses : List Use)
+pub used_sends : {O : Type 0} (step : Step O) (old : Timed O) (told mid tells : Option (List Use))
+    (unread left held holds now : Option (List ℕ)) (uses : List Use)
     (text : List ℕ) → Used step old told mid unread left held holds uses → AreSound uses → (w : Writes (holds, mid) (now, tells) text)
     → Used step old told tells unread left held now (uses ++ w.uses)
 used_sends step old told mid tells unread left held holds now uses text used sound w = record {
@@ -157,13 +161,16 @@ abbrev pub Paced : {O : Type 0} → Step O → Timed O → (told tells : Option 
 Paced step old told tells unread left held holds end =
     (uses : List Use) × Grows told tells uses × IsPaced step old unread left held holds uses × EndsBy end uses
 
-pub paced : {O : Type 0} (step : Step O) (old : Timed O) (told tells : Option (List Use)) (unread left held holds : Option (List ℕ)) (end : End) (uses : List Use)
+pub paced : {O : Type 0} (step : Step O) (old : Timed O) (told tells : Option (List Use)) (unread left held holds : Option (List ℕ))
+    (end : End) (uses : List Use)
     → Used step old told tells unread left held holds uses → EndsBy end uses → Paced step old told tells unread left held holds end
 paced step old told tells unread left held holds end uses used ends = (uses, used.told_are, used.paced, ends)
 
-module _ {O : Type 0} (step : Step O) (old new : Timed O) (told mid tells : Option (List Use)) (unread left now held holds : Option (List ℕ)) (uses : List Use) (rest : List ℕ) where
+module _ {O : Type 0} (step : Step O) (old new : Timed O) (told mid tells : Option (List Use))
+    (unread left now held holds : Option (List ℕ)) (uses : List Use) (rest : List ℕ) where
   -- a read that failed, or had no room
-  pub paced_read : (after : List ℕ) (w : Wants) (wanted : ℕ) (end : End) → wanted ≡ count_of w → Used step old told mid unread left held holds uses → AreOpen uses
+  pub paced_read : (after : List ℕ) (w : Wants) (wanted : ℕ) (end : End) → wanted ≡ count_of w
+      → Used step old told mid unread left held holds uses → AreOpen uses
       → Progress (timed step) (received uses) rest old (written uses) new → IsAwaited rest w → IsInputRead mid tells left now wanted rest after (Err end)
       → Paced step old told tells unread now held holds end
   paced_read after w wanted ReadFault all used opened answered awaited (kept, same, asks) =
@@ -204,14 +211,16 @@ module _ {O : Type 0} (step : Step O) (old new : Timed O) (told mid tells : Opti
       )
 
   -- a read that was not interrupted
-  module _ (after : List ℕ) (w : Wants) (wanted count : ℕ) (all_wanted : wanted ≡ count_of w) (used : Used step old told mid unread left held holds uses) (opened : AreOpen uses)
+  module _ (after : List ℕ) (w : Wants) (wanted count : ℕ) (all_wanted : wanted ≡ count_of w)
+      (used : Used step old told mid unread left held holds uses) (opened : AreOpen uses)
       (answered : Progress (timed step) (received uses) rest old (written uses) new) (awaited : IsAwaited rest w)
       (read : IsInputRead mid tells left now wanted rest after (Ok (Some count))) where
     abbrev made : List Use
     made = uses ++ asked read.5.0 (moved read.0) ∷ []
 
     was_read : Used step old told tells unread now held holds made
-    was_read = used_read step old new told mid tells unread left now held holds uses rest w wanted (moved read.0) all_wanted used opened answered awaited read.5 read.3
+    was_read = used_read step old new told mid tells unread left now held holds uses rest w wanted (moved read.0) all_wanted used opened
+        answered awaited read.5 read.3
 
     sound : AreSound made
     sound = AreSound-append uses (asked read.5.0 (moved read.0) ∷ []) (are_sound uses opened) (tt, tt)
@@ -233,7 +242,8 @@ module _ {O : Type 0} (step : Step O) (old new : Timed O) (told mid tells : Opti
         let more : List Use = asked read.5.0 (moved read.0) ∷ [] in
         let all = made ++ w.uses in
         let one : Progress (timed step) (received uses ++ read.0) after old (written uses) new =
-        subst (λ l. Progress (timed step) (received uses ++ read.0) l old (written uses) new) (sym read.2) (progress-append (timed step) (received uses) rest read.0 old new (written uses) answered) in
+        subst (λ l. Progress (timed step) (received uses ++ read.0) l old (written uses) new) (sym read.2)
+        (progress-append (timed step) (received uses) rest read.0 old new (written uses) answered) in
         let both = progress_trans (timed step) (received uses ++ read.0) after left_over old new later (written uses) text one progress in
         let came : received uses ++ read.0 ≡ received all =
         sym (received-append made w.uses ∙ ap (λ l. received made ++ l) (sends_receive w.uses w.sends) ∙ append-nil (received made)

@@ -32,7 +32,8 @@ asks_stamped m now form at moment request same_moment same_request asks = rw (sa
 
 -- a life goes along with what the exchanges asked, and nothing else
 pub goes_along : (old : Timed Life) (xs : List MessageExchange) (new : Timed Life) → Exchanged (timed (answers_by life_serves)) old xs new
-    → (ats : List Stamped) × (replies : List (Result Answer Refusal)) × (finds : List (Result Found Refusal)) × AreAsked xs ats replies finds × (new.0 ≡ extended_along old.0 ats replies)
+    → (ats : List Stamped) × (replies : List (Result Answer Refusal)) × (finds : List (Result Found Refusal))
+    × AreAsked xs ats replies finds × (new.0 ≡ extended_along old.0 ats replies)
 goes_along old [] new same = ([], [], [], (refl, refl, refl), ap (λ (o : Timed Life). o.0) same ∙ along_none old.0)
 goes_along old (x ∷ xs) new (mid, ((outcome, inl (idle, same), told), reads), later) =
     let more = goes_along mid xs new later in (

@@ -53,7 +53,8 @@ data Why (m : Message) (now : Option ℤ) (outcome : Outcome) : Type 0 where
 -- a body whose rows cannot be read is that of a route that asks a request
 row_asks : (route : Route) (body : List ℕ) (row : ℕ) (cause : RowCause) → BodyAsks route body (Err (body_faults.Row row cause)) → AsksRequest route
 row_asks route body row cause asked lookup is =
-    let none : Err (body_faults.Row row cause) ≡ Err body_faults.OutsideRule = subst (λ r. BodyAsks r body (Err (body_faults.Row row cause))) is asked in absurd (cc)
+    let none : Err (body_faults.Row row cause) ≡ Err body_faults.OutsideRule =
+    subst (λ r. BodyAsks r body (Err (body_faults.Row row cause))) is asked in absurd (cc)
 
 why : (m : Message) (now : Option ℤ) (outcome : Outcome) → IsIdle m now outcome → Why m now outcome
 why m now (Faulty faults.Clock) is = outside is refl
@@ -61,7 +62,8 @@ why m now (Faulty faults.Body) (route, moment, comes, asks, asked) = unasked rou
 why m now (Faulty faults.NoRoute) (routed, none) = unrouted faults.NoRoute routed refl
 why m now (Faulty (faults.Method allowed)) (routed, none) = unrouted (faults.Method allowed) routed refl
 why m now (Replied form (Err (ImportRow row cause))) (told, (route, moment, comes, asked)) =
-    unasked route moment (body_faults.Row row cause) comes (row_asks route m.body row cause asked) asked (λ e. absurd (cc)) (ap (λ f. Replied f (Err (ImportRow row cause))) told)
+    unasked route moment (body_faults.Row row cause) comes (row_asks route m.body row cause asked) asked (λ e. absurd (cc))
+    (ap (λ f. Replied f (Err (ImportRow row cause))) told)
 why m now outcome is = absurd is
 
 module _ (are : AreOne) (m : Message) (now : Option ℤ) where
@@ -190,7 +192,8 @@ same_exchanges one (x ∷ xs) (y ∷ ys) ats bts replies finds messages moments 
     let now : x.now ≡ y.now = cc in
     absurd ((one x.message x.now).never_both asked.form at.moment at.request none.outcome asked.asks
     (at_other (λ m n. IsIdle m n none.outcome) x y message now none.idle))
-same_exchanges one (x ∷ xs) (y ∷ ys) ats bts replies finds messages moments (inr (inl (at, reply, asked, later, others, is, are, a))) (inr (inr (found, looked, rest, was, b))) =
+same_exchanges one (x ∷ xs) (y ∷ ys) ats bts replies finds messages moments (inr (inl (at, reply, asked, later, others, is, are, a)))
+    (inr (inr (found, looked, rest, was, b))) =
     let message : x.message ≡ y.message = cc in
     let now : x.now ≡ y.now = cc in
     absurd ((one x.message x.now).asks_or_looks asked.form looked.form at.moment looked.moment at.request looked.lookup asked.asks
@@ -200,12 +203,14 @@ same_exchanges one (x ∷ xs) (y ∷ ys) ats bts replies finds messages moments 
     let now : x.now ≡ y.now = cc in
     absurd ((one x.message x.now).looks_or_idle looked.form looked.moment looked.lookup none.outcome looked.looks
     (at_other (λ m n. IsIdle m n none.outcome) x y message now none.idle))
-same_exchanges one (x ∷ xs) (y ∷ ys) ats bts replies finds messages moments (inr (inr (found, looked, others, is, a))) (inr (inl (bt, other, ask, then, rest, was, were, b))) =
+same_exchanges one (x ∷ xs) (y ∷ ys) ats bts replies finds messages moments (inr (inr (found, looked, others, is, a)))
+    (inr (inl (bt, other, ask, then, rest, was, were, b))) =
     let message : x.message ≡ y.message = cc in
     let now : x.now ≡ y.now = cc in
     absurd ((one x.message x.now).asks_or_looks ask.form looked.form bt.moment looked.moment bt.request looked.lookup
     (at_other (λ m n. MessageAsks m n ask.form bt.moment bt.request) x y message now ask.asks) looked.looks)
-same_exchanges one (x ∷ xs) (y ∷ ys) ats bts replies finds messages moments (inr (inl (at, reply, asked, later, others, is, are, a))) (inr (inl (bt, other, ask, then, rest, was, were, b))) =
+same_exchanges one (x ∷ xs) (y ∷ ys) ats bts replies finds messages moments (inr (inl (at, reply, asked, later, others, is, are, a)))
+    (inr (inl (bt, other, ask, then, rest, was, were, b))) =
     let message : x.message ≡ y.message = cc in
     let now : x.now ≡ y.now = cc in
     let meaning = (one x.message x.now).asks asked.form ask.form at.moment bt.moment at.request bt.request asked.asks
@@ -230,7 +235,8 @@ same_exchanges one (x ∷ xs) (y ∷ ys) ats bts replies finds messages moments 
     let same : found ≡ other = cc in
     let left : others ≡ rest = cc in
     let text : x.reply ≡ y.reply =
-    looked.told ∙ ap (λ f. reply_bytes_of (outcomes.Found f found) x.message.closes) meaning.0 ∙ ap (λ r. reply_bytes_of (outcomes.Found look.form r) x.message.closes) same
+    looked.told ∙ ap (λ f. reply_bytes_of (outcomes.Found f found) x.message.closes) meaning.0
+    ∙ ap (λ r. reply_bytes_of (outcomes.Found look.form r) x.message.closes) same
     ∙ ap (λ (m : Message). reply_bytes_of (outcomes.Found look.form other) m.closes) message ∙ sym look.told in
     let more = same_exchanges one xs ys ats bts replies others (cc) (cc) a (subst (λ l. AreAsked ys bts replies l) (sym left) b) in
     (ap (λ z. z ∷ xs) (same_exchange x y message now text) ∙ ap (λ zs. y ∷ zs) more.0, more.1)

@@ -34,15 +34,27 @@ use Rattle.desk_messages.specs.declared.reply.outcome.Outcome.TheVariants.{Repli
 use Rattle.desk_messages.specs.declared.reply.outcome.Outcome.TheVariants as outcomes
 
 -- a message asks something, which is served
-pub comes_asked : {O : Type 0} (serves : Serving O) (m : Message) (now : Option ℤ) (meaning : Meaning) (form : Form) (moment : ℕ) (request : Request) (reply : Result Answer Refusal)
-    (outcome : Outcome) (old new office : O) → IsMeaning m now meaning → meaning ≡ meanings.Asks form moment request → outcome ≡ Replied form reply → office ≡ new
+pub comes_asked : {O : Type 0} (serves : Serving O) (m : Message) (now : Option ℤ) (meaning : Meaning) (form : Form) (moment : ℕ)
+    (request : Request) (reply : Result Answer Refusal)
+    (outcome : Outcome) (old new office : O) → IsMeaning m now meaning → meaning ≡ meanings.Asks form moment request → outcome
+    ≡ Replied form reply → office ≡ new
     → serves.replies moment request reply old new → Comes serves m now outcome old office
 comes_asked serves m now meaning form moment request reply outcome old new office is means told same served =
-    inr (inl (form, moment, request, reply, told, subst (λ x. IsMeaning m now x) means is, subst (λ o. serves.replies moment request reply old o) (sym same) served))
+    inr (inl (
+      form,
+      moment,
+      request,
+      reply,
+      told,
+      subst (λ x. IsMeaning m now x) means is,
+      subst (λ o. serves.replies moment request reply old o) (sym same) served,
+    ))
 
 -- a message looks something up, which is found or refused
-pub comes_looked : {O : Type 0} (serves : Serving O) (m : Message) (now : Option ℤ) (meaning : Meaning) (form : Form) (moment : ℕ) (lookup : Lookup) (found : Result Found Refusal)
-    (outcome : Outcome) (old new office : O) → IsMeaning m now meaning → meaning ≡ meanings.Looks form moment lookup → outcome ≡ outcomes.Found form found → office ≡ new
+pub comes_looked : {O : Type 0} (serves : Serving O) (m : Message) (now : Option ℤ) (meaning : Meaning) (form : Form) (moment : ℕ)
+    (lookup : Lookup) (found : Result Found Refusal)
+    (outcome : Outcome) (old new office : O) → IsMeaning m now meaning → meaning ≡ meanings.Looks form moment lookup → outcome
+    ≡ outcomes.Found form found → office ≡ new
     → serves.finds moment lookup found old new → Comes serves m now outcome old office
 comes_looked serves m now meaning form moment lookup found outcome old new office is means told same finds =
     inr (inr (form, moment, lookup, found, told, subst (λ x. IsMeaning m now x) means is, subst (λ o. serves.finds moment lookup found old o) (sym same) finds))
@@ -54,7 +66,8 @@ comes_told serves m now meaning told outcome old office is means same kept =
     inl (subst (λ o. IsIdle m now o) (sym same) (subst (λ x. IsMeaning m now x) means is), kept)
 
 -- a message was answered, by the text that a result has
-pub was_answered : {O A E : Type 0} (serves : Serving O) (items : A → List ℕ) (old new : Timed O) (m : Message) (now : Option ℤ) (outcome : Outcome) (r : Result A E)
+pub was_answered : {O A E : Type 0} (serves : Serving O) (items : A → List ℕ) (old new : Timed O) (m : Message) (now : Option ℤ)
+    (outcome : Outcome) (r : Result A E)
     → ReadsClock old.1 now new.1 → Comes serves m now outcome old.0 new.0 → IfOk r (λ text. items text ≡ reply_bytes_of outcome m.closes)
     → IfOk r (λ reply. (x : MessageExchange) × (x.message ≡ m) × (x.reply ≡ items reply) × timed (answers_by serves) old x new)
 was_answered serves items old new m now outcome (Ok reply) reads comes text =
@@ -134,17 +147,20 @@ module _ {B : Type 0} (see : B → Seen) (refusal : MessageFault → List ℕ) (
     (is_run : IsRun (answers_by (books_serve see)) refusal old new unread left held holds end) (clean : HasCleanDisk (see new.0).state) where
   -- a life that books kept went on along a run of them, which left other tables alone
   run_kept : (life : Life) → Represents life (see old.0)
-      → (after : Life) × IsRun (answers_by life_serves) refusal (life, old.1) (after, new.1) unread left held holds end × KeepsFrom (see old.0).state after (see new.0)
+      → (after : Life) × IsRun (answers_by life_serves) refusal (life, old.1) (after, new.1) unread left held holds end
+      × KeepsFrom (see old.0).state after (see new.0)
   run_kept life keeps =
       let start = (see old.0).state in
-      run_along (answers_by (books_serve see)) (answers_by life_serves) (λ l books. KeepsFrom start l (see books)) (λ books. HasCleanDisk (see books).state) (books_follow see start)
+      run_along (answers_by (books_serve see)) (answers_by life_serves) (λ l books. KeepsFrom start l (see books))
+      (λ books. HasCleanDisk (see books).state) (books_follow see start)
       refusal life old new unread left held holds end (keeps, others_same start) is_run clean
 
   -- the disk was clean before it
   run_clean : HasCleanDisk (see old.0).state
   run_clean =
       let start = (see old.0).state in
-      run_well (answers_by (books_serve see)) (answers_by life_serves) (λ l books. KeepsFrom start l (see books)) (λ books. HasCleanDisk (see books).state) (books_follow see start)
+      run_well (answers_by (books_serve see)) (answers_by life_serves) (λ l books. KeepsFrom start l (see books))
+      (λ books. HasCleanDisk (see books).state) (books_follow see start)
       refusal old new unread left held holds end is_run clean
 
 -- a run over books is a conversation of them, and of the lives that they keep

@@ -53,7 +53,8 @@ first_value_at n vs ws i d inside few e =
     ∙ ap (λ (xs : List (List ℕ)). get_or xs i []) e
 
 -- what the first values of a text are is what the text tells
-pub read_of_first : {A : Type 0} (Rule : A → Type 0) (values_of : A → List (List ℕ)) (n : ℕ) (text front : List ℕ) (of : List (Bor (List ℕ))) (es : List (List ℕ))
+pub read_of_first : {A : Type 0} (Rule : A → Type 0) (values_of : A → List (List ℕ)) (n : ℕ) (text front : List ℕ)
+    (of : List (Bor (List ℕ))) (es : List (List ℕ))
     (r : Option A) → length of ≡ 13 → length es ≡ n → n ≤ 13 → AllByRecursion BeginsWithStop es → LackStops (map now of)
     → ((a : A) → length (values_of a) ≡ n) → ((a : A) → Rule a → LackStops (values_of a)) → text ≡ front ++ woven (map now of) es []
     → IsFound (λ a. Rule a × (take n (map now of) ≡ values_of a)) r
@@ -68,7 +69,8 @@ read_of_first Rule values_of n text front of es r len all few begin free as_many
     (λ a h. (
       h.0,
       ap (λ (m : ℕ). take m (map now of)) (sym all)
-          ∙ one_reading text front (map now of) (values_of a) es (omega (arith, len, all, few, length-map of now)) (as_many a ∙ sym all) begin free (plain a h.0) is h.1,
+          ∙ one_reading text front (map now of) (values_of a) es (omega (arith, len, all, few, length-map of now)) (as_many a ∙ sym all)
+          begin free (plain a h.0) is h.1,
     ))
     found
 

@@ -42,7 +42,8 @@ marked Unfit rest = refl
 marked Unable rest = refl
 
 abbrev of_mark : ℕ → Start
-of_mark n = if n == 50048097 then Json else (if n == 50048116 then Paper else (if n == 52052045 then Missing else (if n == 52057084 then Forbidden else (if n == 52050116 then Unfit else (Unable)))))
+of_mark n = if n == 50048097 then Json else (if n == 50048116 then Paper else
+    (if n == 52052045 then Missing else (if n == 52057084 then Forbidden else (if n == 52050116 then Unfit else (Unable)))))
 
 back : (s : Start) → of_mark (mark_of s) ≡ s
 back Json = refl

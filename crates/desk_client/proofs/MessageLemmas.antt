@@ -99,7 +99,11 @@ host_is = record {
 length_is : (n : ℕ) → n ≤ longest_body → IsField (length_field n)
 unfolding is_token_byte
 length_is n h = record {
-  name = (omega arith, All-from_recursion (λ b. IsTrue (is_token_byte b)) (codes "Content-Length") (refl, (refl, (refl, (refl, (refl, (refl, (refl, (refl, (refl, (refl, (refl, (refl, (refl, (refl, tt)))))))))))))));
+  name = (
+    omega arith,
+    All-from_recursion (λ b. IsTrue (is_token_byte b)) (codes "Content-Length")
+        (refl, (refl, (refl, (refl, (refl, (refl, (refl, (refl, (refl, (refl, (refl, (refl, (refl, (refl, tt)))))))))))))),
+  );
   raw = All-cons (λ b. IsTrue (is_value_byte b)) 32 (decimal n) refl (each_digit (λ b. IsTrue (is_value_byte b)) is_value n h);
 }
 
@@ -155,7 +159,14 @@ get_short : (target : List ℕ) → length target ≤ longest_target → length 
 unfolding front_lines
 get_short target h =
     let same = ap length (get_bytes target []) in
-    omega (arith, h, same, length-append (message_bytes Get target []) [], length-append (print_request (get_head target)) [], three target host_line (13 ∷ 10 ∷ []))
+    omega (
+      arith,
+      h,
+      same,
+      length-append (message_bytes Get target []) [],
+      length-append (print_request (get_head target)) [],
+      three target host_line (13 ∷ 10 ∷ []),
+    )
 
 line_len : (n : ℕ) → n ≤ longest_body → length (length_line n) ≤ 25
 unfolding length_line
@@ -202,7 +213,8 @@ post_framed target n h =
 begins : (method : Method) (target body rest : List ℕ) → Visible target → HasBodyOf method body
     → BeginsMessage (message_bytes method target body ++ rest) (record { method = method; target = target; body = body; closes = false }) rest
 begins Get target body rest seen none =
-    subst (λ b. BeginsMessage (message_bytes Get target b ++ rest) (record { method = Get; target = target; body = b; closes = false }) rest) (sym none) (record {
+    subst (λ b. BeginsMessage (message_bytes Get target b ++ rest) (record { method = Get; target = target; body = b; closes = false })
+    rest) (sym none) (record {
       head = get_head target;
       begins = record {
         reads = (get_is target seen, get_bytes target rest);
@@ -226,6 +238,7 @@ begins Post target body rest seen h = record {
 -- a desk reads the bytes of a message that can be sent as this message
 pub is_message : (m : Message) (rest : List ℕ) → IsSendable m → BeginsMessage (message_bytes m.method m.target m.body ++ rest) m rest
 is_message m rest sendable =
-    subst (λ (closes : Bool). BeginsMessage (message_bytes m.method m.target m.body ++ rest) (record { method = m.method; target = m.target; body = m.body; closes = closes }) rest)
+    subst (λ (closes : Bool). BeginsMessage (message_bytes m.method m.target m.body ++ rest)
+    (record { method = m.method; target = m.target; body = m.body; closes = closes }) rest)
     (sym sendable.goes_on)
     (begins m.method m.target m.body rest (sendable.some, sendable.short, sendable.text, sendable.visible) sendable.body)

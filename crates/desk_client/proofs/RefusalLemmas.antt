@@ -25,7 +25,13 @@ plain_refusal_name NoMeter = (refl, (refl, (refl, (refl, (refl, (refl, (refl, tt
 plain_refusal_name refusals.NoTariff = (refl, (refl, (refl, (refl, (refl, (refl, (refl, (refl, tt))))))))
 plain_refusal_name refusals.Differs = (refl, (refl, (refl, (refl, (refl, (refl, (refl, tt)))))))
 plain_refusal_name BeforeBase = (refl, (refl, (refl, (refl, (refl, (refl, (refl, (refl, (refl, (refl, tt))))))))))
-plain_refusal_name IdentifiersSpent = (refl, (refl, (refl, (refl, (refl, (refl, (refl, (refl, (refl, (refl, (refl, (refl, (refl, (refl, (refl, (refl, tt))))))))))))))))
+plain_refusal_name IdentifiersSpent = (
+  refl,
+  (
+    refl,
+    (refl, (refl, (refl, (refl, (refl, (refl, (refl, (refl, (refl, (refl, (refl, (refl, (refl, (refl, tt)))))))))))))),
+  ),
+)
 plain_refusal_name IdentifierAhead = (refl, (refl, (refl, (refl, (refl, (refl, (refl, (refl, (refl, (refl, (refl, (refl, (refl, (refl, (refl, tt)))))))))))))))
 plain_refusal_name TooLittle = (refl, (refl, (refl, (refl, (refl, (refl, (refl, (refl, (refl, tt)))))))))
 plain_refusal_name OfficeFull = (refl, (refl, (refl, (refl, (refl, (refl, (refl, (refl, (refl, (refl, tt))))))))))
@@ -46,7 +52,8 @@ plain_cause TooManyRows is = (refl, (refl, (refl, (refl, (refl, (refl, (refl, (r
 plain_cause causes.Differs is = (refl, (refl, (refl, (refl, (refl, (refl, (refl, tt)))))))
 plain_cause causes.NoTariff is = (refl, (refl, (refl, (refl, (refl, (refl, (refl, (refl, tt))))))))
 plain_cause causes.DayPast is = (refl, (refl, (refl, (refl, (refl, (refl, (refl, tt)))))))
-plain_cause (Field number) is = plain_append (codes "Field ") (decimal number) (refl, (refl, (refl, (refl, (refl, (refl, tt)))))) (plain_number number (omega (arith, is)))
+plain_cause (Field number) is = plain_append (codes "Field ") (decimal number) (refl, (refl, (refl, (refl, (refl, (refl, tt))))))
+    (plain_number number (omega (arith, is)))
 
 -- numbers of refusals are small
 pub few_refusals : (refusal : Refusal) → refusal_number refusal < 2 ^ 32
@@ -73,7 +80,8 @@ few_refusals refusals.DayPast = omega arith
 -- the refusals by number; none is told by 0, nor by that of a row
 by_number : List Refusal
 by_number =
-    RefReused ∷ RefReused ∷ NoShift ∷ ShiftOpen ∷ NoMeter ∷ refusals.NoTariff ∷ refusals.Differs ∷ BeforeBase ∷ IdentifiersSpent ∷ IdentifierAhead ∷ TooLittle ∷ OfficeFull ∷ NoSale ∷ NoSuchShift ∷ RefReused ∷ Memory ∷ Store ∷ Stopped ∷ NotLater ∷ refusals.DayPast ∷ []
+    RefReused ∷ RefReused ∷ NoShift ∷ ShiftOpen ∷ NoMeter ∷ refusals.NoTariff ∷ refusals.Differs ∷ BeforeBase ∷ IdentifiersSpent
+    ∷ IdentifierAhead ∷ TooLittle ∷ OfficeFull ∷ NoSale ∷ NoSuchShift ∷ RefReused ∷ Memory ∷ Store ∷ Stopped ∷ NotLater ∷ refusals.DayPast ∷ []
 
 numbered_so : (refusal : Refusal) → IsPlain refusal → get_or by_number (refusal_number refusal) RefReused ≡ refusal
 unfolding by_number

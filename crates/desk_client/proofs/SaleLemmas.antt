@@ -77,7 +77,8 @@ read_of_values most text of r len free is found =
     (λ sale h. (
       h.0,
       sym (take_all 13 (map now of) (omega (arith, len, length-map of now)))
-          ∙ one_reading text (123 ∷ 34 ∷ 98 ∷ 97 ∷ 115 ∷ 101 ∷ 34 ∷ 58 ∷ []) (map now of) (sale_values sale) sale_ends (omega (arith, len, length-map of now)) refl
+          ∙ one_reading text (123 ∷ 34 ∷ 98 ∷ 97 ∷ 115 ∷ 101 ∷ 34 ∷ 58 ∷ []) (map now of) (sale_values sale) sale_ends
+          (omega (arith, len, length-map of now)) refl
           (refl, (refl, (refl, (refl, (refl, (refl, (refl, (refl, (refl, (refl, (refl, (refl, (refl, tt))))))))))))) free (plain_sale most sale h.0) is h.1,
     ))
     found

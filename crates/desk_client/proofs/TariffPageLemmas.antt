@@ -50,7 +50,8 @@ one_later days steps plain l m told also e =
 pub one_tariff : IsArray → Spells → AreReadInOneWay IsToldLater later_text → IsOneDay → AreOneSteps → ((day : ℕ) → IsDay day → LacksStop (day_text day))
     → (t u : ListedTariff) → IsToldTariff t → IsToldTariff u → tariff_text t ≡ tariff_text u → tariff_view t ≡ tariff_view u
 one_tariff array spells way days steps plain t u told also e =
-    let texts = behind_later array spells way (open_text t) (closed_list_text (map later_text t.later.items) ++ with_steps (codes ",\"name\":\"") t.name t.steps)
+    let texts = behind_later array spells way (open_text t)
+    (closed_list_text (map later_text t.later.items) ++ with_steps (codes ",\"name\":\"") t.name t.steps)
     t.later.items (with_steps (codes ",\"name\":\"") t.name t.steps) refl told.later refl u [] also
     (sym (opened array spells t told) ∙ e ∙ sym (append-nil (tariff_text u))) in
     let same = one_with_steps (codes ",\"name\":\"") t.name u.name t.steps u.steps [] [] (plain_name t.name told.name.bytes) (plain_name u.name also.name.bytes)

@@ -82,11 +82,13 @@ paper-head status line body is =
 json-reply : (body : List ℕ) → reply_text (record { status = 200; form = forms.Json; allowed = None; closes = false }) body ≡ head_bytes Json (length body) body
 json-reply body = json-head 200 _ body ok-line
 
-paper-reply : (body : List ℕ) → reply_text (record { status = 200; form = forms.Paper; allowed = None; closes = false }) body ≡ head_bytes Paper (length body) body
+paper-reply : (body : List ℕ) → reply_text (record { status = 200; form = forms.Paper; allowed = None; closes = false }) body
+    ≡ head_bytes Paper (length body) body
 paper-reply body = paper-head 200 _ body ok-line
 
 category-reply : (c : Category) (body : List ℕ)
-    → reply_text (record { status = category_status c; form = forms.Json; allowed = None; closes = false }) body ≡ head_bytes (category_start c) (length body) body
+    → reply_text (record { status = category_status c; form = forms.Json; allowed = None; closes = false }) body
+    ≡ head_bytes (category_start c) (length body) body
 category-reply categories.Missing body = json-head 404 _ body missing-line
 category-reply categories.Forbidden body = json-head 409 _ body forbidden-line
 category-reply categories.Unfit body = json-head 422 _ body unfit-line

@@ -53,7 +53,8 @@ as_it_is test plain text passes =
 -- so do the digits of a number
 decimal_as_it_is : (n : ℕ) → n < 2 ^ 64 → flat_map escape_byte (decimal n) ≡ decimal n
 decimal_as_it_is n small =
-    unescaped (decimal n) (recursion_from_All (λ b. escape_byte b ≡ b ∷ []) (decimal n) (All-from_get_or (λ b. escape_byte b ≡ b ∷ []) (decimal n) 0 (λ i inside.
+    unescaped (decimal n) (recursion_from_All (λ b. escape_byte b ≡ b ∷ []) (decimal n)
+    (All-from_get_or (λ b. escape_byte b ≡ b ∷ []) (decimal n) 0 (λ i inside.
     let is = digit_at (decimal n) i (decimal_is_IsNumeral n small).0.1 inside in
     between_plain (get_or (decimal n) i 0) is.0 is.1)))
 

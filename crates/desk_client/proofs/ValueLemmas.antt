@@ -66,7 +66,8 @@ read_moment value n z (Some m) small is same known given =
 read_moment value n z None small is same known given = λ m found.
     let equal : m ≡ n = decimal_injective m n (omega (arith, found.0)) small (sym found.1 ∙ is) in
     let within : (pos first_moment ≤ℤ pos m) × (pos m ≤ℤ pos last_moment) = (omega (arith, ints, found.0.0), omega (arith, ints, found.0.1)) in
-    let inside : (pos first_moment ≤ℤ z) × (z ≤ℤ pos last_moment) = subst (λ y. (pos first_moment ≤ℤ y) × (y ≤ℤ pos last_moment)) (ap pos equal ∙ sym same) within in
+    let inside : (pos first_moment ≤ℤ z) × (z ≤ℤ pos last_moment) =
+    subst (λ y. (pos first_moment ≤ℤ y) × (y ≤ℤ pos last_moment)) (ap pos equal ∙ sym same) within in
     let there : IsSome {T = ℕ} None = known.1 inside in cc
 
 -- a number of 32 bits is the same as one of 64 with a sign

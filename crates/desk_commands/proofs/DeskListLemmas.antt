@@ -26,7 +26,8 @@ use Rattle.vend_ports.specs.declared.port.loopback.Loopback as loopback
 
 -- what came of a message says what came of the page
 pub page_asked : {S : Type 0} (remaining contents : S → Held) (list : Listed) (fresh last : S) (came : Text) (page : Result Found PageFault)
-    → IsRound remaining contents fresh last (question_text (page_question list)) came → IsPageIn list came page → IsPageAsked remaining contents list fresh last page
+    → IsRound remaining contents fresh last (question_text (page_question list)) came → IsPageIn list came page
+    → IsPageAsked remaining contents list fresh last page
 page_asked remaining contents list fresh last came (Ok page) round is = (came, round, is)
 page_asked remaining contents list fresh last came (Err (faults.Unsent fault)) round is = tt
 page_asked remaining contents list fresh last came (Err (faults.Refused refusal)) round is = (came, round, is)
@@ -36,27 +37,34 @@ page_asked remaining contents list fresh last came (Err faults.Memory) round is 
 
 -- ---- a round more
 
-more_rounds : {S : Type 0} (remaining contents : S → Held) (rounds : List Round) (fresh now last : S) (message came : Text) → AreRounds remaining contents rounds fresh now → IsRound remaining contents now last message came
+more_rounds : {S : Type 0} (remaining contents : S → Held) (rounds : List Round) (fresh now last : S) (message came : Text)
+    → AreRounds remaining contents rounds fresh now → IsRound remaining contents now last message came
     → AreRounds remaining contents (rounds ++ record { message = message; came = came } ∷ []) fresh last
 more_rounds remaining contents [] fresh now last message came are is = (last, subst (λ s. IsRound remaining contents s last message came) are is, refl)
-more_rounds remaining contents (round ∷ rounds) fresh now last message came (between, held, are) is = (between, held, more_rounds remaining contents rounds between now last message came are is)
+more_rounds remaining contents (round ∷ rounds) fresh now last message came (between, held, are) is =
+    (between, held, more_rounds remaining contents rounds between now last message came are is)
 
-more_told : (list : Option Listed) (rounds : List Round) (pages : List Found) (next : Listed) (came : Text) (page : Found) → TellPages list rounds pages (Some next) → IsPageReply next came page
+more_told : (list : Option Listed) (rounds : List Round) (pages : List Found) (next : Listed) (came : Text) (page : Found)
+    → TellPages list rounds pages (Some next) → IsPageReply next came page
     → TellPages list (and_next rounds next came) (pages ++ page ∷ []) (list_behind page)
-more_told list [] [] next came page are told = subst (λ (l : Option Listed). TellPages l (and_next [] next came) (page ∷ []) (list_behind page)) are (refl, told, refl)
+more_told list [] [] next came page are told = subst
+    (λ (l : Option Listed). TellPages l (and_next [] next came) (page ∷ []) (list_behind page)) are (refl, told, refl)
 more_told list [] (first ∷ pages) next came page are told = absurd are
 more_told None (round ∷ rounds) pages next came page are told = absurd are
 more_told (Some list) (round ∷ rounds) [] next came page are told = absurd are
-more_told (Some list) (round ∷ rounds) (first ∷ pages) next came page (asks, tells, are) told = (asks, tells, more_told (list_behind first) rounds pages next came page are told)
+more_told (Some list) (round ∷ rounds) (first ∷ pages) next came page (asks, tells, are) told =
+    (asks, tells, more_told (list_behind first) rounds pages next came page are told)
 
 -- why no list follows a page
-last_page : (Most : Type 0) (next behind : Option Listed) (failed : Bool) → next ≡ None → next ≡ (if failed then None else behind) → (behind ≡ None) ⊎ ((failed ≡ true) ⊎ Most)
+last_page : (Most : Type 0) (next behind : Option Listed) (failed : Bool) → next ≡ None → next ≡ (if failed then None else behind)
+    → (behind ≡ None) ⊎ ((failed ≡ true) ⊎ Most)
 last_page Most next behind true none is = inr (inl refl)
 last_page Most next behind false none is = inl (sym is ∙ none)
 
 -- ---- all pages
 
-module _ {N S : Type 0} (of : loopback.Ghosts N S) (remaining contents : S → Held) (net : N) (desk : Address) (list : Listed) (json : Bool) (before : Sink) where
+module _ {N S : Type 0} (of : loopback.Ghosts N S) (remaining contents : S → Held) (net : N) (desk : Address) (list : Listed) (json : Bool)
+    (before : Sink) where
   -- the pages before one were asked for and printed
   pub record AskedSoFar (now : S) (after : Sink) (next : Listed) (page : ℕ) : Type 0 where
     pub fresh : S
@@ -72,7 +80,8 @@ module _ {N S : Type 0} (of : loopback.Ghosts N S) (remaining contents : S → H
   none_asked fresh calls = record { fresh = fresh; rounds = []; pages = []; calls = calls; held = refl; put = takes_none before; are = refl; count = refl }
 
   -- no connection could be had
-  pub uncalled : (err told : Sink) → of.misses net desk → Takes err told net_line → IsListedAtDesk (calls_of of remaining contents net) desk list json (outputs before before err told) how.Refused
+  pub uncalled : (err told : Sink) → of.misses net desk → Takes err told net_line
+      → IsListedAtDesk (calls_of of remaining contents net) desk list json (outputs before before err told) how.Refused
   uncalled err told misses says = record {
     rounds = [];
     pages = [];
@@ -87,7 +96,8 @@ module _ {N S : Type 0} (of : loopback.Ghosts N S) (remaining contents : S → H
     has_held : Exchanges of remaining contents net desk so_far.rounds
     has_held = record { fresh = so_far.fresh; last = now; calls = so_far.calls; held = so_far.held }
 
-    holds_more : (came : Text) → IsRound remaining contents now last (question_text (page_question next)) came → Exchanges of remaining contents net desk (and_next so_far.rounds next came)
+    holds_more : (came : Text) → IsRound remaining contents now last (question_text (page_question next)) came
+        → Exchanges of remaining contents net desk (and_next so_far.rounds next came)
     holds_more came round = record {
       fresh = so_far.fresh;
       last = last;
@@ -100,7 +110,8 @@ module _ {N S : Type 0} (of : loopback.Ghosts N S) (remaining contents : S → H
         let text = ap (λ n. pages_text json so_far.pages ++ page_text json (n == 0) found) (sym so_far.count) ∙ more_text json so_far.pages found in
         takes_as before after _ _ text (takes_next before part after (pages_text json so_far.pages) (page_text json (page == 0) found) so_far.put put)
 
-    pub page_more : (behind : Listed) → IsPagePrinted remaining contents next json (page == 0) now last part after (Ok (Some behind)) → AskedSoFar last after behind (page + 1)
+    pub page_more : (behind : Listed) → IsPagePrinted remaining contents next json (page == 0) now last part after (Ok (Some behind))
+        → AskedSoFar last after behind (page + 1)
     page_more behind (found, (came, round, told), (put, follows)) = record {
       fresh = so_far.fresh;
       rounds = and_next so_far.rounds next came;
@@ -108,12 +119,14 @@ module _ {N S : Type 0} (of : loopback.Ghosts N S) (remaining contents : S → H
       calls = so_far.calls;
       held = more_rounds remaining contents so_far.rounds so_far.fresh now last (question_text (page_question next)) came so_far.held round;
       put = put_more found put;
-      are = subst (λ (left : Option Listed). TellPages (Some list) (and_next so_far.rounds next came) (so_far.pages ++ found ∷ []) left) (some_behind behind (list_behind found) after.failed follows)
+      are = subst (λ (left : Option Listed). TellPages (Some list) (and_next so_far.rounds next came) (so_far.pages ++ found ∷ []) left)
+          (some_behind behind (list_behind found) after.failed follows)
           (more_told (Some list) so_far.rounds so_far.pages next came found so_far.are told);
       count = length-append so_far.pages (found ∷ []) ∙ ap (λ n. n + 1) so_far.count;
     }
 
-    pub page_last : (err : Sink) (behind : Option Listed) → behind ≡ None → IsPagePrinted remaining contents next json (page == 0) now last part after (Ok behind)
+    pub page_last : (err : Sink) (behind : Option Listed) → behind ≡ None
+        → IsPagePrinted remaining contents next json (page == 0) now last part after (Ok behind)
         → IsListedAtDesk (calls_of of remaining contents net) desk list json (outputs before after err err) how.Done
     page_last err behind none (found, (came, round, told), (put, follows)) = record {
       rounds = and_next so_far.rounds next came;
@@ -126,7 +139,8 @@ module _ {N S : Type 0} (of : loopback.Ghosts N S) (remaining contents : S → H
     }
 
     -- more pages than any office has
-    pub most_printed : (err : Sink) → page ≡ most_pages → IsListedAtDesk (calls_of of remaining contents net) desk list json (outputs before part err err) how.Done
+    pub most_printed : (err : Sink) → page ≡ most_pages
+        → IsListedAtDesk (calls_of of remaining contents net) desk list json (outputs before part err err) how.Done
     most_printed err most = record {
       rounds = so_far.rounds;
       pages = so_far.pages;
@@ -137,7 +151,8 @@ module _ {N S : Type 0} (of : loopback.Ghosts N S) (remaining contents : S → H
       stops = (has_held, inr (inr (so_far.count ∙ most)));
     }
 
-    stops_at : (fault : PageFault) → IsPageAsked remaining contents next now last (Err fault) → IsPageStop (calls_of of remaining contents net) desk so_far.rounds (Some next) fault
+    stops_at : (fault : PageFault) → IsPageAsked remaining contents next now last (Err fault)
+        → IsPageStop (calls_of of remaining contents net) desk so_far.rounds (Some next) fault
     stops_at (faults.Unsent exchanges.Net) asked = unsent has_held refl
     stops_at (faults.Unsent exchanges.Memory) asked = no_room has_held refl
     stops_at (faults.Refused refusal) (came, round, why) = (next, refl, came, holds_more came round, why)
@@ -145,7 +160,8 @@ module _ {N S : Type 0} (of : loopback.Ghosts N S) (remaining contents : S → H
     stops_at faults.OutOfForm (came, round, why) = (next, refl, came, holds_more came round, why)
     stops_at faults.Memory (came, round, why) = (next, refl, came, holds_more came round, why)
 
-    pub page_stopped : (err told : Sink) (fault : PageFault) → IsPagePrinted remaining contents next json (page == 0) now last part after (Err fault) → Takes err told (page_fault_line fault)
+    pub page_stopped : (err told : Sink) (fault : PageFault)
+        → IsPagePrinted remaining contents next json (page == 0) now last part after (Err fault) → Takes err told (page_fault_line fault)
         → IsListedAtDesk (calls_of of remaining contents net) desk list json (outputs before after err told) how.Refused
     page_stopped err told fault (asked, put) says = record {
       rounds = so_far.rounds;

@@ -9,7 +9,8 @@ use Rattle.command_line.specs.declared.commands.list.Listed.{Listed}
 use Rattle.desk_commands.specs.print.ListTexts.{page_text, pages_text}
 
 -- the text of a page more
-pub more_text : (json : Bool) (pages : List Found) (page : Found) → pages_text json pages ++ page_text json (length pages == 0) page ≡ pages_text json (pages ++ page ∷ [])
+pub more_text : (json : Bool) (pages : List Found) (page : Found) → pages_text json pages ++ page_text json (length pages == 0) page
+    ≡ pages_text json (pages ++ page ∷ [])
 more_text json [] page = sym (append-nil (page_text json true page))
 more_text json (first ∷ pages) page =
     let later : (length (first ∷ pages) == 0) ≡ false = ne_eqb (length (first ∷ pages)) 0 (λ e. omega (arith, e)) in

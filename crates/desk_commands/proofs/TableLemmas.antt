@@ -11,7 +11,8 @@ abbrev pub fields_left : Text → List (Bor Text) → Text
 fields_left separator fields = spaced 9 separator (map (λ f. f.now) fields) ++ 10 ∷ []
 
 -- a separator and a field are added
-pub fields_more : (separator : Text) (fields : List (Bor Text)) (i : ℕ) (d : Bor Text) (old a b whole : Text) → i < length fields → a ≡ old ++ separator → b ≡ a ++ (get_or fields i d).now
+pub fields_more : (separator : Text) (fields : List (Bor Text)) (i : ℕ) (d : Bor Text) (old a b whole : Text) → i < length fields → a ≡ old
+    ++ separator → b ≡ a ++ (get_or fields i d).now
     → old ++ fields_left separator (drop i fields) ≡ whole → b ++ fields_left (9 ∷ []) (drop (i + 1) fields) ≡ whole
 fields_more separator fields i d old a b whole inside e f is =
     let field = (get_or fields i d).now in

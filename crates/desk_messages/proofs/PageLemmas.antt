@@ -177,10 +177,13 @@ meter-made m digits rule base number tariff t0 t1 t2 t3 t4 t5 t6 t7 b n r e1 e2 
 -- ---- shifts
 
 shift-object : (cash number opened sales tenths : ℕ) (closed : Data) (operator : List ℕ)
-    → compact_text (object_of ((codes "cash", whole_number cash) ∷ (codes "closed", closed) ∷ (codes "number", whole_number number) ∷ (codes "opened", whole_number opened)
+    → compact_text (object_of ((codes "cash", whole_number cash) ∷ (codes "closed", closed) ∷ (codes "number", whole_number number)
+    ∷ (codes "opened", whole_number opened)
     ∷ (codes "operator", string operator) ∷ (codes "sales", whole_number sales) ∷ (codes "tenths", whole_number tenths) ∷ []))
-    ≡ codes "{\"cash\":" ++ (decimal cash ++ (codes ",\"closed\":" ++ (compact_text closed ++ (codes ",\"number\":" ++ (decimal number ++ (codes ",\"opened\":" ++ (decimal opened
-    ++ (codes ",\"operator\":" ++ (quoted operator ++ (codes ",\"sales\":" ++ (decimal sales ++ (codes ",\"tenths\":" ++ (decimal tenths ++ codes "}")))))))))))))
+    ≡ codes "{\"cash\":" ++ (decimal cash ++ (codes ",\"closed\":"
+    ++ (compact_text closed ++ (codes ",\"number\":" ++ (decimal number ++ (codes ",\"opened\":" ++ (decimal opened
+    ++ (codes ",\"operator\":" ++ (quoted operator ++ (codes ",\"sales\":"
+    ++ (decimal sales ++ (codes ",\"tenths\":" ++ (decimal tenths ++ codes "}")))))))))))))
 unfolding serde_json_on_literals
 shift-object cash number opened sales tenths closed operator = refl
 

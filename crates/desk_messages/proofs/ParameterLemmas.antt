@@ -178,7 +178,8 @@ not_parsed digits error parsed number is same =
     let none = parse_plain own 32 digits (Err error) parsed
     (λ plus. omega (arith, plus, ap (λ ds. get_or ds 0 0) same, leads.0)) in
     let numeral = decimal_is_IsNumeral number small in
-    none (subst (λ (ds : List ℕ). AllDigits 10 ds × (0 < length ds) × (digits_value 10 ds < 2 ^ 32)) (sym same) (numeral.0.1, numeral.0.0, omega (arith, numeral.1, is.most)))
+    none (subst (λ (ds : List ℕ). AllDigits 10 ds × (0 < length ds) × (digits_value 10 ds < 2 ^ 32)) (sym same)
+    (numeral.0.1, numeral.0.0, omega (arith, numeral.1, is.most)))
 
 -- one number is written by its digits
 pub same_number : (a b : ℕ) → a < 2 ^ 32 → IsTargetNumber b → decimal a ≡ decimal b → a ≡ b

@@ -116,7 +116,8 @@ same_lookup target (lookups.SaleOfRef o r) (lookups.SaleOfRef p s) k e m n =
     let same = same_two (codes "/operators/") (codes "sales/") o p r s (letters_lack o m.1.bytes) (letters_lack p n.1.bytes) (sym m.0 ∙ n.0) in
     ap (λ operator. lookups.SaleOfRef operator r) same.0 ∙ ap (λ order_ref. lookups.SaleOfRef p order_ref) same.1
 same_lookup target (lookups.Quote x t) (lookups.Quote y u) k e m n =
-    let same = same_two (codes "/meters/") (codes "quote?tender=") x y (decimal t) (decimal u) (digits_lack x m.1.digits) (digits_lack y n.1.digits) (sym m.0 ∙ n.0) in
+    let same = same_two (codes "/meters/") (codes "quote?tender=") x y (decimal t) (decimal u) (digits_lack x m.1.digits)
+    (digits_lack y n.1.digits) (sym m.0 ∙ n.0) in
     let tenders = same_number t u (omega (arith, m.2.1)) (record { from_one = n.2.0; most = omega (arith, n.2.1) }) same.1 in
     ap (λ meter. lookups.Quote meter t) same.0 ∙ ap (λ tender. lookups.Quote y tender) tenders
 same_lookup target (lookups.ShiftTotals x) (lookups.ShiftTotals y) k e m n =

@@ -46,7 +46,8 @@ pub sale_members-are : (s : Sale) (base change moment number price shift tender 
     → operator ≡ s.operator → IsOperator s.operator → price ≡ s.price → order_ref ≡ s.order_ref → IsName s.order_ref → shift ≡ s.shift
     → tender ≡ s.tender → tenths ≡ s.tenths → tid ≡ s.tid → token ≡ s.digits
     → let members : List Pair =
-    (codes "base", whole_number base) ∷ (codes "change", whole_number change) ∷ (codes "meter", string (utf8_lossy meter)) ∷ (codes "moment", whole_number moment)
+    (codes "base", whole_number base) ∷ (codes "change", whole_number change) ∷ (codes "meter", string (utf8_lossy meter))
+    ∷ (codes "moment", whole_number moment)
     ∷ (codes "number", whole_number number) ∷ (codes "operator", string (utf8_lossy operator)) ∷ (codes "price", whole_number price)
     ∷ (codes "ref", string (utf8_lossy order_ref)) ∷ (codes "shift", whole_number shift) ∷ (codes "tender", whole_number tender)
     ∷ (codes "tenths", whole_number tenths) ∷ (codes "tid", whole_number tid) ∷ (codes "token", string (utf8_lossy token)) ∷ [] in

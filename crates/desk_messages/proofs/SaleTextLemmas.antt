@@ -42,7 +42,8 @@ as_it_is test plain text passes = unescaped test plain text (recursion_from_All 
 
 -- the members in the order of their names
 object-text : (base change moment number price shift tender tenths tid : ℕ) (meter operator order_ref token : List ℕ)
-    → json_text ((codes "base", whole_number base) ∷ (codes "change", whole_number change) ∷ (codes "meter", string meter) ∷ (codes "moment", whole_number moment)
+    → json_text ((codes "base", whole_number base) ∷ (codes "change", whole_number change) ∷ (codes "meter", string meter)
+    ∷ (codes "moment", whole_number moment)
     ∷ (codes "number", whole_number number) ∷ (codes "operator", string operator) ∷ (codes "price", whole_number price)
     ∷ (codes "ref", string order_ref) ∷ (codes "shift", whole_number shift) ∷ (codes "tender", whole_number tender)
     ∷ (codes "tenths", whole_number tenths) ∷ (codes "tid", whole_number tid) ∷ (codes "token", string token) ∷ [])

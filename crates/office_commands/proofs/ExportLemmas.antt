@@ -29,7 +29,8 @@ pub page_split : PagesLaw → (sales : List Sale) (page : ℕ) → export_from s
 page_split law sales page =
     let rest = drop (page * 1000) sales in
     let whole : take 1000 rest ++ drop 1000 rest ≡ rest = take-append-drop 1000 rest in
-    let further : drop 1000 rest ≡ drop ((page + 1) * 1000) sales = drop-drop 1000 (page * 1000) sales ∙ ap (λ n. drop n sales) {x = page * 1000 + 1000} {y = (page + 1) * 1000} (omega arith) in
+    let further : drop 1000 rest ≡ drop ((page + 1) * 1000) sales =
+    drop-drop 1000 (page * 1000) sales ∙ ap (λ n. drop n sales) {x = page * 1000 + 1000} {y = (page + 1) * 1000} (omega arith) in
     let later : (page + 1 == 0) ≡ false = ne_eqb (page + 1) 0 (λ e. omega (arith, e)) in
     let text = export_of (page == 0) (take 1000 rest) in
     ap (export_of (page == 0)) (sym whole) ∙ law (page == 0) (take 1000 rest) (drop 1000 rest)
@@ -69,7 +70,8 @@ module _ (old mid new : Seen) (before part after : Sink) (page : ℕ) (front : L
     (reads : AreOnlyRead mid new) where
   -- what is left behind the page of these sales
   behind : (sales : List Sale) → (HasCleanDisk new.state → (life : Life) → Represents life mid → sales ≡ page_of (present life).sales page)
-      → HasCleanDisk new.state → (life : Life) → Represents life old → (front ++ export_of (page == 0) sales) ++ export_from (present life).sales (page + 1) ≡ export_of true (present life).sales
+      → HasCleanDisk new.state → (life : Life) → Represents life old → (front ++ export_of (page == 0) sales)
+      ++ export_from (present life).sales (page + 1) ≡ export_of true (present life).sales
   behind sales given clean life kept =
       let all = (present life).sales in
       let are = given clean life (so_far.reads.keeps life kept) in
@@ -86,10 +88,12 @@ module _ (old mid new : Seen) (before part after : Sink) (page : ℕ) (front : L
     stopped = put.4 ∙ so_far.stopped;
   }
 
-  pub page_last : (err : Sink) (more : Bool) → more ≡ false → IsPage mid new page part after (Ok more) → IsExported old new (outputs before after err err) how.Done
+  pub page_last : (err : Sink) (more : Bool) → more ≡ false → IsPage mid new page part after (Ok more)
+      → IsExported old new (outputs before after err err) how.Done
   page_last err more none put =
       let text = front ++ export_of (page == 0) put.0 in
-      let whole : after.failed ≡ false → HasCleanDisk new.state → (life : Life) → Represents life old → text ≡ export_of true (present life).sales = λ sound clean life kept.
+      let whole : after.failed ≡ false → HasCleanDisk new.state → (life : Life) → Represents life old → text
+      ≡ export_of true (present life).sales = λ sound clean life kept.
       let all = (present life).sales in
       let are = put.1 clean life (so_far.reads.keeps life kept) in
       let past = past_short all page (λ e. ended (length put.0) after.failed more put.3 none sound (ap length are ∙ e)) in

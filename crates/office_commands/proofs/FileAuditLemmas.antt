@@ -60,7 +60,8 @@ partial_stands db at row there got lacks o stands =
     (has_got (rows_in db shifts_kept.table.name) at row got))
 
 -- and where rows passed it stands for their office
-sound_stands : (given : Option BlockFunction) (db : Database) (a : Audited) (sound : IsSound given db a) → HasTablesInOrder db → (1 ≤ a.format → HaveAllColumns db)
+sound_stands : (given : Option BlockFunction) (db : Database) (a : Audited) (sound : IsSound given db a) → HasTablesInOrder db
+    → (1 ≤ a.format → HaveAllColumns db)
     → StandsFor db sound.office
 sound_stands given db a sound order whole = sound.stands order (elim (cases_lt 0 a.format) [
   | inl some ↦ λ _. whole some
@@ -110,7 +111,8 @@ module _ {D : Type 0} {g : Ghosts D} where
   excused_earlier first read last same survives Broken (inl shut) = let is_open = same.0.is_open in cc
   excused_earlier first read last same survives Broken (inr fault) = inr (let counts = survives.counts in omega (arith, fault))
 
-  module _ (given : Option BlockFunction) (image : Image) (first read last : Held (FileStore D g)) (connected : HasCleanDisk (file_state first) → IsConnected image (file_state first)) where
+  module _ (given : Option BlockFunction) (image : Image) (first read last : Held (FileStore D g))
+      (connected : HasCleanDisk (file_state first) → IsConnected image (file_state first)) where
     early : (found : Result Audited AuditFault) → IsAuditOf given (file_state first) (file_state read) found → HasCleanDisk (file_state read)
         → IsConnected image (file_state first)
     early found audit clean = connected (omega (arith, audit.survives.clean, clean))
@@ -206,7 +208,8 @@ module _ {D : Type 0} {g : Ghosts D} where
                 there = found.3;
                 lacks = found.4;
                 before = found.5;
-                none = partial_stands (file_state first).now found.0 found.1 (shifts_there given (file_state first).now audited (is_sound mid) some) found.3 found.4;
+                none = partial_stands (file_state first).now found.0 found.1
+                    (shifts_there given (file_state first).now audited (is_sound mid) some) found.3 found.4;
               }
       audit_whole (Err e) looks = record {
         passes = λ clean. tt;
@@ -220,7 +223,8 @@ module _ {D : Type 0} {g : Ghosts D} where
         survives = survives_both (Err e) looks;
       }
 
-    pub audit_of_file : (found told : Result Audited AuditFault) → IsAuditOf given (file_state first) (file_state read) found → LooksAtShifts read last found told
+    pub audit_of_file : (found told : Result Audited AuditFault) → IsAuditOf given (file_state first) (file_state read) found
+        → LooksAtShifts read last found told
         → IsAuditOfFile given first last told
     audit_of_file found told audit (passed_over none same is) =
         subst (λ (end : Held (FileStore D g)). IsAuditOfFile given first end told) (sym same)

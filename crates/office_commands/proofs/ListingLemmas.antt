@@ -36,7 +36,8 @@ abbrev refused_so : Refusal → Result Found Refusal
 refused_so refusal = Err refusal
 
 -- what was found is in the office
-pub page_found : (life : Life) (moment : ℕ) (lookup : Lookup) (page : Found) → IsFoundAt life moment lookup (Ok page) → Finds (present life) moment lookup (Ok page)
+pub page_found : (life : Life) (moment : ℕ) (lookup : Lookup) (page : Found) → IsFoundAt life moment lookup (Ok page)
+    → Finds (present life) moment lookup (Ok page)
 page_found life moment lookup page (inl finds) = finds
 page_found life moment lookup page (inr (inl e)) = let none : found_one page ≡ refused_so Memory = e in absurd (cc)
 page_found life moment lookup page (inr (inr (inl e))) = let none : found_one page ≡ refused_so Store = e in absurd (cc)
@@ -53,7 +54,8 @@ same_so : (a b : Refusal) → refused_so a ≡ refused_so b → a ≡ b
 same_so a b e = cc
 
 -- so a page is refused for want of memory, or as the books could not be read
-pub page_refusal : (life : Life) (moment : ℕ) (list : Listed) (refusal : Refusal) → IsFoundAt life moment (page_lookup list) (Err refusal) → IsPageRefusal refusal
+pub page_refusal : (life : Life) (moment : ℕ) (list : Listed) (refusal : Refusal) → IsFoundAt life moment (page_lookup list) (Err refusal)
+    → IsPageRefusal refusal
 page_refusal life moment list refusal (inl finds) = absurd (none_refused (present life) moment list refusal finds)
 page_refusal life moment list refusal (inr (inl e)) = inl (same_so refusal Memory e)
 page_refusal life moment list refusal (inr (inr (inl e))) = inr (inl (same_so refusal Store e))
@@ -61,7 +63,8 @@ page_refusal life moment list refusal (inr (inr (inr e))) = inr (inr (same_so re
 
 -- ---- a page more
 
-more_pages : (o : Office) (moment : ℕ) (list : Option Listed) (pages : List Found) (next : Listed) (page : Found) → ArePages o moment list pages (Some next) → Finds o moment (page_lookup next) (Ok page)
+more_pages : (o : Office) (moment : ℕ) (list : Option Listed) (pages : List Found) (next : Listed) (page : Found)
+    → ArePages o moment list pages (Some next) → Finds o moment (page_lookup next) (Ok page)
     → ArePages o moment list (pages ++ page ∷ []) (list_behind page)
 more_pages o moment list [] next page is finds = subst (λ (l : Option Listed). ArePages o moment l (page ∷ []) (list_behind page)) is (finds, refl)
 more_pages o moment None (first ∷ pages) next page are finds = absurd are
@@ -75,7 +78,8 @@ none_behind next behind false none is sound = sym is ∙ none
 -- ---- all pages
 
 -- the pages before one were printed, and no write failed
-pub record ListedSoFar (moment : ℕ) (list : Listed) (json : Bool) (old now : Seen) (before after : Sink) (next : Listed) (page : ℕ) (pages : List Found) : Type 0 where
+pub record ListedSoFar (moment : ℕ) (list : Listed) (json : Bool) (old now : Seen) (before after : Sink) (next : Listed) (page : ℕ)
+    (pages : List Found) : Type 0 where
   pub put : Takes before after (pages_text json pages)
   pub are : HasCleanDisk now.state → (life : Life) → Represents life old → ArePages (present life) moment (Some list) pages (Some next)
   pub count : length pages ≡ page
@@ -83,7 +87,13 @@ pub record ListedSoFar (moment : ℕ) (list : Listed) (json : Bool) (old now : S
   pub stopped : now.stopped ≡ old.stopped
 
 pub no_pages : (moment : ℕ) (list : Listed) (json : Bool) (books : Seen) (before : Sink) → ListedSoFar moment list json books books before before list 0 []
-no_pages moment list json books before = record { put = takes_none before; are = λ clean life kept. refl; count = refl; reads = read_none books; stopped = refl }
+no_pages moment list json books before = record {
+  put = takes_none before;
+  are = λ clean life kept. refl;
+  count = refl;
+  reads = read_none books;
+  stopped = refl;
+}
 
 module _ (moment : ℕ) (list : Listed) (json : Bool) (old mid new : Seen) (before part after : Sink) (next : Listed) (page : ℕ) (pages : List Found)
     (so_far : ListedSoFar moment list json old mid before part next page pages)
@@ -98,18 +108,21 @@ module _ (moment : ℕ) (list : Listed) (json : Bool) (old mid new : Seen) (befo
       let text = ap (λ n. pages_text json pages ++ page_text json (n == 0) found) (sym so_far.count) ∙ more_text json pages found in
       takes_as before after _ _ text (takes_next before part after (pages_text json pages) (page_text json (page == 0) found) so_far.put put)
 
-  pub page_more : (behind : Listed) (put : IsListPage moment next json (page == 0) mid new part after (Ok (Some behind))) → ListedSoFar moment list json old new before after behind (page + 1) (pages ++ put.0 ∷ [])
+  pub page_more : (behind : Listed) (put : IsListPage moment next json (page == 0) mid new part after (Ok (Some behind)))
+      → ListedSoFar moment list json old new before after behind (page + 1) (pages ++ put.0 ∷ [])
   page_more behind put =
       let is = some_behind behind (list_behind put.0) after.failed put.3 in
       record {
         put = put_more put.0 put.2;
-        are = λ clean life kept. subst (λ (left : Option Listed). ArePages (present life) moment (Some list) (pages ++ put.0 ∷ []) left) is (are_more put.0 put.1 clean life kept);
+        are = λ clean life kept. subst (λ (left : Option Listed). ArePages (present life) moment (Some list) (pages ++ put.0 ∷ []) left) is
+            (are_more put.0 put.1 clean life kept);
         count = length-append pages (put.0 ∷ []) ∙ ap (λ n. n + 1) so_far.count;
         reads = read_then old mid new so_far.reads reads;
         stopped = put.4 ∙ so_far.stopped;
       }
 
-  pub page_last : (err : Sink) (behind : Option Listed) → behind ≡ None → IsListPage moment next json (page == 0) mid new part after (Ok behind) → IsListed moment list json old new (outputs before after err err) how.Done
+  pub page_last : (err : Sink) (behind : Option Listed) → behind ≡ None
+      → IsListPage moment next json (page == 0) mid new part after (Ok behind) → IsListed moment list json old new (outputs before after err err) how.Done
   page_last err behind none put = record {
     pages = pages ++ put.0 ∷ [];
     left = list_behind put.0;
@@ -122,7 +135,8 @@ module _ (moment : ℕ) (list : Listed) (json : Bool) (old mid new : Seen) (befo
     reads = read_then old mid new so_far.reads reads;
   }
 
-  pub page_refused : (err told : Sink) (refusal : Refusal) → IsListPage moment next json (page == 0) mid new part after (Err refusal) → Takes err told (refusal_line refusal)
+  pub page_refused : (err told : Sink) (refusal : Refusal) → IsListPage moment next json (page == 0) mid new part after (Err refusal)
+      → Takes err told (refusal_line refusal)
       → IsListed moment list json old new (outputs before after err told) how.Refused
   page_refused err told refusal put says = record {
     pages = pages;
@@ -137,7 +151,8 @@ module _ (moment : ℕ) (list : Listed) (json : Bool) (old mid new : Seen) (befo
   }
 
 -- more pages than any file has
-pub most_printed : (moment : ℕ) (list : Listed) (json : Bool) (old new : Seen) (before after err : Sink) (next : Listed) (page : ℕ) (pages : List Found) → ListedSoFar moment list json old new before after next page pages → page ≡ most_pages
+pub most_printed : (moment : ℕ) (list : Listed) (json : Bool) (old new : Seen) (before after err : Sink) (next : Listed) (page : ℕ)
+    (pages : List Found) → ListedSoFar moment list json old new before after next page pages → page ≡ most_pages
     → IsListed moment list json old new (outputs before after err err) how.Done
 most_printed moment list json old new before after err next page pages so_far most = record {
   pages = pages;

@@ -29,7 +29,8 @@ read_none books = record {
 }
 
 -- by one
-pub read_once : {A : Type 0} {Own : Refusal → Type 0} {IsSeen : Database → Result A Refusal → Type 0} {given : Result A Refusal} (old new : Seen) → ReadsBooks Own IsSeen given old new → AreOnlyRead old new
+pub read_once : {A : Type 0} {Own : Refusal → Type 0} {IsSeen : Database → Result A Refusal → Type 0} {given : Result A Refusal}
+    (old new : Seen) → ReadsBooks Own IsSeen given old new → AreOnlyRead old new
 read_once old new reads = record { keeps = reads.keeps; tables = reads.tables; nothing = reads.nothing; clean = reads.clean }
 
 -- by one after others

@@ -27,7 +27,8 @@ none_here : {A : Type 0} (o : Option (Bor A)) → is_some o ≡ false → option
 none_here None none = refl
 none_here (Some x) none = cc
 
-pub none_under : {A : Type 0} (m : BTreeMap (Bor (List ℕ)) (Bor A)) (key name : List ℕ) → is_some (get_by (λ k. slice_cmp nat_cmp key k.now) m) ≡ false → key ≡ name → under m name ≡ None
+pub none_under : {A : Type 0} (m : BTreeMap (Bor (List ℕ)) (Bor A)) (key name : List ℕ)
+    → is_some (get_by (λ k. slice_cmp nat_cmp key k.now) m) ≡ false → key ≡ name → under m name ≡ None
 none_under m key name none same = ap (λ (k : List ℕ). under m k) (sym same) ∙ none_here (get_by (λ k. slice_cmp nat_cmp key k.now) m) none
 
 -- a row more is put last
@@ -36,7 +37,8 @@ with_rows-push [] row o = refl
 with_rows-push (first ∷ rest) row o = with_rows-push rest row (with_row first o)
 
 -- what is under each name where one was put
-put_here : {A : Type 0} (x : Bor A) (o : Option (Bor A)) (b c : Bool) → b ≡ c → option_map (λ (y : Bor A). y.now) (cond b (Some x) o) ≡ (if c then Some x.now else option_map (λ (y : Bor A). y.now) o)
+put_here : {A : Type 0} (x : Bor A) (o : Option (Bor A)) (b c : Bool) → b ≡ c → option_map (λ (y : Bor A). y.now) (cond b (Some x) o)
+    ≡ (if c then Some x.now else option_map (λ (y : Bor A). y.now) o)
 put_here x o true true same = refl
 put_here x o false false same = refl
 put_here x o true false same = cc
@@ -59,9 +61,11 @@ put_under {A} m n key x name updates same q =
 
 -- the same under a name and a day
 pub found_dated : {A : Type 0} (m : BTreeMap (Bor (List ℕ) × ℕ) (Bor A)) (key name : List ℕ) (at day : ℕ) (r : Option (Bor (Bor A))) (x : Bor (Bor A))
-    → option_copied r ≡ get_by (λ k. ordering_then (slice_cmp nat_cmp key k.0.now) (nat_cmp at k.1)) m → key ≡ name → at ≡ day → r ≡ Some x → dated_under m name day ≡ Some x.now.now
+    → option_copied r ≡ get_by (λ k. ordering_then (slice_cmp nat_cmp key k.0.now) (nat_cmp at k.1)) m → key ≡ name → at ≡ day → r ≡ Some x
+    → dated_under m name day ≡ Some x.now.now
 found_dated {A} m key name at day r x value same same_day is =
-    ap (λ (k : List ℕ). dated_under m k day) (sym same) ∙ ap (dated_under m key) (sym same_day) ∙ ap (λ (o : Option (Bor A)). option_map (λ y. y.now) o) (sym value ∙ ap option_copied is)
+    ap (λ (k : List ℕ). dated_under m k day) (sym same) ∙ ap (dated_under m key) (sym same_day)
+    ∙ ap (λ (o : Option (Bor A)). option_map (λ y. y.now) o) (sym value ∙ ap option_copied is)
 
 both_equal : (a b : Ordering) → is_eq (ordering_then a b) ≡ (is_eq a && is_eq b)
 both_equal Less b = refl
@@ -72,7 +76,8 @@ days_turned : (a b : ℕ) → (a == b) ≡ (b == a)
 days_turned a b = grind (arith, nat_tests)
 
 pub put_dated : {A : Type 0} (m n : BTreeMap (Bor (List ℕ) × ℕ) (Bor A)) (key : Bor (List ℕ) × ℕ) (x : Bor A) (name : List ℕ) (day : ℕ)
-    → Updates (λ (a b : Bor (List ℕ) × ℕ). ordering_then (slice_cmp nat_cmp a.0.now b.0.now) (nat_cmp a.1 b.1)) m n key (Some x) → key.0.now ≡ name → key.1 ≡ day
+    → Updates (λ (a b : Bor (List ℕ) × ℕ). ordering_then (slice_cmp nat_cmp a.0.now b.0.now) (nat_cmp a.1 b.1)) m n key (Some x)
+    → key.0.now ≡ name → key.1 ≡ day
     → (q : List ℕ) (d : ℕ) → dated_under n q d ≡ (if bytes_eq q name && (d == day) then Some x.now else dated_under m q d)
 put_dated {A} m n key x name day updates same same_day q d =
     let e = updates.0 (record { ref_ptr = (0, 0); now = q }, d) in
@@ -80,7 +85,8 @@ put_dated {A} m n key x name day updates same same_day q d =
     let dated = unsigned_tied key.1 d ∙ ap (λ (k : ℕ). k == d) same_day ∙ days_turned day d in
     ap (λ (o : Option (Bor A)). option_map (λ (y : Bor A). y.now) o) e
     ∙ put_here x (get_by (λ k. ordering_then (slice_cmp nat_cmp q k.0.now) (nat_cmp d k.1)) m) _ (bytes_eq q name && (d == day))
-    (both_equal (slice_cmp nat_cmp key.0.now q) (nat_cmp key.1 d) ∙ ap (λ (b : Bool). b && is_eq (nat_cmp key.1 d)) named ∙ ap (λ (b : Bool). bytes_eq q name && b) dated)
+    (both_equal (slice_cmp nat_cmp key.0.now q) (nat_cmp key.1 d) ∙ ap (λ (b : Bool). b && is_eq (nat_cmp key.1 d)) named
+    ∙ ap (λ (b : Bool). bytes_eq q name && b) dated)
 
 -- the office with rows has, under each name, what was put there, or what it had
 or_put : {A : Type 0} (b : Bool) (x : A) (taken there then_there : Option A) → then_there ≡ option_or taken there
@@ -102,4 +108,5 @@ or_none (Some x) there e = cc
 pub same_meter_decision : (number : List ℕ) (m : Meter) (found there : Option Meter) (has has_tariff : Bool) → found ≡ there → (there ≡ None → has ≡ has_tariff)
     → add_meter number m found has ≡ add_meter number m there has_tariff
 same_meter_decision number m found (Some k) has has_tariff same rest = ap (λ (o : Option Meter). add_meter number m o has) same
-same_meter_decision number m found None has has_tariff same rest = ap (λ (o : Option Meter). add_meter number m o has) same ∙ ap (add_meter number m None) (rest refl)
+same_meter_decision number m found None has has_tariff same rest =
+    ap (λ (o : Option Meter). add_meter number m o has) same ∙ ap (add_meter number m None) (rest refl)

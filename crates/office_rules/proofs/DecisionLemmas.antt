@@ -30,7 +30,8 @@ bind_ok (Ok x) f y e = (x, refl, e)
 bind_ok (Err refusal) f y e = cc
 
 -- what holds of each refusal, and after each `Ok`, holds after a test
-pub after_test : {A B : Type 0} (P : Result B Refusal → Type 0) (r : Result A Refusal) (f : A → Result B Refusal) → ((refusal : Refusal) → P (Err refusal)) → ((x : A) → r ≡ Ok x → P (f x)) → P (r >>= f)
+pub after_test : {A B : Type 0} (P : Result B Refusal → Type 0) (r : Result A Refusal) (f : A → Result B Refusal)
+    → ((refusal : Refusal) → P (Err refusal)) → ((x : A) → r ≡ Ok x → P (f x)) → P (r >>= f)
 after_test P (Ok x) f refused granted = granted x refl
 after_test P (Err refusal) f refused granted = refused refusal
 
@@ -42,7 +43,8 @@ pub or_refusal_ok : {A : Type 0} (r : Result A TidFault) (x : A) → or_refusal 
 or_refusal_ok (Ok y) x e = cc
 or_refusal_ok (Err fault) x e = cc
 
-room_at : (count number : ℕ) (b : Bool) → b ≡ nat_lt count greatest_count → (if b then Ok (count + 1) else Err refusals.OfficeFull) ≡ Ok number → (count < greatest_count) × (number ≡ count + 1)
+room_at : (count number : ℕ) (b : Bool) → b ≡ nat_lt count greatest_count → (if b then Ok (count + 1) else Err refusals.OfficeFull)
+    ≡ Ok number → (count < greatest_count) × (number ≡ count + 1)
 room_at count number true is e = (grind (arith, nat_tests), cc)
 room_at count number false is e = cc
 
@@ -74,7 +76,8 @@ pub same_Ok : {A : Type 0} (x y : A) → ◌≡◌ {A = Result A Refusal} (Ok x)
 same_Ok x y e = cc
 
 -- what a granted sale found at each test
-pub record Selling (forward : ℕ → ℕ → ℕ) (moment nibble : ℕ) (order : Order) (shift : Option Shift) (meter : Option MeterAccount) (count : ℕ) (change : Change) : Type 0 where
+pub record Selling (forward : ℕ → ℕ → ℕ) (moment nibble : ℕ) (order : Order) (shift : Option Shift) (meter : Option MeterAccount)
+    (count : ℕ) (change : Change) : Type 0 where
   pub opened : Shift
   pub facts : MeterAccount
   pub now : ℕ
@@ -88,11 +91,15 @@ pub record Selling (forward : ℕ → ℕ → ℕ) (moment nibble : ℕ) (order 
   pub room : count < greatest_count
   pub change_is : change ≡ sale_change (sale_made forward moment nibble order opened facts tid buy (count + 1))
 
-made_is : (forward : ℕ → ℕ → ℕ) (moment nibble : ℕ) (order : Order) (opened : Shift) (facts : MeterAccount) (tid : ℕ) (buy : Buy) (number next : ℕ) (change : Change) → ◌≡◌ {A = Result Change Refusal} (Ok (sale_change (sale_made forward moment nibble order opened facts tid buy number))) (Ok change) → number ≡ next → change ≡ sale_change (sale_made forward moment nibble order opened facts tid buy next)
+made_is : (forward : ℕ → ℕ → ℕ) (moment nibble : ℕ) (order : Order) (opened : Shift) (facts : MeterAccount) (tid : ℕ) (buy : Buy)
+    (number next : ℕ) (change : Change) → ◌≡◌ {A = Result Change Refusal}
+    (Ok (sale_change (sale_made forward moment nibble order opened facts tid buy number))) (Ok change) → number ≡ next → change
+    ≡ sale_change (sale_made forward moment nibble order opened facts tid buy next)
 made_is forward moment nibble order opened facts tid buy number next change e is =
     sym (same_Ok _ _ e) ∙ ap (λ n. sale_change (sale_made forward moment nibble order opened facts tid buy n)) is
 
-pub sell_ok : (forward : ℕ → ℕ → ℕ) (moment nibble : ℕ) (order : Order) (shift : Option Shift) (meter : Option MeterAccount) (count : ℕ) (change : Change) → sell forward moment nibble order shift meter count ≡ Ok change → Selling forward moment nibble order shift meter count change
+pub sell_ok : (forward : ℕ → ℕ → ℕ) (moment nibble : ℕ) (order : Order) (shift : Option Shift) (meter : Option MeterAccount) (count : ℕ)
+    (change : Change) → sell forward moment nibble order shift meter count ≡ Ok change → Selling forward moment nibble order shift meter count change
 sell_ok forward moment nibble order shift meter count change e =
     let a = bind_ok (ok_or shift refusals.NoShift) _ change e in
     let b = bind_ok (ok_or meter refusals.NoMeter) _ change a.2 in

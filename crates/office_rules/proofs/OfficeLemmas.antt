@@ -50,46 +50,57 @@ kept_if o true answer refusal office = office
 kept_if o false answer refusal office = office
 
 module _ (o : Office) (office : IsOffice o) where
-  by_add_tariff : (name : List ℕ) (steps : List Step) (there : Option (List Step)) → IsName name → IsSteps steps → IsOffice (office_after o (add_tariff name steps there))
+  by_add_tariff : (name : List ℕ) (steps : List Step) (there : Option (List Step)) → IsName name → IsSteps steps
+      → IsOffice (office_after o (add_tariff name steps there))
   by_add_tariff name steps None named priced = keeps_add_tariff o name steps office named priced
   by_add_tariff name steps (Some there) named priced = kept_if o (steps_eq there steps) _ _ office
 
-  by_day : (name : List ℕ) (day today : ℕ) (steps : List Step) (b : Bool) → IsDay day → IsSteps steps → IsSome (o.tariffs name) → IsOffice (office_after o (if b then changed (edits.AddSteps name day steps) answers.Done else Err refusals.DayPast))
+  by_day : (name : List ℕ) (day today : ℕ) (steps : List Step) (b : Bool) → IsDay day → IsSteps steps → IsSome (o.tariffs name)
+      → IsOffice (office_after o (if b then changed (edits.AddSteps name day steps) answers.Done else Err refusals.DayPast))
   by_day name day today steps true is priced tariff = keeps_add_steps o name day steps office is priced tariff
   by_day name day today steps false is priced tariff = office
 
-  by_add_steps : (name : List ℕ) (day today : ℕ) (steps : List Step) (has : Bool) (there : Option (List Step)) → is_some (o.tariffs name) ≡ has → IsDay day → IsSteps steps → IsOffice (office_after o (add_steps name day steps today has there))
+  by_add_steps : (name : List ℕ) (day today : ℕ) (steps : List Step) (has : Bool) (there : Option (List Step)) → is_some (o.tariffs name)
+      ≡ has → IsDay day → IsSteps steps → IsOffice (office_after o (add_steps name day steps today has there))
   by_add_steps name day today steps false there e is priced = office
   by_add_steps name day today steps true (Some there) e is priced = kept_if o (steps_eq there steps) _ _ office
   by_add_steps name day today steps true None e is priced = by_day name day today steps (nat_lt today day) is priced e
 
-  by_add_meter : (number : List ℕ) (m : Meter) (there : Option Meter) (has : Bool) → o.meters number ≡ there → is_some (o.tariffs m.tariff) ≡ has → IsMeter number m → IsOffice (office_after o (add_meter number m there has))
+  by_add_meter : (number : List ℕ) (m : Meter) (there : Option Meter) (has : Bool) → o.meters number ≡ there → is_some (o.tariffs m.tariff)
+      ≡ has → IsMeter number m → IsOffice (office_after o (add_meter number m there has))
   by_add_meter number m (Some there) has at e is = kept_if o (meter_eq there m) _ _ office
   by_add_meter number m None true at e is = keeps_add_meter o number m office is at e
   by_add_meter number m None false at e is = office
 
-  by_set : (number name : List ℕ) (b : Bool) → IsSome (o.tariffs name) → IsOffice (office_after o (if b then unchanged answers.Done else changed (edits.SetTariff number name) answers.Done))
+  by_set : (number name : List ℕ) (b : Bool) → IsSome (o.tariffs name)
+      → IsOffice (office_after o (if b then unchanged answers.Done else changed (edits.SetTariff number name) answers.Done))
   by_set number name true there = office
   by_set number name false there = keeps_set_tariff o number name office there
 
-  by_set_tariff : (number name : List ℕ) (there : Option Meter) (has : Bool) → is_some (o.tariffs name) ≡ has → IsOffice (office_after o (set_tariff number name there has))
+  by_set_tariff : (number name : List ℕ) (there : Option Meter) (has : Bool) → is_some (o.tariffs name) ≡ has
+      → IsOffice (office_after o (set_tariff number name there has))
   by_set_tariff number name None has e = office
   by_set_tariff number name (Some m) false e = office
   by_set_tariff number name (Some m) true e = by_set number name (bytes_eq m.tariff name) e
 
-  by_moving : (number : List ℕ) (base : Base) (m : Meter) (b : Bool) → o.meters number ≡ Some m → year_of m.base ≤ year_of base → IsOffice (office_after o (if b then Err refusals.BeforeBase else changed (edits.MoveBase number base) answers.Done))
+  by_moving : (number : List ℕ) (base : Base) (m : Meter) (b : Bool) → o.meters number ≡ Some m → year_of m.base ≤ year_of base
+      → IsOffice (office_after o (if b then Err refusals.BeforeBase else changed (edits.MoveBase number base) answers.Done))
   by_moving number base m true there later = office
   by_moving number base m false there later = keeps_move_base o number base m office there later
 
   not_earlier : (a b : Base) → is_earlier a b ≡ false → year_of b ≤ year_of a
   not_earlier a b e = grind (arith, nat_tests)
 
-  by_later : (number : List ℕ) (base : Base) (moment : ℕ) (m : Meter) (same earlier : Bool) → o.meters number ≡ Some m → is_earlier base m.base ≡ earlier → IsOffice (office_after o (if same then unchanged answers.Done else (if earlier then Err refusals.NotLater else (if nat_lt moment (base_date base) then Err refusals.BeforeBase else changed (edits.MoveBase number base) answers.Done))))
+  by_later : (number : List ℕ) (base : Base) (moment : ℕ) (m : Meter) (same earlier : Bool) → o.meters number ≡ Some m
+      → is_earlier base m.base ≡ earlier → IsOffice (office_after o
+      (if same then unchanged answers.Done else (if earlier then Err refusals.NotLater else
+      (if nat_lt moment (base_date base) then Err refusals.BeforeBase else changed (edits.MoveBase number base) answers.Done))))
   by_later number base moment m true earlier there e = office
   by_later number base moment m false true there e = office
   by_later number base moment m false false there e = by_moving number base m (nat_lt moment (base_date base)) there (not_earlier base m.base e)
 
-  by_move_base : (number : List ℕ) (base : Base) (moment : ℕ) (there : Option Meter) → o.meters number ≡ there → IsOffice (office_after o (move_base number base moment there))
+  by_move_base : (number : List ℕ) (base : Base) (moment : ℕ) (there : Option Meter) → o.meters number ≡ there
+      → IsOffice (office_after o (move_base number base moment there))
   by_move_base number base moment None at = office
   by_move_base number base moment (Some m) at = by_later number base moment m (base_eq m.base base) (is_earlier base m.base) at refl
 
@@ -103,7 +114,8 @@ by_import : (o : Office) (today : ℕ) (rows : List Row) → IsOffice o → All 
 by_import o today rows office are = import_keeps IsOffice IsRow today (λ p row is kept. by_row p kept today row is) o rows are office
 
 module _ (o : Office) (office : IsOffice o) where
-  by_open_shift : (moment : ℕ) (operator : List ℕ) (there : Option Shift) → open_shift o operator ≡ there → IsMoment moment → IsOperator operator → IsOffice (office_after o (open_a_shift moment operator there (length o.shifts)))
+  by_open_shift : (moment : ℕ) (operator : List ℕ) (there : Option Shift) → open_shift o operator ≡ there → IsMoment moment
+      → IsOperator operator → IsOffice (office_after o (open_a_shift moment operator there (length o.shifts)))
   by_open_shift moment operator (Some there) e is named = office
   by_open_shift moment operator None e is named =
       after_test (λ r. IsOffice (office_after o r)) (next_number (length o.shifts)) _ (λ refusal. office) (λ number next.
@@ -131,19 +143,22 @@ module _ (o : Office) (office : IsOffice o) where
       let u = used_by a order.meter new.to_meter.base there (same_meter ∙ new.meter) (same_base ∙ new.base) in
       All-contains (λ u. u < s.tid) (used o order.meter new.to_meter.base) a.tid new.tid.0.may_sell.above_used u
 
-  pub after_sales : (forward : ℕ → ℕ → ℕ) (at : Stamped) (order : Order) (s a : Sale) → sale_of_ref o order.operator order.order_ref ≡ None → IsNewSale forward o at order s → Contains o.sales a → IsBefore a s
+  pub after_sales : (forward : ℕ → ℕ → ℕ) (at : Stamped) (order : Order) (s a : Sale) → sale_of_ref o order.operator order.order_ref ≡ None
+      → IsNewSale forward o at order s → Contains o.sales a → IsBefore a s
   after_sales forward at order s a alone new there = record {
     number = omega (arith, number_within (λ s. s.number) o.sales a office.sale_numbers there, new.number);
     tid = λ same_meter same_base same. omega (arith, new_rises forward at order s a new there same_meter same_base, same);
     order_ref = λ same_operator same_ref.
-        let fails = All-contains (λ (b : Sale). (bytes_eq b.operator order.operator && bytes_eq b.order_ref order.order_ref) ≡ false) o.sales a (found_none _ o.sales alone) there in
+        let fails = All-contains (λ (b : Sale). (bytes_eq b.operator order.operator && bytes_eq b.order_ref order.order_ref) ≡ false)
+        o.sales a (found_none _ o.sales alone) there in
         let x = (bytes_eq-Decides a.operator order.operator).1 (same_operator ∙ new.operator) in
         let y = (bytes_eq-Decides a.order_ref order.order_ref).1 (same_ref ∙ new.order_ref) in
         false≢true (sym fails ∙ both_true _ _ x y);
   }
 
   -- a new sale's row
-  pub new_row : (forward : ℕ → ℕ → ℕ) (at : Stamped) (order : Order) (s : Sale) → IsMoment at.moment → IsOrder order → IsNewSale forward o at order s → IsSaleRow o s
+  pub new_row : (forward : ℕ → ℕ → ℕ) (at : Stamped) (order : Order) (s : Sale) → IsMoment at.moment → IsOrder order
+      → IsNewSale forward o at order s → IsSaleRow o s
   new_row forward at order s is ordered new =
       let opened = found _ o.shifts new.in_shift new.shift_is in
       let number = number_within (λ s. s.number) o.shifts new.in_shift office.shift_numbers opened.0 in
@@ -168,7 +183,9 @@ module _ (o : Office) (office : IsOffice o) where
       }
 
   module _ (laws : LowerLaws) (forward : ℕ → ℕ → ℕ) (range : KeepsRange forward) (at : Stamped) (moment : IsMoment at.moment) where
-    after_sell : (order : Order) → sale_of_ref o order.operator order.order_ref ≡ None → IsOrder order → (r : Result Change Refusal) → sell forward at.moment at.nibble order (open_shift o order.operator) (account_of o order.meter at.moment) (length o.sales) ≡ r → IsOffice (office_after o r)
+    after_sell : (order : Order) → sale_of_ref o order.operator order.order_ref ≡ None → IsOrder order → (r : Result Change Refusal)
+        → sell forward at.moment at.nibble order (open_shift o order.operator) (account_of o order.meter at.moment) (length o.sales) ≡ r
+        → IsOffice (office_after o r)
     after_sell order alone ordered (Err refusal) e = office
     after_sell order alone ordered (Ok change) e =
         let granted = granted_sale laws forward o at order change range office e in
@@ -176,10 +193,13 @@ module _ (o : Office) (office : IsOffice o) where
         (keeps_add_sale o granted.sale office (new_row forward at order granted.sale moment ordered granted.new) granted.new.number
         (λ a there. after_sales forward at order granted.sale a alone granted.new there) granted.room)
 
-    by_sell : (order : Order) (first : Option Sale) → sale_of_ref o order.operator order.order_ref ≡ first → IsOrder order → IsOffice (office_after o (sell_once forward at.moment at.nibble order first (open_shift o order.operator) (account_of o order.meter at.moment) (length o.sales)))
+    by_sell : (order : Order) (first : Option Sale) → sale_of_ref o order.operator order.order_ref ≡ first → IsOrder order
+        → IsOffice (office_after o (sell_once forward at.moment at.nibble order first (open_shift o order.operator)
+        (account_of o order.meter at.moment) (length o.sales)))
     by_sell order (Some first) e ordered = by_sell_again order first
     by_sell order None e ordered =
-        after_sell order e ordered (sell forward at.moment at.nibble order (open_shift o order.operator) (account_of o order.meter at.moment) (length o.sales)) refl
+        after_sell order e ordered (sell forward at.moment at.nibble order (open_shift o order.operator)
+        (account_of o order.meter at.moment) (length o.sales)) refl
 
     by_reprint : (sale : Option Sale) → IsOffice (office_after o (reprint sale))
     by_reprint None = office
@@ -204,7 +224,8 @@ module _ (o : Office) (office : IsOffice o) where
     by_request (requests.ShiftReport number) is = by_report (shift_numbered o number) (sales_of_shift o number)
 
 -- a step of an office leads to an office
-pub step_keeps_office : LowerLaws → (forward : ℕ → ℕ → ℕ) (o : Office) (at : Stamped) → IsOffice o → IsStamped at → KeepsRange forward → IsOffice (step forward o at)
+pub step_keeps_office : LowerLaws → (forward : ℕ → ℕ → ℕ) (o : Office) (at : Stamped) → IsOffice o → IsStamped at → KeepsRange forward
+    → IsOffice (step forward o at)
 step_keeps_office laws forward o at office is range = by_request o office laws forward range at is.moment at.request is.request
 
 -- the empty office is one

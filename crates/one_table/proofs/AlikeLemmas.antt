@@ -28,7 +28,8 @@ module _ (s : Schema) (at : ℕ) (t : Table) (listed : slice_get s.tables at ≡
   -- the affinity of a column, by whether its slot is the table's
   affinity_in : Context → ℕ → ℕ → ℕ → Bool → Affinity
   affinity_in cx place slot p is_here = if slot == 0 && p == 0 then None' else unwrap_or (option_map (λ table. at_place cx.schema table p)
-      (or_else (option_map (λ (b : Bound). b.table) (if is_here then Some (record { name = name; table = place; slot = 1; shared = [] }) else None)) None)) None'
+      (or_else (option_map (λ (b : Bound). b.table) (if is_here then
+      Some (record { name = name; table = place; slot = 1; shared = [] }) else None)) None)) None'
 
   of_column_same : (slot p : ℕ) → of_column here slot p ≡ of_column there slot p
   unfolding of_column affinity_in

@@ -19,17 +19,20 @@ use Rattle.one_table.specs.declared.read_fault.ReadFault.TheVariants.{Database a
 use Rattle.one_table.specs.ReadFaults.{OnlyWhere}
 use Rattle.one_table.specs.Answer.{OnlyAsks, IsLeft, FailsToRead}
 
-pub read_push : {X : Type 0} (R : Row → X → Type 0) (rows : List Row) (xs : List X) (row : Row) (x : X) → AllZip R rows xs → R row x → AllZip R (rows ++ row ∷ []) (xs ++ x ∷ [])
+pub read_push : {X : Type 0} (R : Row → X → Type 0) (rows : List Row) (xs : List X) (row : Row) (x : X) → AllZip R rows xs → R row x
+    → AllZip R (rows ++ row ∷ []) (xs ++ x ∷ [])
 read_push R [] [] row x all here = (here, tt)
 read_push R [] (y ∷ ys) row x all here = absurd all
 read_push R (r ∷ rows) [] row x all here = absurd all
 read_push R (r ∷ rows) (y ∷ ys) row x all here = (all.0, read_push R rows ys row x all.1 here)
 
 -- one more row of those that were taken so far
-pub read_more : {X : Type 0} (R : Row → X → Type 0) (rows : List Row) (i : ℕ) (xs : List X) (row : Row) (x : X) → i < length rows → row ≡ get_or rows i row → AllZip R (take i rows) xs → R row x
+pub read_more : {X : Type 0} (R : Row → X → Type 0) (rows : List Row) (i : ℕ) (xs : List X) (row : Row) (x : X) → i < length rows → row
+    ≡ get_or rows i row → AllZip R (take i rows) xs → R row x
     → AllZip R (take (i + 1) rows) (xs ++ x ∷ [])
 read_more R rows i xs row x low is all here =
-    subst (λ taken. AllZip R taken (xs ++ x ∷ [])) (ap (λ r. take i rows ++ r ∷ []) is ∙ sym (take_more rows i row low)) (read_push R (take i rows) xs row x all here)
+    subst (λ taken. AllZip R taken (xs ++ x ∷ [])) (ap (λ r. take i rows ++ r ∷ []) is ∙ sym (take_more rows i row low))
+    (read_push R (take i rows) xs row x all here)
 
 rolled_back_then : (old mid new : State) → IsUnchanged old mid → IsRolledBack mid new → IsRolledBack old new
 rolled_back_then old mid new same back = record {
@@ -44,7 +47,8 @@ pub left_then : (old mid new : State) → IsUnchanged old mid → IsLeft mid new
 left_then old mid new same (inl kept) = inl (unchanged_then old mid new same kept)
 left_then old mid new same (inr back) = inr (rolled_back_then old mid new same back)
 
-caused : (old mid new : State) (big : Type 0) (cause : StoreError) → IsUnchanged old mid → old.faults ≤ mid.faults → HasCause mid new big cause → HasCause old new big cause
+caused : (old mid new : State) (big : Type 0) (cause : StoreError) → IsUnchanged old mid → old.faults ≤ mid.faults
+    → HasCause mid new big cause → HasCause old new big cause
 caused old mid new big OutOfMemory same more h = tt
 caused old mid new big Io same more h = omega arith
 caused old mid new big Corrupt same more h = omega arith
@@ -60,7 +64,12 @@ NoStatementIn db sql params e s = IsNoStatement (record s { now = db }) sql para
 
 module _ (sql : List ℕ) (params : Row) (old mid new : State) (same : IsUnchanged old mid) where
   abbrev statement_before : (c : _) → IsStatement mid sql params c → IsStatement old sql params c
-  statement_before c it = record { is = subst (λ (d : Database). understood d.schema sql ≡ Ok c) same.0.now_is it.is; whole = it.whole; given = it.given; now = it.now }
+  statement_before c it = record {
+    is = subst (λ (d : Database). understood d.schema sql ≡ Ok c) same.0.now_is it.is;
+    whole = it.whole;
+    given = it.given;
+    now = it.now;
+  }
 
   not_run_before : (e : Error) → old.faults ≤ mid.faults → IsNotRun mid new sql params e → IsNotRun old new sql params e
   unfolding IsNotRun
@@ -83,7 +92,8 @@ module _ (sql : List ℕ) (params : Row) (old mid new : State) (same : IsUnchang
               (it.0, subst (λ (d : Database). IsSourceOf (reads_listing d.schema sql) d it.0) same.0.now_is it.1, it.2, unchanged_then old mid new same it.3),
         )
 
-    pub fails_before : (e : Error) → old.faults ≤ mid.faults → mid.step_limit ≡ old.step_limit → FailsToQuery sql params mid new e → FailsToQuery sql params old new e
+    pub fails_before : (e : Error) → old.faults ≤ mid.faults → mid.step_limit ≡ old.step_limit → FailsToQuery sql params mid new e
+        → FailsToQuery sql params old new e
     unfolding FailsToQuery
     fails_before e more limit (inl h) = inl (not_run_before e more h)
     fails_before e more limit (inr h) =
@@ -92,8 +102,12 @@ module _ (sql : List ℕ) (params : Row) (old mid new : State) (same : IsUnchang
         let it = subst (FailsToShow mid new sql h.0 full e) none h.2 in inr (
           h.0,
           statement_before h.0 h.1,
-          subst (FailsToShow old new sql h.0 full e) (sym none)
-              (it.0, subst (λ (d : Database). IsSourceOf (reads_listing d.schema sql) d it.0) same.0.now_is it.1, subst (λ l. RefusesToRead l h.0.command it.0 full e) limit it.2, unchanged_then old mid new same it.3),
+          subst (FailsToShow old new sql h.0 full e) (sym none) (
+            it.0,
+            subst (λ (d : Database). IsSourceOf (reads_listing d.schema sql) d it.0) same.0.now_is it.1,
+            subst (λ l. RefusesToRead l h.0.command it.0 full e) limit it.2,
+            unchanged_then old mid new same it.3,
+          ),
         )
 
 module _ (sql : List ℕ) (params : Row) (old new : State) (plain : IsPlain (understood old.now.schema sql)) where
@@ -138,12 +152,14 @@ fails_left sql params old new e (inr h) = by_returning h.0.returning h.2
     by_returning (Some what) (inr it) = inr it.3
 
 -- the text was compiled where the connection was open, and runs then
-pub asks_survives : (sql text : List ℕ) (params : Row) (old mid new : State) → OnlyAsks sql old → (HasCleanDisk mid → (text ≡ sql) × IsUnchanged old mid) → Survives old mid (λ _. ⊥)
+pub asks_survives : (sql text : List ℕ) (params : Row) (old mid new : State) → OnlyAsks sql old
+    → (HasCleanDisk mid → (text ≡ sql) × IsUnchanged old mid) → Survives old mid (λ _. ⊥)
     → Survives mid new (CommitsShowing text params mid) → Survives old new (λ _. ⊥)
 asks_survives sql text params old mid new asks made first second =
     survives_then old mid new (λ _. ⊥) (CommitsShowing text params mid) (λ _. ⊥) (λ _ db none. none)
     (λ clean db commits. let it = made (omega (arith, second.clean)) in
-    never_commits sql params mid db (subst (λ (d : Database). IsPlain (understood d.schema sql)) (sym it.1.0.now_is) (asks it.1.0.was_open)) (rw it.0 at commits))
+    never_commits sql params mid db (subst (λ (d : Database). IsPlain (understood d.schema sql)) (sym it.1.0.now_is)
+    (asks it.1.0.was_open)) (rw it.0 at commits))
     first second
 
 -- what a query leaves, with the answer's rows as `items` gives them
@@ -153,7 +169,8 @@ pub record HasAsked {V : Type 0} (items : V → List Row) (sql : List ℕ) (para
   pub kept : OnErr r (IsLeft old new)
   pub faults : IfErr r (FailsToQuery sql params old new)
 
-pub has_asked : {V : Type 0} (items : V → List Row) (sql text : List ℕ) (params : Row) (old mid new : State) (r : Result V Error) → OnlyAsks sql old → text ≡ sql → IsUnchanged old mid → Survives old mid (λ _. ⊥)
+pub has_asked : {V : Type 0} (items : V → List Row) (sql text : List ℕ) (params : Row) (old mid new : State) (r : Result V Error)
+    → OnlyAsks sql old → text ≡ sql → IsUnchanged old mid → Survives old mid (λ _. ⊥)
     → IfOk r (λ v. Shown text params mid new (items v)) → IfErr r (FailsToQuery text params mid new) → HasAsked items sql params old new r
 has_asked items sql text params old mid new (Ok v) asks is same kept h none =
     let plain = asks same.0.was_open in
@@ -177,6 +194,8 @@ stops_on IsReadable sql params old new rows begins same (Failed e) (inr bad) = a
 stops_on IsReadable sql params old new rows begins same Bad (inr bad) = (record { rows = rows; begins = begins; bad = bad.1 }, same)
 
 -- the same of an answer that was taken whole
-pub stops_in : (IsReadable : Row → Type 0) (sql : List ℕ) (params : Row) (old new : State) → OnlyAsks sql old → (rows : List Row) → Shown sql params old new rows → IsUnchanged old new
+pub stops_in : (IsReadable : Row → Type 0) (sql : List ℕ) (params : Row) (old new : State) → OnlyAsks sql old → (rows : List Row)
+    → Shown sql params old new rows → IsUnchanged old new
     → (why : ReadFault) → OnlyWhere (Any (λ row. ¬ IsReadable row) rows) why → FailsToRead IsReadable sql params old new why
-stops_in IsReadable sql params old new asks rows shown same = stops_on IsReadable sql params old new rows (shown_begins sql params old new rows (asks same.0.was_open) shown) same
+stops_in IsReadable sql params old new asks rows shown same =
+    stops_on IsReadable sql params old new rows (shown_begins sql params old new rows (asks same.0.was_open) shown) same

@@ -16,7 +16,8 @@ use Rattle.one_table.specs.Numbered.{IsInOrder}
 use Rattle.one_table.proofs.NumberedLemmas.{beside, columns, gains, hides_all, number, rows_are, with_last, with_number}
 
 -- A table of number keys that holds a list gains the next value at the list's end.
-pub appends : {X : Type 0} (key : X → ℤ) (to_row : X → Row) → ((x : X) → rowid (to_row x) ≡ Int (key x)) → (xs : List X) (x : X) → IsKeyedBy key xs → key x ≡ next_key key xs
+pub appends : {X : Type 0} (key : X → ℤ) (to_row : X → Row) → ((x : X) → rowid (to_row x) ≡ Int (key x)) → (xs : List X) (x : X)
+    → IsKeyedBy key xs → key x ≡ next_key key xs
     → put_row (to_row x) (map to_row xs) ≡ map to_row (xs ++ x ∷ [])
 appends key to_row keyed xs x up next = puts-map key to_row keyed (x ∷ []) xs ∙ ap (map to_row) (insert_next key xs x up next)
 
@@ -27,7 +28,8 @@ pub record IsLast (source : Row) (rows : List Row) : Type 0 where
 
 -- A table without numbers of its own gains the row at its end, beside rowids that only the database
 -- knows.
-pub stands_last : (source : Row) → is_null (rowid source) ≡ true → (rows : List Row) → IsTable rows → AllByRecursion (λ r. IsTrue (is_int (rowid r))) rows → IsLast source rows
+pub stands_last : (source : Row) → is_null (rowid source) ≡ true → (rows : List Row) → IsTable rows
+    → AllByRecursion (λ r. IsTrue (is_int (rowid r))) rows → IsLast source rows
 stands_last source none rows up ids =
     let order : IsInOrder rows = record { rises = up; are_numbers = ids } in
     let before = map (drop 1) rows in

@@ -70,11 +70,13 @@ module _ (known : Known) (here there : Context) (alike : AreAlike known here the
   unfolding key
   key_same outputs e h = rw (same e h, alike.aggregates)
 
-  aliased_same : (outputs : List Output) (e : Expr) (o : Option ℕ) → is_simple depth known e ≡ true → aliased_or lower here outputs e o ≡ aliased_or lower there outputs e o
+  aliased_same : (outputs : List Output) (e : Expr) (o : Option ℕ) → is_simple depth known e ≡ true → aliased_or lower here outputs e o
+      ≡ aliased_or lower there outputs e o
   aliased_same outputs e None h = key_same outputs e h
   aliased_same outputs e (Some k) h = refl
 
-  sort_same : (outputs : List Output) (done : List (Term × Key)) (x : Sort) → is_simple_sort known x ≡ true → sort lower here outputs done x ≡ sort lower there outputs done x
+  sort_same : (outputs : List Output) (done : List (Term × Key)) (x : Sort) → is_simple_sort known x ≡ true
+      → sort lower here outputs done x ≡ sort lower there outputs done x
   unfolding sort
   sort_same outputs done x h = rw (aliased_same outputs (peeled (out-Sort x).key) (alias_in outputs (peeled (out-Sort x).key)) h)
 

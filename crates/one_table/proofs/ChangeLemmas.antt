@@ -45,8 +45,10 @@ pub record HasWritten (t : Table) (returning : Option Returning) (command : Comm
   pub shows : Returns (task_on old params t) written returning (Ok shown)
   pub now_is : new.now ≡ record { schema = old.now.schema; trees = written.trees }
 
-pub has_written : (t : Table) (at : ℕ) (returning : Option Returning) (command : Command) (params : Row) (old new : State) (tally : Tally) → slice_get old.now.schema.tables at ≡ Some t
-    → AtPlace (λ table. OnRows (task_on old params table) (mode_of old) returning command old.now.trees) (slice_get old.now.schema.tables at) (Ok (tally, new.now)) → HasWritten t returning command params tally.shown old new
+pub has_written : (t : Table) (at : ℕ) (returning : Option Returning) (command : Command) (params : Row) (old new : State) (tally : Tally)
+    → slice_get old.now.schema.tables at ≡ Some t
+    → AtPlace (λ table. OnRows (task_on old params table) (mode_of old) returning command old.now.trees)
+    (slice_get old.now.schema.tables at) (Ok (tally, new.now)) → HasWritten t returning command params tally.shown old new
 has_written t at returning command params old new tally listed h =
     let on = subst (λ o. AtPlace (λ table. OnRows (task_on old params table) (mode_of old) returning command old.now.trees) o (Ok (tally, new.now))) listed h in
     let done = went on in
@@ -54,13 +56,16 @@ has_written t at returning command params old new tally listed h =
     record {
       written = done.0;
       wrote = done.1;
-      shows = subst (λ rows. Returns (task_on old params t) done.0 returning (Ok rows)) (sym (ap (λ (p : Tally × Database). p.0.shown) (same_value shown.2))) shown.1;
+      shows = subst (λ rows. Returns (task_on old params t) done.0 returning (Ok rows))
+          (sym (ap (λ (p : Tally × Database). p.0.shown) (same_value shown.2))) shown.1;
       now_is = ap (λ (p : Tally × Database). p.1) (same_value shown.2);
     }
 
 -- one step on a table that was carried out inside a transaction
-pub has_changed : {returning : Option Returning} {shown : List Row} (t : Table) (edit : Edit) (command : Command) (text : List ℕ) (params : Row) (count : ℕ) (old new : State)
-    (h : HasWritten t returning command params shown old new) → edit.table ≡ t → Applies old.now.schema Enforced old.now.trees edit h.written.trees → Shows old new new.now old.committed true
+pub has_changed : {returning : Option Returning} {shown : List Row} (t : Table) (edit : Edit) (command : Command) (text : List ℕ)
+    (params : Row) (count : ℕ) (old new : State)
+    (h : HasWritten t returning command params shown old new) → edit.table ≡ t
+    → Applies old.now.schema Enforced old.now.trees edit h.written.trees → Shows old new new.now old.committed true
     → Writes old new returning command text params count → HasChanged t (edited old.now.trees edit) old new
 has_changed t edit command text params count old new h is applies inside w =
     let trees : h.written.trees ≡ new.now.trees = sym (ap (λ (d : Database). d.trees) h.now_is) in
@@ -79,13 +84,15 @@ has_changed t edit command text params count old new h is applies inside w =
 -- what ran inside a transaction, from the text's meaning
 module _ (sql : List ℕ) (params : Row) (old new : State) (command : Command) (means : IsTrue old.is_open → Means old.now.schema sql command) where
   pub ran_inside : (count : ℕ) → ExecutesInside 0 sql params old new (Ok count)
-      → Means old.now.schema sql command × Runs old new None command (statement_of sql (understood old.now.schema sql)) params count × Shows old new new.now old.committed true
+      → Means old.now.schema sql command × Runs old new None command (statement_of sql (understood old.now.schema sql)) params count
+      × Shows old new new.now old.committed true
   ran_inside count h =
       let m = means h.1.was_open in
       (m, runs_as sql params old new old.now.schema refl command (command_is m) (is_plain m) count h.0, h.1)
 
 -- why a text fails
-pub fails_to_run : {S : Type 0} (g : Ghosts S) (sql : List ℕ) (params : Row) (old new : Held S) (e : Error) → (old.in_transaction ≡ false → (◌≡◌ {A = Result ℕ Error} (Err e) (Err (SqliteFailure TransactionState))) × (new ≡ old))
+pub fails_to_run : {S : Type 0} (g : Ghosts S) (sql : List ℕ) (params : Row) (old new : Held S) (e : Error)
+    → (old.in_transaction ≡ false → (◌≡◌ {A = Result ℕ Error} (Err e) (Err (SqliteFailure TransactionState))) × (new ≡ old))
     → (IsTrue old.in_transaction → ExecutesInside 0 sql params (state g old) (state g new) (Err e)) → FailsToRun sql params (state g old) (state g new) e
 fails_to_run g sql params old new e ended runs = elim (cases_Bool old.in_transaction) [
   | inl inside ↦ inr (runs inside)
@@ -166,6 +173,7 @@ module _ {T U E F : Type 0} {old new : State} where
 
 -- where it fails
 module _ {U F : Type 0} {old new : State} where
-  pub transaction_off : (f : F) (r : Result U F) → IsErrAnd r (λ x. x ≡ f) → (HasCleanDisk new → IsUnderWay old → KeepsCommit old new) → Survives old new (λ _. ⊥) → KeepsTransaction old new r
+  pub transaction_off : (f : F) (r : Result U F) → IsErrAnd r (λ x. x ≡ f) → (HasCleanDisk new → IsUnderWay old → KeepsCommit old new)
+      → Survives old new (λ _. ⊥) → KeepsTransaction old new r
   transaction_off f (Ok y) failed kept survives = absurd failed
   transaction_off f (Err y) failed kept survives = record { inside = λ _ _. tt; kept = kept; survives = survives }

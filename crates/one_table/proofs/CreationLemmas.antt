@@ -35,7 +35,8 @@ use Rattle.sqlite_value.specs.Order.{Row}
 use Rattle.one_table.specs.Making.{is_creation, is_creation_as, counters, with_counters, MakesTable}
 
 -- without IF NOT EXISTS, a name that is taken is refused
-anew_by : (reserved other same is_new : Bool) → cond reserved (Err Misuse) (cond other (Err Exists) (cond same (cond false (Ok false) (Err Exists)) (Ok true))) ≡ Ok is_new → is_new ≡ true
+anew_by : (reserved other same is_new : Bool) → cond reserved (Err Misuse)
+    (cond other (Err Exists) (cond same (cond false (Ok false) (Err Exists)) (Ok true))) ≡ Ok is_new → is_new ≡ true
 anew_by true other same is_new h = absurd (cc)
 anew_by false true same is_new h = absurd (cc)
 anew_by false false true is_new h = absurd (cc)
@@ -46,17 +47,20 @@ unfolding creates
 anew name same other is_new h = anew_by (is_reserved name) (is_some other) (is_some same) is_new h
 
 makes_by : (attached : Bool) (tried : Checked Bool) (defined : Checked Table) (test : Table → Bool) (k : Command) → ((b : Bool) → tried ≡ Ok b → b ≡ true)
-    → cond attached (Err Unsupported) (and_then tried (λ is_new. cond is_new (and_then defined (λ t. cond (test t) (Ok CreateTable) (Err Unsupported))) (Ok Nothing))) ≡ Ok k → k ≡ CreateTable
+    → cond attached (Err Unsupported) (and_then tried (λ is_new. cond is_new
+    (and_then defined (λ t. cond (test t) (Ok CreateTable) (Err Unsupported))) (Ok Nothing))) ≡ Ok k → k ≡ CreateTable
 makes_by true tried defined test k new h = absurd (cc)
 makes_by false (Err e) defined test k new h = absurd (cc)
 makes_by false (Ok false) defined test k new h = absurd (let e = new false refl in cc)
 makes_by false (Ok true) (Err e) test k new h = absurd (cc)
-makes_by false (Ok true) (Ok t) test k new h = elim (cases_Bool (test t)) [ inl passes ↦ let e = rw passes at h in cc | inr fails ↦ absurd (let e = rw fails at h in cc) ]
+makes_by false (Ok true) (Ok t) test k new h = elim (cases_Bool (test t))
+    [ inl passes ↦ let e = rw passes at h in cc | inr fails ↦ absurd (let e = rw fails at h in cc) ]
 
 makes_table : (s : Schema) (formats : List Name) (def : Definition) (k : Command) → def.if_missing ≡ false → create_table s formats def ≡ Ok k → k ≡ CreateTable
 unfolding create_table
 makes_table s formats def k new h =
-    makes_by (is_attached s def.name) (creates def.if_missing def.name (option_or (table_named s def.name) (view_named s def.name)) (index_named s def.name)) (define.table formats def)
+    makes_by (is_attached s def.name) (creates def.if_missing def.name (option_or (table_named s def.name) (view_named s def.name))
+    (index_named s def.name)) (define.table formats def)
     (λ t. length t.computed == length t.stamps.places && not def.resolves) k
     (λ b tried. anew def.name (option_or (table_named s def.name) (view_named s def.name)) (index_named s def.name) b (rw new at tried)) h
 
@@ -70,7 +74,8 @@ pub record IsMade (sql : List ℕ) (c : Compiled) : Type 0 where
 abbrev head : Statement → List Name → List Name → ℕ → ℕ → ℕ → Parsed
 head st names formats start end tail = record { statement = st; names = names; formats = formats; start = start; end = end; tail = tail }
 
-command_by : (s : Schema) (sql : List ℕ) (p : Parsed) (made : Checked Command) (c : Compiled) → ((k : Command) → made ≡ Ok k → k ≡ CreateTable) → slice_range sql p.start p.end ≡ sql
+command_by : (s : Schema) (sql : List ℕ) (p : Parsed) (made : Checked Command) (c : Compiled)
+    → ((k : Command) → made ≡ Ok k → k ≡ CreateTable) → slice_range sql p.start p.end ≡ sql
     → and_then (and_then (and_then made (λ k. Ok (k, None))) (λ found. Ok ([], found))) (λ plan. Ok (with_command p plan)) ≡ Ok c → IsMade sql c
 command_by s sql p (Err e) c is whole h = absurd (cc)
 command_by s sql p (Ok k) c is whole h =
@@ -143,7 +148,8 @@ if_true b x y h = rw h
 if_false : {A : Type 0} (b : Bool) (x y : A) → b ≡ false → cond b x y ≡ y
 if_false b x y h = rw h
 
-rows_on : (tables more : List Table) (t : Table) (db after : Trees) → more ≡ tables ++ t ∷ [] → KeepsRows more db after → KeepsRows tables db after × (after t.tree ≡ db t.tree)
+rows_on : (tables more : List Table) (t : Table) (db after : Trees) → more ≡ tables ++ t ∷ [] → KeepsRows more db after
+    → KeepsRows tables db after × (after t.tree ≡ db t.tree)
 rows_on tables more t db after is kept =
     let all = rw is at kept in (
       all_from (λ u. after u.tree ≡ db u.tree) tables (λ u h. all_has (λ u. after u.tree ≡ db u.tree) (tables ++ t ∷ []) u all (has_left tables (t ∷ []) u h)),
@@ -166,9 +172,11 @@ counters_made mid b h = elim (cases_Bool (lacks_sequence mid.schema)) [
 
 rows_after : (tables : List Table) (db mid after : Trees) → KeepsRows tables db mid → KeepsRows tables mid after → KeepsRows tables db after
 rows_after tables db mid after p q =
-    all_from (λ u. after u.tree ≡ db u.tree) tables (λ u h. all_has (λ u. after u.tree ≡ mid u.tree) tables u q h ∙ all_has (λ u. mid u.tree ≡ db u.tree) tables u p h)
+    all_from (λ u. after u.tree ≡ db u.tree) tables (λ u h. all_has (λ u. after u.tree ≡ mid u.tree) tables u q h
+    ∙ all_has (λ u. mid u.tree ≡ db u.tree) tables u p h)
 
-made_by : (sql : List ℕ) (a b : Database) (t : Table) → table_defined_by sql ≡ Ok t → IsDatabase b → Then (Creates sql a) MakesSequence (Ok b) → MakesTable t a b
+made_by : (sql : List ℕ) (a b : Database) (t : Table) → table_defined_by sql ≡ Ok t → IsDatabase b
+    → Then (Creates sql a) MakesSequence (Ok b) → MakesTable t a b
 made_by sql a b t defined sound h =
     let it = through (Creates sql a) MakesSequence b h in
     let c : CreatesTable a.schema sql a.trees it.0.schema it.0.trees = it.1 in
@@ -184,7 +192,8 @@ made_by sql a b t defined sound h =
       sound = sound;
     }
 
-done_by : (limit : Option ℕ) (mode : Mode) (params : Row) (a b : Database) (sql : List ℕ) (tally : Tally) → Does limit mode params a sql None CreateTable (Ok (tally, b)) → Then (Creates sql a) MakesSequence (Ok b)
+done_by : (limit : Option ℕ) (mode : Mode) (params : Row) (a b : Database) (sql : List ℕ) (tally : Tally)
+    → Does limit mode params a sql None CreateTable (Ok (tally, b)) → Then (Creates sql a) MakesSequence (Ok b)
 done_by limit mode params a b sql tally h =
     let it = through (Then (Creates sql a) MakesSequence) (λ after. Gives (no_rows mode.in_doubt, after)) (tally, b) h in
     let same : b ≡ it.0 = ap (λ (p : Tally × Database). p.1) (same_ok (tally, b) (no_rows mode.in_doubt, it.0) it.2) in
@@ -197,7 +206,8 @@ makes_as old new sql c params count t is defined ran =
     let w : Writes old new None CreateTable sql params count = rw (is.returning, is.command, is.whole) at ran in
     made_by sql old.now new.now t defined w.sound (done_by old.step_limit (mode_of old) params old.now new.now sql w.tally w.changed)
 
-pub executes_as : (old new : State) (sql : List ℕ) (params : Row) (count : ℕ) (t : Table) → is_creation sql ≡ true → table_defined_by sql ≡ Ok t → Executes sql params old new (Ok count) → MakesTable t old.now new.now
+pub executes_as : (old new : State) (sql : List ℕ) (params : Row) (count : ℕ) (t : Table) → is_creation sql ≡ true → table_defined_by sql
+    ≡ Ok t → Executes sql params old new (Ok count) → MakesTable t old.now new.now
 unfolding ExecutesIn
 executes_as old new sql params count t is defined h =
     let made = understood_as old.now.schema sql h.0 is h.1.is in

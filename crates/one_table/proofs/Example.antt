@@ -98,17 +98,21 @@ last_means tree = record { means = refl; from = refl }
 abbrev resize_text : List ℕ
 resize_text = codes "UPDATE notes SET size = ?2 WHERE number = ?1"
 
-resize_means : (tree : ℕ) → IsUpdate (notes tree) (query_on tree (op2 (Compare Eq Binary) (col 1 0) (col 0 0) ∷ []) (col 1 0 ∷ col 1 0 ∷ lit Null ∷ col 1 2 ∷ col 0 1 ∷ []) [] no_limit) resize_text
+resize_means : (tree : ℕ) → IsUpdate (notes tree) (query_on tree (op2 (Compare Eq Binary) (col 1 0) (col 0 0) ∷ [])
+    (col 1 0 ∷ col 1 0 ∷ lit Null ∷ col 1 2 ∷ col 0 1 ∷ []) [] no_limit) resize_text
 unfolding everything update_meant update_in sets_meant
 resize_means tree = record { means = refl; from = refl }
 
 -- ---- what each answers
 
-module _ (s : Schema) (at tree : ℕ) (has : Has s at (notes tree)) (old new : State) (schema_is : old.now.schema ≡ s) (all : List Note) (held : old.now.trees tree ≡ map stored all)
+module _ (s : Schema) (at tree : ℕ) (has : Has s at (notes tree)) (old new : State) (schema_is : old.now.schema ≡ s) (all : List Note)
+    (held : old.now.trees tree ≡ map stored all)
     (keyed : IsKeyedBy (λ (n : Note). pos n.number) all) (rows : List Row) where
-  page_answers : (after most : ℕ) → Shown page_text (Int (pos after) ∷ Int (pos most) ∷ []) old new rows → rows ≡ take most (map shown (filter (λ n. nat_lt after n.number) all))
+  page_answers : (after most : ℕ) → Shown page_text (Int (pos after) ∷ Int (pos most) ∷ []) old new rows → rows
+      ≡ take most (map shown (filter (λ n. nat_lt after n.number) all))
   page_answers after most it =
-      first_by_key (record { holds_them = held; passes = λ n. last_term (number_above n.number after); shows = λ n. refl }) 0 (λ n. pos n.number) (λ n. refl) (col 0 1) rows keyed
+      first_by_key (record { holds_them = held; passes = λ n. last_term (number_above n.number after); shows = λ n. refl }) 0
+      (λ n. pos n.number) (λ n. refl) (col 0 1) rows keyed
       (answered s at (notes tree) has _ names page_text (page_means tree) (Int (pos after) ∷ Int (pos most) ∷ []) old new schema_is rows it)
 
   -- no two notes have one title
@@ -119,16 +123,20 @@ module _ (s : Schema) (at tree : ℕ) (has : Has s at (notes tree)) (old new : S
       (bytes_eq-Decides a.title b.title).1 ((bytes_eq-Decides a.title title).0 here ∙ sym ((bytes_eq-Decides b.title title).0 there)) in
       first_row shown (λ n. bytes_eq n.title title) all rows
       (one_row (record { holds_them = held; passes = λ n. last_term (text_is n.title title); shows = λ n. refl }) rows
-      (answered s at (notes tree) has _ names title_text (title_means tree) (Text title ∷ []) old new schema_is rows it) (few_apart (λ a b. bytes_eq a.title b.title) (λ n. bytes_eq n.title title) all apart same))
+      (answered s at (notes tree) has _ names title_text (title_means tree) (Text title ∷ []) old new schema_is rows it)
+      (few_apart (λ a b. bytes_eq a.title b.title) (λ n. bytes_eq n.title title) all apart same))
 
-  last_answers : (size : ℕ) → Shown last_text (Int (pos size) ∷ []) old new rows → slice_get rows 0 ≡ option_map shown (slice_get (reverse (filter (λ n. n.size == size) all)) 0)
+  last_answers : (size : ℕ) → Shown last_text (Int (pos size) ∷ []) old new rows → slice_get rows 0
+      ≡ option_map shown (slice_get (reverse (filter (λ n. n.size == size) all)) 0)
   last_answers size it =
       last_row shown (filter (λ n. n.size == size) all) rows
-      (last_by_key (record { holds_them = held; passes = λ n. last_term (number_is n.size size); shows = λ n. refl }) 0 (λ n. pos n.number) (λ n. refl) (lit (Int (pos 1))) rows keyed
+      (last_by_key (record { holds_them = held; passes = λ n. last_term (number_is n.size size); shows = λ n. refl }) 0 (λ n. pos n.number)
+      (λ n. refl) (lit (Int (pos 1))) rows keyed
       (answered s at (notes tree) has _ names last_text (last_means tree) (Int (pos size) ∷ []) old new schema_is rows it))
 
   page_fails : (after most : ℕ) (e : Error) → FailsToQuery page_text (Int (pos after) ∷ Int (pos most) ∷ []) old new e → FailsPlainly old new e
   unfolding everything is_whole
   page_fails after most e h =
       let means = selects s at (notes tree) has (query_on tree is_later columns (rising 0) (col 0 1)) names page_text (page_means tree) in
-      fails_plainly (query_on tree is_later columns (rising 0) (col 0 1)) names means at (notes tree) has refl refl (Int (pos after) ∷ Int (pos most) ∷ []) refl old new schema_is e refl h
+      fails_plainly (query_on tree is_later columns (rising 0) (col 0 1)) names means at (notes tree) has refl refl
+      (Int (pos after) ∷ Int (pos most) ∷ []) refl old new schema_is e refl h

@@ -55,7 +55,8 @@ module _ (known : Known) (here there : Context) (alike : AreAlike known here the
 
   -- ---- columns
 
-  term_same : (slot place other at : ℕ) → slice_get here.schema.tables place ≡ slice_get there.schema.tables other → term_of here (Column slot place at) ≡ term_of there (Column slot other at)
+  term_same : (slot place other at : ℕ) → slice_get here.schema.tables place ≡ slice_get there.schema.tables other
+      → term_of here (Column slot place at) ≡ term_of there (Column slot other at)
   unfolding term_of column_at
   term_same slot place other at tables = rw tables
 
@@ -66,7 +67,8 @@ module _ (known : Known) (here there : Context) (alike : AreAlike known here the
   no_alias_here : (table : Option Name) (c : Name) → known table c ≡ true → is_alias (find here table c) ≡ is_alias (find there table c)
   no_alias_here table c h = let f = alike.finds table c h in rw (f.found, f.found_there)
 
-  pub heading_same_at : (table : Option Name) (text c : Name) → known table c ≡ true → heading_at here text (Expr-F.Column table c) ≡ heading_at there text (Expr-F.Column table c)
+  pub heading_same_at : (table : Option Name) (text c : Name) → known table c ≡ true → heading_at here text (Expr-F.Column table c)
+      ≡ heading_at there text (Expr-F.Column table c)
   unfolding declared
   heading_same_at table text c h = let f = alike.finds table c h in rw (f.found, f.found_there, f.tables)
 
@@ -129,9 +131,11 @@ module _ (known : Known) (here there : Context) (alike : AreAlike known here the
     both_same op a b ha hb =
         ap (λ v. joined (tests_truth op b) v (lower here a) (lower here b) (combine here op)) (tests_alias_same n op b hb)
         ∙ ap₂ (λ x y. joined (tests_truth op b) (tests_alias there op b) x y (combine here op)) (again a ha) (again b hb)
-        ∙ ap (joined (tests_truth op b) (tests_alias there op b) (lower there a) (lower there b)) (fun_ext λ how. fun_ext λ x. fun_ext λ y. combine_same op how x y)
+        ∙ ap (joined (tests_truth op b) (tests_alias there op b) (lower there a) (lower there b))
+        (fun_ext λ how. fun_ext λ x. fun_ext λ y. combine_same op how x y)
 
-    operation_same : (op : Binary) (a b : Expr) → is_simple n known a ≡ true → is_simple n known b ≡ true → operation lower here op a b ≡ operation lower there op a b
+    operation_same : (op : Binary) (a b : Expr) → is_simple n known a ≡ true → is_simple n known b ≡ true → operation lower here op a b
+        ≡ operation lower there op a b
     unfolding operation
     operation_same op a b ha hb = rw ((none_wanted n op b hb).0, (none_wanted n op b hb).1) (both_same op a b ha hb)
 

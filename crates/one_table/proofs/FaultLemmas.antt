@@ -31,15 +31,19 @@ module _ {s : Schema} {sql : List ℕ} {c : Command} {shows : Option Returning} 
   unfolding understood
   compiles = let read = means.unlisted in rw read at means.understands
 
-  from_plan : (count : ℕ) (p : Parsed) → is_whole_in sql count (Ok p) ≡ true → (m : Checked (List Name × (Command × Option Returning))) → and_then m (λ plan. Ok (with_command p plan)) ≡ Ok means.compiled
+  from_plan : (count : ℕ) (p : Parsed) → is_whole_in sql count (Ok p) ≡ true → (m : Checked (List Name × (Command × Option Returning)))
+      → and_then m (λ plan. Ok (with_command p plan)) ≡ Ok means.compiled
       → (length means.compiled.names ≡ count) × (length sql ≤ means.compiled.tail)
   from_plan count p whole (Err e) h = absurd cc
   from_plan count p whole (Ok plan) h =
       let is : with_command p plan ≡ means.compiled = cc in
-      let parts = and_parts (length p.names == count) (nat_le (length sql) p.tail) whole in
-      (sym (ap (λ (k : Compiled). length k.names) is) ∙ eqb-true (length p.names) count parts.0, subst (λ (k : Compiled). length sql ≤ k.tail) is (leb-true (length sql) p.tail parts.1))
+      let parts = and_parts (length p.names == count) (nat_le (length sql) p.tail) whole in (
+        sym (ap (λ (k : Compiled). length k.names) is) ∙ eqb-true (length p.names) count parts.0,
+        subst (λ (k : Compiled). length sql ≤ k.tail) is (leb-true (length sql) p.tail parts.1),
+      )
 
-  from_parsed : (count : ℕ) (m : Checked Parsed) → is_whole_in sql count m ≡ true → and_then m (λ p. and_then (planned s p) (λ plan. Ok (with_command p plan))) ≡ Ok means.compiled
+  from_parsed : (count : ℕ) (m : Checked Parsed) → is_whole_in sql count m ≡ true
+      → and_then m (λ p. and_then (planned s p) (λ plan. Ok (with_command p plan))) ≡ Ok means.compiled
       → (length means.compiled.names ≡ count) × (length sql ≤ means.compiled.tail)
   from_parsed count (Err e) whole h = absurd cc
   from_parsed count (Ok p) whole h = from_plan count p whole (planned s p) h
@@ -73,9 +77,13 @@ never_overflows q tree from no_group db params (inl h) = subst (λ g. Overflows 
 never_overflows q tree from no_group db params (inr h) = none_folds db tree (params ∷ []) (subst (λ f. FoldOverflows db f (params ∷ [])) from h)
 
 module _ {s : Schema} {sql : List ℕ} (q : Query) (names : List Name) (means : Means s sql (select_as q names)) (at : ℕ) (t : Table) (stands : Has s at t)
-    (from : q.from ≡ inner t.tree end) (no_group : q.group ≡ None) (params : Row) (typed : is_typed t q params ≡ true) (old new : State) (has : old.now.schema ≡ s) (e : Error) where
-  refuses_plainly : (db : Database) → db ≡ old.now → RefusesQuery old.step_limit db (record { lets = []; body = q }) params e → IsUnchanged old new → FailsPlainly old new e
-  refuses_plainly db is (inl h) same = absurd (let wrong : accepts_program s [] q params ≡ false = subst (λ sch. accepts_program sch [] q params ≡ false) (ap (λ (d : Database). d.schema) is ∙ has) h.1 in true≢false (sym typed ∙ sym (typed_alike s at t stands q from params) ∙ wrong))
+    (from : q.from ≡ inner t.tree end) (no_group : q.group ≡ None) (params : Row) (typed : is_typed t q params ≡ true) (old new : State)
+    (has : old.now.schema ≡ s) (e : Error) where
+  refuses_plainly : (db : Database) → db ≡ old.now → RefusesQuery old.step_limit db (record { lets = []; body = q }) params e
+      → IsUnchanged old new → FailsPlainly old new e
+  refuses_plainly db is (inl h) same = absurd (let wrong : accepts_program s [] q params
+      ≡ false = subst (λ sch. accepts_program sch [] q params ≡ false) (ap (λ (d : Database). d.schema) is ∙ has) h.1 in
+      true≢false (sym typed ∙ sym (typed_alike s at t stands q from params) ∙ wrong))
   refuses_plainly db is (inr (inl h)) same = absurd (never_overflows q t.tree from no_group (overlay db.trees []) params h.1)
   refuses_plainly db is (inr (inr h)) same = inr (h.0, h.1, same)
 

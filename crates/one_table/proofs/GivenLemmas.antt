@@ -53,14 +53,18 @@ module _ (s : Schema) (t : Table) (count : ℕ) where
     affinity_in : Context → ℕ → ℕ → ℕ → ℕ → Bool → Bool → Affinity
     affinity_in cx place other slot p is_there is_given = if slot == 0 && p == 0 then None' else unwrap_or (option_map (λ table. at_place cx.schema table p)
         (or_else (option_map (λ (b : Bound). b.table) (if is_there then Some (record { name = t.name; table = place; slot = 1; shared = [] }) else None))
-        (or_else (option_map (λ (b : Bound). b.table) (if is_given then Some (record { name = excluded; table = other; slot = 0; shared = [] }) else None)) None))) None'
+        (or_else (option_map (λ (b : Bound). b.table) (if is_given then
+        Some (record { name = excluded; table = other; slot = 0; shared = [] }) else None)) None))) None'
 
     affine : (slot p : ℕ) → of_column here slot p ≡ of_column there slot p
     unfolding of_column affinity_in
     affine slot p = elim (1 == slot) as (λ b. affinity_in here at (length s.tables) slot p b (0 == slot) ≡ affinity_in there 0 1 slot p b (0 == slot)) [
       | true ↦ ap (λ a. if slot == 0 && p == 0 then None' else a) (at_place_same (with_given s t count) (with_given (one t) t count) at 0 p stays)
-      | false ↦ elim (0 == slot) as (λ b. affinity_in here at (length s.tables) slot p false b ≡ affinity_in there 0 1 slot p false b)
-          [ true ↦ ap (λ a. if slot == 0 && p == 0 then None' else a) (at_place_same (with_given s t count) (with_given (one t) t count) (length s.tables) 1 p last_is) | false ↦ refl ]
+      | false ↦ elim (0 == slot) as (λ b. affinity_in here at (length s.tables) slot p false b ≡ affinity_in there 0 1 slot p false b) [
+        | true ↦ ap (λ a. if slot == 0 && p == 0 then None' else a)
+            (at_place_same (with_given s t count) (with_given (one t) t count) (length s.tables) 1 p last_is)
+        | false ↦ refl
+      ]
     ]
 
     bare_here : (c : Name) (k : ℕ) → column_named t c ≡ Some k → find here None c ≡ Ok (Column 1 at k)
@@ -71,7 +75,8 @@ module _ (s : Schema) (t : Table) (count : ℕ) where
     unfolding find in_level only hit is_among column_in
     bare_there c k h = rw h
 
-    given_here : (table c : Name) (k : ℕ) → same_name t.name table ≡ false → same_name excluded table ≡ true → column_named (given t count) c ≡ Some k → find here (Some table) c ≡ Ok (Column 0 (length s.tables) k)
+    given_here : (table c : Name) (k : ℕ) → same_name t.name table ≡ false → same_name excluded table ≡ true
+        → column_named (given t count) c ≡ Some k → find here (Some table) c ≡ Ok (Column 0 (length s.tables) k)
     unfolding find in_level only hit column_in
     given_here table c k other is h = by_rowid (is_rowid c) refl
       where
@@ -79,7 +84,8 @@ module _ (s : Schema) (t : Table) (count : ℕ) where
         by_rowid true rowid = rw (other, rowid, is, last_is, h)
         by_rowid false rowid = rw (other, rowid, is, last_is, h)
 
-    given_there : (table c : Name) (k : ℕ) → same_name t.name table ≡ false → same_name excluded table ≡ true → column_named (given t count) c ≡ Some k → find there (Some table) c ≡ Ok (Column 0 1 k)
+    given_there : (table c : Name) (k : ℕ) → same_name t.name table ≡ false → same_name excluded table ≡ true
+        → column_named (given t count) c ≡ Some k → find there (Some table) c ≡ Ok (Column 0 1 k)
     unfolding find in_level only hit column_in
     given_there table c k other is h = by_rowid (is_rowid c) refl
       where
@@ -89,7 +95,8 @@ module _ (s : Schema) (t : Table) (count : ℕ) where
 
     finds : (table : Option Name) (c : Name) → settable t count table c ≡ true → Finds here there table c
     finds None c h =
-        by_some (Finds here there None c) (column_named t c) h (λ k is. record { slot = 1; at = k; place = at; other = 0; found = bare_here c k is; found_there = bare_there c k is; tables = stays })
+        by_some (Finds here there None c) (column_named t c) h
+        (λ k is. record { slot = 1; at = k; place = at; other = 0; found = bare_here c k is; found_there = bare_there c k is; tables = stays })
     finds (Some table) c h =
         let parts = and_parts (same_name excluded table) (is_some (column_named (given t count) c)) h in
         let other : same_name t.name table ≡ false = same_as excluded table t.name parts.0 ∙ apart in
@@ -117,14 +124,19 @@ module _ (s : Schema) (t : Table) (count : ℕ) where
   affinity_shown : Context → ℕ → ℕ → ℕ → Bool → Affinity
   affinity_shown cx place slot p is_given = if slot == 0 && p == 0 then None' else unwrap_or (option_map (λ table. at_place cx.schema table p)
       (or_else (option_map (λ (b : Bound). b.table) (if is_given then Some (record { name = t.name; table = place; slot = 0; shared = hidden t }) else None))
-      (or_else (option_map (λ (b : Bound). b.table) (if is_given then Some (record { name = t.name; table = place; slot = 0; shared = [] }) else None)) None))) None'
+      (or_else (option_map (λ (b : Bound). b.table) (if is_given then
+      Some (record { name = t.name; table = place; slot = 0; shared = [] }) else None)) None))) None'
 
   shown_affine : (slot p : ℕ) → of_column shows_here slot p ≡ of_column shows_there slot p
   unfolding of_column affinity_shown
-  shown_affine slot p = elim (0 == slot) as (λ b. affinity_shown shows_here (length s.tables) slot p b ≡ affinity_shown shows_there 1 slot p b)
-      [ true ↦ ap (λ a. if slot == 0 && p == 0 then None' else a) (at_place_same (with_given s t count) (with_given (one t) t count) (length s.tables) 1 p last_is) | false ↦ refl ]
+  shown_affine slot p = elim (0 == slot) as (λ b. affinity_shown shows_here (length s.tables) slot p b ≡ affinity_shown shows_there 1 slot p b) [
+    | true ↦ ap (λ a. if slot == 0 && p == 0 then None' else a)
+        (at_place_same (with_given s t count) (with_given (one t) t count) (length s.tables) 1 p last_is)
+    | false ↦ refl
+  ]
 
-  shown_here : (c : Name) (k : ℕ) → is_among c (hidden t) ≡ false → column_named (given t count) c ≡ Some k → find shows_here None c ≡ Ok (Column 0 (length s.tables) k)
+  shown_here : (c : Name) (k : ℕ) → is_among c (hidden t) ≡ false → column_named (given t count) c ≡ Some k → find shows_here None c
+      ≡ Ok (Column 0 (length s.tables) k)
   unfolding find in_level only hit column_in
   shown_here c k visible h = rw (visible, last_is, h)
 
@@ -138,7 +150,15 @@ module _ (s : Schema) (t : Table) (count : ℕ) where
       let parts = and_parts (not (is_among c (hidden t))) (is_some (column_named (given t count) c)) h in
       let visible = false_is (is_among c (hidden t)) parts.0 in
       by_some (Finds shows_here shows_there None c) (column_named (given t count) c) parts.1
-      (λ k is. record { slot = 0; at = k; place = length s.tables; other = 1; found = shown_here c k visible is; found_there = shown_there c k visible is; tables = last_is })
+      (λ k is. record {
+        slot = 0;
+        at = k;
+        place = length s.tables;
+        other = 1;
+        found = shown_here c k visible is;
+        found_there = shown_there c k visible is;
+        tables = last_is;
+      })
 
   pub shown_alike : AreAlike (showable t count) shows_here shows_there
   shown_alike = record { finds = finds_shown; affine = shown_affine; aggregates = refl }

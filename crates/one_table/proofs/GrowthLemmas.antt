@@ -22,9 +22,11 @@ use Rattle.one_table.specs.Standing.{place_in, tree_in, key_of, keys_on, own_key
 module _ {X : Type 0} where
   pub position_stays : (p : X → Bool) (from at : ℕ) (xs ys : List X) → position_from p from xs ≡ Some at → position_from p from (xs ++ ys) ≡ Some at
   position_stays p from at [] ys h = absurd (cc)
-  position_stays p from at (x ∷ xs) ys h = elim (cases_Bool (p x)) [ inl is ↦ rw is (rw is at h) | inr not ↦ rw not (position_stays p (from + 1) at xs ys (rw not at h)) ]
+  position_stays p from at (x ∷ xs) ys h = elim (cases_Bool (p x))
+      [ inl is ↦ rw is (rw is at h) | inr not ↦ rw not (position_stays p (from + 1) at xs ys (rw not at h)) ]
 
-  pub position_next : (p : X → Bool) (from : ℕ) (xs : List X) (y : X) (ys : List X) → position_from p from xs ≡ None → p y ≡ true → position_from p from (xs ++ y ∷ ys) ≡ Some (from + length xs)
+  pub position_next : (p : X → Bool) (from : ℕ) (xs : List X) (y : X) (ys : List X) → position_from p from xs ≡ None → p y ≡ true
+      → position_from p from (xs ++ y ∷ ys) ≡ Some (from + length xs)
   position_next p from [] y ys none is = rw is (ap Some (omega arith))
   position_next p from (x ∷ xs) y ys none is = elim (cases_Bool (p x)) [
     | inl first ↦ absurd (let e = rw first at none in cc)
@@ -90,7 +92,14 @@ grows_then a b c p q = record {
 }
 
 pub grows_none : (a : Schema) → Grows a a
-grows_none a = record { more = []; tables = sym (append-nil a.tables); extra = []; indexes = sym (append-nil a.indexes); views = refl; beyond = λ i h. absurd h }
+grows_none a = record {
+  more = [];
+  tables = sym (append-nil a.tables);
+  extra = [];
+  indexes = sym (append-nil a.indexes);
+  views = refl;
+  beyond = λ i h. absurd h;
+}
 
 -- a table that was found is found where it was
 pub still_has : (a b : Schema) (at : ℕ) (t : Table) → Grows a b → Has a at t → Has b at t
@@ -105,7 +114,8 @@ still_has a b at t g h = record {
 pub still_keys : (a b : Schema) (tree : ℕ) → Grows a b → tree < next_tree a → keys_on b tree ≡ keys_on a tree
 still_keys a b tree g low =
     ap (λ l. map key_of (filter (λ i. i.table == tree) l)) g.indexes ∙ ap (map key_of) (filter-append (λ i. i.table == tree) a.indexes g.extra
-    ∙ ap (λ l. filter (λ i. i.table == tree) a.indexes ++ l) (none_kept (λ i. i.table == tree) g.extra (λ i h. above_differs i.table tree (omega (arith, g.beyond i h)))) ∙ append-nil _)
+    ∙ ap (λ l. filter (λ i. i.table == tree) a.indexes ++ l)
+    (none_kept (λ i. i.table == tree) g.extra (λ i h. above_differs i.table tree (omega (arith, g.beyond i h)))) ∙ append-nil _)
 
 -- ---- by name
 
@@ -114,7 +124,8 @@ place_of_has s at t name h = ap (λ o. unwrap_or o 0) h
 
 pub tree_of_has : (s : Schema) (at : ℕ) (t : Table) (name : List ℕ) → table_named s name ≡ Some at → slice_get s.tables at ≡ Some t → tree_in s name ≡ t.tree
 tree_of_has s at t name named listed =
-    ap (λ p. unwrap_or (option_map (λ (u : Table). u.tree) (slice_get s.tables p)) 0) (place_of_has s at t name named) ∙ ap (λ o. unwrap_or (option_map (λ (u : Table). u.tree) o) 0) listed
+    ap (λ p. unwrap_or (option_map (λ (u : Table). u.tree) (slice_get s.tables p)) 0) (place_of_has s at t name named)
+    ∙ ap (λ o. unwrap_or (option_map (λ (u : Table). u.tree) o) 0) listed
 
 -- a table that the schema has under its name, with its own keys alone, stands
 pub stands_by : (s : Schema) (at tree : ℕ) (t : Table) → Has s at (record t { tree = tree }) → keys_on s tree ≡ own_keys t → Stands s t

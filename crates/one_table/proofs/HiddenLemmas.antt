@@ -40,7 +40,8 @@ module _ {X : Type 0} {db : Trees} {tree : ℕ} {tests shown : List Term} {param
   all_hidden rows answer = subst (λ l. IsPermutation l rows) shown_are (all_rows beside rows answer)
 
   -- where at most one row passes
-  pub one_hidden : (rows : List Row) → IsAnswer (query_on tree tests shown [] no_limit) db params rows → length (filter p xs) ≤ 1 → rows ≡ map show (filter p xs)
+  pub one_hidden : (rows : List Row) → IsAnswer (query_on tree tests shown [] no_limit) db params rows → length (filter p xs) ≤ 1 → rows
+      ≡ map show (filter p xs)
   one_hidden rows answer few =
       let same : length (filter (λ x. p x.1) both) ≡ length (filter p xs) = sym (length-map (filter (λ x. p x.1) both) value) ∙ ap length found_are in
       one_row beside rows answer (subst (λ n. n ≤ 1) (sym same) few) ∙ shown_are

@@ -53,7 +53,8 @@ module _ {X : Type 0} (t : Table) (m : Merging) (params : Row) (old new : State)
     pub holds : AreHidden stored rows (update_where p f xs)
     pub in_order : IsInOrder rows
 
-  module _ (so : MergesHidden t m params stored x p f xs) (hidden : AreHidden stored (old.now.trees t.tree) xs) (order : IsInOrder (old.now.trees t.tree)) (few : length (filter p xs) ≤ 1) where
+  module _ (so : MergesHidden t m params stored x p f xs) (hidden : AreHidden stored (old.now.trees t.tree) xs)
+      (order : IsInOrder (old.now.trees t.tree)) (few : length (filter p xs) ≤ 1) where
     abbrev before : List Row
     before = old.now.trees t.tree
 
@@ -107,6 +108,7 @@ module _ {X : Type 0} (t : Table) (m : Merging) (params : Row) (old new : State)
     -- a value is put in or set, where at most one has the key
     pub upserts_hidden : (row : Row) → Upserts t m params old new row → PutsHidden row ⊎ SetsOneHidden row
     upserts_hidden row h =
-        elim (upserts_listed t m params old new number_of (with_number stored) given (picks p) (makes p f) ns numbered (rows_are stored before xs hidden order) (rise stored before xs hidden order)
+        elim (upserts_listed t m params old new number_of (with_number stored) given (picks p) (makes p f) ns numbered
+        (rows_are stored before xs hidden order) (rise stored before xs hidden order)
         (subst (λ n. n ≤ 1) (sym (as_many stored before xs hidden order p)) few) row h)
         [ inl g ↦ inl (put_last row g) | inr s ↦ inr (set_hidden row s) ]

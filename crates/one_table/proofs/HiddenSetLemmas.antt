@@ -25,7 +25,8 @@ module _ {X : Type 0} (stored : X → Row) (p : X → Bool) (f : X → X) where
     pub are_numbers : AllByRecursion (λ r. IsTrue (is_int (rowid r))) rows
 
   -- what is set is set in the values, where at most one of them passes
-  pub sets_hidden : (t : Table) (tests terms : List Term) (params : Row) → SetsHidden t tests terms params stored p f → ((x : X) → (stored x ≡ []) → ⊥) → (old new : State) (xs : List X)
+  pub sets_hidden : (t : Table) (tests terms : List Term) (params : Row) → SetsHidden t tests terms params stored p f
+      → ((x : X) → (stored x ≡ []) → ⊥) → (old new : State) (xs : List X)
       → SetsRows t (query_on t.tree tests terms [] no_limit) params old new → AreHidden stored (old.now.trees t.tree) xs → IsTable (old.now.trees t.tree)
       → AllByRecursion (λ r. IsTrue (is_int (rowid r))) (old.now.trees t.tree) → length (filter p xs) ≤ 1 → HasSet t xs old new
   sets_hidden t tests terms params sets some old new xs h hidden up ints few =
@@ -42,7 +43,8 @@ module _ {X : Type 0} (stored : X → Row) (p : X → Bool) (f : X → X) where
       let after = changes stored before xs hidden order p f in
       record {
         rows = map (with_number stored) (set_in p f ns);
-        changed = sets_listed t tests terms params number (with_number stored) (picks p) (makes p f) numbered old new ns h (rows_are stored before xs hidden order) (rise stored before xs hidden order)
+        changed = sets_listed t tests terms params number (with_number stored) (picks p) (makes p f) numbered old new ns h
+            (rows_are stored before xs hidden order) (rise stored before xs hidden order)
             (subst (λ n. n ≤ 1) (sym (as_many stored before xs hidden order p)) few);
         holds = after.0;
         rises = after.1.rises;

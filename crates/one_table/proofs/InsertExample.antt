@@ -34,5 +34,6 @@ put_means : (tree : ℕ) → IsInsert (notes tree) terms (codes "INSERT INTO not
 unfolding everything insert_meant insert_in puts_meant
 put_means tree = record { means = refl; whole = refl; uncounted = refl; unstamped = refl }
 
-put_is : (tree number : ℕ) (title : List ℕ) (rows : List Row) → new_row (notes tree) terms (Int (pos number) ∷ Words title ∷ []) rows ≡ Int (pos number) ∷ Null ∷ Words title ∷ []
+put_is : (tree number : ℕ) (title : List ℕ) (rows : List Row) → new_row (notes tree) terms (Int (pos number) ∷ Words title ∷ []) rows
+    ≡ Int (pos number) ∷ Null ∷ Words title ∷ []
 put_is tree number title rows = rw (cast_int (pos number), cast_no_int)

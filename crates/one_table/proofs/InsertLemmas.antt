@@ -58,7 +58,8 @@ by_false P Q true c is h = absurd cc
 by_false P Q false c is h = h
 
 -- as many terms as a row has are one row
-pub one_value_row : (params : Row) (width : ℕ) (terms : List Term) → length terms ≡ width → 0 < width → value_rows params width (length terms / width) terms ≡ eval_all terms (params ∷ []) ∷ []
+pub one_value_row : (params : Row) (width : ℕ) (terms : List Term) → length terms ≡ width → 0 < width
+    → value_rows params width (length terms / width) terms ≡ eval_all terms (params ∷ []) ∷ []
 one_value_row params width terms whole some =
     let once : length terms / width ≡ 1 = ap (λ n. n / width) whole ∙ div_self some in
     rw once (ap (λ ts. eval_all ts (params ∷ []) ∷ []) (take_all width terms (omega (arith, whole))))
@@ -74,8 +75,10 @@ module _ (task : Task) (terms : List Term) (db : Trees) where
     unstamped_is : stamped task.table task.params ≡ task.params
     unstamped_is = rw (unstamped, append-nil)
 
-    pub sourced : (rows : List Row) → Sourced task.limit (record { schema = task.schema; trees = db }) (stamped task.table task.params) (Values terms width) (Ok rows) → rows ≡ eval_all terms (task.params ∷ []) ∷ []
-    sourced rows h = h.1 ∙ ap (λ params. value_rows params width (length terms / width) terms) unstamped_is ∙ one_value_row task.params width terms whole (omega arith)
+    pub sourced : (rows : List Row) → Sourced task.limit (record { schema = task.schema; trees = db }) (stamped task.table task.params)
+        (Values terms width) (Ok rows) → rows ≡ eval_all terms (task.params ∷ []) ∷ []
+    sourced rows h = h.1 ∙ ap (λ params. value_rows params width (length terms / width) terms) unstamped_is
+        ∙ one_value_row task.params width terms whole (omega arith)
 
     -- what is put in, where the statement gives trees
     pub puts_in : (w : Written) → Inserts task (Values terms width) db (Ok w) → Puts (eval_all terms (task.params ∷ []) ∷ []) w.trees
@@ -88,13 +91,16 @@ module _ (task : Task) (terms : List Term) (db : Trees) where
         let trees : w.trees ≡ put.0 = ap (λ (it : Written). it.trees) (same_value left.2) ∙ next in
         subst (Puts (eval_all terms (task.params ∷ []) ∷ [])) (sym trees)
         (subst (λ rows. Puts rows put.0) (sourced given.0 given.1)
-        (subst (λ b. Edited task.schema task.keys db (edit_of db task.table [] (if b then Above (count_of counted.0) else Chosen) 0 given.0) (Ok put.0)) uncounted put.1))
+        (subst (λ b. Edited task.schema task.keys db (edit_of db task.table [] (if b then Above (count_of counted.0) else Chosen) 0
+        given.0) (Ok put.0)) uncounted put.1))
 
-module _ (sql : List ℕ) (params : Row) (old new : State) (t : Table) (at : ℕ) (terms : List Term) (is : IsInsert t terms sql) (has : IsTrue old.is_open → Has old.now.schema at t) where
+module _ (sql : List ℕ) (params : Row) (old new : State) (t : Table) (at : ℕ) (terms : List Term) (is : IsInsert t terms sql)
+    (has : IsTrue old.is_open → Has old.now.schema at t) where
   abbrev edit : Edit
   edit = edit_of old.now.trees t [] Chosen 0 (eval_all terms (params ∷ []) ∷ [])
 
-  put_by : (text : List ℕ) (count : ℕ) → slice_get old.now.schema.tables at ≡ Some t → Shows old new new.now old.committed true → Writes old new None (insert_as at t terms) text params count
+  put_by : (text : List ℕ) (count : ℕ) → slice_get old.now.schema.tables at ≡ Some t → Shows old new new.now old.committed true
+      → Writes old new None (insert_as at t terms) text params count
       → PutsRow t (new_row t terms params (old.now.trees t.tree)) old new
   put_by text count listed inside w =
       let h = has_written t at None (insert_as at t terms) params old new w.tally listed w.changed in

@@ -48,46 +48,56 @@ module _ (s u : Schema) where
   unfolding lower_to node opened
   value_same e h = rw (value_at_same (lower_to 699) (out-Expr e) h)
 
-  all_from_same : (done : List Term) (es : List Expr) → list_all is_value es ≡ true → all_from lower (outermost s) done es ≡ all_from lower (outermost u) done es
+  all_from_same : (done : List Term) (es : List Expr) → list_all is_value es ≡ true → all_from lower (outermost s) done es
+      ≡ all_from lower (outermost u) done es
   all_from_same done [] h = refl
   all_from_same done (e ∷ es) h =
       let parts = and_parts (is_value e) (list_all is_value es) h in
       ap₂ (λ (a : Lowering Term) (b : Term → Lowering (List Term)). a >>= b) (value_same e parts.0) (fun_ext λ t. all_from_same (done ++ t ∷ []) es parts.1)
 
-  row_same : (t : Table) (base : ℕ) (at : List ℕ) (es : List Expr) → list_all is_value es ≡ true → write.value_row s t base at [] es ≡ write.value_row u t base at [] es
+  row_same : (t : Table) (base : ℕ) (at : List ℕ) (es : List Expr) → list_all is_value es ≡ true → write.value_row s t base at [] es
+      ≡ write.value_row u t base at [] es
   unfolding write.value_row all
   row_same t base at es h = fun_ext λ st.
-      ap (λ (a : Lowering (List Term)). and_then (a (record st { budget = max_budget })) (λ r. and_then (write.row t (Some base) at [] r.0) (λ longer. Ok (longer, r.1)))) (all_from_same [] es h)
+      ap (λ (a : Lowering (List Term)). and_then (a (record st { budget = max_budget }))
+      (λ r. and_then (write.row t (Some base) at [] r.0) (λ longer. Ok (longer, r.1)))) (all_from_same [] es h)
 
-  values_same : (t : Table) (base : ℕ) (at : List ℕ) (es : List Expr) → list_all is_value es ≡ true → write.values s t base at (es ∷ []) ≡ write.values u t base at (es ∷ [])
+  values_same : (t : Table) (base : ℕ) (at : List ℕ) (es : List Expr) → list_all is_value es ≡ true → write.values s t base at (es ∷ [])
+      ≡ write.values u t base at (es ∷ [])
   unfolding write.values write.value_rows
   values_same t base at es h = rw (row_same t base at es h)
 
-  inserted_same : (t : Table) (base : ℕ) (names : List Name) (es : List Expr) → list_all is_value es ≡ true → write.inserted s t base names (rows.Values (es ∷ [])) ≡ write.inserted u t base names (rows.Values (es ∷ []))
+  inserted_same : (t : Table) (base : ℕ) (names : List Name) (es : List Expr) → list_all is_value es ≡ true
+      → write.inserted s t base names (rows.Values (es ∷ [])) ≡ write.inserted u t base names (rows.Values (es ∷ []))
   unfolding write.inserted
   inserted_same t base names es h = ap (λ (f : List ℕ → Checked NewRows). and_then (write.places t names) f) (fun_ext λ at. values_same t base at es h)
 
   -- only a row of terms is known, and what a query would be is not
-  pub source_same : (width : ℕ) (terms : List Term) (rows_are : NewRows) → source_of u width rows_are ≡ Ok (source.Values terms width) → source_of s width rows_are ≡ Ok (source.Values terms width)
+  pub source_same : (width : ℕ) (terms : List Term) (rows_are : NewRows) → source_of u width rows_are ≡ Ok (source.Values terms width)
+      → source_of s width rows_are ≡ Ok (source.Values terms width)
   unfolding source_of queried
   source_same width terms (new.Values found) h = h
   source_same width terms (new.Query lets d) h = by_program (program u lets d) h
     where
-      by_program : (m : Checked Program) → and_then m (λ q. Ok (source.Query q)) ≡ Ok (source.Values terms width) → queried s lets d ≡ Ok (source.Values terms width)
+      by_program : (m : Checked Program) → and_then m (λ q. Ok (source.Query q)) ≡ Ok (source.Values terms width) → queried s lets d
+          ≡ Ok (source.Values terms width)
       by_program (Ok q) h = absurd cc
       by_program (Err e) h = absurd cc
 
   pub new_rows_same : (t : Table) (terms : List Term) (base : ℕ) (names : List Name) (es : List Expr) → list_all is_value es ≡ true
-      → new_rows u t base names (rows.Values (es ∷ [])) ≡ Ok (source_of_row t terms) → new_rows s t base names (rows.Values (es ∷ [])) ≡ Ok (source_of_row t terms)
+      → new_rows u t base names (rows.Values (es ∷ [])) ≡ Ok (source_of_row t terms) → new_rows s t base names (rows.Values (es ∷ []))
+      ≡ Ok (source_of_row t terms)
   unfolding new_rows
   new_rows_same t terms base names es simple h = rw (inserted_same t base names es simple) (by_rows (write.inserted u t base names (rows.Values (es ∷ []))) h)
     where
-      by_rows : (m : Checked NewRows) → and_then m (source_of u (length t.columns + 1)) ≡ Ok (source_of_row t terms) → and_then m (source_of s (length t.columns + 1)) ≡ Ok (source_of_row t terms)
+      by_rows : (m : Checked NewRows) → and_then m (source_of u (length t.columns + 1)) ≡ Ok (source_of_row t terms)
+          → and_then m (source_of s (length t.columns + 1)) ≡ Ok (source_of_row t terms)
       by_rows (Ok found) h = source_same (length t.columns + 1) terms found h
       by_rows (Err e) h = absurd cc
 
 module _ (s : Schema) (at : ℕ) (t : Table) (has : Has s at t) (terms : List Term) where
-  insert_is : (w : Puts) (base : ℕ) → is_simple_insert t w ≡ true → puts_meant t base w ≡ Ok (source_of_row t terms) → insert_or_abort s base w.0 w.1 (rows.Values (w.2 ∷ [])) [] ≡ Ok (insert_as at t terms)
+  insert_is : (w : Puts) (base : ℕ) → is_simple_insert t w ≡ true → puts_meant t base w ≡ Ok (source_of_row t terms)
+      → insert_or_abort s base w.0 w.1 (rows.Values (w.2 ∷ [])) [] ≡ Ok (insert_as at t terms)
   unfolding insert_or_abort insert puts_meant
   insert_is w base h means =
       let b = and_parts (bytes_eq w.0 t.name && (length t.stamps.formats == 0)) (list_all is_value w.2) h in
@@ -96,7 +106,8 @@ module _ (s : Schema) (at : ℕ) (t : Table) (has : Has s at t) (terms : List Te
 
   -- ---- the text
 
-  statement_is : (p : Parsed) (w : Puts) → p.statement ≡ written.Insert conflict.Abort w.0 w.1 (rows.Values (w.2 ∷ [])) [] [] → p.formats ≡ [] → t.stamps.formats ≡ [] → w.0 ≡ t.name → (c : Command)
+  statement_is : (p : Parsed) (w : Puts) → p.statement ≡ written.Insert conflict.Abort w.0 w.1 (rows.Values (w.2 ∷ [])) [] [] → p.formats
+      ≡ [] → t.stamps.formats ≡ [] → w.0 ≡ t.name → (c : Command)
       → insert_or_abort s (small p.names + small t.stamps.formats) w.0 w.1 (rows.Values (w.2 ∷ [])) [] ≡ Ok c → planned s p ≡ Ok ([], (c, None))
   unfolding planned meaning returning command timed shows
   statement_is p w is timeless none name c means =
@@ -104,20 +115,25 @@ module _ (s : Schema) (at : ℕ) (t : Table) (has : Has s at t) (terms : List Te
       rw (is, timeless, name, has.named, has.listed, here, none)
 
   insert_as_written : (o : Statement) (w : Puts) → insert_of o ≡ Some w → o ≡ written.Insert conflict.Abort w.0 w.1 (rows.Values (w.2 ∷ [])) [] []
-  insert_as_written (written.Insert conflict.Abort name columns (rows.Values (row ∷ [])) [] []) w h = ap (λ (v : Puts). written.Insert conflict.Abort v.0 v.1 (rows.Values (v.2 ∷ [])) [] []) cc
+  insert_as_written (written.Insert conflict.Abort name columns (rows.Values (row ∷ [])) [] []) w h =
+      ap (λ (v : Puts). written.Insert conflict.Abort v.0 v.1 (rows.Values (v.2 ∷ [])) [] []) cc
   insert_as_written _ w h = absurd cc
 
-  by_test : (p : Parsed) (w : Puts) → p.statement ≡ written.Insert conflict.Abort w.0 w.1 (rows.Values (w.2 ∷ [])) [] [] → (b : Bool) → ((length p.formats == 0) && is_simple_insert t w) ≡ b
-      → (if b then puts_meant t (small p.names + small t.stamps.formats) w else Err Unsupported) ≡ Ok (source_of_row t terms) → planned s p ≡ Ok ([], (insert_as at t terms, None))
+  by_test : (p : Parsed) (w : Puts) → p.statement ≡ written.Insert conflict.Abort w.0 w.1 (rows.Values (w.2 ∷ [])) [] [] → (b : Bool)
+      → ((length p.formats == 0) && is_simple_insert t w) ≡ b
+      → (if b then puts_meant t (small p.names + small t.stamps.formats) w else Err Unsupported) ≡ Ok (source_of_row t terms) → planned s p
+      ≡ Ok ([], (insert_as at t terms, None))
   by_test p w is false test h = absurd cc
   by_test p w is true test h =
       let parts = and_parts (length p.formats == 0) (is_simple_insert t w) test in
       let b = and_parts (bytes_eq w.0 t.name && (length t.stamps.formats == 0)) (list_all is_value w.2) parts.1 in
       let a = and_parts (bytes_eq w.0 t.name) (length t.stamps.formats == 0) b.0 in
-      statement_is p w is (nil_is p.formats parts.0) (nil_is t.stamps.formats a.1) ((bytes_eq-Decides w.0 t.name).0 a.0) (insert_as at t terms) (insert_is w _ parts.1 h)
+      statement_is p w is (nil_is p.formats parts.0) (nil_is t.stamps.formats a.1) ((bytes_eq-Decides w.0 t.name).0 a.0)
+      (insert_as at t terms) (insert_is w _ parts.1 h)
 
   by_insert : (p : Parsed) (o : Option Puts) → insert_of p.statement ≡ o
-      → and_then (or_else o Misuse) (λ w. if (length p.formats == 0) && is_simple_insert t w then puts_meant t (small p.names + small t.stamps.formats) w else Err Unsupported) ≡ Ok (source_of_row t terms)
+      → and_then (or_else o Misuse) (λ w. if (length p.formats == 0) && is_simple_insert t w then
+      puts_meant t (small p.names + small t.stamps.formats) w else Err Unsupported) ≡ Ok (source_of_row t terms)
       → planned s p ≡ Ok ([], (insert_as at t terms, None))
   by_insert p None is h = absurd cc
   by_insert p (Some w) is h = by_test p w (insert_as_written p.statement w is) ((length p.formats == 0) && is_simple_insert t w) refl h

@@ -7,12 +7,14 @@ use Rattle.sqlite_schema.specs.declared.schema.Index.{Index}
 use Rattle.sqlite_schema.specs.declared.schema.Table.{Table}
 use Rattle.one_table.specs.Standing.{Key, key_of, keys_from, own_keys}
 
-key_from : (orders : List Order) (from : ℕ) (keys : List (List ℕ)) (at : ℕ) → slice_get (keys_from orders from keys) at ≡ option_map (λ columns. (true, columns, slice_index_or orders (from + at) plain)) (slice_get keys at)
+key_from : (orders : List Order) (from : ℕ) (keys : List (List ℕ)) (at : ℕ) → slice_get (keys_from orders from keys) at
+    ≡ option_map (λ columns. (true, columns, slice_index_or orders (from + at) plain)) (slice_get keys at)
 key_from orders from [] at = refl
 key_from orders from (key ∷ keys) zero = let e : from + 0 ≡ from = omega arith in rw e
 key_from orders from (key ∷ keys) (suc at) = let e : from + 1 + at ≡ from + suc at = omega arith in key_from orders (from + 1) keys at ∙ rw e
 
-pub own_key : (t : Table) (at : ℕ) → slice_get (own_keys t) at ≡ option_map (λ columns. (true, columns, slice_index_or t.orders at plain)) (slice_get t.uniques at)
+pub own_key : (t : Table) (at : ℕ) → slice_get (own_keys t) at
+    ≡ option_map (λ columns. (true, columns, slice_index_or t.orders at plain)) (slice_get t.uniques at)
 own_key t at = let e : 0 + at ≡ at = omega arith in key_from t.orders 0 t.uniques at ∙ rw e
 
 length_from : (orders : List Order) (from : ℕ) (keys : List (List ℕ)) → length (keys_from orders from keys) ≡ length keys
@@ -22,7 +24,8 @@ length_from orders from (key ∷ keys) = ap suc (length_from orders (from + 1) k
 pub length-own_keys : (t : Table) → length (own_keys t) ≡ length t.uniques
 length-own_keys t = length_from t.orders 0 t.uniques
 
-pub own_key_at : (t : Table) (at : ℕ) (columns : List ℕ) → Some columns ≡ slice_get t.uniques at → slice_get (own_keys t) at ≡ Some (true, columns, slice_index_or t.orders at plain)
+pub own_key_at : (t : Table) (at : ℕ) (columns : List ℕ) → Some columns ≡ slice_get t.uniques at → slice_get (own_keys t) at
+    ≡ Some (true, columns, slice_index_or t.orders at plain)
 own_key_at t at columns h = own_key t at ∙ ap (option_map (λ cs. (true, cs, slice_index_or t.orders at plain))) (sym h)
 
 pub no_own_key : (t : Table) (at : ℕ) → None ≡ slice_get t.uniques at → slice_get (own_keys t) at ≡ None
@@ -60,7 +63,8 @@ module _ (tree : ℕ) (ks : List Key) (next : ℕ) (i : Index) (rest : List Inde
   pub key_missed : (i.table == tree) ≡ true → ¬ (slice_get ks next ≡ Some (key_of i)) → ¬ (map key_of (filter on (i ∷ rest)) ≡ drop next ks)
   key_missed is not same = not (at_drop ks next (key_of i) (map key_of (filter on rest)) (rw is at same))
 
-  pub key_met : (i.table == tree) ≡ true → slice_get ks next ≡ Some (key_of i) → (map key_of (filter on rest) ≡ drop (next + 1) ks) ↔ (map key_of (filter on (i ∷ rest)) ≡ drop next ks)
+  pub key_met : (i.table == tree) ≡ true → slice_get ks next ≡ Some (key_of i)
+      → (map key_of (filter on rest) ≡ drop (next + 1) ks) ↔ (map key_of (filter on (i ∷ rest)) ≡ drop next ks)
   key_met is met = (
     λ h. rw is (ap (λ l. key_of i ∷ l) h ∙ sym (drop_at ks next (key_of i) met)),
     λ h. same_tail (key_of i) (key_of i) (map key_of (filter on rest)) (drop (next + 1) ks) (rw is at h ∙ drop_at ks next (key_of i) met),
@@ -102,7 +106,8 @@ module _ (tree : ℕ) (ks : List Key) (whole : Type 0) (next : ℕ) (items : Lis
   pub left_missed : i.table ≡ tree → ¬ (slice_get ks next ≡ Some (key_of i)) → ¬ whole
   left_missed on not all = key_missed tree ks next i (drop (at + 1) items) (eq-eqb i.table tree on) not (here.1 all)
 
-pub left_ended : (tree : ℕ) (ks : List Key) (whole : Type 0) (next : ℕ) (items : List Index) (at : ℕ) → length items ≤ at → next ≤ length ks → Left tree ks whole next (drop at items) → (next ≡ length ks) ↔ whole
+pub left_ended : (tree : ℕ) (ks : List Key) (whole : Type 0) (next : ℕ) (items : List Index) (at : ℕ) → length items ≤ at
+    → next ≤ length ks → Left tree ks whole next (drop at items) → (next ≡ length ks) ↔ whole
 left_ended tree ks whole next items at past within left =
     let none : drop at items ≡ [] = drop_past items at past in
     let over = subst (Left tree ks whole next) none left in

@@ -44,14 +44,16 @@ module _ {s : Schema} {sql : List ℕ} {c : Command} (means : Means s sql c) whe
   is_plain = subst IsPlain (sym means.understands) (means.returning, means.timeless)
 
 -- the rows that were shown are an answer of the query
-pub answers : {s : Schema} {sql : List ℕ} (q : Query) (names : List Name) → Means s sql (select_as q names) → (params : Row) (old new : State) → old.now.schema ≡ s
+pub answers : {s : Schema} {sql : List ℕ} (q : Query) (names : List Name) → Means s sql (select_as q names)
+    → (params : Row) (old new : State) → old.now.schema ≡ s
     → (rows : List Row) → Shown sql params old new rows → IsAnswer q old.now.trees params rows
 answers {s} {sql} q names means params old new has rows shown =
     let read = reads_as sql params old new s has (select_as q names) (command_is means) (is_plain means) means.unlisted rows shown in
     subst (λ db. IsAnswer q db params rows) (fun_ext (none_laid old.now.trees)) (read.answer Null)
 
 -- the rows that were shown of a SELECT over the table, wherever it stands
-pub answered : (s : Schema) (at : ℕ) (t : Table) → Has s at t → (q : Query) (names : List Name) (sql : List ℕ) → IsSelect t q names sql → (params : Row) (old new : State) → old.now.schema ≡ s
+pub answered : (s : Schema) (at : ℕ) (t : Table) → Has s at t → (q : Query) (names : List Name) (sql : List ℕ) → IsSelect t q names sql
+    → (params : Row) (old new : State) → old.now.schema ≡ s
     → (rows : List Row) → Shown sql params old new rows → IsAnswer q old.now.trees params rows
 answered s at t has q names sql is = answers q names (selects s at t has q names sql is)
 
@@ -75,8 +77,10 @@ all-reverse P (x ∷ xs) h = subst (AllByRecursion P) (sym (reverse-append (x �
 falls-reverse : {X : Type 0} (R : X → X → Type 0) (xs : List X) → IsAscending R xs → IsAscending (λ a b. R b a) (reverse xs)
 falls-reverse R [] h = tt
 falls-reverse {X} R (x ∷ xs) h =
-    let before : AllByRecursion (λ y. AllByRecursion (λ z. R z y) (x ∷ [])) (reverse xs) = all_weaker (R x) (λ y. AllByRecursion (λ z. R z y) (x ∷ [])) (λ y below. (below, tt)) (reverse xs) (all-reverse (R x) xs h.0) in
-    subst (IsAscending (λ a b. R b a)) (sym (reverse-append (x ∷ []) xs)) (ascending-append (λ a b. R b a) (reverse xs) (x ∷ []) (falls-reverse R xs h.1) (tt, tt) before)
+    let before : AllByRecursion (λ y. AllByRecursion (λ z. R z y) (x ∷ [])) (reverse xs) =
+    all_weaker (R x) (λ y. AllByRecursion (λ z. R z y) (x ∷ [])) (λ y below. (below, tt)) (reverse xs) (all-reverse (R x) xs h.0) in
+    subst (IsAscending (λ a b. R b a)) (sym (reverse-append (x ∷ []) xs))
+    (ascending-append (λ a b. R b a) (reverse xs) (x ∷ []) (falls-reverse R xs h.1) (tt, tt) before)
 
 -- ---- what a table holds
 
@@ -106,13 +110,17 @@ module _ {X : Type 0} {db : Trees} {tree : ℕ} {tests shown : List Term} {param
 
     -- the rows in any order that agrees with ORDER BY
     in_some_order : IsPermutation (map show (filter p xs)) (map (λ (o : Output). o.1) answer.ordered)
-    in_some_order = subst (λ l. IsPermutation l (map (λ (o : Output). o.1) answer.ordered)) (shown_of (filter p xs)) (IsPermutation-map (λ (o : Output). o.1) (map out (filter p xs)) answer.ordered arranged)
+    in_some_order = subst (λ l. IsPermutation l (map (λ (o : Output). o.1) answer.ordered)) (shown_of (filter p xs))
+        (IsPermutation-map (λ (o : Output). o.1) (map out (filter p xs)) answer.ordered arranged)
 
     -- an order of them in which ORDER BY rises is the order of the answer
-    pub in_order : (ys : List X) → IsPermutation (filter p xs) ys → IsAscending (λ a b. output_cmp q (out a) (out b) ≡ Less) ys → rows ≡ page q params (map show ys)
+    pub in_order : (ys : List X) → IsPermutation (filter p xs) ys → IsAscending (λ a b. output_cmp q (out a) (out b) ≡ Less) ys → rows
+        ≡ page q params (map show ys)
     in_order ys same rises =
-        let is : answer.ordered ≡ map out ys = sorted_unique (output_cmp q) (output_cmp_total q) (map out ys) answer.ordered (ascending-map (λ a b. output_cmp q a b ≡ Less) out ys rises)
-        (IsPermutation-trans (map out ys) (map out (filter p xs)) answer.ordered (IsPermutation-map out ys (filter p xs) (IsPermutation-sym (filter p xs) ys same)) arranged) answer.sorted in
+        let is : answer.ordered ≡ map out ys = sorted_unique (output_cmp q) (output_cmp_total q) (map out ys) answer.ordered
+        (ascending-map (λ a b. output_cmp q a b ≡ Less) out ys rises)
+        (IsPermutation-trans (map out ys) (map out (filter p xs)) answer.ordered
+        (IsPermutation-map out ys (filter p xs) (IsPermutation-sym (filter p xs) ys same)) arranged) answer.sorted in
         answer.shown ∙ ap (λ l. page q params (map (λ (o : Output). o.1) l)) is ∙ ap (page q params) (shown_of ys)
 
   -- with no ORDER BY and no LIMIT: each row that passes once, in any order
@@ -123,7 +131,8 @@ module _ {X : Type 0} {db : Trees} {tree : ℕ} {tests shown : List Term} {param
   pub one_row : (rows : List Row) → IsAnswer (query_on tree tests shown [] no_limit) db params rows → length (filter p xs) ≤ 1 → rows ≡ map show (filter p xs)
   one_row rows answer few = few_permuted (map show (filter p xs)) rows (subst (λ n. n ≤ 1) (sym (length-map (filter p xs) show)) few) (all_rows rows answer)
 
-  module _ (at : ℕ) (key : X → ℤ) (keeps_key : (x : X) → column (stored x) at ≡ Int (key x)) (limit : Term) (rows : List Row) (ys : List X) (same : IsPermutation (filter p xs) ys) (keyed : IsKeyedBy key ys) where
+  module _ (at : ℕ) (key : X → ℤ) (keeps_key : (x : X) → column (stored x) at ≡ Int (key x)) (limit : Term) (rows : List Row) (ys : List X)
+      (same : IsPermutation (filter p xs) ys) (keyed : IsKeyedBy key ys) where
     keys_rise : IsAscending (λ a b. int_cmp (key a) (key b) ≡ Less) ys
     keys_rise = ascending_weaker _ _ (λ a b. Less-from_lt (key a) (key b)) ys keyed
 
@@ -133,18 +142,23 @@ module _ {X : Type 0} {db : Trees} {tree : ℕ} {tests shown : List Term} {param
         (ascending_weaker _ _ (λ a b h. then-Equal _ ∙ ap₂ value_cmp (keeps_key a) (keeps_key b) ∙ value_cmp-Int (key a) (key b) ∙ h) ys keys_rise)
 
     -- the same with DESC
-    pub falling_rows : IsAnswer (query_on tree tests shown (falling at) limit) db params rows → rows ≡ limited (as_count (eval limit (params ∷ []))) (map show (reverse ys))
-    falling_rows answer = in_order (falling at) limit rows answer (reverse ys) (IsPermutation-trans (filter p xs) ys (reverse ys) same (IsPermutation-reverse ys))
-        (ascending_weaker _ _ (λ a b h. then-Equal _ ∙ ap₂ value_cmp (keeps_key b) (keeps_key a) ∙ value_cmp-Int (key b) (key a) ∙ h) (reverse ys) (falls-reverse (λ a b. int_cmp (key a) (key b) ≡ Less) ys keys_rise))
+    pub falling_rows : IsAnswer (query_on tree tests shown (falling at) limit) db params rows → rows
+        ≡ limited (as_count (eval limit (params ∷ []))) (map show (reverse ys))
+    falling_rows answer = in_order (falling at) limit rows answer (reverse ys)
+        (IsPermutation-trans (filter p xs) ys (reverse ys) same (IsPermutation-reverse ys))
+        (ascending_weaker _ _ (λ a b h. then-Equal _ ∙ ap₂ value_cmp (keeps_key b) (keeps_key a) ∙ value_cmp-Int (key b) (key a) ∙ h)
+        (reverse ys) (falls-reverse (λ a b. int_cmp (key a) (key b) ≡ Less) ys keys_rise))
 
   module _ (at : ℕ) (key : X → ℤ) (keeps_key : (x : X) → column (stored x) at ≡ Int (key x)) (limit : Term) (rows : List Row) (keyed : IsKeyedBy key xs) where
     found_keyed : IsKeyedBy key (filter p xs)
     found_keyed = ascending-filter (λ a b. key a <ℤ key b) p xs keyed
 
     -- ORDER BY the key of the table, up to LIMIT
-    pub first_by_key : IsAnswer (query_on tree tests shown (rising at) limit) db params rows → rows ≡ limited (as_count (eval limit (params ∷ []))) (map show (filter p xs))
+    pub first_by_key : IsAnswer (query_on tree tests shown (rising at) limit) db params rows → rows
+        ≡ limited (as_count (eval limit (params ∷ []))) (map show (filter p xs))
     first_by_key = rising_rows at key keeps_key limit rows (filter p xs) (IsPermutation-refl (filter p xs)) found_keyed
 
     -- the same with DESC
-    pub last_by_key : IsAnswer (query_on tree tests shown (falling at) limit) db params rows → rows ≡ limited (as_count (eval limit (params ∷ []))) (map show (reverse (filter p xs)))
+    pub last_by_key : IsAnswer (query_on tree tests shown (falling at) limit) db params rows → rows
+        ≡ limited (as_count (eval limit (params ∷ []))) (map show (reverse (filter p xs)))
     last_by_key = falling_rows at key keeps_key limit rows (filter p xs) (IsPermutation-refl (filter p xs)) found_keyed

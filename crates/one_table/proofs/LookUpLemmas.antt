@@ -18,7 +18,8 @@ unless_true true h = absurd (h refl)
 unless_true false h = refl
 
 -- where of two rows of the table at most one passes
-pub few_pass : {X : Type 0} (R : X → X → Type 0) (p : X → Bool) (xs : List X) → IsAscending R xs → ((x y : X) → R x y → p x ≡ true → p y ≡ false) → length (filter p xs) ≤ 1
+pub few_pass : {X : Type 0} (R : X → X → Type 0) (p : X → Bool) (xs : List X) → IsAscending R xs
+    → ((x y : X) → R x y → p x ≡ true → p y ≡ false) → length (filter p xs) ≤ 1
 few_pass R p [] up apart = omega arith
 few_pass R p (x ∷ xs) up apart = by_test (p x) refl (few_pass R p xs up.1 apart)
   where
@@ -27,21 +28,26 @@ few_pass R p (x ∷ xs) up apart = by_test (p x) refl (few_pass R p xs up.1 apar
     by_test true is fewer = rw (is, filter_none p xs (all_weaker (R x) (λ y. p y ≡ false) (λ y below. apart x y below is) xs up.0)) (omega arith)
 
 -- the rows that pass have one key
-pub few_of_key : {X : Type 0} (key : X → ℤ) (k : ℤ) (p : X → Bool) (xs : List X) → IsKeyedBy key xs → ((x : X) → p x ≡ true → key x ≡ k) → length (filter p xs) ≤ 1
+pub few_of_key : {X : Type 0} (key : X → ℤ) (k : ℤ) (p : X → Bool) (xs : List X) → IsKeyedBy key xs → ((x : X) → p x ≡ true → key x ≡ k)
+    → length (filter p xs) ≤ 1
 few_of_key key k p xs keyed is = few_pass (λ a b. key a <ℤ key b) p xs keyed
     (λ x y below here. unless_true (p y) (λ there. let one : key x ≡ key y = is x here ∙ sym (is y there) in grind (arith, ints, below, one)))
 
 -- a row that passes clashes with each other that does
-pub few_apart : {X : Type 0} (clash : X → X → Bool) (p : X → Bool) (xs : List X) → AreApart clash xs → ((x y : X) → p x ≡ true → p y ≡ true → clash x y ≡ true) → length (filter p xs) ≤ 1
-few_apart clash p xs apart clashes = few_pass (λ a b. clash a b ≡ false) p xs apart (λ x y differ here. unless_true (p y) (λ there. true≢false (sym (clashes x y here there) ∙ differ)))
+pub few_apart : {X : Type 0} (clash : X → X → Bool) (p : X → Bool) (xs : List X) → AreApart clash xs
+    → ((x y : X) → p x ≡ true → p y ≡ true → clash x y ≡ true) → length (filter p xs) ≤ 1
+few_apart clash p xs apart clashes = few_pass (λ a b. clash a b ≡ false) p xs apart
+    (λ x y differ here. unless_true (p y) (λ there. true≢false (sym (clashes x y here there) ∙ differ)))
 
 -- ---- the first row
 
-pub first_row : {X : Type 0} (show : X → Row) (p : X → Bool) (xs : List X) (rows : List Row) → rows ≡ map show (filter p xs) → slice_get rows 0 ≡ option_map show (find p xs)
+pub first_row : {X : Type 0} (show : X → Row) (p : X → Bool) (xs : List X) (rows : List Row) → rows ≡ map show (filter p xs)
+    → slice_get rows 0 ≡ option_map show (find p xs)
 first_row show p xs rows is = ap (λ l. slice_get l 0) is ∙ slice_get-map show (filter p xs) 0 ∙ ap (option_map show) (slice_get-filter p xs)
 
 -- ORDER BY .. DESC LIMIT 1
-pub last_row : {X : Type 0} (show : X → Row) (ys : List X) (rows : List Row) → rows ≡ take 1 (map show (reverse ys)) → slice_get rows 0 ≡ option_map show (slice_get (reverse ys) 0)
+pub last_row : {X : Type 0} (show : X → Row) (ys : List X) (rows : List Row) → rows ≡ take 1 (map show (reverse ys)) → slice_get rows 0
+    ≡ option_map show (slice_get (reverse ys) 0)
 last_row show ys rows is = ap (λ l. slice_get l 0) is ∙ first_taken (map show (reverse ys)) ∙ slice_get-map show (reverse ys) 0
 
 -- ---- what a reader gives of rows that are known
@@ -53,7 +59,8 @@ module _ {X : Type 0} (stored : X → Row) where
   with_number x = x.0 ∷ stored x.1
 
   -- the rows are the values beside their hidden numbers
-  pub numbered : ((x : X) → (stored x ≡ []) → ⊥) → (rows : List Row) (xs : List X) → AreHidden stored rows xs → (both : List (Value × X)) × (rows ≡ map with_number both) × (map (λ (x : Value × X). x.1) both ≡ xs)
+  pub numbered : ((x : X) → (stored x ≡ []) → ⊥) → (rows : List Row) (xs : List X) → AreHidden stored rows xs → (both : List (Value × X))
+      × (rows ≡ map with_number both) × (map (λ (x : Value × X). x.1) both ≡ xs)
   numbered some [] [] is = ([], refl, refl)
   numbered some [] (x ∷ xs) is = absurd (let e = ap length is in omega arith)
   numbered some (r ∷ rows) [] is = absurd (let e = ap length is in omega arith)
@@ -66,4 +73,5 @@ module _ {X : Type 0} (stored : X → Row) where
   -- a test that does not see the numbers
   pub without_numbers : {Y : Type 0} (show : X → Y) (p : X → Bool) (both : List (Value × X))
       → map (λ (x : Value × X). show x.1) (filter (λ (x : Value × X). p x.1) both) ≡ map show (filter p (map (λ (x : Value × X). x.1) both))
-  without_numbers show p both = sym (map-map show (λ (x : Value × X). x.1) (filter (λ (x : Value × X). p x.1) both)) ∙ ap (map show) (sym (filter-map p (λ (x : Value × X). x.1) both))
+  without_numbers show p both = sym (map-map show (λ (x : Value × X). x.1) (filter (λ (x : Value × X). p x.1) both))
+      ∙ ap (map show) (sym (filter-map p (λ (x : Value × X). x.1) both))

@@ -29,7 +29,8 @@ any_map q f p same (x ∷ xs) = ap₂ ◌||◌ (same x) (any_map q f p same xs)
 
 -- In a table that holds these values, xs: the row that is given is x, and its columns keep it as it
 -- is. Where it is given, the rows of its key are those of p, and what is set makes f of them.
-pub record MergesAs {X : Type 0} (t : Table) (m : Merging) (params : Row) (rows : List Row) (key : X → ℤ) (stored : X → Row) (x : X) (p : X → Bool) (f : X → X) (xs : List X) : Type 0 where
+pub record MergesAs {X : Type 0} (t : Table) (m : Merging) (params : Row) (rows : List Row) (key : X → ℤ) (stored : X → Row) (x : X)
+    (p : X → Bool) (f : X → X) (xs : List X) : Type 0 where
   pub keyed : (y : X) → rowid (stored y) ≡ Int (key y)
   pub gives : given_row t m params rows ≡ stored x
   pub fits : cast_row t (stored x) ≡ stored x
@@ -38,10 +39,13 @@ pub record MergesAs {X : Type 0} (t : Table) (m : Merging) (params : Row) (rows 
   pub stays : (y : X) → key (f y) ≡ key y
 
 -- what is given with a number keeps it
-pub given_numbered : (t : Table) (m : Merging) (params row : Row) (n : ℤ) → source_row t m.given params ≡ row → rowid row ≡ Int n → (rows : List Row) → given_row t m params rows ≡ row
-given_numbered t m params row n source numbered rows = ap (with_rowid Chosen rows) source ∙ (let some : is_null (rowid row) ≡ false = ap is_null numbered in rw some refl)
+pub given_numbered : (t : Table) (m : Merging) (params row : Row) (n : ℤ) → source_row t m.given params ≡ row → rowid row ≡ Int n
+    → (rows : List Row) → given_row t m params rows ≡ row
+given_numbered t m params row n source numbered rows =
+    ap (with_rowid Chosen rows) source ∙ (let some : is_null (rowid row) ≡ false = ap is_null numbered in rw some refl)
 
-module _ {X : Type 0} (t : Table) (m : Merging) (params : Row) (old new : State) (key : X → ℤ) (stored : X → Row) (x : X) (p : X → Bool) (f : X → X) (xs : List X) where
+module _ {X : Type 0} (t : Table) (m : Merging) (params : Row) (old new : State) (key : X → ℤ) (stored : X → Row) (x : X) (p : X → Bool)
+    (f : X → X) (xs : List X) where
   -- no value has the key, and x is put in
   pub record PutsIn (row : Row) : Type 0 where
     pub free : list_any p xs ≡ false
@@ -56,7 +60,8 @@ module _ {X : Type 0} (t : Table) (m : Merging) (params : Row) (old new : State)
     pub is : row ≡ stored (f one)
     pub changed : HasChanged t (map stored (update_where p f xs)) old new
 
-  module _ (so : MergesAs t m params (old.now.trees t.tree) key stored x p f xs) (holds : old.now.trees t.tree ≡ map stored xs) (up : IsKeyedBy key xs) (few : length (filter p xs) ≤ 1) where
+  module _ (so : MergesAs t m params (old.now.trees t.tree) key stored x p f xs) (holds : old.now.trees t.tree ≡ map stored xs)
+      (up : IsKeyedBy key xs) (few : length (filter p xs) ≤ 1) where
     abbrev is_met : Row → Row → Bool
     is_met = is_of_key (own_keys t) m.key
 
@@ -86,7 +91,8 @@ module _ {X : Type 0} (t : Table) (m : Merging) (params : Row) (old new : State)
         let left : without_rowid (id_in (rowid s.there)) (old.now.trees t.tree) ≡ without_all (map stored xs) (map key (filter p xs)) =
         ap₂ without_rowid id holds ∙ ap (λ l. without_all (map stored xs) (map key l)) (sym only) in
         let news : row ∷ [] ≡ map stored (map f (filter p xs)) = ap (λ r. r ∷ []) is ∙ ap (λ l. map stored (map f l)) (sym only) in
-        let rows : put_row row (without_rowid (id_in (rowid s.there)) (old.now.trees t.tree)) ≡ map stored (update_where p f xs) = ap₂ put_all left news ∙ replaced key stored so.keyed p f so.stays xs up in
+        let rows : put_row row (without_rowid (id_in (rowid s.there)) (old.now.trees t.tree)) ≡ map stored (update_where p f xs) =
+        ap₂ put_all left news ∙ replaced key stored so.keyed p f so.stays xs up in
         record { one = one.0; found = one.1; meets = meets; is = is; changed = subst (λ l. HasChanged t l old new) rows s.changed }
 
     -- a value is put in or set, where at most one has the key

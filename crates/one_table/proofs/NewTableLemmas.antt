@@ -62,9 +62,11 @@ index_below_next db sound i h =
 tree_below_bound : (db : Database) → IsDatabase db → (t : Table) → Member db.schema.tables t → t.tree < 65536
 tree_below_bound db sound t h = (zipped_left IsTableRow _ db.schema.tables t sound.lists.listed.tables h).2.described.low
 
-automatic_keys : (t : Table) (at tree : ℕ) (keys : List (List ℕ)) → map key_of (filter (λ i. i.table == t.tree) (automatics t at tree keys)) ≡ keys_from t.orders at keys
+automatic_keys : (t : Table) (at tree : ℕ) (keys : List (List ℕ))
+    → map key_of (filter (λ i. i.table == t.tree) (automatics t at tree keys)) ≡ keys_from t.orders at keys
 automatic_keys t at tree [] = refl
-automatic_keys t at tree (key ∷ keys) = rw (eq-eqb t.tree t.tree refl) (ap (λ l. (true, key, slice_index_or t.orders at plain) ∷ l) (automatic_keys t (at + 1) (tree + 1) keys))
+automatic_keys t at tree (key ∷ keys) = rw (eq-eqb t.tree t.tree refl)
+    (ap (λ l. (true, key, slice_index_or t.orders at plain) ∷ l) (automatic_keys t (at + 1) (tree + 1) keys))
 
 -- on a new table are the keys of its own, and no index that stood
 new_keys : (db : Database) (t : Table) → IsDatabase db → keys_on (created db.schema t) (next_tree db.schema) ≡ own_keys t
@@ -73,19 +75,23 @@ new_keys db t sound =
     let new : Table = record t { tree = next_tree s } in
     let on : Index → Bool = λ i. i.table == next_tree s in
     ap (map key_of) (filter-append on s.indexes (automatics new 0 (next_tree s + 1) t.uniques))
-    ∙ ap (λ l. map key_of (l ++ filter on (automatics new 0 (next_tree s + 1) t.uniques))) (none_kept on s.indexes (λ i h. below_differs i.table (next_tree s) (index_below_next db sound i h)))
+    ∙ ap (λ l. map key_of (l ++ filter on (automatics new 0 (next_tree s + 1) t.uniques)))
+    (none_kept on s.indexes (λ i h. below_differs i.table (next_tree s) (index_below_next db sound i h)))
     ∙ automatic_keys new 0 (next_tree s + 1) t.uniques
 
 -- a new table is the first of its name and of its tree
 new_has : (s : Schema) (t : Table) → is_used s t.name ≡ false → next_tree s < 65536 → Has (created s t) (length s.tables) (record t { tree = next_tree s })
 new_has s t free low = record {
-  named = position_next (λ u. same_name u.name t.name) 0 s.tables (record t { tree = next_tree s }) [] (no_table s t.name free) (same_itself t.name) ∙ ap Some (omega arith);
+  named = position_next (λ u. same_name u.name t.name) 0 s.tables (record t { tree = next_tree s }) [] (no_table s t.name free)
+      (same_itself t.name) ∙ ap Some (omega arith);
   listed = got_next s.tables (record t { tree = next_tree s }) [];
-  by_tree = found_next (λ u. u.tree == next_tree s) s.tables (record t { tree = next_tree s }) [] (λ u h. below_differs u.tree (next_tree s) (table_below s u h)) (eq-eqb (next_tree s) (next_tree s) refl);
+  by_tree = found_next (λ u. u.tree == next_tree s) s.tables (record t { tree = next_tree s }) []
+      (λ u h. below_differs u.tree (next_tree s) (table_below s u h)) (eq-eqb (next_tree s) (next_tree s) refl);
   low = lt-leb (2 ^ 31) (next_tree s) (omega arith);
 }
 
-new_stands : (db : Database) (t : Table) → IsDatabase db → is_used db.schema t.name ≡ false → next_tree db.schema < 65536 → Stands (created db.schema t) t × (tree_in (created db.schema t) t.name ≡ next_tree db.schema)
+new_stands : (db : Database) (t : Table) → IsDatabase db → is_used db.schema t.name ≡ false → next_tree db.schema < 65536
+    → Stands (created db.schema t) t × (tree_in (created db.schema t) t.name ≡ next_tree db.schema)
 new_stands db t sound free low =
     let has = new_has db.schema t free low in (
       stands_by (created db.schema t) (length db.schema.tables) (next_tree db.schema) t has (new_keys db t sound),
@@ -93,12 +99,14 @@ new_stands db t sound free low =
     )
 
 -- the table that was made stands in the next tree, and is empty
-pub made_stands : (t : Table) (a b : Database) → IsDatabase a → MakesTable t a b → Stands b.schema t × (tree_in b.schema t.name ≡ next_tree a.schema) × (b.trees (tree_in b.schema t.name) ≡ [])
+pub made_stands : (t : Table) (a b : Database) → IsDatabase a → MakesTable t a b → Stands b.schema t
+    × (tree_in b.schema t.name ≡ next_tree a.schema) × (b.trees (tree_in b.schema t.name) ≡ [])
 made_stands t a b sound m =
     let new : Table = record t { tree = next_tree a.schema } in
     let listed : Member (created a.schema t).tables new = has_right a.schema.tables (new ∷ []) new (inl refl) in
     let grown : Grows (created a.schema t) b.schema = subst (Grows (created a.schema t)) (sym m.schema) (counters_grow (created a.schema t)) in
-    let low : next_tree a.schema < 65536 = tree_below_bound b m.sound new (subst (λ l. Member l new) (sym grown.tables) (has_left (created a.schema t).tables grown.more new listed)) in
+    let low : next_tree a.schema < 65536 = tree_below_bound b m.sound new
+    (subst (λ l. Member l new) (sym grown.tables) (has_left (created a.schema t).tables grown.more new listed)) in
     let first = new_stands a t sound m.free low in
     let still = still_stands (created a.schema t) b.schema t grown first.0 in
     (still.0, still.1 ∙ first.1, ap b.trees (still.1 ∙ first.1) ∙ m.empty)

@@ -43,10 +43,12 @@ module _ {X : Type 0} (p : X → Bool) where
         by_test n false = refl
 
     still_rise : (ns : List (ℤ × X)) → IsKeyedBy number ns → IsKeyedBy number (set_in ns)
-    still_rise ns up = ascending_from_map (λ a b. a <ℤ b) number (set_in ns) (subst (IsAscending (λ a b. a <ℤ b)) (sym (numbers_stay ns)) (ascending-map (λ a b. a <ℤ b) number ns up))
+    still_rise ns up = ascending_from_map (λ a b. a <ℤ b) number (set_in ns)
+        (subst (IsAscending (λ a b. a <ℤ b)) (sym (numbers_stay ns)) (ascending-map (λ a b. a <ℤ b) number ns up))
 
     values_change : (ns : List (ℤ × X)) → map value (set_in ns) ≡ update_where p f (map value ns)
-    values_change ns = map-map value (λ n. if picks n then makes n else n) ns ∙ map_same _ (λ n. if p n.1 then f n.1 else n.1) (λ n. by_test n (p n.1)) ns ∙ sym (map-map (λ x. if p x then f x else x) value ns)
+    values_change ns = map-map value (λ n. if picks n then makes n else n) ns
+        ∙ map_same _ (λ n. if p n.1 then f n.1 else n.1) (λ n. by_test n (p n.1)) ns ∙ sym (map-map (λ x. if p x then f x else x) value ns)
       where
         by_test : (n : ℤ × X) (b : Bool) → value (if b then makes n else n) ≡ (if b then f n.1 else n.1)
         by_test n true = refl
@@ -56,7 +58,8 @@ module _ {X : Type 0} (stored : X → Row) where
   abbrev pub with_number : ℤ × X → Row
   with_number n = Int n.0 ∷ stored n.1
 
-  pub as_pairs : (rows : List Row) (xs : List X) → AreHidden stored rows xs → AllByRecursion (λ r. IsTrue (is_int (rowid r))) rows → (ns : List (ℤ × X)) × (rows ≡ map with_number ns) × (map value ns ≡ xs)
+  pub as_pairs : (rows : List Row) (xs : List X) → AreHidden stored rows xs → AllByRecursion (λ r. IsTrue (is_int (rowid r))) rows
+      → (ns : List (ℤ × X)) × (rows ≡ map with_number ns) × (map value ns ≡ xs)
   as_pairs [] [] hidden ints = ([], refl, refl)
   as_pairs [] (x ∷ xs) hidden ints = absurd (cc)
   as_pairs (r ∷ rows) [] hidden ints = absurd (cc)
@@ -102,7 +105,8 @@ module _ {X : Type 0} (stored : X → Row) where
     values_are = both.2
 
     pub rise : IsKeyedBy number beside
-    rise = ascending_weaker _ _ (λ a b h. lt_from_Less _ _ (sym (value_cmp-Int _ _) ∙ h)) beside (ascending_from_map _ with_number beside (subst IsTable rows_are order.rises))
+    rise = ascending_weaker _ _ (λ a b h. lt_from_Less _ _ (sym (value_cmp-Int _ _) ∙ h)) beside
+        (ascending_from_map _ with_number beside (subst IsTable rows_are order.rises))
 
     -- with the next number in front of it a value stands last
     abbrev pub with_last : X → List (ℤ × X)
@@ -119,8 +123,12 @@ module _ {X : Type 0} (stored : X → Row) where
     pub as_many : (p : X → Bool) → length (filter (picks p) beside) ≡ length (filter p xs)
     as_many p = sym (length-map (filter (picks p) beside) value) ∙ ap length (sym (filter-map p value beside) ∙ ap (filter p) values_are)
 
-    pub changes : (p : X → Bool) (f : X → X) → AreHidden stored (map with_number (set_in p f beside)) (update_where p f xs) × IsInOrder (map with_number (set_in p f beside))
-    changes p f = (are_hidden (set_in p f beside) ∙ ap (map stored) (values_change p f beside ∙ ap (update_where p f) values_are), in_order (set_in p f beside) (still_rise p f beside rise))
+    pub changes : (p : X → Bool) (f : X → X) → AreHidden stored (map with_number (set_in p f beside)) (update_where p f xs)
+        × IsInOrder (map with_number (set_in p f beside))
+    changes p f = (
+      are_hidden (set_in p f beside) ∙ ap (map stored) (values_change p f beside ∙ ap (update_where p f) values_are),
+      in_order (set_in p f beside) (still_rise p f beside rise),
+    )
 
 -- ---- rows of any columns
 

@@ -8,7 +8,8 @@ use Rattle.sqlite_rules.specs.Lists.{Has as Member}
 pub kept_member : {X : Type 0} (p : X → Bool) (xs : List X) (x : X) → Member xs x → p x ≡ true → Member (filter p xs) x
 kept_member p [] x h is = absurd h
 kept_member p (y ∷ ys) x (inl same) is = rw (ap p (sym same) ∙ is) (inl same)
-kept_member p (y ∷ ys) x (inr h) is = elim (cases_Bool (p y)) [ inl kept ↦ rw kept (inr (kept_member p ys x h is)) | inr left ↦ rw left (kept_member p ys x h is) ]
+kept_member p (y ∷ ys) x (inr h) is = elim (cases_Bool (p y))
+    [ inl kept ↦ rw kept (inr (kept_member p ys x h is)) | inr left ↦ rw left (kept_member p ys x h is) ]
 
 the_one : {X : Type 0} (xs : List X) (x : X) → length xs ≤ 1 → Member xs x → xs ≡ x ∷ []
 the_one [] x few h = absurd h

@@ -46,7 +46,8 @@ unpointed : (o : Option Table) (tree : ℕ) → ((u : Table) → o ≡ Some u �
 unpointed None tree all = refl
 unpointed (Some u) tree all = all u refl
 
-first_or_later : (first later : Option Table) (tree : ℕ) → points_among first tree ≡ false → ((u : Table) → later ≡ Some u → (u.tree == tree) ≡ false) → points_among (option_or first later) tree ≡ false
+first_or_later : (first later : Option Table) (tree : ℕ) → points_among first tree ≡ false
+    → ((u : Table) → later ≡ Some u → (u.tree == tree) ≡ false) → points_among (option_or first later) tree ≡ false
 first_or_later None later tree not all = unpointed later tree all
 first_or_later (Some u) later tree not all = not
 
@@ -56,13 +57,17 @@ among_by names a b same h =
     let it = some_has (λ n. same_name a n) names h in
     some_from (λ n. same_name b n) names it.0 it.1 ((lowered b it.0).1 (sym ((lowered a b).0 same) ∙ (lowered a it.0).0 it.2))
 
-at_reference : (s : Schema) (tree : ℕ) (u : Table) (r : Reference) → is_left_alone s tree ≡ true → Member s.tables u → Member u.references r → (is_idle r || not (points_to s tree r)) ≡ true
+at_reference : (s : Schema) (tree : ℕ) (u : Table) (r : Reference) → is_left_alone s tree ≡ true → Member s.tables u
+    → Member u.references r → (is_idle r || not (points_to s tree r)) ≡ true
 at_reference s tree u r all h k =
-    test_has (λ r. is_idle r || not (points_to s tree r)) u.references r (test_has (λ u. list_all (λ r. is_idle r || not (points_to s tree r)) u.references) s.tables u all h) k
+    test_has (λ r. is_idle r || not (points_to s tree r)) u.references r
+    (test_has (λ u. list_all (λ r. is_idle r || not (points_to s tree r)) u.references) s.tables u all h) k
 
-harmless_reference : (names : List (List ℕ)) (s : Schema) (u : Table) (r : Reference) → is_harmless names s ≡ true → Member s.tables u → Member u.references r → (is_idle r || not (is_among names r.parent)) ≡ true
+harmless_reference : (names : List (List ℕ)) (s : Schema) (u : Table) (r : Reference) → is_harmless names s ≡ true → Member s.tables u
+    → Member u.references r → (is_idle r || not (is_among names r.parent)) ≡ true
 harmless_reference names s u r all h k =
-    test_has (λ r. is_idle r || not (is_among names r.parent)) u.references r (test_has (λ u. list_all (λ r. is_idle r || not (is_among names r.parent)) u.references) s.tables u all h) k
+    test_has (λ r. is_idle r || not (is_among names r.parent)) u.references r
+    (test_has (λ u. list_all (λ r. is_idle r || not (is_among names r.parent)) u.references) s.tables u all h) k
 
 module _ (s : Schema) (t : Table) (b : Schema) (added : Added s t b) where
   -- a table of the grown schema stood before, is the new one, or refers to nothing
@@ -73,14 +78,16 @@ module _ (s : Schema) (t : Table) (b : Schema) (added : Added s t b) where
   ]
 
   -- a test that all tables passed, and that the new one passes
-  pub all_added : (p : Table → Bool) → list_all p s.tables ≡ true → p (record t { tree = next_tree s }) ≡ true → ((u : Table) → u.references ≡ [] → p u ≡ true) → list_all p b.tables ≡ true
+  pub all_added : (p : Table → Bool) → list_all p s.tables ≡ true → p (record t { tree = next_tree s }) ≡ true
+      → ((u : Table) → u.references ≡ [] → p u ≡ true) → list_all p b.tables ≡ true
   all_added p old new bare = test_from p b.tables (λ u h. elim (cases_added u h) [
     | inl before ↦ test_has p s.tables u old before
     | inr later ↦ elim later [ inl is ↦ ap p is ∙ new | inr tail ↦ bare u (added.bare u tail) ]
   ])
 
   pub still_unreferred : (names : List (List ℕ)) → is_among names t.name ≡ true → is_unreferred names s ≡ true → is_unreferred names b ≡ true
-  still_unreferred names ours old = all_added (is_apart names) old (or_left _ _ ours) (λ u none. or_right _ _ (ap (list_all (λ r. not (is_among names r.parent))) none))
+  still_unreferred names ours old = all_added (is_apart names) old (or_left _ _ ours)
+      (λ u none. or_right _ _ (ap (list_all (λ r. not (is_among names r.parent))) none))
 
   pub still_harmless : (names : List (List ℕ)) → list_all is_idle t.references ≡ true → is_harmless names s ≡ true → is_harmless names b ≡ true
   still_harmless names idle old = all_added (λ u. list_all (λ r. is_idle r || not (is_among names r.parent)) u.references) old
@@ -97,9 +104,11 @@ module _ (s : Schema) (t : Table) (b : Schema) (added : Added s t b) where
       let named : Table → Bool = λ u. same_name u.name r.parent in
       let rest = record t { tree = next_tree s } ∷ added.tail in
       ap (λ l. points_among (find named l) tree) added.tables ∙ ap (λ o. points_among o tree) (find-append named s.tables rest)
-      ∙ first_or_later (find named s.tables) (find named rest) tree not (λ u is. above_differs u.tree tree (later_above tree u low (has_found named rest u is).0))
+      ∙ first_or_later (find named s.tables) (find named rest) tree not
+      (λ u is. above_differs u.tree tree (later_above tree u low (has_found named rest u is).0))
 
-  each_reference : (p : Reference → Bool) → ((u : Table) (r : Reference) → Member s.tables u → Member u.references r → p r ≡ true) → ((r : Reference) → is_idle r ≡ true → p r ≡ true)
+  each_reference : (p : Reference → Bool) → ((u : Table) (r : Reference) → Member s.tables u → Member u.references r → p r ≡ true)
+      → ((r : Reference) → is_idle r ≡ true → p r ≡ true)
       → list_all is_idle t.references ≡ true → list_all (λ u. list_all p u.references) b.tables ≡ true
   each_reference p old idle own = all_added (λ u. list_all p u.references)
       (test_from (λ u. list_all p u.references) s.tables (λ u h. test_from p u.references (λ r k. old u r h k)))
@@ -114,7 +123,8 @@ module _ (s : Schema) (t : Table) (b : Schema) (added : Added s t b) where
       ]) (λ r idles. or_left _ _ idles) idle
 
   -- a reference to none of the names does not point to the new table
-  apart_from_new : (names : List (List ℕ)) (r : Reference) → is_among names t.name ≡ true → is_among names r.parent ≡ false → points_to b (next_tree s) r ≡ false
+  apart_from_new : (names : List (List ℕ)) (r : Reference) → is_among names t.name ≡ true → is_among names r.parent ≡ false
+      → points_to b (next_tree s) r ≡ false
   apart_from_new names r ours apart =
       let named : Table → Bool = λ u. same_name u.name r.parent in
       let new : Table = record t { tree = next_tree s } in
@@ -126,7 +136,8 @@ module _ (s : Schema) (t : Table) (b : Schema) (added : Added s t b) where
         | inr tail ↦ above_differs u.tree (next_tree s) (added.above u tail)
       ])
 
-  pub new_left_alone : (names : List (List ℕ)) → is_among names t.name ≡ true → list_all is_idle t.references ≡ true → is_harmless names s ≡ true → is_left_alone b (next_tree s) ≡ true
+  pub new_left_alone : (names : List (List ℕ)) → is_among names t.name ≡ true → list_all is_idle t.references ≡ true → is_harmless names s
+      ≡ true → is_left_alone b (next_tree s) ≡ true
   new_left_alone names ours idle old = each_reference (λ r. is_idle r || not (points_to b (next_tree s) r))
       (λ u r h k. elim (or_cases (is_idle r) (not (is_among names r.parent)) (harmless_reference names s u r old h k)) [
         | inl idles ↦ or_left _ _ idles

@@ -29,12 +29,19 @@ pub record ChangesRows (shows : Option Returning) (command : Command) : Type 1 w
   pub silent : (is_query command || (is_pragma command || false)) ≡ false
   pub stays : (s : State) → ¬ Escapes 0 s command
   pub placed : (s : State) (e : Error) → ¬ IsMisplaced s command e
-  pub textless : (s : State) (params : Row) (text : List ℕ) (out : _) → Does s.step_limit (mode_of s) params s.now text shows command out → Does s.step_limit (mode_of s) params s.now [] shows command out
+  pub textless : (s : State) (params : Row) (text : List ℕ) (out : _) → Does s.step_limit (mode_of s) params s.now text shows command out
+      → Does s.step_limit (mode_of s) params s.now [] shows command out
 
 pub insert_changes : (at : ℕ) (from : Source) → ChangesRows None (Insert at from)
 insert_changes at from = record {
   silent = refl;
-  stays = λ s escapes. elim escapes [ inl (inl is) ↦ absurd cc | inl (inr is) ↦ absurd cc | inr (name, inl is, held) ↦ absurd cc | inr (name, inr is, held) ↦ absurd cc ];
+  stays = λ s escapes. elim escapes [
+    | inl (inl is) ↦ absurd cc
+    | inl (inr is) ↦ absurd cc
+    | inr (name, inl is, held) ↦
+        absurd cc
+    | inr (name, inr is, held) ↦ absurd cc
+  ];
   placed = λ s e placed.
       elim placed [
         | inl (is, inl (here, inside)) ↦ absurd cc
@@ -49,7 +56,13 @@ insert_changes at from = record {
 pub update_changes : (at : ℕ) (q : Program) → ChangesRows None (Update at q)
 update_changes at q = record {
   silent = refl;
-  stays = λ s escapes. elim escapes [ inl (inl is) ↦ absurd cc | inl (inr is) ↦ absurd cc | inr (name, inl is, held) ↦ absurd cc | inr (name, inr is, held) ↦ absurd cc ];
+  stays = λ s escapes. elim escapes [
+    | inl (inl is) ↦ absurd cc
+    | inl (inr is) ↦ absurd cc
+    | inr (name, inl is, held) ↦
+        absurd cc
+    | inr (name, inr is, held) ↦ absurd cc
+  ];
   placed = λ s e placed.
       elim placed [
         | inl (is, inl (here, inside)) ↦ absurd cc
@@ -61,10 +74,17 @@ update_changes at q = record {
   textless = λ s params text out does. does;
 }
 
-pub upsert_changes : (shows : Option Returning) (at : ℕ) (way : Conflict) (from : Source) (clauses : List Upsert) → ChangesRows shows (InsertOr at way from clauses)
+pub upsert_changes : (shows : Option Returning) (at : ℕ) (way : Conflict) (from : Source) (clauses : List Upsert)
+    → ChangesRows shows (InsertOr at way from clauses)
 upsert_changes shows at way from clauses = record {
   silent = refl;
-  stays = λ s escapes. elim escapes [ inl (inl is) ↦ absurd cc | inl (inr is) ↦ absurd cc | inr (name, inl is, held) ↦ absurd cc | inr (name, inr is, held) ↦ absurd cc ];
+  stays = λ s escapes. elim escapes [
+    | inl (inl is) ↦ absurd cc
+    | inl (inr is) ↦ absurd cc
+    | inr (name, inl is, held) ↦
+        absurd cc
+    | inr (name, inr is, held) ↦ absurd cc
+  ];
   placed = λ s e placed.
       elim placed [
         | inl (is, inl (here, inside)) ↦ absurd cc
@@ -87,7 +107,8 @@ caused old new A B implies Unstorable h = implies h
 fails_for : (old new : State) (A B : Type 0) (e : Error) → (A → B) → Fails old new A e → Fails old new B e
 fails_for old new A B e implies h = (h.0, h.1, caused old new A B implies h.0 h.2, h.3, h.4)
 
-module _ (sql : List ℕ) (params : Row) (old new : State) (shows : Option Returning) (command : Command) (changes : ChangesRows shows command) (means : IsTrue old.is_open → MeansAs old.now.schema sql command shows)
+module _ (sql : List ℕ) (params : Row) (old new : State) (shows : Option Returning) (command : Command)
+    (changes : ChangesRows shows command) (means : IsTrue old.is_open → MeansAs old.now.schema sql command shows)
     (whole : is_whole sql (length params) ≡ true) (e : Error) where
   abbrev IsLong : Type 0
   IsLong = IsTrue old.is_open → Does old.step_limit (mode_of old) params old.now [] shows command (Err None)
@@ -109,7 +130,8 @@ module _ (sql : List ℕ) (params : Row) (old new : State) (shows : Option Retur
       timeless : c.formats ≡ []
       timeless = ap (λ (k : Compiled). k.formats) known ∙ (means runs).timeless
 
-      does : (out : _) → Does old.step_limit (mode_of old) full old.now (text_of sql c) c.returning c.command out → Does old.step_limit (mode_of old) params old.now [] shows command out
+      does : (out : _) → Does old.step_limit (mode_of old) full old.now (text_of sql c) c.returning c.command out
+          → Does old.step_limit (mode_of old) params old.now [] shows command out
       does out h =
           let no_times : full ≡ params = rw (timeless, append-nil params) refl in
           let h_1 = subst (λ ps. Does old.step_limit (mode_of old) ps old.now (text_of sql c) c.returning c.command out) no_times h in
@@ -127,11 +149,13 @@ module _ (sql : List ℕ) (params : Row) (old new : State) (shows : Option Retur
   by_not_run (inl (none, same)) = absurd (is_statement (means same.0.was_open) params old new refl e whole none)
   by_not_run (inr fails) = inr (inr (fails_for old new ⊥ IsLong e (λ never. absurd never) fails))
 
-module _ (sql : List ℕ) (params : Row) (old new : State) (command : Command) (changes : ChangesRows None command) (means : IsTrue old.is_open → Means old.now.schema sql command) (whole : is_whole sql (length params) ≡ true) (e : Error) where
+module _ (sql : List ℕ) (params : Row) (old new : State) (command : Command) (changes : ChangesRows None command)
+    (means : IsTrue old.is_open → Means old.now.schema sql command) (whole : is_whole sql (length params) ≡ true) (e : Error) where
   module _ (c : Compiled) (it : IsStatement old sql params c) where
     shows_none : IsTrue old.is_open → shows_rows false c ≡ false
     shows_none runs =
-        let s_1 : shows_rows false c ≡ (is_query c.command || (is_pragma c.command || false)) = ap (λ r. is_query c.command || (is_pragma c.command || is_some r)) (returning_is sql params old new None command changes means whole e c it runs) in
+        let s_1 : shows_rows false c ≡ (is_query c.command || (is_pragma c.command || false)) =
+        ap (λ r. is_query c.command || (is_pragma c.command || is_some r)) (returning_is sql params old new None command changes means whole e c it runs) in
         s_1 ∙ ap (λ k. is_query k || (is_pragma k || false)) (command_is sql params old new None command changes means whole e c it runs) ∙ changes.silent
 
     by_alone : RunsAlone false old new sql c (timed params c.formats it.now) (Err e) → FailsToWrite command params old new e
@@ -166,10 +190,13 @@ had_ended old new e ended told same = record {
   mode = same.0.mode;
 }
 
-module _ (sql : List ℕ) (params : Row) (old new : State) (what : Returning) (command : Command) (changes : ChangesRows (Some what) command) (means : IsTrue old.is_open → MeansAs old.now.schema sql command (Some what))
+module _ (sql : List ℕ) (params : Row) (old new : State) (what : Returning) (command : Command) (changes : ChangesRows (Some what) command)
+    (means : IsTrue old.is_open → MeansAs old.now.schema sql command (Some what))
     (whole : is_whole sql (length params) ≡ true) (e : Error) where
-  by_returning : (c : Compiled) (it : IsStatement old sql params c) (o : Option Returning) → c.returning ≡ o → ShowsNot old new sql c (timed params c.formats it.now) e o → FailsToWriteAs (Some what) command params old new e
-  by_returning c it None is h = absurd (let other = returning_is sql params old new (Some what) command changes means whole e c it h.3.0.was_open in let wrong = sym is ∙ other in cc)
+  by_returning : (c : Compiled) (it : IsStatement old sql params c) (o : Option Returning) → c.returning ≡ o
+      → ShowsNot old new sql c (timed params c.formats it.now) e o → FailsToWriteAs (Some what) command params old new e
+  by_returning c it None is h = absurd (let other = returning_is sql params old new (Some what) command changes means whole e c it
+      h.3.0.was_open in let wrong = sym is ∙ other in cc)
   by_returning c it (Some shown) is h = by_command sql params old new (Some what) command changes means whole e c it h
 
   by_query : FailsToQuery sql params old new e → FailsToWriteAs (Some what) command params old new e

@@ -20,6 +20,7 @@ unfolding first_key
 of_number a b given there = rw (number_is b a) (alone (b == a))
 
 pub of_text_and_number : (a b : List ℕ) (m n : ℕ) (number other : ℤ) (given there : Row)
-    → is_of_key ((true, 1 ∷ 2 ∷ [], plain) ∷ []) (1 ∷ 2 ∷ []) (Int number ∷ Text a ∷ Int (pos m) ∷ given) (Int other ∷ Text b ∷ Int (pos n) ∷ there) ≡ (bytes_eq b a && (n == m))
+    → is_of_key ((true, 1 ∷ 2 ∷ [], plain) ∷ []) (1 ∷ 2 ∷ []) (Int number ∷ Text a ∷ Int (pos m) ∷ given)
+    (Int other ∷ Text b ∷ Int (pos n) ∷ there) ≡ (bytes_eq b a && (n == m))
 unfolding first_key
 of_text_and_number a b m n number other given there = rw (text_is b a, number_is n m) (both (bytes_eq b a) (n == m))

@@ -100,18 +100,23 @@ Named = Draft × List Name × List (Option Collation)
 
 abbrev named_from : Bool → Term × Term → Clauses × State → Checked Named
 named_from distinct page r =
-    and_then (assembled distinct page.0 page.1 r.0 r.1) (λ d. Ok (d, map (λ o. o.name) r.0.body.level.shown, map (λ o. o.carried.collation) r.0.body.level.shown))
+    and_then (assembled distinct page.0 page.1 r.0 r.1)
+    (λ d. Ok (d, map (λ o. o.name) r.0.body.level.shown, map (λ o. o.carried.collation) r.0.body.level.shown))
 
 -- What the one table is called and where it stands is no part of the query.
-module _ (distinct : Bool) (page : Term × Term) (b b' : Bound) (columns : Lowering (List Output)) (joined : List Output → Lowering Joined) (order order' : Level → Bool → Lowering (List (Term × Key)))
-    (same : (shown : List Output) (is_grouped : Bool) → order (record { tables = b ∷ []; shown = shown }) is_grouped ≡ order' (record { tables = b' ∷ []; shown = shown }) is_grouped) (st : State) where
+module _ (distinct : Bool) (page : Term × Term) (b b' : Bound) (columns : Lowering (List Output)) (joined : List Output → Lowering Joined)
+    (order order' : Level → Bool → Lowering (List (Term × Key)))
+    (same : (shown : List Output) (is_grouped : Bool) → order (record { tables = b ∷ []; shown = shown }) is_grouped
+    ≡ order' (record { tables = b' ∷ []; shown = shown }) is_grouped) (st : State) where
   abbrev AreSame : Type 0
-  AreSame = and_then (parts_of (b ∷ []) columns joined order st) (named_from distinct page) ≡ and_then (parts_of (b' ∷ []) columns joined order' st) (named_from distinct page)
+  AreSame = and_then (parts_of (b ∷ []) columns joined order st) (named_from distinct page)
+      ≡ and_then (parts_of (b' ∷ []) columns joined order' st) (named_from distinct page)
 
   abbrev ordered_after : List Output → State → Checked (List (Term × Key) × State)
   ordered_after shown after = order' (record { tables = b' ∷ []; shown = shown }) (not (length after.aggregates == 0)) after
 
-  by_order : (c : List Output × State) → columns st ≡ Ok c → (j : Joined × State) → joined c.0 c.1 ≡ Ok j → (m : Checked (List (Term × Key) × State)) → ordered_after c.0 j.1 ≡ m → AreSame
+  by_order : (c : List Output × State) → columns st ≡ Ok c → (j : Joined × State) → joined c.0 c.1 ≡ Ok j
+      → (m : Checked (List (Term × Key) × State)) → ordered_after c.0 j.1 ≡ m → AreSame
   unfolding parts_of assembled
   by_order c h j k (Err e) l = rw (h, k, same c.0 (not (length j.1.aggregates == 0)), l)
   by_order c h j k (Ok o) l = rw (h, k, same c.0 (not (length j.1.aggregates == 0)), l)
@@ -147,7 +152,8 @@ from_source t (x ∷ y ∷ more) h = absurd (true≢false (sym h))
 pub plain_core : (t : Table) (core : Core) → is_simple_core t core ≡ true → IsPlainCore t core
 plain_core t core h =
     let y = out-Core core in
-    let d = and_parts (is_from t y.from && list_all (is_simple_output (bare t)) y.shown && is_simple_or_absent (bare t) y.filter && (length y.group == 0)) (not (is_some y.having)) h in
+    let d = and_parts (is_from t y.from && list_all (is_simple_output (bare t)) y.shown && is_simple_or_absent (bare t) y.filter &&
+    (length y.group == 0)) (not (is_some y.having)) h in
     let c = and_parts (is_from t y.from && list_all (is_simple_output (bare t)) y.shown && is_simple_or_absent (bare t) y.filter) (length y.group == 0) d.0 in
     let b = and_parts (is_from t y.from && list_all (is_simple_output (bare t)) y.shown) (is_simple_or_absent (bare t) y.filter) c.0 in
     let a = and_parts (is_from t y.from) (list_all (is_simple_output (bare t)) y.shown) b.0 in
@@ -175,7 +181,8 @@ module _ (t : Table) (core : Core) (order : List Sort) (plain : IsPlainCore t co
     abbrev ordered : Level → Bool → Lowering (List (Term × Key))
     ordered level is_grouped = sorts lower (inside s level is_grouped) level.shown order
 
-    parts_are : table_named s t.name ≡ Some at → parts s core order (fresh 1 max_budget) ≡ parts_of (bound_at at t.name ∷ []) columns joined ordered (fresh 2 max_budget)
+    parts_are : table_named s t.name ≡ Some at → parts s core order (fresh 1 max_budget)
+        ≡ parts_of (bound_at at t.name ∷ []) columns joined ordered (fresh 2 max_budget)
     unfolding parts body result matching having keys parts_of tests
     parts_are named = rw (plain.from_is, plain.group_is, plain.having_is, bounds_are s at t plain.source named plain.plain)
 
@@ -191,7 +198,8 @@ module _ (t : Table) (core : Core) (order : List Sort) (plain : IsPlainCore t co
 
     columns_same : columns s at ≡ columns (one t) 0
     unfolding outputs
-    columns_same = outputs_same (bare t) _ _ (alike s at t has.listed t.name [] true) (bound_at at t.name ∷ []) (bound_at 0 t.name ∷ []) [] (out-Core core).shown plain.shown
+    columns_same = outputs_same (bare t) _ _ (alike s at t has.listed t.name [] true) (bound_at at t.name ∷ []) (bound_at 0 t.name ∷ []) []
+        (out-Core core).shown plain.shown
 
     ordered_same : (shown : List Output) (is_grouped : Bool) → ordered s at (record { tables = bound_at at t.name ∷ []; shown = shown }) is_grouped
         ≡ ordered (one t) 0 (record { tables = bound_at 0 t.name ∷ []; shown = shown }) is_grouped
@@ -202,6 +210,8 @@ module _ (t : Table) (core : Core) (order : List Sort) (plain : IsPlainCore t co
     unfolding named
     named_same =
         ap (λ r. and_then r (named_from (out-Core core).distinct page)) (parts_are s at has.named)
-        ∙ ap₂ (λ c j. and_then (parts_of (bound_at at t.name ∷ []) c j (ordered s at) (fresh 2 max_budget)) (named_from (out-Core core).distinct page)) columns_same (fun_ext joined_same)
-        ∙ drops_tables (out-Core core).distinct page (bound_at at t.name) (bound_at 0 t.name) (columns (one t) 0) (joined (one t) 0) (ordered s at) (ordered (one t) 0) ordered_same (fresh 2 max_budget)
+        ∙ ap₂ (λ c j. and_then (parts_of (bound_at at t.name ∷ []) c j (ordered s at) (fresh 2 max_budget))
+        (named_from (out-Core core).distinct page)) columns_same (fun_ext joined_same)
+        ∙ drops_tables (out-Core core).distinct page (bound_at at t.name) (bound_at 0 t.name) (columns (one t) 0) (joined (one t) 0)
+        (ordered s at) (ordered (one t) 0) ordered_same (fresh 2 max_budget)
         ∙ sym (ap (λ r. and_then r (named_from (out-Core core).distinct page)) (parts_are (one t) 0 first))

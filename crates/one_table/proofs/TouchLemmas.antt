@@ -63,7 +63,8 @@ module _ (sql : List ℕ) (params : Row) (old new : State) (t : Table) (at : ℕ
         let put = went h in
         let edit = edit_of db t [] Given 0 (given_now ∷ []) in
         let next : wrote.written.trees ≡ put.0 = one.2 ∙ ap (λ (it : Written). it.trees) (same_value put.2) in
-        let a = one_step schema Enforced db wrote.written.trees edit (no_works schema Enforced t.tree edit.news) (subst (λ n. Edited schema Enforced db edit (Ok n)) (sym next) put.1) in
+        let a = one_step schema Enforced db wrote.written.trees edit (no_works schema Enforced t.tree edit.news)
+        (subst (λ n. Edited schema Enforced db edit (Ok n)) (sym next) put.1) in
         (edited db edit, has_changed t edit (upsert_as at t m) text params count old new wrote refl a inside w)
 
     by_set : (there : Row) → Updates task (record { lets = []; body = set_query t m }) (params ++ rowid there ∷ shown t given_now) db (Ok one.0) → HasTouched
@@ -72,7 +73,8 @@ module _ (sql : List ℕ) (params : Row) (old new : State) (t : Table) (at : ℕ
         let put = went found.2 in
         let edit = edit_of db t (ids_of found.0) Given 1 found.0 in
         let next : wrote.written.trees ≡ put.0 = one.2 ∙ ap (λ (it : Written). it.trees) (same_value put.2) in
-        let a = one_step schema Enforced db wrote.written.trees edit (idle_works schema t.tree (taken_by db edit) edit.news k.left_alone) (subst (λ n. Edited schema Enforced db edit (Ok n)) (sym next) put.1) in
+        let a = one_step schema Enforced db wrote.written.trees edit (idle_works schema t.tree (taken_by db edit) edit.news k.left_alone)
+        (subst (λ n. Edited schema Enforced db edit (Ok n)) (sym next) put.1) in
         (edited db edit, has_changed t edit (upsert_as at t m) text params count old new wrote refl a inside w)
 
     by_conflicts : (found : List Row) → Meets task (Upserts' task Abort given_now db []) given_now db clause found (Ok one.0) → HasTouched

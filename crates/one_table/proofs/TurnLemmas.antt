@@ -26,7 +26,8 @@ pub record HasMadeNone (texts : List (List ℕ)) (old now : State) : Type 0 wher
 abbrev pub HasMadeSo : List (List ℕ) → State → State → Type 0
 HasMadeSo texts old now = HasMadeNone texts old now ⊎ HasMade texts old now
 
-zip_front : {A B : Type 0} (R : A → B → Type 0) (xs : List A) (x : A) (ys : List B) → AllZip R (xs ++ x ∷ []) ys → (front : List B) × (y : B) × (ys ≡ front ++ y ∷ []) × AllZip R xs front × R x y
+zip_front : {A B : Type 0} (R : A → B → Type 0) (xs : List A) (x : A) (ys : List B) → AllZip R (xs ++ x ∷ []) ys → (front : List B)
+    × (y : B) × (ys ≡ front ++ y ∷ []) × AllZip R xs front × R x y
 zip_front R [] x [] h = absurd h
 zip_front R [] x (y ∷ []) h = ([], y, refl, tt, h.0)
 zip_front R [] x (y ∷ z ∷ ys) h = absurd h.1
@@ -38,7 +39,8 @@ zip_none R [] h = refl
 zip_none R (y ∷ ys) h = absurd h
 
 -- what was made so far, from a sound database
-so_far : (texts : List (List ℕ)) (old mid : State) → HasMadeSo texts old mid → IsTrue mid.is_open → (IsTrue old.is_open → IsDatabase old.now) → (ts : List Table) → AreDefined texts ts
+so_far : (texts : List (List ℕ)) (old mid : State) → HasMadeSo texts old mid → IsTrue mid.is_open
+    → (IsTrue old.is_open → IsDatabase old.now) → (ts : List Table) → AreDefined texts ts
     → MakesTables ts old.now mid.now
 so_far texts old mid (inr some) is sound ts defined = some.tables sound ts defined
 so_far texts old mid (inl none) is sound ts defined =
@@ -49,12 +51,15 @@ so_far texts old mid (inl none) is sound ts defined =
 pub made_before : (texts : List (List ℕ)) (old mid : State) → HasMadeSo texts old mid → Survives old mid (λ _. ⊥) → HasMadeBefore texts old mid
 made_before texts old mid made survives = record { survives = survives; tables = λ is sound ts defined. so_far texts old mid made is sound ts defined }
 
-shows_next : (texts : List (List ℕ)) (old mid new : State) → HasMadeSo texts old mid → Shows mid new new.now mid.committed true → Shows old new new.now old.committed true
-shows_next texts old mid new (inl none) q = record { was_open = subst IsTrue none.is_open q.was_open; is_open = q.is_open; now_is = refl; committed_is = q.committed_is ∙ none.committed; mode = q.mode }
+shows_next : (texts : List (List ℕ)) (old mid new : State) → HasMadeSo texts old mid → Shows mid new new.now mid.committed true
+    → Shows old new new.now old.committed true
+shows_next texts old mid new (inl none) q = record
+    { was_open = subst IsTrue none.is_open q.was_open; is_open = q.is_open; now_is = refl; committed_is = q.committed_is ∙ none.committed; mode = q.mode }
 shows_next texts old mid new (inr some) q = stays_then old mid new some.shows q
 
 -- one more table is made
-pub makes_next : (texts : List (List ℕ)) (text : List ℕ) (old mid new : State) → HasMadeSo texts old mid → ((t : Table) → table_defined_by text ≡ Ok t → MakesTable t mid.now new.now)
+pub makes_next : (texts : List (List ℕ)) (text : List ℕ) (old mid new : State) → HasMadeSo texts old mid
+    → ((t : Table) → table_defined_by text ≡ Ok t → MakesTable t mid.now new.now)
     → Shows mid new new.now mid.committed true → HasMade (texts ++ text ∷ []) old new
 makes_next texts text old mid new made last shows = record {
   shows = shows_next texts old mid new made shows;
@@ -62,7 +67,8 @@ makes_next texts text old mid new made last shows = record {
       let all = shows_next texts old mid new made shows in
       let parts = zip_front (λ text t. table_defined_by text ≡ Ok t) texts text ts defined in
       let early = so_far texts old mid made shows.was_open sound parts.0 parts.3 in
-      subst (λ l. MakesTables l old.now new.now) (sym parts.2) (makes_more parts.0 parts.1 old.now mid.now new.now early (last parts.1 parts.4) (sound all.was_open));
+      subst (λ l. MakesTables l old.now new.now) (sym parts.2)
+      (makes_more parts.0 parts.1 old.now mid.now new.now early (last parts.1 parts.4) (sound all.was_open));
 }
 
 -- ---- what is left of the transaction
@@ -72,7 +78,8 @@ made_keeps texts old now (inl none) way = (none.mode ∙ way, record { was_open 
 made_keeps texts old now (inr some) way = (some.shows.mode, keeps_inside old now some.shows)
 
 -- the next table is not made
-pub next_failed : (texts : List (List ℕ)) (old mid new : State) {U E : Type 0} {e : E} (f : E) (r : Result U E) → IsErrAnd r (λ x. x ≡ f) → (HasCleanDisk mid → HasMadeSo texts old mid) → Survives old mid (λ _. ⊥)
+pub next_failed : (texts : List (List ℕ)) (old mid new : State) {U E : Type 0} {e : E} (f : E) (r : Result U E) → IsErrAnd r (λ x. x ≡ f)
+    → (HasCleanDisk mid → HasMadeSo texts old mid) → Survives old mid (λ _. ⊥)
     → KeepsTransaction {T = U} mid new (Err e) → KeepsTransaction old new r
 next_failed texts old mid new f (Ok x) failed made first last = absurd failed
 next_failed texts old mid new f (Err x) failed made first last = record {
@@ -83,7 +90,8 @@ next_failed texts old mid new f (Err x) failed made first last = record {
   survives = survives_then old mid new _ _ (λ _. ⊥) (λ _ db none. none) (λ _ db none. none) first last.survives;
 }
 
-pub all_made : (texts : List (List ℕ)) (old now : State) {U E : Type 0} {x : U} → ¬ (texts ≡ []) → (HasCleanDisk now → HasMadeSo texts old now) → Survives old now (λ _. ⊥) → KeepsTransaction {E = E} old now (Ok x)
+pub all_made : (texts : List (List ℕ)) (old now : State) {U E : Type 0} {x : U} → ¬ (texts ≡ [])
+    → (HasCleanDisk now → HasMadeSo texts old now) → Survives old now (λ _. ⊥) → KeepsTransaction {E = E} old now (Ok x)
 all_made texts old now some made survives = record {
   inside = λ clean way. elim (made clean) [ inl none ↦ absurd (some none.none) | inr it ↦ it.shows ];
   kept = λ clean way. (made_keeps texts old now (made clean) way).1;

@@ -64,15 +64,18 @@ same_name_itself name = let low = map to_ascii_lowercase name in is_eq-slice_cmp
 pub named_alone : (t : Table) → table_named (one t) t.name ≡ Some 0
 named_alone t = rw (same_name_itself t.name)
 
-pub typed_alike : (s : Schema) (at : ℕ) (t : Table) → Has s at t → (q : Query) → q.from ≡ inner t.tree end → (params : Row) → accepts_program s [] q params ≡ is_typed t q params
+pub typed_alike : (s : Schema) (at : ℕ) (t : Table) → Has s at t → (q : Query) → q.from ≡ inner t.tree end → (params : Row)
+    → accepts_program s [] q params ≡ is_typed t q params
 typed_alike s at t has q from params = rw (from, has.low, has.by_tree)
 
-pub program_is : (s : Schema) (at : ℕ) (t : Table) → Has s at t → (d : Draft) → d.from ≡ inner t.tree end → is_typed t (query_of d) [] ≡ true → program s [] d ≡ Ok (record { lets = []; body = query_of d })
+pub program_is : (s : Schema) (at : ℕ) (t : Table) → Has s at t → (d : Draft) → d.from ≡ inner t.tree end → is_typed t (query_of d) []
+    ≡ true → program s [] d ≡ Ok (record { lets = []; body = query_of d })
 unfolding program
 program_is s at t has d from typed = rw (typed_alike s at t has (query_of d) from [], typed)
 
 -- a statement that was planned is what the text means
-module _ (s : Schema) (sql : List ℕ) (p : Parsed) (plan : List Name × (Command × Option Returning)) (parsed : first sql ≡ Ok p) (planned_is : planned s p ≡ Ok plan) where
+module _ (s : Schema) (sql : List ℕ) (p : Parsed) (plan : List Name × (Command × Option Returning)) (parsed : first sql ≡ Ok p)
+    (planned_is : planned s p ≡ Ok plan) where
   pub compiled_by : compiled s sql ≡ Ok (with_command p plan)
   unfolding compiled
   compiled_by = rw (parsed, planned_is)
@@ -81,7 +84,8 @@ module _ (s : Schema) (sql : List ℕ) (p : Parsed) (plan : List Name × (Comman
   unfolding understood
   understood_by = rw compiled_by
 
-abbrev pub understood_as : (s : Schema) (sql : List ℕ) (p : Parsed) (c : Command) (shows : Option Returning) → first sql ≡ Ok p → planned s p ≡ Ok ([], (c, shows)) → MeansAs s sql c shows
+abbrev pub understood_as : (s : Schema) (sql : List ℕ) (p : Parsed) (c : Command) (shows : Option Returning) → first sql ≡ Ok p
+    → planned s p ≡ Ok ([], (c, shows)) → MeansAs s sql c shows
 understood_as s sql p c shows parsed plan = record {
   compiled = with_command p ([], (c, shows));
   understands = understood_by s sql p ([], (c, shows)) parsed plan;
@@ -105,8 +109,10 @@ record IsPlainSelect (t : Table) (x : Select) : Type 0 where
 plain_select : (t : Table) (x : Select) → is_simple_select t x ≡ true → IsPlainSelect t x
 plain_select t x h =
     let y = out-Select x in
-    let e = and_parts (is_simple_core t y.first && (length y.with == 0) && (length y.others == 0) && list_all (is_simple_sort (bare t)) y.order && is_count_or_absent y.limit) (is_count_or_absent y.offset) h in
-    let d = and_parts (is_simple_core t y.first && (length y.with == 0) && (length y.others == 0) && list_all (is_simple_sort (bare t)) y.order) (is_count_or_absent y.limit) e.0 in
+    let e = and_parts (is_simple_core t y.first && (length y.with == 0) && (length y.others == 0) && list_all (is_simple_sort (bare t))
+    y.order && is_count_or_absent y.limit) (is_count_or_absent y.offset) h in
+    let d = and_parts (is_simple_core t y.first && (length y.with == 0) && (length y.others == 0) && list_all (is_simple_sort (bare t))
+    y.order) (is_count_or_absent y.limit) e.0 in
     let c = and_parts (is_simple_core t y.first && (length y.with == 0) && (length y.others == 0)) (list_all (is_simple_sort (bare t)) y.order) d.0 in
     let b = and_parts (is_simple_core t y.first && (length y.with == 0)) (length y.others == 0) c.0 in
     let a = and_parts (is_simple_core t y.first) (length y.with == 0) b.0 in
@@ -133,24 +139,29 @@ module _ (s : Schema) (at : ℕ) (t : Table) (has : Has s at t) where
   if_so typed r = if typed then Ok r else Err Mismatch
 
   typed_is : (d : Draft) (shown : List Name) (q : Query) (names : List Name) (typed : Bool) → is_typed t (query_of d) [] ≡ typed
-      → if_so typed (query_of d, shown) ≡ Ok (q, names) → q.from ≡ inner t.tree end → and_then (program s [] d) (λ p. Ok (Read p shown)) ≡ Ok (select_as q names)
+      → if_so typed (query_of d, shown) ≡ Ok (q, names) → q.from ≡ inner t.tree end → and_then (program s [] d) (λ p. Ok (Read p shown))
+      ≡ Ok (select_as q names)
   typed_is d shown q names false typed h from = absurd cc
   typed_is d shown q names true typed h from =
       let both : (query_of d, shown) ≡ (q, names) = cc in
       let here : (query_of d).from ≡ inner t.tree end = ap (λ (r : Query × List Name). r.0.from) both ∙ from in
       rw (program_is s at t has d here typed) (ap (λ (r : Query × List Name). Ok (select_as r.0 r.1)) both)
 
-  read_is : (x : Select) (q : Query) (names : List Name) → is_simple_select t x ≡ true → select_meant t x ≡ Ok (q, names) → q.from ≡ inner t.tree end → read s x ≡ Ok (select_as q names)
+  read_is : (x : Select) (q : Query) (names : List Name) → is_simple_select t x ≡ true → select_meant t x ≡ Ok (q, names) → q.from
+      ≡ inner t.tree end → read s x ≡ Ok (select_as q names)
   unfolding read select_meant
   read_is x q names simple means from = by_page (paging (one t) x) refl means
     where
-      by_names : (page : Term × Term) → paging (one t) x ≡ Ok page → (m : Checked (Draft × List Name × List (Option Collation))) → named (one t) (out-Select x).first (out-Select x).order page ≡ m
+      by_names : (page : Term × Term) → paging (one t) x ≡ Ok page → (m : Checked (Draft × List Name × List (Option Collation)))
+          → named (one t) (out-Select x).first (out-Select x).order page ≡ m
           → and_then m (λ d. if_typed t (query_of d.0) d.1) ≡ Ok (q, names) → read s x ≡ Ok (select_as q names)
       by_names page paged (Err e) meant h = absurd cc
-      by_names page paged (Ok d) meant h = rw (query_is x (plain_select t x simple) page paged d meant) (typed_is d.0 d.1 q names (is_typed t (query_of d.0) []) refl h from)
+      by_names page paged (Ok d) meant h = rw (query_is x (plain_select t x simple) page paged d meant)
+          (typed_is d.0 d.1 q names (is_typed t (query_of d.0) []) refl h from)
 
       by_page : (m : Checked (Term × Term)) → paging (one t) x ≡ m
-          → and_then m (λ page. and_then (named (one t) (out-Select x).first (out-Select x).order page) (λ d. if_typed t (query_of d.0) d.1)) ≡ Ok (q, names) → read s x ≡ Ok (select_as q names)
+          → and_then m (λ page. and_then (named (one t) (out-Select x).first (out-Select x).order page)
+          (λ d. if_typed t (query_of d.0) d.1)) ≡ Ok (q, names) → read s x ≡ Ok (select_as q names)
       by_page (Err e) paged h = absurd cc
       by_page (Ok page) paged h = by_names page paged (named (one t) (out-Select x).first (out-Select x).order page) refl h
 

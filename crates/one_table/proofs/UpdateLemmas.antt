@@ -46,7 +46,8 @@ use Rattle.one_table.proofs.ChangeLemmas.{went, same_value, has_written, has_cha
 -- ---- lists
 
 module _ {X : Type 0} (key : X → ℤ) where
-  puts_past : (news : List X) (x : X) (xs : List X) → AllByRecursion (λ n. key x <ℤ key n) news → fold (insert_by key) (x ∷ xs) news ≡ x ∷ fold (insert_by key) xs news
+  puts_past : (news : List X) (x : X) (xs : List X) → AllByRecursion (λ n. key x <ℤ key n) news → fold (insert_by key) (x ∷ xs) news ≡ x
+      ∷ fold (insert_by key) xs news
   puts_past [] x xs above = refl
   puts_past (n ∷ news) x xs above = rw (Less-from_lt (key x) (key n) above.0) (puts_past news x (insert_by key xs n) above.1)
 
@@ -67,8 +68,10 @@ module _ {X : Type 0} (key : X → ℤ) where
       left = all-filter _ (λ n. not (p n)) xs (all_weaker _ (λ n. key (f x) <ℤ key n) (λ n h. rw (keeps x) h) xs up.0)
 
       go : (b : Bool) → fold (insert_by key) (delete_where p xs) (map f (filter p xs)) ≡ update_where p f xs
-          → fold (insert_by key) (if not b then x ∷ delete_where p xs else delete_where p xs) (map f (if b then x ∷ filter p xs else filter p xs)) ≡ (if b then f x else x) ∷ update_where p f xs
-      go true more = ap (λ l. fold (insert_by key) l (map f (filter p xs))) (first_put (f x) (delete_where p xs) left) ∙ puts_past _ (f x) (delete_where p xs) (above (f x) (keeps x)) ∙ ap (λ l. f x ∷ l) more
+          → fold (insert_by key) (if not b then x ∷ delete_where p xs else delete_where p xs)
+          (map f (if b then x ∷ filter p xs else filter p xs)) ≡ (if b then f x else x) ∷ update_where p f xs
+      go true more = ap (λ l. fold (insert_by key) l (map f (filter p xs))) (first_put (f x) (delete_where p xs) left)
+          ∙ puts_past _ (f x) (delete_where p xs) (above (f x) (keeps x)) ∙ ap (λ l. f x ∷ l) more
       go false more = puts_past _ x (delete_where p xs) (above x refl) ∙ ap (λ l. x ∷ l) more
 
 -- ---- no foreign key acts where no reference to the table takes an action
@@ -92,11 +95,13 @@ module _ (tree : ℕ) (moves : List (Row × Row)) (child : Table) (ref : Referen
   other_tree None key h = refl
   other_tree (Some deed) key h = rw h
 
-  by_order : (deed : Option Deed) (u : Table) (places : List ℕ) (o : Option Order) → (u.tree == tree) ≡ false → work_by 0 tree moves child ref deed (option_map (λ order. (u.tree, places, order)) o) ≡ None
+  by_order : (deed : Option Deed) (u : Table) (places : List ℕ) (o : Option Order) → (u.tree == tree) ≡ false
+      → work_by 0 tree moves child ref deed (option_map (λ order. (u.tree, places, order)) o) ≡ None
   by_order deed u places None h = no_key deed
   by_order deed u places (Some order) h = other_tree deed (u.tree, places, order) h
 
-  by_places : (deed : Option Deed) (u : Table) (k : Option (List ℕ)) → (u.tree == tree) ≡ false → work_by 0 tree moves child ref deed (option_and_then (key_in u) k) ≡ None
+  by_places : (deed : Option Deed) (u : Table) (k : Option (List ℕ)) → (u.tree == tree) ≡ false
+      → work_by 0 tree moves child ref deed (option_and_then (key_in u) k) ≡ None
   by_places deed u None h = no_key deed
   by_places deed u (Some places) h = by_order deed u places (declared_order u places) h
 
@@ -109,10 +114,12 @@ no_work_here : (schema : Schema) (tree : ℕ) (olds news : List Row) (child : Ta
     → work_for schema Enforced 0 tree olds news child ref ≡ None
 no_work_here schema tree olds news child ref h = elim (or_cases (is_idle ref) (not (points_to schema tree ref)) h) [
   | inl idle ↦ ap (λ d. work_by 0 tree (pairs olds news) child ref d (parent_key schema.tables ref)) (no_deed (length news == 0) ref idle)
-  | inr apart ↦ elsewhere tree (pairs olds news) child ref (deed_for Enforced (length news == 0) ref) (find (λ u. same_name u.name ref.parent) schema.tables) (not-true _ apart)
+  | inr apart ↦ elsewhere tree (pairs olds news) child ref (deed_for Enforced (length news == 0) ref)
+      (find (λ u. same_name u.name ref.parent) schema.tables) (not-true _ apart)
 ]
 
-none_kept : {A B : Type 0} (f : A → Option B) (ok : A → Bool) → ((a : A) → ok a ≡ true → f a ≡ None) → (xs : List A) → list_all ok xs ≡ true → filter_map f xs ≡ []
+none_kept : {A B : Type 0} (f : A → Option B) (ok : A → Bool) → ((a : A) → ok a ≡ true → f a ≡ None) → (xs : List A) → list_all ok xs
+    ≡ true → filter_map f xs ≡ []
 none_kept f ok none [] h = refl
 none_kept f ok none (x ∷ xs) h = let parts = and_parts (ok x) (list_all ok xs) h in rw (none x parts.0, none_kept f ok none xs parts.1)
 
@@ -122,7 +129,8 @@ none_joined f ok none (x ∷ xs) h = let parts = and_parts (ok x) (list_all ok x
 
 pub idle_works : (schema : Schema) (tree : ℕ) (olds news : List Row) → is_left_alone schema tree ≡ true → works schema Enforced 0 tree olds news ≡ []
 idle_works schema tree olds news h =
-    none_joined _ _ (λ child ok. none_kept (work_for schema Enforced 0 tree olds news child) _ (λ ref. no_work_here schema tree olds news child ref) child.references ok) schema.tables h
+    none_joined _ _ (λ child ok. none_kept (work_for schema Enforced 0 tree olds news child) _
+    (λ ref. no_work_here schema tree olds news child ref) child.references ok) schema.tables h
 
 -- ---- the step
 
@@ -135,14 +143,19 @@ fold_over_map step g c [] = refl
 fold_over_map step g c (x ∷ xs) = fold_over_map step g (step c (g x)) xs
 
 -- rows that are taken out and put back changed are changed in their places
-module _ {X : Type 0} (key : X → ℤ) (stored : X → Row) (keyed : (x : X) → rowid (stored x) ≡ Int (key x)) (p : X → Bool) (f : X → X) (stays : (x : X) → key (f x) ≡ key x) where
-  pub replaced : (xs : List X) → IsKeyedBy key xs → put_all (without_all (map stored xs) (map key (filter p xs))) (map stored (map f (filter p xs))) ≡ map stored (update_where p f xs)
+module _ {X : Type 0} (key : X → ℤ) (stored : X → Row) (keyed : (x : X) → rowid (stored x) ≡ Int (key x)) (p : X → Bool) (f : X → X)
+    (stays : (x : X) → key (f x) ≡ key x) where
+  pub replaced : (xs : List X) → IsKeyedBy key xs → put_all (without_all (map stored xs) (map key (filter p xs)))
+      (map stored (map f (filter p xs))) ≡ map stored (update_where p f xs)
   replaced xs up =
-      ap (λ l. put_all l (map stored (map f (filter p xs)))) (deletes-map key stored keyed (map key (filter p xs)) xs ∙ ap (map stored) (removes_delete key p xs up))
-      ∙ fold_over_map (λ rows r. put_row r rows) stored (map stored (delete_where p xs)) (map f (filter p xs)) ∙ puts-map key stored keyed (map f (filter p xs)) (delete_where p xs)
+      ap (λ l. put_all l (map stored (map f (filter p xs))))
+      (deletes-map key stored keyed (map key (filter p xs)) xs ∙ ap (map stored) (removes_delete key p xs up))
+      ∙ fold_over_map (λ rows r. put_row r rows) stored (map stored (delete_where p xs)) (map f (filter p xs))
+      ∙ puts-map key stored keyed (map f (filter p xs)) (delete_where p xs)
       ∙ ap (map stored) (changed_in_place key p f stays xs up)
 
-module _ {X : Type 0} (t : Table) (tests terms : List Term) (params : Row) (key : X → ℤ) (stored : X → Row) (p : X → Bool) (f : X → X) (sets : Sets t tests terms params key stored p f) where
+module _ {X : Type 0} (t : Table) (tests terms : List Term) (params : Row) (key : X → ℤ) (stored : X → Row) (p : X → Bool) (f : X → X)
+    (sets : Sets t tests terms params key stored p f) where
   abbrev show : X → Row
   show x = eval_all terms (params ∷ stored x ∷ [])
 
@@ -156,22 +169,27 @@ module _ {X : Type 0} (t : Table) (tests terms : List Term) (params : Row) (key 
       → edited db (edit_of db t (ids_of (map show (filter p xs))) Given 1 (map show (filter p xs))) ≡ map stored (update_where p f xs)
   set_rows db xs holds up =
       let ys = filter p xs in
-      let left : without_all (db t.tree) (ids_of (map show ys)) ≡ without_all (map stored xs) (map key ys) = ap (λ ids. without_all (db t.tree) ids) (gone_are ys) ∙ ap (λ rows. without_all rows (map key ys)) holds in
+      let left : without_all (db t.tree) (ids_of (map show ys)) ≡ without_all (map stored xs) (map key ys) =
+      ap (λ ids. without_all (db t.tree) ids) (gone_are ys) ∙ ap (λ rows. without_all rows (map key ys)) holds in
       ap₂ put_all left (given_ids _ (map (λ s. cast_row t (drop 1 s)) (map show ys)) ∙ news_are ys) ∙ replaced key stored sets.keyed p f sets.stays xs up
 
   -- what is set is set in the values, where at most one of them passes
-  pub sets_listed : (old new : State) (xs : List X) → SetsRows t (query_on t.tree tests terms [] no_limit) params old new → old.now.trees t.tree ≡ map stored xs → IsKeyedBy key xs → length (filter p xs) ≤ 1
+  pub sets_listed : (old new : State) (xs : List X) → SetsRows t (query_on t.tree tests terms [] no_limit) params old new
+      → old.now.trees t.tree ≡ map stored xs → IsKeyedBy key xs → length (filter p xs) ≤ 1
       → HasChanged t (map stored (update_where p f xs)) old new
   sets_listed old new xs h holds up few =
-      let listing : IsListing old.now.trees t.tree tests terms params stored xs p show = record { holds_them = holds; passes = sets.passes; shows = λ _. refl } in
+      let listing : IsListing old.now.trees t.tree tests terms params stored xs p show =
+      record { holds_them = holds; passes = sets.passes; shows = λ _. refl } in
       let found : h.found ≡ map show (filter p xs) = one_row listing h.found h.answer few in
       subst (λ rows. HasChanged t rows old new) (set_rows old.now.trees xs holds up)
       (subst (λ rows. HasChanged t (edited old.now.trees (edit_of old.now.trees t (ids_of rows) Given 1 rows)) old new) found h.changed)
 
 -- ---- the statement
 
-module _ (sql : List ℕ) (params : Row) (old new : State) (t : Table) (at : ℕ) (q : Query) (is : IsUpdate t q sql) (has : IsTrue old.is_open → Has old.now.schema at t × (is_left_alone old.now.schema t.tree ≡ true)) where
-  set_by : (text : List ℕ) (count : ℕ) → slice_get old.now.schema.tables at ≡ Some t → is_left_alone old.now.schema t.tree ≡ true → Shows old new new.now old.committed true
+module _ (sql : List ℕ) (params : Row) (old new : State) (t : Table) (at : ℕ) (q : Query) (is : IsUpdate t q sql)
+    (has : IsTrue old.is_open → Has old.now.schema at t × (is_left_alone old.now.schema t.tree ≡ true)) where
+  set_by : (text : List ℕ) (count : ℕ) → slice_get old.now.schema.tables at ≡ Some t → is_left_alone old.now.schema t.tree ≡ true
+      → Shows old new new.now old.committed true
       → Writes old new None (update_as at q) text params count → SetsRows t q params old new
   set_by text count listed alone inside w =
       let h = has_written t at None (update_as at q) params old new w.tally listed w.changed in
@@ -179,7 +197,8 @@ module _ (sql : List ℕ) (params : Row) (old new : State) (t : Table) (at : ℕ
       let put = went given.2 in
       let edit = edit_of old.now.trees t (ids_of given.0) Given 1 given.0 in
       let trees : h.written.trees ≡ put.0 = ap (λ (it : Written). it.trees) (same_value put.2) in
-      let a = one_step old.now.schema Enforced old.now.trees h.written.trees edit (idle_works old.now.schema t.tree (taken_by old.now.trees edit) edit.news alone)
+      let a = one_step old.now.schema Enforced old.now.trees h.written.trees edit
+      (idle_works old.now.schema t.tree (taken_by old.now.trees edit) edit.news alone)
       (subst (λ next. Edited old.now.schema Enforced old.now.trees edit (Ok next)) (sym trees) put.1) in
       record {
         found = given.0;

@@ -42,7 +42,8 @@ module _ (known : Known) (here there : Context) (alike : AreAlike known here the
   sets_same : (done : List ℕ × List Term) (all : List (Name × Expr)) → are_simple all ≡ true → sets_from here t done all ≡ sets_from there t done all
   sets_same done [] h = refl
   sets_same done (set ∷ more) h = let parts = and_parts (is_simple depth known set.1) _ h in fun_ext λ st.
-      ap₂ (λ (e : Lowering Term) (others : List ℕ × List Term → Lowering (List ℕ × List Term)). and_then (with_place t done.0 set.0) (λ at. and_then (e st) (λ r. others (at, done.1 ++ r.0 ∷ []) r.1)))
+      ap₂ (λ (e : Lowering Term) (others : List ℕ × List Term → Lowering (List ℕ × List Term)). and_then (with_place t done.0 set.0)
+      (λ at. and_then (e st) (λ r. others (at, done.1 ++ r.0 ∷ []) r.1)))
       (lower_same known here there alike 700 depth set.1 parts.0) (fun_ext λ longer. sets_same longer more parts.1)
 
   assigned_same : (all : List (Name × Expr)) → are_simple all ≡ true → assigned here t all ≡ assigned there t all
@@ -53,26 +54,31 @@ module _ (known : Known) (here there : Context) (alike : AreAlike known here the
   unfolding picked
   picked_same project test h = rw (tests_same known here there alike [] test h)
 
-  pub updated_same : (all : List (Name × Expr)) (test : Option Expr) → are_simple all ≡ true → is_simple_or_absent known test ≡ true → updated_in here t all test ≡ updated_in there t all test
+  pub updated_same : (all : List (Name × Expr)) (test : Option Expr) → are_simple all ≡ true → is_simple_or_absent known test ≡ true
+      → updated_in here t all test ≡ updated_in there t all test
   unfolding updated_in
   updated_same all test h k =
-      ap₂ (λ (a : Lowering (List ℕ × List Term)) (pick : List Term → Lowering Draft). and_then (a (fresh 2 max_budget)) (λ r. and_then (row t None r.0.0 (col 1 0 ∷ []) r.0.1) (λ project. value_of (pick project r.1))))
+      ap₂ (λ (a : Lowering (List ℕ × List Term)) (pick : List Term → Lowering Draft). and_then (a (fresh 2 max_budget))
+      (λ r. and_then (row t None r.0.0 (col 1 0 ∷ []) r.0.1) (λ project. value_of (pick project r.1))))
       (assigned_same all h) (fun_ext λ project. picked_same project test k)
 
 module _ (s : Schema) (at : ℕ) (t : Table) (has : Has s at t) where
-  typed_is : (d : Draft) (q : Query) (typed : Bool) → is_typed t (query_of d) [] ≡ typed → (if typed then Ok (query_of d) else Err Mismatch) ≡ Ok q → q.from ≡ inner t.tree end
+  typed_is : (d : Draft) (q : Query) (typed : Bool) → is_typed t (query_of d) [] ≡ typed
+      → (if typed then Ok (query_of d) else Err Mismatch) ≡ Ok q → q.from ≡ inner t.tree end
       → and_then (program s [] d) (λ p. Ok (Update at p)) ≡ Ok (update_as at q)
   typed_is d q false typed h from = absurd cc
   typed_is d q true typed h from =
       let is : query_of d ≡ q = cc in
       rw (program_is s at t has d (ap (λ (r : Query). r.from) is ∙ from) typed) (ap (λ r. Ok (update_as at r)) is)
 
-  updated_alone : (all : List (Name × Expr)) (test : Option Expr) → list_all (λ set. is_simple depth (bare t) set.1) all ≡ true → is_simple_or_absent (bare t) test ≡ true
+  updated_alone : (all : List (Name × Expr)) (test : Option Expr) → list_all (λ set. is_simple depth (bare t) set.1) all ≡ true
+      → is_simple_or_absent (bare t) test ≡ true
       → updated s at t all test ≡ updated (one t) 0 t all test
   unfolding updated
   updated_alone = updated_same (bare t) _ _ (alike s at t has.listed t.name [] false) t
 
-  update_is : (u : Assignments) (q : Query) → is_simple_update t u ≡ true → sets_meant t u ≡ Ok q → q.from ≡ inner t.tree end → update s u.0 u.1 u.2 ≡ Ok (update_as at q)
+  update_is : (u : Assignments) (q : Query) → is_simple_update t u ≡ true → sets_meant t u ≡ Ok q → q.from ≡ inner t.tree end
+      → update s u.0 u.1 u.2 ≡ Ok (update_as at q)
   unfolding update sets_meant
   update_is u q h means from =
       let b = and_parts (bytes_eq u.0 t.name && list_all (λ set. is_simple depth (bare t) set.1) u.1) (is_simple_or_absent (bare t) u.2) h in
@@ -83,11 +89,13 @@ module _ (s : Schema) (at : ℕ) (t : Table) (has : Has s at t) where
           → (m : Checked Draft) → updated (one t) 0 t u.1 u.2 ≡ m → and_then m (draft_if_typed t) ≡ Ok q → update s u.0 u.1 u.2 ≡ Ok (update_as at q)
       by_draft name sets test (Err e) drafted h = absurd cc
       by_draft name sets test (Ok d) drafted h =
-          rw ((bytes_eq-Decides u.0 t.name).0 name, has.named, has.listed, updated_alone u.1 u.2 sets test, drafted) (typed_is d q (is_typed t (query_of d) []) refl h from)
+          rw ((bytes_eq-Decides u.0 t.name).0 name, has.named, has.listed, updated_alone u.1 u.2 sets test, drafted)
+          (typed_is d q (is_typed t (query_of d) []) refl h from)
 
   -- ---- the text
 
-  statement_is : (p : Parsed) (u : Assignments) → p.statement ≡ written.Update u.0 u.1 u.2 [] → p.formats ≡ [] → (c : Command) → update s u.0 u.1 u.2 ≡ Ok c → planned s p ≡ Ok ([], (c, None))
+  statement_is : (p : Parsed) (u : Assignments) → p.statement ≡ written.Update u.0 u.1 u.2 [] → p.formats ≡ [] → (c : Command)
+      → update s u.0 u.1 u.2 ≡ Ok c → planned s p ≡ Ok ([], (c, None))
   unfolding planned meaning returning command timed shows
   statement_is p u is timeless c means = rw (is, timeless, means)
 
@@ -104,7 +112,8 @@ module _ (s : Schema) (at : ℕ) (t : Table) (has : Has s at t) where
         statement_is p u is (nil_is p.formats parts.0) (update_as at q) (update_is u q parts.1 h from)
 
     by_update : (p : Parsed) (o : Option Assignments) → update_of p.statement ≡ o
-        → and_then (or_else o Misuse) (λ u. if (length p.formats == 0) && is_simple_update t u then sets_meant t u else Err Unsupported) ≡ Ok q → planned s p ≡ Ok ([], (update_as at q, None))
+        → and_then (or_else o Misuse) (λ u. if (length p.formats == 0) && is_simple_update t u then sets_meant t u else Err Unsupported)
+        ≡ Ok q → planned s p ≡ Ok ([], (update_as at q, None))
     by_update p None is h = absurd cc
     by_update p (Some u) is h = by_test p u (update_as_written p.statement u is) ((length p.formats == 0) && is_simple_update t u) refl h
 

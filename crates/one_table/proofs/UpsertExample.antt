@@ -48,7 +48,8 @@ table name tree columns key primary uniques = record {
 -- ---- a UNIQUE of two columns
 
 abbrev tops : ℕ → Table
-tops tree = table (codes "tops") tree (column Text (codes "owner") ∷ column Integer (codes "kind") ∷ column Integer (codes "number") ∷ []) None [] ((1 ∷ 2 ∷ []) ∷ [])
+tops tree = table (codes "tops") tree (column Text (codes "owner") ∷ column Integer (codes "kind") ∷ column Integer (codes "number") ∷ [])
+    None [] ((1 ∷ 2 ∷ []) ∷ [])
 
 abbrev merging : Term → Merging
 merging set = record {
@@ -60,11 +61,13 @@ merging set = record {
   shown = col 0 7 ∷ [];
 }
 
-top_means : (tree : ℕ) → IsUpsert (tops tree) (merging (col 0 7)) (codes "INSERT INTO tops (owner, kind, number) VALUES (?1, ?2, ?3) ON CONFLICT (owner, kind) DO UPDATE SET number = excluded.number RETURNING number")
+top_means : (tree : ℕ) → IsUpsert (tops tree) (merging (col 0 7))
+    (codes "INSERT INTO tops (owner, kind, number) VALUES (?1, ?2, ?3) ON CONFLICT (owner, kind) DO UPDATE SET number = excluded.number RETURNING number")
 unfolding everything upsert_meant upsert_in upsert_by puts_meant set_meant shown_meant
 top_means tree = record { means = refl; whole = refl; shows_some = refl; shows_each = refl; uncounted = refl; unstamped = refl }
 
-sum_means : (tree : ℕ) → IsUpsert (tops tree) (merging (op2 (Arith Add) (col 1 3) (col 0 7))) (codes "INSERT INTO tops (owner, kind, number) VALUES (?1, ?2, ?3) ON CONFLICT (owner, kind) DO UPDATE SET number = number + excluded.number RETURNING number")
+sum_means : (tree : ℕ) → IsUpsert (tops tree) (merging (op2 (Arith Add) (col 1 3) (col 0 7)))
+    (codes "INSERT INTO tops (owner, kind, number) VALUES (?1, ?2, ?3) ON CONFLICT (owner, kind) DO UPDATE SET number = number + excluded.number RETURNING number")
 unfolding everything upsert_meant upsert_in upsert_by puts_meant set_meant shown_meant
 sum_means tree = record { means = refl; whole = refl; shows_some = refl; shows_each = refl; uncounted = refl; unstamped = refl }
 
@@ -82,7 +85,8 @@ has_key_of given top = bytes_eq top.owner given.owner && (top.kind == given.kind
 abbrev numbered : ℕ → Top → Top
 numbered number top = record top { number = number }
 
-top_sets : (tree : ℕ) (given : Top) (held : List Top) → MergesHidden (tops tree) (merging (col 0 7)) (top_row given) top_row given (has_key_of given) (numbered given.number) held
+top_sets : (tree : ℕ) (given : Top) (held : List Top)
+    → MergesHidden (tops tree) (merging (col 0 7)) (top_row given) top_row given (has_key_of given) (numbered given.number) held
 top_sets tree given held = record {
   source = rw (cast_no_int, cast_int (pos given.kind), cast_int (pos given.number)) refl;
   fits = rw (cast_int (pos given.kind), cast_int (pos given.number)) refl;
@@ -92,7 +96,8 @@ top_sets tree given held = record {
 
 -- where each sum is below 2 ^ 63
 sum_sets : (tree : ℕ) (given : Top) (held : List Top) → ((top : Top) → Member held top → has_key_of given top ≡ true → top.number + given.number < 2 ^ 63)
-    → MergesHidden (tops tree) (merging (op2 (Arith Add) (col 1 3) (col 0 7))) (top_row given) top_row given (has_key_of given) (λ top. numbered (top.number + given.number) top) held
+    → MergesHidden (tops tree) (merging (op2 (Arith Add) (col 1 3) (col 0 7))) (top_row given) top_row given (has_key_of given)
+    (λ top. numbered (top.number + given.number) top) held
 sum_sets tree given held low = record {
   source = rw (cast_no_int, cast_int (pos given.kind), cast_int (pos given.number)) refl;
   fits = rw (cast_int (pos given.kind), cast_int (pos given.number)) refl;
@@ -100,14 +105,16 @@ sum_sets tree given held low = record {
   becomes = λ number n top there met. rw (cast_int n, cast_int (pos top.kind), cast_sum top.number given.number (low top there met)) refl;
 }
 
-top_shown : (tree : ℕ) (set : Term) (given top : Top) (number : ℤ) → shown_row (tops tree) (merging set) (top_row given) (Int number ∷ top_row top) ≡ Int (pos top.number) ∷ []
+top_shown : (tree : ℕ) (set : Term) (given top : Top) (number : ℤ)
+    → shown_row (tops tree) (merging set) (top_row given) (Int number ∷ top_row top) ≡ Int (pos top.number) ∷ []
 top_shown tree set given top number = refl
 
 -- ---- an INTEGER PRIMARY KEY
 
 abbrev totals : ℕ → Table
 totals tree = table (codes "totals") tree
-    (record { name = codes "number"; kind = Integer; is_strict = true; not_null = false; default = Null; collation = Binary } ∷ column Integer (codes "count") ∷ column Integer (codes "amount") ∷ column Integer (codes "cash") ∷ [])
+    (record { name = codes "number"; kind = Integer; is_strict = true; not_null = false; default = Null; collation = Binary }
+    ∷ column Integer (codes "count") ∷ column Integer (codes "amount") ∷ column Integer (codes "cash") ∷ [])
     (Some 0) (0 ∷ []) []
 
 abbrev adding : Merging
@@ -142,14 +149,17 @@ with_one amount cash total = record total { count = total.count + 1; amount = to
 
 -- where the number's counts and sums are below 2 ^ 63
 total_adds : (tree number amount cash : ℕ) (rows : List Row) (held : List Total)
-    → ((total : Total) → Member held total → (total.number == number) ≡ true → (total.count + 1 < 2 ^ 63) × (total.amount + amount < 2 ^ 63) × (total.cash + cash < 2 ^ 63))
-    → MergesAs (totals tree) adding (Int (pos number) ∷ Int (pos amount) ∷ Int (pos cash) ∷ []) rows (λ total. pos total.number) total_row (first_of number amount cash) (λ total. total.number == number) (with_one amount cash) held
+    → ((total : Total) → Member held total → (total.number == number) ≡ true → (total.count + 1 < 2 ^ 63)
+    × (total.amount + amount < 2 ^ 63) × (total.cash + cash < 2 ^ 63))
+    → MergesAs (totals tree) adding (Int (pos number) ∷ Int (pos amount) ∷ Int (pos cash) ∷ []) rows (λ total. pos total.number) total_row
+    (first_of number amount cash) (λ total. total.number == number) (with_one amount cash) held
 total_adds tree number amount cash rows held low = record {
   keyed = λ total. refl;
   gives = given_numbered (totals tree) adding (Int (pos number) ∷ Int (pos amount) ∷ Int (pos cash) ∷ []) (total_row (first_of number amount cash)) (pos number)
       (rw (cast_int (pos number), cast_no_int, cast_int (pos 1), cast_int (pos amount), cast_int (pos cash)) refl) refl rows;
   fits = rw (cast_int (pos number), cast_no_int, cast_int (pos 1), cast_int (pos amount), cast_int (pos cash)) refl;
-  meets = λ total. of_number number total.number (Null ∷ Int (pos 1) ∷ Int (pos amount) ∷ Int (pos cash) ∷ []) (Null ∷ Int (pos total.count) ∷ Int (pos total.amount) ∷ Int (pos total.cash) ∷ []);
+  meets = λ total. of_number number total.number (Null ∷ Int (pos 1) ∷ Int (pos amount) ∷ Int (pos cash) ∷ [])
+      (Null ∷ Int (pos total.count) ∷ Int (pos total.amount) ∷ Int (pos total.cash) ∷ []);
   becomes = λ total there met. let sums = low total there met in
       rw (cast_int (pos total.number), cast_no_int, cast_sum total.count 1 sums.0, cast_sum total.amount amount sums.1, cast_sum total.cash cash sums.2) refl;
   stays = λ total. refl;

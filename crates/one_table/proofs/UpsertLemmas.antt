@@ -70,18 +70,21 @@ module _ (t : Table) (at : List ℕ) (new row : Row) where
   abbrev meets : Key → Bool
   meets k = k.0 && bytes_eq at k.1 && agree k.2 k.1 row k.1 new
 
-  shares_same : (indexes : List Index) → list_any (shares (Some at) t new row) indexes ≡ list_any meets (map key_of (filter (λ (i : Index). i.table == t.tree) indexes))
+  shares_same : (indexes : List Index) → list_any (shares (Some at) t new row) indexes
+      ≡ list_any meets (map key_of (filter (λ (i : Index). i.table == t.tree) indexes))
   shares_same [] = refl
   shares_same (i ∷ more) = by_tree (i.table == t.tree) refl i.is_unique refl (shares_same more)
     where
-      by_tree : (b : Bool) → (i.table == t.tree) ≡ b → (u : Bool) → i.is_unique ≡ u → list_any (shares (Some at) t new row) more ≡ list_any meets (map key_of (filter (λ (j : Index). j.table == t.tree) more))
+      by_tree : (b : Bool) → (i.table == t.tree) ≡ b → (u : Bool) → i.is_unique ≡ u → list_any (shares (Some at) t new row) more
+          ≡ list_any meets (map key_of (filter (λ (j : Index). j.table == t.tree) more))
           → list_any (shares (Some at) t new row) (i ∷ more) ≡ list_any meets (map key_of (filter (λ (j : Index). j.table == t.tree) (i ∷ more)))
       by_tree false is true unique rest = rw (is, unique, rest)
       by_tree false is false unique rest = rw (is, unique, rest)
       by_tree true is true unique rest = rw (is, unique, rest)
       by_tree true is false unique rest = rw (is, unique, rest)
 
-  conflicts_same : (indexes : List Index) → map key_of (filter (λ (i : Index). i.table == t.tree) indexes) ≡ own_keys t → conflicts (Some at) indexes t new row ≡ is_of_key (own_keys t) at new row
+  conflicts_same : (indexes : List Index) → map key_of (filter (λ (i : Index). i.table == t.tree) indexes) ≡ own_keys t
+      → conflicts (Some at) indexes t new row ≡ is_of_key (own_keys t) at new row
   conflicts_same indexes keys = ap (λ b. (bytes_eq at (0 ∷ []) && agree plain (0 ∷ []) row (0 ∷ []) new) || b) (shares_same indexes ∙ ap (list_any meets) keys)
 
 none_any : {X : Type 0} (p : X → Bool) (xs : List X) → ((x : X) → Member xs x → p x ≡ true → ⊥) → list_any p xs ≡ false
@@ -95,8 +98,10 @@ module _ (task : Task) (terms : List Term) (db : Trees) where
   given = with_rowid Chosen (db task.table.tree) (cast_row task.table (eval_all terms (task.params ∷ [])))
 
   -- the row is tried, and nothing else is written
-  pub tries_one : (clauses : List Upsert) (w : Written) → length terms ≡ length task.table.columns + 1 → task.table.is_counted ≡ false → task.table.stamps.terms ≡ []
-      → InsertsOr task Abort clauses (Values terms (length task.table.columns + 1)) db (Ok w) → (one : Written) × Tries task Abort clauses given db (Ok one) × (w.trees ≡ one.trees) × (w.rows ≡ one.rows)
+  pub tries_one : (clauses : List Upsert) (w : Written) → length terms ≡ length task.table.columns + 1 → task.table.is_counted ≡ false
+      → task.table.stamps.terms ≡ []
+      → InsertsOr task Abort clauses (Values terms (length task.table.columns + 1)) db (Ok w) → (one : Written)
+      × Tries task Abort clauses given db (Ok one) × (w.trees ≡ one.trees) × (w.rows ≡ one.rows)
   tries_one clauses w whole uncounted unstamped h =
       let rows = went h in
       let counter = went rows.2 in
@@ -106,7 +111,8 @@ module _ (task : Task) (terms : List Term) (db : Trees) where
       let one = went (subst (λ l. TriesEach task Abort clauses l (count_of counter.0) (nothing db) (Ok tried.0)) source tried.1) in
       let next : left.0 ≡ tried.0.0.trees = same_value (by_false _ _ task.table.is_counted _ uncounted left.1) in (
         one.0,
-        subst (λ b. Tries task Abort clauses (with_rowid (if b then Above (count_of counter.0) else Chosen) (db task.table.tree) (cast_row task.table (eval_all terms (task.params ∷ [])))) db (Ok one.0)) uncounted one.1,
+        subst (λ b. Tries task Abort clauses (with_rowid (if b then Above (count_of counter.0) else Chosen) (db task.table.tree)
+            (cast_row task.table (eval_all terms (task.params ∷ [])))) db (Ok one.0)) uncounted one.1,
         ap (λ (it : Written). it.trees) (same_value left.2) ∙ next ∙ ap (λ (p : Written × ℤ). p.0.trees) (same_value one.2),
         ap (λ (it : Written). it.rows) (same_value left.2) ∙ ap (λ (p : Written × ℤ). p.0.rows) (same_value one.2),
       )
@@ -122,19 +128,23 @@ module _ (task : Task) (terms : List Term) (db : Trees) where
   puts_only new one (x ∷ more) h = h
 
   -- what is shown of the one row that was written
-  pub shows_one : (what : List Term) (names : List (List ℕ)) (width : ℕ) (w : Written) (row : Row) (rows : List Row) → w.rows ≡ row ∷ [] → length what ≡ width → 0 < width
-      → Returns task w (Some (record { names = names; row = Values what width })) (Ok rows) → rows ≡ eval_all what ((task.params ++ Null ∷ shown task.table row) ∷ []) ∷ []
+  pub shows_one : (what : List Term) (names : List (List ℕ)) (width : ℕ) (w : Written) (row : Row) (rows : List Row) → w.rows ≡ row ∷ []
+      → length what ≡ width → 0 < width
+      → Returns task w (Some (record { names = names; row = Values what width })) (Ok rows) → rows
+      ≡ eval_all what ((task.params ++ Null ∷ shown task.table row) ∷ []) ∷ []
   shows_one what names width w row rows is whole some h =
       let shown_rows = went h in
       let counted = went shown_rows.2 in
       let each = went (subst (λ l. ShowsEach task (record { names = names; row = Values what width }) w.trees l (Ok shown_rows.0)) is shown_rows.1) in
       let others = went each.2 in
-      let first : each.0 ≡ eval_all what ((task.params ++ Null ∷ shown task.table row) ∷ []) ∷ [] = each.1.1 ∙ one_value_row (task.params ++ Null ∷ shown task.table row) width what whole some in
+      let first : each.0 ≡ eval_all what ((task.params ++ Null ∷ shown task.table row) ∷ []) ∷ [] =
+      each.1.1 ∙ one_value_row (task.params ++ Null ∷ shown task.table row) width what whole some in
       same_value counted.2 ∙ same_value others.2 ∙ ap (λ l. each.0 ++ l) (same_value others.1) ∙ append-nil each.0 ∙ first
 
 -- ---- the row that has the key
 
-module _ (db : Trees) (t : Table) (m : Merging) (params : Row) (counted : length params ≡ m.count) (order : IsInOrder (db t.tree)) (rest there : Row) (member : Member (db t.tree) there) where
+module _ (db : Trees) (t : Table) (m : Merging) (params : Row) (counted : length params ≡ m.count) (order : IsInOrder (db t.tree))
+    (rest there : Row) (member : Member (db t.tree) there) where
   abbrev read : Row
   read = params ++ rowid there ∷ rest
 
@@ -169,7 +179,8 @@ module _ (db : Trees) (t : Table) (m : Merging) (params : Row) (counted : length
   few = few_of_key number it.0.0 picks all (rise columns (db t.tree) (map (drop 1) (db t.tree)) (hides_all (db t.tree)) order) (λ x h. same_int x.0 it.0.0 h)
 
   -- the one row of that rowid is found
-  pub finds_one : (found : List Row) → IsAnswer (set_query t m) db read found → (n : ℤ) × (rowid there ≡ Int n) × (found ≡ (Int n ∷ eval_all m.sets (read ∷ there ∷ [])) ∷ [])
+  pub finds_one : (found : List Row) → IsAnswer (set_query t m) db read found → (n : ℤ) × (rowid there ≡ Int n)
+      × (found ≡ (Int n ∷ eval_all m.sets (read ∷ there ∷ [])) ∷ [])
   finds_one found answer =
       let only = only_kept picks all it.0 few it.1 (own_id it.0.0) in (
         it.0.0,
@@ -212,20 +223,25 @@ module _ (sql : List ℕ) (params : Row) (old new : State) (t : Table) (at : ℕ
     one = tries_one task m.given db (clause ∷ []) wrote.written is.whole is.uncounted is.unstamped wrote.wrote
 
     shows_is : (row : Row) → one.0.rows ≡ row ∷ [] → w.tally.shown ≡ shown_row t m params row ∷ []
-    shows_is row rows_are = shows_one task m.given db m.shown m.names (length m.names) wrote.written row w.tally.shown (one.3 ∙ rows_are) is.shows_each (some_of (length m.names) is.shows_some) wrote.shows
+    shows_is row rows_are = shows_one task m.given db m.shown m.names (length m.names) wrote.written row w.tally.shown (one.3 ∙ rows_are)
+        is.shows_each (some_of (length m.names) is.shows_some) wrote.shows
 
     by_put : list_any (is_of_key (own_keys t) m.key given_now) (db t.tree) ≡ false → Puts task given_now db (Ok one.0) → Upserted w.tally.shown
     by_put free h =
         let put = went h in
         let edit = edit_of db t [] Given 0 (given_now ∷ []) in
         let next : wrote.written.trees ≡ put.0 = one.2 ∙ ap (λ (it : Written). it.trees) (same_value put.2) in
-        let a = one_step schema Enforced db wrote.written.trees edit (no_works schema Enforced t.tree edit.news) (subst (λ n. Edited schema Enforced db edit (Ok n)) (sym next) put.1) in (
+        let a = one_step schema Enforced db wrote.written.trees edit (no_works schema Enforced t.tree edit.news)
+        (subst (λ n. Edited schema Enforced db edit (Ok n)) (sym next) put.1) in (
           cast_row t given_now,
           shows_is (cast_row t given_now) (ap (λ (it : Written). it.rows) (same_value put.2)),
           inl (record {
             free = free;
             is = refl;
-            puts = record { changed = has_changed t edit (upsert_as at t m) text params count old new wrote refl a inside w; fresh = not-true _ (and_parts _ _ a.fresh).0 };
+            puts = record {
+              changed = has_changed t edit (upsert_as at t m) text params count old new wrote refl a inside w;
+              fresh = not-true _ (and_parts _ _ a.fresh).0;
+            };
           }),
         )
 
@@ -241,7 +257,8 @@ module _ (sql : List ℕ) (params : Row) (old new : State) (t : Table) (at : ℕ
         let by = λ (l : List Row). edit_of db t (ids_of l) Given 1 l in
         let edit = by ((Int only.0 ∷ eval_all m.sets (read ∷ there ∷ [])) ∷ []) in
         let next : wrote.written.trees ≡ put.0 = one.2 ∙ ap (λ (it : Written). it.trees) (same_value put.2) in
-        let edited_so = subst (λ l. Edited schema Enforced db (by l) (Ok wrote.written.trees)) only.2 (subst (λ n. Edited schema Enforced db (by found.0) (Ok n)) (sym next) put.1) in
+        let edited_so = subst (λ l. Edited schema Enforced db (by l) (Ok wrote.written.trees)) only.2
+        (subst (λ n. Edited schema Enforced db (by found.0) (Ok n)) (sym next) put.1) in
         let a = one_step schema Enforced db wrote.written.trees edit (idle_works schema t.tree (taken_by db edit) edit.news k.left_alone) edited_so in (
           row,
           shows_is row (ap (λ (it : Written). it.rows) (same_value put.2) ∙ ap (λ l. (by l).news) only.2),
@@ -250,13 +267,16 @@ module _ (sql : List ℕ) (params : Row) (old new : State) (t : Table) (at : ℕ
             found = member;
             keyed = keyed;
             is = refl;
-            changed = subst (λ id. HasChanged t (put_row row (without_rowid id (db t.tree))) old new) (sym (ap id_in only.1)) (has_changed t edit (upsert_as at t m) text params count old new wrote refl a inside w);
+            changed = subst (λ id. HasChanged t (put_row row (without_rowid id (db t.tree))) old new) (sym (ap id_in only.1))
+                (has_changed t edit (upsert_as at t m) text params count old new wrote refl a inside w);
           }),
         )
 
-    by_conflicts : (found : List Row) → AreConflicts (Some m.key) schema.indexes t (db t.tree) given_now found → Meets task (Upserts' task Abort given_now db []) given_now db clause found (Ok one.0) → Upserted w.tally.shown
+    by_conflicts : (found : List Row) → AreConflicts (Some m.key) schema.indexes t (db t.tree) given_now found
+        → Meets task (Upserts' task Abort given_now db []) given_now db clause found (Ok one.0) → Upserted w.tally.shown
     by_conflicts [] conf (others, among, clears) =
-        by_put (none_any _ (db t.tree) (λ r member keyed. conf.complete r member (conflicts_same t m.key given_now r schema.indexes k.keys ∙ keyed))) (puts_only task m.given db given_now one.0 others clears)
+        by_put (none_any _ (db t.tree) (λ r member keyed. conf.complete r member
+        (conflicts_same t m.key given_now r schema.indexes k.keys ∙ keyed))) (puts_only task m.given db given_now one.0 others clears)
     by_conflicts (x ∷ more) conf resolves =
         let s = conf.sound x (inl refl) in
         by_set s.0 s.1 (sym (conflicts_same t m.key given_now s.0 schema.indexes k.keys) ∙ s.2)
@@ -284,7 +304,8 @@ module _ (sql : List ℕ) (params : Row) (old new : State) (t : Table) (at : ℕ
       let no_times : timed params h.0.formats h.1.now ≡ params = rw (timeless, append-nil params) refl in
       let it_1 = subst (ShowsRows old new sql h.0 (timed params h.0.formats h.1.now) rows) returning_is h.2 in
       let it_2 = subst (λ ps. ShowsRows old new sql h.0 ps rows (Some (returning_as m))) no_times it_1 in
-      let it_3 = subst (λ c. (count : ℕ) × (w : Writes old new (Some (returning_as m)) c (text_of sql h.0) params count) × (rows ≡ w.tally.shown)) command_is it_2 in
+      let it_3 = subst (λ c. (count : ℕ) × (w : Writes old new (Some (returning_as m)) c (text_of sql h.0) params count)
+      × (rows ≡ w.tally.shown)) command_is it_2 in
       record {
         text = text_of sql h.0;
         count = it_3.0;
@@ -302,14 +323,16 @@ module _ (sql : List ℕ) (params : Row) (old new : State) (t : Table) (at : ℕ
         subst Upserted (sym wrote.shows) (written_so k wrote.counted (shown_stays sql params old new rows h way) wrote.text wrote.count wrote.writes)
 
     -- why it fails, from why its value is not read
-    pub fails_unread : (IsReadable : Row → Type 0) (rows : List Row) (x : Row) → Upserted rows → x ≡ get_or rows 0 x → (why : ReadFault) → OnlyWhere (¬ IsReadable x) why → FailsToUpsert t m params old new at IsReadable why
+    pub fails_unread : (IsReadable : Row → Type 0) (rows : List Row) (x : Row) → Upserted rows → x ≡ get_or rows 0 x → (why : ReadFault)
+        → OnlyWhere (¬ IsReadable x) why → FailsToUpsert t m params old new at IsReadable why
     fails_unread IsReadable rows x done item (Failed e) (inl none) = inr (none, done.0, done.2)
     fails_unread IsReadable rows x done item Bad (inl none) = cc
     fails_unread IsReadable rows x done item (Failed e) (inr bad) = absurd (let no = bad.0 in cc)
     fails_unread IsReadable rows x done item Bad (inr bad) = (done.0, subst (λ r. ¬ IsReadable r) (item ∙ ap (λ l. get_or l 0 x) done.1) bad.1, done.2)
 
     -- why it fails, from why the text does
-    pub fails_to_upsert : (IsReadable : Row → Type 0) → is_whole sql (length params) ≡ true → (e : Error) → FailsToShow sql params old new e → FailsToUpsert t m params old new at IsReadable (Failed e)
+    pub fails_to_upsert : (IsReadable : Row → Type 0) → is_whole sql (length params) ≡ true → (e : Error)
+        → FailsToShow sql params old new e → FailsToUpsert t m params old new at IsReadable (Failed e)
     fails_to_upsert IsReadable whole e fails =
         inl (fails_showing sql params old new (returning_as m) (upsert_as at t m) (upsert_changes (Some (returning_as m)) at Abort (source_of_row t m.given) _)
         (λ runs. let k = takes runs in (means_upsert old.now.schema at t k.has k.keys m sql is).0) whole e fails)

@@ -53,12 +53,14 @@ module _ (t : Table) (at : List ℕ) where
   abbrev on_tree : List Index → List Index
   on_tree = filter (λ (i : Index). i.table == t.tree)
 
-  key_found : (indexes : List Index) → option_map (λ (i : Index). i.columns) (find (is_key_at t at) indexes) ≡ columns_of (find (is_key_of at) (map key_of (on_tree indexes)))
+  key_found : (indexes : List Index) → option_map (λ (i : Index). i.columns) (find (is_key_at t at) indexes)
+      ≡ columns_of (find (is_key_of at) (map key_of (on_tree indexes)))
   unfolding is_key_at
   key_found [] = refl
   key_found (i ∷ more) = by_tree (i.table == t.tree) refl i.is_unique refl (key_found more)
     where
-      by_tree : (b : Bool) → (i.table == t.tree) ≡ b → (u : Bool) → i.is_unique ≡ u → option_map (λ (i : Index). i.columns) (find (is_key_at t at) more) ≡ columns_of (find (is_key_of at) (map key_of (on_tree more)))
+      by_tree : (b : Bool) → (i.table == t.tree) ≡ b → (u : Bool) → i.is_unique ≡ u
+          → option_map (λ (i : Index). i.columns) (find (is_key_at t at) more) ≡ columns_of (find (is_key_of at) (map key_of (on_tree more)))
           → option_map (λ (i : Index). i.columns) (find (is_key_at t at) (i ∷ more)) ≡ columns_of (find (is_key_of at) (map key_of (on_tree (i ∷ more))))
       by_tree false is true unique rest = rw (is, unique, rest)
       by_tree false is false unique rest = rw (is, unique, rest)
@@ -72,7 +74,8 @@ module _ (t : Table) (at : List ℕ) where
 
   pub key_same : (s : Schema) → keys_on s t.tree ≡ own_keys t → key_at s t at ≡ key_among (own_keys t) at
   unfolding key_at
-  key_same s keys = ap (λ o. if bytes_eq at (0 ∷ []) then Ok at else or_else o Misuse) (key_found s.indexes ∙ ap (λ ks. columns_of (find (is_key_of at) ks)) keys)
+  key_same s keys = ap (λ o. if bytes_eq at (0 ∷ []) then Ok at else or_else o Misuse)
+      (key_found s.indexes ∙ ap (λ ks. columns_of (find (is_key_of at) ks)) keys)
 
 -- ---- the parts
 
@@ -117,14 +120,16 @@ plain_upsert t count u h =
       filter_is = none_is u.clause.filter h_7.1;
     }
 
-module _ (s : Schema) (at : ℕ) (t : Table) (has : Has s at t) (keys : keys_on s t.tree ≡ own_keys t) (count : ℕ) (u : UpsertText) (plain : IsPlainUpsert t count u) where
+module _ (s : Schema) (at : ℕ) (t : Table) (has : Has s at t) (keys : keys_on s t.tree ≡ own_keys t) (count : ℕ) (u : UpsertText)
+    (plain : IsPlainUpsert t count u) where
   -- ---- what is done where a row has the key
 
   key_is : (ps key : List ℕ) → places t u.clause.target ≡ Ok ps → key_among (own_keys t) ps ≡ Ok key → key_meant s t u.clause.target ≡ Ok (Some key)
   unfolding key_meant
   key_is ps key placed found = rw (plain.has_key, placed, key_same t ps s keys, found)
 
-  typed_is : (d : Draft) (q : Query) (typed : Bool) → is_typed t (query_of d) [] ≡ typed → (if typed then Ok (query_of d) else Err Mismatch) ≡ Ok q → q.from ≡ inner t.tree end
+  typed_is : (d : Draft) (q : Query) (typed : Bool) → is_typed t (query_of d) [] ≡ typed
+      → (if typed then Ok (query_of d) else Err Mismatch) ≡ Ok q → q.from ≡ inner t.tree end
       → and_then (program s [] d) (λ p. Ok (Some p)) ≡ Ok (Some (record { lets = []; body = q }))
   typed_is d q false typed h from = absurd cc
   typed_is d q true typed h from =
@@ -134,18 +139,22 @@ module _ (s : Schema) (at : ℕ) (t : Table) (has : Has s at t) (keys : keys_on 
   drafts_same : updated_in (setting s at t count) t u.clause.sets None ≡ updated_in (setting (one t) 0 t count) t u.clause.sets None
   drafts_same = updated_same (settable t count) _ _ (settings_alike s t count at has.listed plain.apart) t u.clause.sets None plain.sets refl
 
-  update_is : (q : Query) → set_meant t count u.clause ≡ Ok q → q.from ≡ inner t.tree end → update s at t count u.clause ≡ Ok (Some (record { lets = []; body = q }))
+  update_is : (q : Query) → set_meant t count u.clause ≡ Ok q → q.from ≡ inner t.tree end → update s at t count u.clause
+      ≡ Ok (Some (record { lets = []; body = q }))
   unfolding update do_update set_meant
   update_is q means from =
       let drafted = ok_then (updated_in (setting (one t) 0 t count) t u.clause.sets None) (λ d. draft_if_typed t (at_rowid count d)) q means in
-      rw (plain.sets_some, plain.filter_is, drafts_same, drafted.1) (typed_is (at_rowid count drafted.0) q (is_typed t (query_of (at_rowid count drafted.0)) []) refl drafted.2 from)
+      rw (plain.sets_some, plain.filter_is, drafts_same, drafted.1)
+      (typed_is (at_rowid count drafted.0) q (is_typed t (query_of (at_rowid count drafted.0)) []) refl drafted.2 from)
 
-  clause_is : (key : List ℕ) (q : Query) → key_meant s t u.clause.target ≡ Ok (Some key) → update s at t count u.clause ≡ Ok (Some (record { lets = []; body = q }))
+  clause_is : (key : List ℕ) (q : Query) → key_meant s t u.clause.target ≡ Ok (Some key) → update s at t count u.clause
+      ≡ Ok (Some (record { lets = []; body = q }))
       → upserts s at t count (u.clause ∷ []) ≡ Ok (record { target = Some key; update = Some (record { lets = []; body = q }) } ∷ [])
   unfolding upserts upsert
   clause_is key q keyed set = rw (plain.has_key, keyed, set)
 
-  insert_is : (m : Merging) → puts_meant t count u.puts ≡ Ok (source_of_row t m.given) → upserts s at t count (u.clause ∷ []) ≡ Ok (record { target = Some m.key; update = Some (record { lets = []; body = set_query t m }) } ∷ [])
+  insert_is : (m : Merging) → puts_meant t count u.puts ≡ Ok (source_of_row t m.given) → upserts s at t count (u.clause ∷ [])
+      ≡ Ok (record { target = Some m.key; update = Some (record { lets = []; body = set_query t m }) } ∷ [])
       → insert_or_abort s count t.name u.puts.1 (rows.Values (u.puts.2 ∷ [])) (u.clause ∷ []) ≡ Ok (upsert_as at t m)
   unfolding insert_or_abort insert_or puts_meant
   insert_is m put clauses =
@@ -157,19 +166,24 @@ module _ (s : Schema) (at : ℕ) (t : Table) (has : Has s at t) (keys : keys_on 
   returned_same : returned s t count u.shown ≡ returned (one t) t count u.shown
   unfolding returned outputs
   returned_same =
-      ap (λ (found : Lowering (List Output)). if list_any is_all_of u.shown then Err Misuse else and_then (found (fresh 1 max_budget)) (λ r. if list_any is_subquery r.1.steps then Err Unsupported else Ok (laid_out r.0 r.1.steps)))
-      (outputs_same (showable t count) (showing s t count) (showing (one t) t count) (shown_alike s t count) (given_level s t.name (hidden t)).tables (given_level (one t) t.name (hidden t)).tables [] u.shown plain.shown)
+      ap (λ (found : Lowering (List Output)). if list_any is_all_of u.shown then Err Misuse else
+      and_then (found (fresh 1 max_budget)) (λ r. if list_any is_subquery r.1.steps then Err Unsupported else Ok (laid_out r.0 r.1.steps)))
+      (outputs_same (showable t count) (showing s t count) (showing (one t) t count) (shown_alike s t count)
+      (given_level s t.name (hidden t)).tables (given_level (one t) t.name (hidden t)).tables [] u.shown plain.shown)
 
   shows_is : (m : Merging) → shown_meant t count u.shown ≡ Ok (m.names, shown_source m) → shows s count t.name u.shown ≡ Ok (Some (returning_as m))
   unfolding shows shown_meant
   shows_is m means =
-      let found = ok_then (returned (one t) t count u.shown) (λ r. and_then (source_of (one t) (length r.0) r.1) (λ row. Ok (r.0, row))) (m.names, shown_source m) means in
+      let found = ok_then (returned (one t) t count u.shown) (λ r. and_then (source_of (one t) (length r.0) r.1) (λ row. Ok (r.0, row)))
+      (m.names, shown_source m) means in
       let row = ok_then (source_of (one t) (length found.0.0) found.0.1) (λ row. Ok (found.0.0, row)) (m.names, shown_source m) found.2 in
       let both : (found.0.0, row.0) ≡ (m.names, shown_source m) = same_value row.2 in
       let names = ap (λ (r : List Name × Source). r.0) both in
       let is = ap (λ (r : List Name × Source). r.1) both in
-      let here = source_same s (one t) (length found.0.0) m.shown found.0.1 (row.1 ∙ ap Ok (is ∙ ap (λ (ns : List Name). source.Values m.shown (length ns)) (sym names))) in
-      rw (plain.shows_some, has.named, has.listed, returned_same, found.1, here) (ap (λ (ns : List Name). Ok (Some (record { names = ns; row = source.Values m.shown (length ns) }))) names)
+      let here = source_same s (one t) (length found.0.0) m.shown found.0.1
+      (row.1 ∙ ap Ok (is ∙ ap (λ (ns : List Name). source.Values m.shown (length ns)) (sym names))) in
+      rw (plain.shows_some, has.named, has.listed, returned_same, found.1, here)
+      (ap (λ (ns : List Name). Ok (Some (record { names = ns; row = source.Values m.shown (length ns) }))) names)
 
 -- ---- the text
 
@@ -186,11 +200,13 @@ module _ (s : Schema) (at : ℕ) (t : Table) (has : Has s at t) (keys : keys_on 
 
   statement_is : (p : Parsed) (u : UpsertText) (m : Merging) → p.statement ≡ written_as u → p.formats ≡ [] → t.stamps.formats ≡ [] → u.puts.0 ≡ t.name
       → insert_or_abort s (small p.names + small t.stamps.formats) t.name u.puts.1 (rows.Values (u.puts.2 ∷ [])) (u.clause ∷ []) ≡ Ok (upsert_as at t m)
-      → shows s (small p.names + small t.stamps.formats) t.name u.shown ≡ Ok (Some (returning_as m)) → planned s p ≡ Ok ([], (upsert_as at t m, Some (returning_as m)))
+      → shows s (small p.names + small t.stamps.formats) t.name u.shown ≡ Ok (Some (returning_as m)) → planned s p
+      ≡ Ok ([], (upsert_as at t m, Some (returning_as m)))
   unfolding planned meaning returning command timed
   statement_is p u m is timeless none name put shown = rw (is, timeless, name, has.named, has.listed, shown, put, none)
 
-  by_text : (p : Parsed) (u : UpsertText) (m : Merging) → p.statement ≡ written_as u → p.formats ≡ [] → (small p.names == length p.names) ≡ true → is_simple_upsert t (length p.names) u ≡ true
+  by_text : (p : Parsed) (u : UpsertText) (m : Merging) → p.statement ≡ written_as u → p.formats ≡ [] → (small p.names == length p.names)
+      ≡ true → is_simple_upsert t (length p.names) u ≡ true
       → upsert_by t (length p.names) u ≡ Ok (m.count, source_of_row t m.given, m.key, set_query t m, m.names, shown_source m)
       → (planned s p ≡ Ok ([], (upsert_as at t m, Some (returning_as m)))) × (length p.names ≡ m.count)
   unfolding upsert_by
@@ -205,20 +221,24 @@ module _ (s : Schema) (at : ℕ) (t : Table) (has : Has s at t) (keys : keys_on 
       let keyed = ok_then (key_among (own_keys t) placed.0) _ _ placed.2 in
       let set = ok_then (set_meant t count u.clause) _ _ keyed.2 in
       let shown = ok_then (shown_meant t count u.shown) _ _ set.2 in
-      let all : (count, put.0, keyed.0, set.0, shown.0.0, shown.0.1) ≡ (m.count, source_of_row t m.given, m.key, set_query t m, m.names, shown_source m) = same_value shown.2 in
+      let all : (count, put.0, keyed.0, set.0, shown.0.0, shown.0.1)
+      ≡ (m.count, source_of_row t m.given, m.key, set_query t m, m.names, shown_source m) = same_value shown.2 in
       let row_is = put.1 ∙ ap (λ (x : UpsertMeaning). Ok x.1) all in
       let key_found = keyed.1 ∙ ap (λ (x : UpsertMeaning). Ok x.2) all in
       let set_is = set.1 ∙ ap (λ (x : UpsertMeaning). Ok x.3) all in
       let shown_is = shown.1 ∙ ap (λ (x : UpsertMeaning). Ok (x.4, x.5)) all in
-      let clauses = clause_is s at t has keys count u plain m.key (set_query t m) (key_is s at t has keys count u plain placed.0 m.key placed.1 key_found) (update_is s at t has keys count u plain (set_query t m) set_is refl) in
+      let clauses = clause_is s at t has keys count u plain m.key (set_query t m)
+      (key_is s at t has keys count u plain placed.0 m.key placed.1 key_found) (update_is s at t has keys count u plain (set_query t m) set_is refl) in
       let base = sym (count_is p.names t.stamps.formats few none) in (
         statement_is p u m is timeless none ((bytes_eq-Decides u.puts.0 t.name).0 a.0)
-            (subst (λ n. insert_or_abort s n t.name u.puts.1 (rows.Values (u.puts.2 ∷ [])) (u.clause ∷ []) ≡ Ok (upsert_as at t m)) base (insert_is s at t has keys count u plain m row_is clauses))
+            (subst (λ n. insert_or_abort s n t.name u.puts.1 (rows.Values (u.puts.2 ∷ [])) (u.clause ∷ []) ≡ Ok (upsert_as at t m)) base
+            (insert_is s at t has keys count u plain m row_is clauses))
             (subst (λ n. shows s n t.name u.shown ≡ Ok (Some (returning_as m))) base (shows_is s at t has keys count u plain m shown_is)),
         ap (λ (x : UpsertMeaning). x.0) all,
       )
 
-  by_test : (p : Parsed) (u : UpsertText) (m : Merging) → p.statement ≡ written_as u → (b : Bool) → ((length p.formats == 0) && (small p.names == length p.names) && is_simple_upsert t (length p.names) u) ≡ b
+  by_test : (p : Parsed) (u : UpsertText) (m : Merging) → p.statement ≡ written_as u → (b : Bool)
+      → ((length p.formats == 0) && (small p.names == length p.names) && is_simple_upsert t (length p.names) u) ≡ b
       → (if b then upsert_by t (length p.names) u else Err Unsupported) ≡ Ok (m.count, source_of_row t m.given, m.key, set_query t m, m.names, shown_source m)
       → (planned s p ≡ Ok ([], (upsert_as at t m, Some (returning_as m)))) × (length p.names ≡ m.count)
   by_test p u m is false test h = absurd cc
@@ -235,15 +255,18 @@ module _ (s : Schema) (at : ℕ) (t : Table) (has : Has s at t) (keys : keys_on 
   IsMeant sql m = (means : MeansAs s sql (upsert_as at t m) (Some (returning_as m))) × (length means.compiled.names ≡ m.count)
 
   by_parsed : (m : Merging) (sql : List ℕ) (p : Parsed) (u : UpsertText) → first sql ≡ Ok p → upsert_of p.statement ≡ Some u
-      → (if (length p.formats == 0) && (small p.names == length p.names) && is_simple_upsert t (length p.names) u then upsert_by t (length p.names) u else Err Unsupported)
+      → (if (length p.formats == 0) && (small p.names == length p.names) && is_simple_upsert t (length p.names) u then
+      upsert_by t (length p.names) u else Err Unsupported)
       ≡ Ok (m.count, source_of_row t m.given, m.key, set_query t m, m.names, shown_source m) → IsMeant sql m
   by_parsed m sql p u parsed is h =
-      let plan = by_test p u m (upsert_as_written p.statement u is) ((length p.formats == 0) && (small p.names == length p.names) && is_simple_upsert t (length p.names) u) refl h in
+      let plan = by_test p u m (upsert_as_written p.statement u is)
+      ((length p.formats == 0) && (small p.names == length p.names) && is_simple_upsert t (length p.names) u) refl h in
       (understood_as s sql p (upsert_as at t m) (Some (returning_as m)) parsed plan.0, plan.1)
 
   -- An upsert of one row of the table is that row, merged into the one that has its key, at the
   -- table's place.
-  pub means_upsert : (m : Merging) (sql : List ℕ) → IsUpsert t m sql → (means : MeansAs s sql (upsert_as at t m) (Some (returning_as m))) × (length means.compiled.names ≡ m.count)
+  pub means_upsert : (m : Merging) (sql : List ℕ) → IsUpsert t m sql → (means : MeansAs s sql (upsert_as at t m) (Some (returning_as m)))
+      × (length means.compiled.names ≡ m.count)
   unfolding upsert_meant upsert_in
   means_upsert m sql is =
       let parsed = ok_then (first sql) (upsert_in t) _ is.means in

@@ -68,21 +68,25 @@ inside-some st.InComment fields field [] inside = absurd inside
 inside-some st.AfterCr fields field [] inside = absurd inside
 inside-some s fields field (c ∷ rest) inside =
     by (is_end (step default_config s c).1) refl
-    (λ more. inside-some (step default_config s c).0 (fields_after (step default_config s c).1 fields field) (field_after (step default_config s c).1 c field) rest (stays s c inside more))
+    (λ more. inside-some (step default_config s c).0 (fields_after (step default_config s c).1 fields field)
+    (field_after (step default_config s c).1 c field) rest (stays s c inside more))
   where
     by : (b : Bool) → is_end (step default_config s c).1 ≡ b
         → (is_end (step default_config s c).1 ≡ false
-        → next_record default_config (step default_config s c).0 (fields_after (step default_config s c).1 fields field) (field_after (step default_config s c).1 c field) rest ≢ None)
+        → next_record default_config (step default_config s c).0 (fields_after (step default_config s c).1 fields field)
+        (field_after (step default_config s c).1 c field) rest ≢ None)
         → next_record default_config s fields field (c ∷ rest) ≢ None
     by true e more = rw e (λ none. cc)
     by false e more = rw e (more e)
 
 -- a byte but an end of a line begins a record
-begins : (c : ℕ) (fields : List (List ℕ)) (field rest : List ℕ) → is_line_end c ≡ false → next_record default_config st.StartRecord fields field (c ∷ rest) ≢ None
+begins : (c : ℕ) (fields : List (List ℕ)) (field rest : List ℕ) → is_line_end c ≡ false
+    → next_record default_config st.StartRecord fields field (c ∷ rest) ≢ None
 unfolding next_record
 begins c fields field rest other = by (c == 34) (c == 44) (c == 13) (c == 10) refl refl refl refl
   where
-    by : (quote comma cr lf : Bool) → (c == 34) ≡ quote → (c == 44) ≡ comma → (c == 13) ≡ cr → (c == 10) ≡ lf → next_record default_config st.StartRecord fields field (c ∷ rest) ≢ None
+    by : (quote comma cr lf : Bool) → (c == 34) ≡ quote → (c == 44) ≡ comma → (c == 13) ≡ cr → (c == 10) ≡ lf
+        → next_record default_config st.StartRecord fields field (c ∷ rest) ≢ None
     by quote comma true lf a b d e = absurd cc
     by quote comma false true a b d e = absurd cc
     by true comma false false a b d e = rw (a, d, e) (inside-some st.InQuoted _ _ rest tt)
@@ -115,11 +119,13 @@ pub blank-file : (bytes text : List ℕ) (r : Bool) → text ≡ strip_bom bytes
 unfolding Reached
 blank-file bytes text r is all = (
   (λ yes. (st.StartRecord, strip_bom bytes, (refl, refl), blank (strip_bom bytes) cc)),
-  (λ are. let none : next_record default_config st.StartRecord [] [] (strip_bom bytes) ≡ None = rw (are.2.0, are.2.1) are.3 in let ends = not-blank (strip_bom bytes) none in cc),
+  (λ are. let none : next_record default_config st.StartRecord [] [] (strip_bom bytes) ≡ None = rw (are.2.0, are.2.1) are.3 in
+      let ends = not-blank (strip_bom bytes) none in cc),
 )
 
 -- and a file that is not found to have none has one
-pub not-blank-file : (bytes : List ℕ) (records : List Fields) (r : Bool) → IsTrue r ↔ AreFileRecords bytes [] → r ≡ false → AreFileRecords bytes records → 0 < length records
+pub not-blank-file : (bytes : List ℕ) (records : List Fields) (r : Bool) → IsTrue r ↔ AreFileRecords bytes [] → r ≡ false
+    → AreFileRecords bytes records → 0 < length records
 not-blank-file bytes [] r says other are = absurd (let yes = says.1 are in cc)
 not-blank-file bytes (fields ∷ records) r says other are = omega arith
 

@@ -60,7 +60,8 @@ dated-rules fields from name steps place says dated within = rw says.are (at pla
     at (suc (suc zero)) h = dated
     at (suc (suc (suc n))) h = absurd (omega (arith, h))
 
-pub says-rules : (form : FileForm) (fields : Fields) (row : Row) (place : ℕ) → RecordSays form fields row → place < length fields → KeepsRuleAt form fields place
+pub says-rules : (form : FileForm) (fields : Fields) (row : Row) (place : ℕ) → RecordSays form fields row → place < length fields
+    → KeepsRuleAt form fields place
 says-rules Meters fields (Meter number m) place says within = rw says.four (at place (rw says.four at within))
   where
     at : (place : ℕ) → place < 4 → KeepsRuleAt Meters (number ∷ base_text m.base ∷ m.tariff ∷ says.key_text ∷ []) place
@@ -308,6 +309,7 @@ if_err (Ok x) fault P is holds = absurd is
 if_err (Err e) fault P is holds = subst P (sym is) holds
 
 -- what a reading answers then
-pub reading_err : (r : Result (List Row) RowFault) (fault : RowFault) (kind : FileKind) (records : List Fields) → IsErrAnd r (λ e. e ≡ fault) → IsFault kind records fault → IsReading kind records r
+pub reading_err : (r : Result (List Row) RowFault) (fault : RowFault) (kind : FileKind) (records : List Fields)
+    → IsErrAnd r (λ e. e ≡ fault) → IsFault kind records fault → IsReading kind records r
 reading_err (Ok rows) fault kind records is holds = absurd is
 reading_err (Err e) fault kind records is holds = subst (IsFault kind records) (sym is) holds

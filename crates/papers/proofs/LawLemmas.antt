@@ -55,7 +55,8 @@ row-within kind head body number NoTariff h = absurd h
 row-within kind head body number DayPast h = absurd h
 
 -- a file that has rows has no fault
-pub no-fault : (kind : FileKind) (records : List Fields) (rows : List Row) (number : ℕ) (cause : RowCause) → AreRows kind records rows → ¬ FileHasFault kind records number cause
+pub no-fault : (kind : FileKind) (records : List Fields) (rows : List Row) (number : ℕ) (cause : RowCause) → AreRows kind records rows
+    → ¬ FileHasFault kind records number cause
 no-fault kind records rows number cause are =
     let form = are.0 in
     let P : List Fields → Type 0 = λ all. ¬ FileHasFault (kind_of form) all number cause in
@@ -221,7 +222,8 @@ says-one one one_day DatedTariffs fields (Steps name day steps) (Steps name' day
     let lists = same.lists in
     cc
 
-said-one : OneSteps → OneDay → (form : FileForm) (records : List Fields) (rows others : List Row) → AreSaid form records rows → AreSaid form records others → rows ≡ others
+said-one : OneSteps → OneDay → (form : FileForm) (records : List Fields) (rows others : List Row) → AreSaid form records rows
+    → AreSaid form records others → rows ≡ others
 unfolding AreSaid
 said-one one one_day form [] [] [] a b = refl
 said-one one one_day form [] [] (r ∷ others) a b = absurd b
@@ -234,7 +236,8 @@ said-one one one_day form (f ∷ records) (r ∷ rows) (s ∷ others) a b =
     cc
 
 -- a file has one list of rows
-pub one-rows : OneSteps → OneDay → (kind : FileKind) (records : List Fields) (rows others : List Row) → AreRows kind records rows → AreRows kind records others → rows ≡ others
+pub one-rows : OneSteps → OneDay → (kind : FileKind) (records : List Fields) (rows others : List Row) → AreRows kind records rows
+    → AreRows kind records others → rows ≡ others
 one-rows one one_day kind records rows others a b =
     let headed = sym a.2.headed ∙ b.2.headed in
     let headers : header_of b.0 ≡ header_of a.0 = cc in

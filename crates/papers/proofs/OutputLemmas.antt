@@ -10,4 +10,5 @@ Appends-part None mid new text n m p q = tt
 Appends-part (Some xs) None new text n m p q = absurd p
 Appends-part (Some xs) (Some ys) None text n m p q = absurd q
 Appends-part (Some xs) (Some ys) (Some zs) text n m p q =
-    q ∙ ap (λ bytes. bytes ++ take m (drop n text)) p ∙ append_assoc xs (take n text) (take m (drop n text)) ∙ ap (λ bytes. xs ++ bytes) (sym (take-add n m text))
+    q ∙ ap (λ bytes. bytes ++ take m (drop n text)) p ∙ append_assoc xs (take n text) (take m (drop n text))
+    ∙ ap (λ bytes. xs ++ bytes) (sym (take-add n m text))

@@ -96,7 +96,40 @@ module _ (most : (t : ℕ) → IsRepresentable t → t ≤ greatest_amount) (o :
       let row : IsSaleRow o s = All-contains (IsSaleRow o) o.sales s office.sales has in
       let there = meter_of (o.meters s.meter) row.meter in
       let meter = office.meters s.meter there.0 there.1 in
-      let small : s.price < 2 ^ 64 = omega (arith, row.price, row.tender.1) in (plain_number s.number (small_sale_number o s office has), (plain_number s.moment (omega (arith, row.moment.1)), (plain_number s.shift (omega (arith, row.shift.1, office.shift_count)), (plain_letters s.operator row.operator.bytes, (row.order_ref.bytes, (plain_digits s.meter meter.numbered.digits, (plain_number (year_of s.base) (small_year s.base), (plain_number s.tid (omega (arith, row.tid)), (plain_number s.tenths (omega (arith, most s.tenths row.tenths)), (plain_number s.price small, (plain_number s.tender (omega (arith, row.tender.1)), (plain_number (change_of s) (omega (arith, row.tender.1)), (plain_digits s.digits row.digits.digits, tt)))))))))))))
+      let small : s.price < 2 ^ 64 = omega (arith, row.price, row.tender.1) in (
+        plain_number s.number (small_sale_number o s office has),
+        (
+          plain_number s.moment (omega (arith, row.moment.1)),
+          (
+            plain_number s.shift (omega (arith, row.shift.1, office.shift_count)),
+            (
+              plain_letters s.operator row.operator.bytes,
+              (
+                row.order_ref.bytes,
+                (
+                  plain_digits s.meter meter.numbered.digits,
+                  (
+                    plain_number (year_of s.base) (small_year s.base),
+                    (
+                      plain_number s.tid (omega (arith, row.tid)),
+                      (
+                        plain_number s.tenths (omega (arith, most s.tenths row.tenths)),
+                        (
+                          plain_number s.price small,
+                          (
+                            plain_number s.tender (omega (arith, row.tender.1)),
+                            (plain_number (change_of s) (omega (arith, row.tender.1)), (plain_digits s.digits row.digits.digits, tt)),
+                          ),
+                        ),
+                      ),
+                    ),
+                  ),
+                ),
+              ),
+            ),
+          ),
+        ),
+      )
 
   pub sale-fields : All IsPlainField (export_fields s)
   sale-fields = All-from_recursion IsPlainField (export_fields s) sale_plain

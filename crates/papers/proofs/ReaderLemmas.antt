@@ -12,7 +12,8 @@ use Rattle.papers.specs.Reader.{HasGiven, whole}
 pub given-more : (bytes : List ℕ) (a b : ByteRecordsIntoIter (Bor (List ℕ))) (records : List Fields) (fields : Fields) → HasGiven bytes a records
     → ReadRecord whole a.rdr b.rdr true fields → b.rdr.first ≡ true → 0 < b.left → HasGiven bytes b (records ++ fields ∷ [])
 given-more bytes a b records fields given read first left =
-    let more = rows-more whole a.rdr b.rdr fields default_config st.StartRecord (strip_bom bytes) given.rest records given.usual given.source given.reached read in
+    let more = rows-more whole a.rdr b.rdr fields default_config st.StartRecord (strip_bom bytes) given.rest records given.usual
+    given.source given.reached read in
     record {
       plain = read.3 ∙ given.plain;
       ready = inl first;

@@ -58,7 +58,8 @@ exist zero s xs short = absurd (omega (arith, short))
 exist (suc n) s xs short = by (exist n) (next_record default_config s [] [] xs) refl (leaves default_config s [] [] xs)
   where
     by : ((s : State) (xs : List ℕ) → length xs < n → (records : List (List (List ℕ))) × AreRecords default_config s xs records)
-        → (o : Option Read) → next_record default_config s [] [] xs ≡ o → Leaves xs o → (records : List (List (List ℕ))) × AreRecords default_config s xs records
+        → (o : Option Read) → next_record default_config s [] [] xs ≡ o → Leaves xs o → (records : List (List (List ℕ)))
+        × AreRecords default_config s xs records
     by rest None none h = none-left s xs none
     by rest (Some p) some h = one-more s xs p some (elim h [ inl less ↦ rest p.1 p.2 (omega (arith, short, less)) | inr done ↦ rw (done.0, done.1) at-end ])
 

@@ -11,17 +11,20 @@ use Rattle.office_rules.specs.declared.office.shift.Shift.{Shift}
 
 -- its parts, each behind what was there
 pub report-parts : (shift : Shift) (sales : List Sale)
-    → (((shift_head shift ++ flat_map sale_line sales) ++ line (codes "SALES") (decimal (length sales))) ++ line (codes "TENTHS") (decimal (sum_of_tenths sales))) ++ line (codes "CASH") (decimal (cash_of sales)) ≡ report_of shift sales
+    → (((shift_head shift ++ flat_map sale_line sales) ++ line (codes "SALES") (decimal (length sales)))
+    ++ line (codes "TENTHS") (decimal (sum_of_tenths sales))) ++ line (codes "CASH") (decimal (cash_of sales)) ≡ report_of shift sales
 unfolding report_of
 report-parts shift sales = simp append_assoc
 
 -- the totals end it
-pub report-totals : (shift : Shift) (sales : List Sale) → (front : List ℕ) × (report_of shift sales ≡ front ++ totals_text (length sales) (sum_of_tenths sales) (cash_of sales))
+pub report-totals : (shift : Shift) (sales : List Sale) → (front : List ℕ)
+    × (report_of shift sales ≡ front ++ totals_text (length sales) (sum_of_tenths sales) (cash_of sales))
 unfolding report_of
 report-totals shift sales = (shift_head shift ++ flat_map sale_line sales, refl)
 
 -- each sale has its line in it
-pub report-sale : (shift : Shift) (before after : List Sale) (s : Sale) → (front back : List ℕ) × (report_of shift (before ++ s ∷ after) ≡ front ++ sale_line s ++ back)
+pub report-sale : (shift : Shift) (before after : List Sale) (s : Sale) → (front back : List ℕ)
+    × (report_of shift (before ++ s ∷ after) ≡ front ++ sale_line s ++ back)
 unfolding report_of
 report-sale shift before after s =
     let sales = before ++ s ∷ after in

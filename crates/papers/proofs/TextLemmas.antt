@@ -30,14 +30,17 @@ kwh-parts tenths = append_assoc (decimal (tenths / 10)) (46 ∷ []) (decimal (te
 
 -- a date and a time of day, part behind part
 pub time-parts : (moment : ℕ) (c : Civil) → c ≡ civil_at moment
-    → ((((((((((((([] ++ two_digits (c.year / 100)) ++ two_digits (c.year % 100)) ++ 45 ∷ []) ++ two_digits c.month) ++ 45 ∷ []) ++ two_digits c.day) ++ 84 ∷ []) ++ two_digits c.hour) ++ 58 ∷ []) ++ two_digits c.minute) ++ 58 ∷ []) ++ two_digits c.second) ++ 90 ∷ []) ≡ time_text moment
+    → ((((((((((((([] ++ two_digits (c.year / 100)) ++ two_digits (c.year % 100)) ++ 45 ∷ []) ++ two_digits c.month) ++ 45 ∷ [])
+    ++ two_digits c.day) ++ 84 ∷ []) ++ two_digits c.hour) ++ 58 ∷ []) ++ two_digits c.minute) ++ 58 ∷ []) ++ two_digits c.second)
+    ++ 90 ∷ []) ≡ time_text moment
 unfolding time_text iso_date
 time-parts moment c shown = rw shown (simp append_assoc)
 
 -- the line of a sale is its number with a space, its meter, and its amounts with a space before
 -- each and a line feed
 pub sale_line-parts : (old number amounts : List ℕ) (s : Sale) → number ≡ right 10 (decimal s.number) ++ 32 ∷ []
-    → amounts ≡ 32 ∷ (right 8 (decimal s.tenths) ++ 32 ∷ (right 9 (decimal s.price) ++ 32 ∷ (right 9 (decimal s.tender) ++ 32 ∷ (right 9 (decimal (change_of s)) ++ 10 ∷ []))))
+    → amounts ≡ 32 ∷ (right 8 (decimal s.tenths) ++ 32
+    ∷ (right 9 (decimal s.price) ++ 32 ∷ (right 9 (decimal s.tender) ++ 32 ∷ (right 9 (decimal (change_of s)) ++ 10 ∷ []))))
     → ((old ++ number) ++ s.meter) ++ amounts ≡ old ++ sale_line s
 unfolding sale_line
 sale_line-parts old number amounts s n a = rw (n, a) (simp append_assoc)

@@ -34,9 +34,11 @@ late_opening : (rest : List ℕ) (mid new : Timed Life)
     → (new ≡ mid) ⊎ ((m : Message) × (after : List ℕ) × BeginsMessage rest m after × GaveUp (answers_by life_serves) mid m new) → new.0.opening ≡ mid.0.opening
 late_opening rest mid new (inl same) = ap (λ l. l.0.opening) same
 late_opening rest mid new (inr (m, after, begins, (now, reads, inl same))) = ap (λ l. l.opening) same
-late_opening rest mid new (inr (m, after, begins, (now, reads, inr (reply, step)))) = answered_opening mid new (record { message = m; now = now; reply = reply }) (step, reads)
+late_opening rest mid new (inr (m, after, begins, (now, reads, inr (reply, step)))) =
+    answered_opening mid new (record { message = m; now = now; reply = reply }) (step, reads)
 
-run_opening : (old new : Timed Life) (unread left held holds : Option (List ℕ)) (end : conversation.End) → IsRun (answers_by life_serves) message_refusal_of old new unread left held holds end → new.0.opening ≡ old.0.opening
+run_opening : (old new : Timed Life) (unread left held holds : Option (List ℕ)) (end : conversation.End)
+    → IsRun (answers_by life_serves) message_refusal_of old new unread left held holds end → new.0.opening ≡ old.0.opening
 run_opening old new unread left held holds Closed (input, all, inl said) = exchanged_opening old new said.conversation.exchanges said.conversation.served
 run_opening old new unread left held holds Closed (input, all, inr said) = exchanged_opening old new said.conversation.exchanges said.conversation.served
 run_opening old new unread left held holds BadMessage (input, all, fault, said) = exchanged_opening old new said.conversation.exchanges said.conversation.served
@@ -53,7 +55,8 @@ run_opening old new unread left held holds Memory (input, all, text, appends, gi
 -- ---- one life after another
 
 module _ {D R W B : Type 0} (way : Way D R W) (forward : BlockFunction) (see : B → Seen)
-    (goes_on : (lives : List Life) (life : Life) (o p : Office) → AreLives lives o → IsLife life → life.opening ≡ o → MayLeave life p → AreLives (lives ++ life ∷ []) p) where
+    (goes_on : (lives : List Life) (life : Life) (o p : Office) → AreLives lives o → IsLife life → life.opening ≡ o → MayLeave life p
+    → AreLives (lives ++ life ∷ []) p) where
   pub ready_clean : (old new : B) → AreReady see forward old new → HasCleanDisk (see new).state → HasCleanDisk (see old).state
   ready_clean old new (inl (runs, same)) clean = subst (λ b. HasCleanDisk (see b).state) same clean
   ready_clean old new (inr (stopped, reopened)) clean = (reopened.next clean).clean
@@ -78,7 +81,8 @@ module _ {D R W B : Type 0} (way : Way D R W) (forward : BlockFunction) (see : B
         },
       ) ∣₁)
 
-  pub live_on : (count : ℕ) (old new : Service D B) (printed : Text) → AreHeld way forward see count old new printed → HasCleanDisk (see new.books).state → (start : Course) → RepresentTheLast start.over start.life (see old.books)
+  pub live_on : (count : ℕ) (old new : Service D B) (printed : Text) → AreHeld way forward see count old new printed
+      → HasCleanDisk (see new.books).state → (start : Course) → RepresentTheLast start.over start.life (see old.books)
       → ∥ LiveOn way forward see count (service old.door start old.answers) new ∥₁
   live_on zero old new printed (same, none) clean start last =
       ∣ (start, ap (λ s. service s.door start s.answers) same, subst (λ s. RepresentTheLast start.over start.life (see s.books)) (sym same) last) ∣₁

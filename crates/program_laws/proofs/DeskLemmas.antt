@@ -45,23 +45,32 @@ module _ (laws : HandingLaws) (s : Sale) where
   answered_keeps old new x ((outcome, inl (idle, same), told), clock) hands = subst (λ (l : Life). HandsOut l s) (sym same) hands
   answered_keeps old new x ((outcome, inr (inl (form, moment, request, reply, is, asks, (at, stamped, goes))), told), clock) hands =
       subst (λ (l : Life). HandsOut l s) (sym goes) (laws.for_good old.0 at reply s hands)
-  answered_keeps old new x ((outcome, inr (inr (form, moment, lookup, found, is, looks, (finds, same))), told), clock) hands = subst (λ (l : Life). HandsOut l s) (sym same) hands
+  answered_keeps old new x ((outcome, inr (inr (form, moment, lookup, found, is, looks, (finds, same))), told), clock) hands =
+      subst (λ (l : Life). HandsOut l s) (sym same) hands
 
-  exchanged_keeps : (old new : Timed Life) (xs : List MessageExchange) → Exchanged (timed (answers_by life_serves)) old xs new → HandsOut old.0 s → HandsOut new.0 s
+  exchanged_keeps : (old new : Timed Life) (xs : List MessageExchange) → Exchanged (timed (answers_by life_serves)) old xs new
+      → HandsOut old.0 s → HandsOut new.0 s
   exchanged_keeps old new [] same hands = subst (λ (l : Timed Life). HandsOut l.0 s) (sym same) hands
   exchanged_keeps old new (x ∷ xs) (mid, first, later) hands = exchanged_keeps mid new xs later (answered_keeps old mid x first hands)
 
   late_keeps : (rest : List ℕ) (mid new : Timed Life)
-      → (new ≡ mid) ⊎ ((m : Message) × (after : List ℕ) × BeginsMessage rest m after × GaveUp (answers_by life_serves) mid m new) → HandsOut mid.0 s → HandsOut new.0 s
+      → (new ≡ mid) ⊎ ((m : Message) × (after : List ℕ) × BeginsMessage rest m after × GaveUp (answers_by life_serves) mid m new)
+      → HandsOut mid.0 s → HandsOut new.0 s
   late_keeps rest mid new (inl same) hands = subst (λ (l : Timed Life). HandsOut l.0 s) (sym same) hands
   late_keeps rest mid new (inr (m, after, begins, (now, reads, inl same))) hands = subst (λ (l : Life). HandsOut l s) (sym same) hands
-  late_keeps rest mid new (inr (m, after, begins, (now, reads, inr (reply, step)))) hands = answered_keeps mid new (record { message = m; now = now; reply = reply }) (step, reads) hands
+  late_keeps rest mid new (inr (m, after, begins, (now, reads, inr (reply, step)))) hands =
+      answered_keeps mid new (record { message = m; now = now; reply = reply }) (step, reads) hands
 
-  run_keeps : (old new : Timed Life) (unread left held holds : Option (List ℕ)) (end : conversation.End) → IsRun (answers_by life_serves) message_refusal_of old new unread left held holds end → HandsOut old.0 s → HandsOut new.0 s
-  run_keeps old new unread left held holds Closed (input, all, inl said) hands = exchanged_keeps old new said.conversation.exchanges said.conversation.served hands
-  run_keeps old new unread left held holds Closed (input, all, inr said) hands = exchanged_keeps old new said.conversation.exchanges said.conversation.served hands
-  run_keeps old new unread left held holds BadMessage (input, all, fault, said) hands = exchanged_keeps old new said.conversation.exchanges said.conversation.served hands
-  run_keeps old new unread left held holds ReadFault (input, taken, said) hands = exchanged_keeps old new said.conversation.exchanges said.conversation.served hands
+  run_keeps : (old new : Timed Life) (unread left held holds : Option (List ℕ)) (end : conversation.End)
+      → IsRun (answers_by life_serves) message_refusal_of old new unread left held holds end → HandsOut old.0 s → HandsOut new.0 s
+  run_keeps old new unread left held holds Closed (input, all, inl said) hands =
+      exchanged_keeps old new said.conversation.exchanges said.conversation.served hands
+  run_keeps old new unread left held holds Closed (input, all, inr said) hands =
+      exchanged_keeps old new said.conversation.exchanges said.conversation.served hands
+  run_keeps old new unread left held holds BadMessage (input, all, fault, said) hands =
+      exchanged_keeps old new said.conversation.exchanges said.conversation.served hands
+  run_keeps old new unread left held holds ReadFault (input, taken, said) hands =
+      exchanged_keeps old new said.conversation.exchanges said.conversation.served hands
   run_keeps old new unread left held holds WriteFault (input, all, text, appends, cut) hands =
       let before = exchanged_keeps old cut.mid cut.before.exchanges cut.before.served hands in
       elim cut.is_last [
@@ -75,23 +84,32 @@ module _ (laws : HandingLaws) (s : Sale) where
 
   exchange_hands : (old new : Life) (x : MessageExchange) → ExchangeTells old x new s → HandsOut new s
   exchange_hands old new x (inl (at, reply, asked, goes, gives)) = subst (λ (l : Life). HandsOut l s) (sym goes) (laws.replied old at reply s gives)
-  exchange_hands old new x (inr (found, looked, finds, same, gives)) = subst (λ (l : Life). HandsOut l s) (sym same) (found_hands old looked.moment looked.lookup found s finds gives)
+  exchange_hands old new x (inr (found, looked, finds, same, gives)) =
+      subst (λ (l : Life). HandsOut l s) (sym same) (found_hands old looked.moment looked.lookup found s finds gives)
 
-  exchanges_hand : (old new : Timed Life) (xs : List MessageExchange) (served : Exchanged (timed (answers_by life_serves)) old xs new) → ExchangesTell old xs new served s → HandsOut new.0 s
+  exchanges_hand : (old new : Timed Life) (xs : List MessageExchange) (served : Exchanged (timed (answers_by life_serves)) old xs new)
+      → ExchangesTell old xs new served s → HandsOut new.0 s
   exchanges_hand old new [] same told = absurd told
   exchanges_hand old new (x ∷ xs) (mid, first, later) (inl told) = exchanged_keeps mid new xs later (exchange_hands old.0 mid.0 x told)
   exchanges_hand old new (x ∷ xs) (mid, first, later) (inr told) = exchanges_hand mid new xs later told
 
-  cut_reply_hands : (old new : Timed Life) (rest last : List ℕ) (is : IsMessageReply (timed (answers_by life_serves)) rest old last new ⊎ IsRefusal message_refusal_of rest old last new) → CutReplyTells is s → HandsOut new.0 s
+  cut_reply_hands : (old new : Timed Life) (rest last : List ℕ)
+      (is : IsMessageReply (timed (answers_by life_serves)) rest old last new ⊎ IsRefusal message_refusal_of rest old last new)
+      → CutReplyTells is s → HandsOut new.0 s
   cut_reply_hands old new rest last (inl reply) told = exchange_hands old.0 new.0 reply.exchange told
   cut_reply_hands old new rest last (inr refusal) told = absurd told
 
-  run_hands : (old new : Timed Life) (unread left held holds : Option (List ℕ)) (end : conversation.End) (run : IsRun (answers_by life_serves) message_refusal_of old new unread left held holds end) → RunTells old new unread left held holds end run s → HandsOut new.0 s
+  run_hands : (old new : Timed Life) (unread left held holds : Option (List ℕ)) (end : conversation.End)
+      (run : IsRun (answers_by life_serves) message_refusal_of old new unread left held holds end)
+      → RunTells old new unread left held holds end run s → HandsOut new.0 s
   run_hands old new unread left held holds Closed (input, all, inl said) told = exchanges_hand old new said.conversation.exchanges said.conversation.served told
   run_hands old new unread left held holds Closed (input, all, inr said) told = exchanges_hand old new said.conversation.exchanges said.conversation.served told
-  run_hands old new unread left held holds BadMessage (input, all, fault, said) told = exchanges_hand old new said.conversation.exchanges said.conversation.served told
-  run_hands old new unread left held holds ReadFault (input, taken, said) told = exchanges_hand old new said.conversation.exchanges said.conversation.served told
-  run_hands old new unread left held holds WriteFault (input, all, text, appends, cut) (inr told) = cut_reply_hands cut.mid new cut.rest cut.last cut.is_last told
+  run_hands old new unread left held holds BadMessage (input, all, fault, said) told =
+      exchanges_hand old new said.conversation.exchanges said.conversation.served told
+  run_hands old new unread left held holds ReadFault (input, taken, said) told =
+      exchanges_hand old new said.conversation.exchanges said.conversation.served told
+  run_hands old new unread left held holds WriteFault (input, all, text, appends, cut) (inr told) =
+      cut_reply_hands cut.mid new cut.rest cut.last cut.is_last told
   run_hands old new unread left held holds WriteFault (input, all, text, appends, cut) (inl told) =
       let before = exchanges_hand old cut.mid cut.before.exchanges cut.before.served told in
       elim cut.is_last [
@@ -116,7 +134,8 @@ module _ (laws : HandingLaws) (s : Sale) where
   next_handed forward old new (inr (o, left, is)) handed = subst IsHandedOn (sym is) (inl (all_handed old handed))
 
   module _ {D R W : Type 0} (way : Way D R W) (forward : BlockFunction) where
-    connections_hand : (count : ℕ) (old new : Service D Course) (lived : AreLived way forward count old new) → ConnectionsTell way forward count old new lived s → IsHandedOn new.books
+    connections_hand : (count : ℕ) (old new : Service D Course) (lived : AreLived way forward count old new)
+        → ConnectionsTell way forward count old new lived s → IsHandedOn new.books
     connections_hand zero old new same told = absurd told
     connections_hand (suc count) old new (mid, before, (next, is, goes)) (inl told) =
         elim (next_handed forward mid.books next is (connections_hand count old mid before told)) [
@@ -134,7 +153,11 @@ module _ (laws : HandingLaws) (s : Sale) where
   use_hands (connected image (idle_life transform) last) before own lived told = absurd told
   use_hands (connected image (reading_life moment reading) last) before own (office, is, one) told =
       let life = opened (forward_of Plain) office in
-      subst (λ l. IsHanded (before ++ l) s) (sym one) (life, Contains-append_right before (life ∷ []) life (0, omega arith, refl), read_hands life moment reading s is told)
+      subst (λ l. IsHanded (before ++ l) s) (sym one) (
+        life,
+        Contains-append_right before (life ∷ []) life (0, omega arith, refl),
+        read_hands life moment reading s is told,
+      )
   use_hands (connected image (asking_life q) last) before own lived told = absurd told
   use_hands (connected image (many_lives way forward count door answers last_door left) last) before own (office, ends, next, lived, follows, all) told =
       let old = service door (course before (opened forward office)) answers in

@@ -39,7 +39,8 @@ only_there x y (zero, less, is) = is
 only_there x y (suc n, less, is) = absurd (omega (arith, less))
 
 -- what passes a test first stands in the list
-finds_here : (test : Bool) (x y : Sale) (xs : List Sale) (later : Option Sale) → (later ≡ Some y → Contains xs y) → cond test (Some x) later ≡ Some y → Contains (x ∷ xs) y
+finds_here : (test : Bool) (x y : Sale) (xs : List Sale) (later : Option Sale) → (later ≡ Some y → Contains xs y)
+    → cond test (Some x) later ≡ Some y → Contains (x ∷ xs) y
 finds_here true x y xs later rest is = (0, omega arith, cc)
 finds_here false x y xs later rest is = let there = rest is in (suc there.0, omega (arith, there.1), there.2)
 
@@ -60,7 +61,8 @@ module _ (o : Office) (s : Sale) where
   not_told result none there = absurd (none_there s (subst (λ l. Contains l s) none there))
 
   -- what is found of no sale, behind tests
-  then_none : {A : Type 0} (test : Result A Refusal) (next : A → Result Found Refusal) → ((a : A) → sales_found (next a) ≡ []) → sales_found (test >>= next) ≡ []
+  then_none : {A : Type 0} (test : Result A Refusal) (next : A → Result Found Refusal) → ((a : A) → sales_found (next a) ≡ [])
+      → sales_found (test >>= next) ≡ []
   then_none (Ok a) next each = each a
   then_none (Err refusal) next each = refl
 
@@ -83,9 +85,11 @@ module _ (o : Office) (s : Sale) where
   last_known : (number : List ℕ) → Known (last_sale o number)
   last_known number =
       let under : (base : Base) → Known (last_under o number base) = λ base. some_tid_known number base (greatest_of (used o number base)) in
-      either_known (last_under o number Y2035) _ (under Y2035) (either_known (last_under o number Y2014) (last_under o number Y1993) (under Y2014) (under Y1993))
+      either_known (last_under o number Y2035) _ (under Y2035)
+      (either_known (last_under o number Y2014) (last_under o number Y1993) (under Y2014) (under Y1993))
 
-  quote_none : (moment : ℕ) (number : List ℕ) (tender : ℕ) (account : Option MeterAccount) (count : ℕ) → sales_found (quote_for moment number tender account count) ≡ []
+  quote_none : (moment : ℕ) (number : List ℕ) (tender : ℕ) (account : Option MeterAccount) (count : ℕ)
+      → sales_found (quote_for moment number tender account count) ≡ []
   quote_none moment number tender account count =
       then_none (ok_or account refusals.NoMeter) _ (λ m.
       then_none (or_refusal (minute_of m.meter.base moment)) _ (λ now.
@@ -95,7 +99,8 @@ module _ (o : Office) (s : Sale) where
 
   page_stands : (after : ℕ) → Contains (take page_size (filter (λ t. nat_lt after t.number) o.sales)) s → Contains o.sales s
   page_stands after there =
-      All-contains (Contains o.sales) _ s (All-take (Contains o.sales) page_size _ (All-filter (λ t. nat_lt after t.number) (Contains o.sales) o.sales (All-contains_itself o.sales))) there
+      All-contains (Contains o.sales) _ s (All-take (Contains o.sales) page_size _
+      (All-filter (λ t. nat_lt after t.number) (Contains o.sales) o.sales (All-contains_itself o.sales))) there
 
   found_stands : (moment : ℕ) (lookup : Lookup) (result : Result Found Refusal) → Finds o moment lookup result → Stands result
   found_stands moment lookups.SaleCount result is = not_told result (ap sales_found is)
@@ -104,7 +109,8 @@ module _ (o : Office) (s : Sale) where
   found_stands moment (lookups.LastSale number) result is = subst Stands (sym is) (known_last (o.meters number) (last_sale o number) (last_known number))
   found_stands moment (lookups.SaleOfRef operator order_ref) result is =
       subst Stands (sym is) (known_sale (sale_of_ref o operator order_ref) (λ t found. finds_stands _ o.sales t found))
-  found_stands moment (lookups.Quote number tender) result is = not_told result (ap sales_found is ∙ quote_none moment number tender (account_of o number moment) (length o.sales))
+  found_stands moment (lookups.Quote number tender) result is =
+      not_told result (ap sales_found is ∙ quote_none moment number tender (account_of o number moment) (length o.sales))
   found_stands moment (lookups.ShiftTotals number) result is =
       not_told result (ap sales_found is ∙ then_none (ok_or (shift_totals o number) refusals.NoSuchShift) _ (λ totals. refl))
   found_stands moment (lookups.Tariffs after) (Ok (found.Tariffs page)) is = not_told (Ok (found.Tariffs page)) refl
@@ -117,14 +123,16 @@ module _ (o : Office) (s : Sale) where
   found_stands moment (lookups.Sales after) result is = absurd is
 
 -- it stands in the present office of a life
-found_in : (life : Life) (moment : ℕ) (lookup : Lookup) (result : Result Found Refusal) (s : Sale) → IsFoundAt life moment lookup result → Contains (sales_found result) s → Contains (present life).sales s
+found_in : (life : Life) (moment : ℕ) (lookup : Lookup) (result : Result Found Refusal) (s : Sale) → IsFoundAt life moment lookup result
+    → Contains (sales_found result) s → Contains (present life).sales s
 found_in life moment lookup result s (inl finds) told = found_stands (present life) s moment lookup result finds told
 found_in life moment lookup result s (inr (inl memory)) told = absurd (none_there s (subst (λ r. Contains (sales_found r) s) memory told))
 found_in life moment lookup result s (inr (inr (inl store))) told = absurd (none_there s (subst (λ r. Contains (sales_found r) s) store told))
 found_in life moment lookup result s (inr (inr (inr stopped))) told = absurd (none_there s (subst (λ r. Contains (sales_found r) s) stopped told))
 
 -- the sales of pages of a list stand in the office
-pages_stand : (o : Office) (s : Sale) (moment : ℕ) (list : Option Listed) (pages : List Found) (left : Option Listed) → ArePages o moment list pages left → Contains (flat_map (λ page. sales_found (Ok page)) pages) s → Contains o.sales s
+pages_stand : (o : Office) (s : Sale) (moment : ℕ) (list : Option Listed) (pages : List Found) (left : Option Listed)
+    → ArePages o moment list pages left → Contains (flat_map (λ page. sales_found (Ok page)) pages) s → Contains o.sales s
 pages_stand o s moment list [] left are told = absurd (none_there s told)
 pages_stand o s moment None (page ∷ pages) left are told = absurd are
 pages_stand o s moment (Some list) (page ∷ pages) left (finds, later) told =
@@ -137,7 +145,8 @@ pages_stand o s moment (Some list) (page ∷ pages) left (finds, later) told =
 read_in : (life : Life) (moment : ℕ) (reading : Reading) (s : Sale) → IsReadIn life moment reading → IsSaleRead life reading s → Contains (present life).sales s
 read_in life moment (one_found lookup found) s is told = found_in life moment lookup found s is told
 read_in life moment (pages_found list pages left) s are told = pages_stand (present life) s moment (Some list) pages left are told
-read_in life moment (exported text) s begins (front, back, rest, are, has) = subst (λ l. Contains l s) (sym are) (Contains-append_right front (s ∷ back) s (0, omega arith, refl))
+read_in life moment (exported text) s begins (front, back, rest, are, has) =
+    subst (λ l. Contains l s) (sym are) (Contains-append_right front (s ∷ back) s (0, omega arith, refl))
 
 -- a life hands out the sales of its present office
 present_hands : (life : Life) (s : Sale) → Contains (present life).sales s → HandsOut life s
@@ -146,7 +155,8 @@ present_hands life s there =
     inr (length (acknowledged life), subst (λ ats. Contains (after life.forward life.opening ats).sales s) (sym all) there)
 
 -- so it hands out what is found in it, and what was read
-pub found_hands : (life : Life) (moment : ℕ) (lookup : Lookup) (result : Result Found Refusal) (s : Sale) → IsFoundAt life moment lookup result → Contains (sales_found result) s → HandsOut life s
+pub found_hands : (life : Life) (moment : ℕ) (lookup : Lookup) (result : Result Found Refusal) (s : Sale)
+    → IsFoundAt life moment lookup result → Contains (sales_found result) s → HandsOut life s
 found_hands life moment lookup result s found told = present_hands life s (found_in life moment lookup result s found told)
 
 pub read_hands : (life : Life) (moment : ℕ) (reading : Reading) (s : Sale) → IsReadIn life moment reading → IsSaleRead life reading s → HandsOut life s

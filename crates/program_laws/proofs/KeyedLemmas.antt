@@ -43,7 +43,9 @@ up_to_last ks k x pairs at there =
     let last : get_or ks (length ks - 1) x ≡ k = get_or_from_slice_get ks (length ks - 1) k x at in
     elim (eqb_tells there.0 (length ks - 1)) [
       | inl same ↦ inl (sym there.2 ∙ ap (λ i. get_or ks i x) same.1 ∙ last)
-      | inr apart ↦ inr (subst (λ t. ComesBefore t k) there.2 (subst (ComesBefore (get_or ks there.0 x)) last (pairs there.0 (length ks - 1) x (omega (arith, there.1, apart.1)) (slice_get_within ks (length ks - 1) k at))))
+      | inr apart ↦ inr (subst (λ t. ComesBefore t k) there.2
+          (subst (ComesBefore (get_or ks there.0 x)) last (pairs there.0 (length ks - 1) x (omega (arith, there.1, apart.1))
+          (slice_get_within ks (length ks - 1) k at))))
     ]
 
 module _ {Y : Type 0} (key : Y → Text) (Has : Text → Type 0) where
@@ -59,16 +61,20 @@ module _ {Y : Type 0} (key : Y → Text) (Has : Text → Type 0) where
   }
 
   -- a page, and all those behind its last key
-  full_page : (after : Text) (ys zs : List Y) (y : Y) → AreFirstAfter Has after (map key ys) → slice_get ys (length ys - 1) ≡ Some y → AreAllAfter Has (key y) (map key zs) → AreAllAfter Has after (map key (ys ++ zs))
+  full_page : (after : Text) (ys zs : List Y) (y : Y) → AreFirstAfter Has after (map key ys) → slice_get ys (length ys - 1) ≡ Some y
+      → AreAllAfter Has (key y) (map key zs) → AreAllAfter Has after (map key (ys ++ zs))
   full_page after ys zs y first at rest =
       let ks = map key ys in
       let ls = map key zs in
-      let last : slice_get ks (length ks - 1) ≡ Some (key y) = ap (λ n. slice_get ks (n - 1)) (length-map ys key) ∙ slice_get-map key ys (length ys - 1) ∙ ap (option_map key) at in
+      let last : slice_get ks (length ks - 1) ≡ Some (key y) =
+      ap (λ n. slice_get ks (n - 1)) (length-map ys key) ∙ slice_get-map key ys (length ys - 1) ∙ ap (option_map key) at in
       let in_page = contains_at ks (length ks - 1) (key y) last in
       let behind : ComesBefore after (key y) = (All-contains (λ k. Has k × ComesBefore after k) ks (key y) first.there in_page).1 in
-      let past : (l : Text) → Contains ls l → Has l × ComesBefore (key y) l = λ l there. All-contains (λ k. Has k × ComesBefore (key y) k) ls l rest.there there in
+      let past : (l : Text) → Contains ls l → Has l × ComesBefore (key y) l =
+      λ l there. All-contains (λ k. Has k × ComesBefore (key y) k) ls l rest.there there in
       subst (AreAllAfter Has after) (sym (map-append key ys zs)) (record {
-        there = All-append (λ k. Has k × ComesBefore after k) ks ls first.there (all_from_contains (λ k. Has k × ComesBefore after k) ls (λ l there. ((past l there).0, before_trans after (key y) l behind (past l there).1)));
+        there = All-append (λ k. Has k × ComesBefore after k) ks ls first.there
+            (all_from_contains (λ k. Has k × ComesBefore after k) ls (λ l there. ((past l there).0, before_trans after (key y) l behind (past l there).1)));
         in_order = pairs_append ComesBefore ks ls first.in_order rest.in_order (λ a b in_ks in_ls. elim (up_to_last ks (key y) a first.in_order last in_ks) [
           | inl is ↦ subst (λ t. ComesBefore t b) (sym is) (past b in_ls).1
           | inr before ↦ before_trans a (key y) b before (past b in_ls).1
@@ -79,7 +85,8 @@ module _ {Y : Type 0} (key : Y → Text) (Has : Text → Type 0) where
         ];
       })
 
-  module _ (Each : Y → Type 0) (text : Bool → List Y → Text) (law : (first : Bool) (front back : List Y) → text first (front ++ back) ≡ text first front ++ text false back)
+  module _ (Each : Y → Type 0) (text : Bool → List Y → Text)
+      (law : (first : Bool) (front back : List Y) → text first (front ++ back) ≡ text first front ++ text false back)
       (o : Office) (moment : ℕ) (list : Option Text → Listed) where
     -- the members that a page has
     pub record IsKeyedPage (at : Option Text) (page : Found) : Type 0 where
@@ -104,8 +111,10 @@ module _ {Y : Type 0} (key : Y → Text) (Has : Text → Type 0) where
           let behind = subst (λ (left : Option Listed). ArePages o moment left pages None) has.behind rest in
           by_length has (λ next. whole_list pages false next) (length has.members == 100) refl behind
         where
-          by_last : (has : IsKeyedPage at page) → ((next : Option Text) → ArePages o moment (Some (list next)) pages None → AreKeyedPages next false pages) → (last : Option Y)
-              → length has.members ≡ 100 → slice_get has.members (length has.members - 1) ≡ last → ArePages o moment (option_map (λ y. list (Some (key y))) last) pages None → AreKeyedPages at named (page ∷ pages)
+          by_last : (has : IsKeyedPage at page) → ((next : Option Text) → ArePages o moment (Some (list next)) pages None
+              → AreKeyedPages next false pages) → (last : Option Y)
+              → length has.members ≡ 100 → slice_get has.members (length has.members - 1) ≡ last
+              → ArePages o moment (option_map (λ y. list (Some (key y))) last) pages None → AreKeyedPages at named (page ∷ pages)
           by_last has again None full is behind = absurd (omega (arith, full, none_past has.members (length has.members - 1) is))
           by_last has again (Some y) full is behind =
               let more = again (Some (key y)) behind in
@@ -113,17 +122,23 @@ module _ {Y : Type 0} (key : Y → Text) (Has : Text → Type 0) where
                 members = has.members ++ more.members;
                 each = All-append Each has.members more.members has.each more.each;
                 all = full_page (unwrap_or at []) has.members more.members y has.first is more.all;
-                text_is = ap (λ l. l ++ flat_map (page_text false false) pages) (has.text_is named) ∙ ap (λ l. text named has.members ++ l) (from_next pages ∙ more.text_is) ∙ sym (law named has.members more.members);
+                text_is = ap (λ l. l ++ flat_map (page_text false false) pages) (has.text_is named)
+                    ∙ ap (λ l. text named has.members ++ l) (from_next pages ∙ more.text_is) ∙ sym (law named has.members more.members);
               }
 
-          by_length : (has : IsKeyedPage at page) → ((next : Option Text) → ArePages o moment (Some (list next)) pages None → AreKeyedPages next false pages) → (full : Bool)
-              → (length has.members == 100) ≡ full → ArePages o moment (option_map (λ y. list (Some (key y))) (last_of_full has.members)) pages None → AreKeyedPages at named (page ∷ pages)
+          by_length : (has : IsKeyedPage at page) → ((next : Option Text) → ArePages o moment (Some (list next)) pages None
+              → AreKeyedPages next false pages) → (full : Bool)
+              → (length has.members == 100) ≡ full → ArePages o moment (option_map (λ y. list (Some (key y))) (last_of_full has.members))
+              pages None → AreKeyedPages at named (page ∷ pages)
           by_length has again true full behind =
-              let left : last_of_full has.members ≡ slice_get has.members (length has.members - 1) = ap (λ b. if b then slice_get has.members (length has.members - 1) else None) full in
-              by_last has again _ (eqb-true _ 100 full) refl (subst (λ (last : Option Y). ArePages o moment (option_map (λ y. list (Some (key y))) last) pages None) left behind)
+              let left : last_of_full has.members ≡ slice_get has.members (length has.members - 1) =
+              ap (λ b. if b then slice_get has.members (length has.members - 1) else None) full in
+              by_last has again _ (eqb-true _ 100 full) refl (subst
+              (λ (last : Option Y). ArePages o moment (option_map (λ y. list (Some (key y))) last) pages None) left behind)
           by_length has again false short behind =
               let left : last_of_full has.members ≡ None = ap (λ b. if b then slice_get has.members (length has.members - 1) else None) short in
-              let none = no_page_more o moment pages (subst (λ (last : Option Y). ArePages o moment (option_map (λ y. list (Some (key y))) last) pages None) left behind) in
+              let none = no_page_more o moment pages (subst (λ (last : Option Y). ArePages o moment
+              (option_map (λ y. list (Some (key y))) last) pages None) left behind) in
               record {
                 members = has.members;
                 each = has.each;
@@ -133,29 +148,34 @@ module _ {Y : Type 0} (key : Y → Text) (Has : Text → Type 0) where
 
 -- ---- tariffs and meters
 
-lines_law : {Y : Type 0} (names : List Text) (lines : Y → Text) (named : Bool) (front back : List Y) → table_text named names (flat_map lines (front ++ back)) ≡ table_text named names (flat_map lines front) ++ table_text false names (flat_map lines back)
+lines_law : {Y : Type 0} (names : List Text) (lines : Y → Text) (named : Bool) (front back : List Y)
+    → table_text named names (flat_map lines (front ++ back)) ≡ table_text named names (flat_map lines front) ++ table_text false names (flat_map lines back)
 lines_law names lines named front back =
     let header = if named then table_row_of names else [] in
     ap (λ l. header ++ l) (flat_map-append lines front back) ∙ sym (append_assoc header (flat_map lines front) (flat_map lines back))
 
 tariffs_read : (o : Office) (moment : ℕ) (at : Option Text) (page : Found) → Finds o moment (lookups.Tariffs at) (Ok page)
-    → IsKeyedPage (λ t. t.name) (λ name. IsSome (o.tariffs name)) (IsListedTariff o (day_at moment)) whole_tariffs_text (lines_law tariff_names tariff_lines) o moment listed.Tariffs at page
+    → IsKeyedPage (λ t. t.name) (λ name. IsSome (o.tariffs name)) (IsListedTariff o (day_at moment)) whole_tariffs_text
+    (lines_law tariff_names tariff_lines) o moment listed.Tariffs at page
 tariffs_read o moment at (found.Tariffs page) are = record { members = page.items; each = are.each; first = are.first; text_is = λ named. refl; behind = refl }
 tariffs_read o moment at page none = absurd none
 
 pub whole_tariffs : (o : Office) (moment : ℕ) (after : Option Text) (pages : List Found) → ArePages o moment (Some (listed.Tariffs after)) pages None
     → (tariffs : List ListedTariff) × AreAllTariffs o (day_at moment) (unwrap_or after []) tariffs × (pages_text false pages ≡ whole_tariffs_text true tariffs)
 whole_tariffs o moment after pages are =
-    let all = whole_list (λ t. t.name) (λ name. IsSome (o.tariffs name)) (IsListedTariff o (day_at moment)) whole_tariffs_text (lines_law tariff_names tariff_lines) o moment listed.Tariffs (tariffs_read o moment) pages true after are in
+    let all = whole_list (λ t. t.name) (λ name. IsSome (o.tariffs name)) (IsListedTariff o (day_at moment)) whole_tariffs_text
+    (lines_law tariff_names tariff_lines) o moment listed.Tariffs (tariffs_read o moment) pages true after are in
     (all.members, record { each = all.each; all = all.all }, from_first pages ∙ all.text_is)
 
 meters_read : (o : Office) (moment : ℕ) (at : Option Text) (page : Found) → Finds o moment (lookups.Meters at) (Ok page)
-    → IsKeyedPage (λ m. m.number) (λ number. IsSome (o.meters number)) (IsListedMeter o) whole_meters_text (lines_law meter_names meter_line) o moment listed.Meters at page
+    → IsKeyedPage (λ m. m.number) (λ number. IsSome (o.meters number)) (IsListedMeter o) whole_meters_text
+    (lines_law meter_names meter_line) o moment listed.Meters at page
 meters_read o moment at (found.Meters page) are = record { members = page.items; each = are.each; first = are.first; text_is = λ named. refl; behind = refl }
 meters_read o moment at page none = absurd none
 
 pub whole_meters : (o : Office) (moment : ℕ) (after : Option Text) (pages : List Found) → ArePages o moment (Some (listed.Meters after)) pages None
     → (meters : List ListedMeter) × AreAllMeters o (unwrap_or after []) meters × (pages_text false pages ≡ whole_meters_text true meters)
 whole_meters o moment after pages are =
-    let all = whole_list (λ m. m.number) (λ number. IsSome (o.meters number)) (IsListedMeter o) whole_meters_text (lines_law meter_names meter_line) o moment listed.Meters (meters_read o moment) pages true after are in
+    let all = whole_list (λ m. m.number) (λ number. IsSome (o.meters number)) (IsListedMeter o) whole_meters_text
+    (lines_law meter_names meter_line) o moment listed.Meters (meters_read o moment) pages true after are in
     (all.members, record { each = all.each; all = all.all }, from_first pages ∙ all.text_is)

@@ -27,7 +27,8 @@ there_ok None why x is = cc
 there_ok (Some y) why x is = cc
 
 -- the change of a purchase is what is left of the tender
-change_of_some : (o : Option ℕ) (f : ℕ → Buy) (tender : ℕ) (b : Buy) → ((code : ℕ) → (f code).change ≡ tender - (f code).price) → option_map f o ≡ Some b → b.change ≡ tender - b.price
+change_of_some : (o : Option ℕ) (f : ℕ → Buy) (tender : ℕ) (b : Buy) → ((code : ℕ) → (f code).change ≡ tender - (f code).price)
+    → option_map f o ≡ Some b → b.change ≡ tender - b.price
 change_of_some None f tender b each is = cc
 change_of_some (Some code) f tender b each is =
     let same : f code ≡ b = cc in
@@ -43,11 +44,13 @@ found_quote q = Ok (found.Quote q)
 same_quote : (a b : Quote) → found_quote a ≡ found_quote b → a ≡ b
 same_quote a b is = cc
 
-same_purchase : (b : Buy) (a q : Quote) (tender : ℕ) → a ≡ q → a.tender ≡ tender → a.tenths ≡ b.tenths → a.price ≡ b.price → b.change ≡ tender - b.price → b ≡ purchase_in q
+same_purchase : (b : Buy) (a q : Quote) (tender : ℕ) → a ≡ q → a.tender ≡ tender → a.tenths ≡ b.tenths → a.price ≡ b.price → b.change
+    ≡ tender - b.price → b ≡ purchase_in q
 same_purchase b a q tender is of_tender of_tenths of_price change =
     subst (λ (x : Quote). b ≡ purchase_in x) is (rw (of_tender, of_tenths, of_price, ← change) refl)
 
-bought_for : (office : Office) (moment : ℕ) (number : Text) (tender count : ℕ) (account : Option MeterAccount) (q : Quote) → quote_for moment number tender account count ≡ Ok (found.Quote q)
+bought_for : (office : Office) (moment : ℕ) (number : Text) (tender count : ℕ) (account : Option MeterAccount) (q : Quote)
+    → quote_for moment number tender account count ≡ Ok (found.Quote q)
     → (m : MeterAccount) × (account ≡ Some m) × (purchase_of m.steps m.prior tender ≡ Some (purchase_in q))
 bought_for office moment number tender count account q is =
     let there = then_ok (ok_or account refusals.NoMeter) _ _ is in
@@ -62,7 +65,8 @@ bought_for office moment number tender count account q is =
       bought ∙ ap Some (same_purchase buys.0 _ q tender (same_quote _ q next.2) refl refl refl (change_left m.steps m.prior tender buys.0 bought)),
     )
 
-pub purchase_for : (office : Office) (moment : ℕ) (meter : Text) (tender : ℕ) (q : Quote) → quote office moment meter tender ≡ Ok (found.Quote q) → IsPurchaseFor office moment meter tender q
+pub purchase_for : (office : Office) (moment : ℕ) (meter : Text) (tender : ℕ) (q : Quote) → quote office moment meter tender
+    ≡ Ok (found.Quote q) → IsPurchaseFor office moment meter tender q
 purchase_for office moment meter tender q is =
     let all = bought_for office moment meter tender _ _ q is in
     record { account = all.0; of_meter = all.1; bought = all.2 }

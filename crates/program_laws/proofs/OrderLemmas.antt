@@ -44,12 +44,14 @@ module _ (laws : SellingLaws) (order : Order) (s : Sale) where
   module _ (forward : BlockFunction) (range : KeepsRange forward) (at : Stamped) (asked : at.request ≡ Sell order) where
     -- it was granted by the rules, in an office
     abbrev SoldHere : Office → List Exchange → Type 0
-    SoldHere o es = IsOffice o → All (λ (e : Exchange). IsStamped e.request) es → replied_in es ≡ replies_to forward o (asked_in es) → Contains es (sold_at s at) → IsSaleOf order s
+    SoldHere o es = IsOffice o → All (λ (e : Exchange). IsStamped e.request) es → replied_in es ≡ replies_to forward o (asked_in es)
+        → Contains es (sold_at s at) → IsSaleOf order s
 
     -- of an exchange and those behind it: the first one counts where it acknowledges its request
     behind : (o : Office) (x : Exchange) (es : List Exchange) → ((p : Office) → SoldHere p es) → (passed : Bool) → acknowledges x.reply ≡ passed
         → IsOffice o → All (λ (e : Exchange). IsStamped e.request) (x ∷ es)
-        → map (λ (e : Exchange). e.reply) (cond passed (x ∷ filter passes es) (filter passes es)) ≡ replies_to forward o (map (λ (e : Exchange). e.request) (cond passed (x ∷ filter passes es) (filter passes es)))
+        → map (λ (e : Exchange). e.reply) (cond passed (x ∷ filter passes es) (filter passes es))
+        ≡ replies_to forward o (map (λ (e : Exchange). e.request) (cond passed (x ∷ filter passes es) (filter passes es)))
         → Contains (x ∷ es) (sold_at s at) → IsSaleOf order s
     unfolding replies_to
     behind o x es later true passes_it office stamped replies there =
@@ -60,7 +62,8 @@ module _ (laws : SellingLaws) (order : Order) (s : Sale) where
           | inl is ↦
               let granted : reply forward o at ≡ Ok (Sold s) = subst (λ (e : Exchange). reply forward o e.request ≡ e.reply) is (sym first) in
               sold_for laws.orders forward o at order s office range asked granted
-          | inr further ↦ later (step forward o x.request) (laws.keeps forward o x.request office here range) (All-tail (λ (e : Exchange). IsStamped e.request) x es stamped) rest further
+          | inr further ↦ later (step forward o x.request) (laws.keeps forward o x.request office here range)
+              (All-tail (λ (e : Exchange). IsStamped e.request) x es stamped) rest further
         ]
     behind o x es later false stays office stamped replies there =
         elim (contains_cases x (sold_at s at) es there) [
@@ -73,7 +76,8 @@ module _ (laws : SellingLaws) (order : Order) (s : Sale) where
     sold_here o (x ∷ es) office stamped replies there = behind o x es (λ p. sold_here p es) (acknowledges x.reply) refl office stamped replies there
 
   -- a sale that a life sold for an order is the order's
-  sold_in_life : (life : Life) (at : Stamped) → IsLife life → IsOffice life.opening → at.request ≡ Sell order → Contains life.exchanges (sold_at s at) → IsSaleOf order s
+  sold_in_life : (life : Life) (at : Stamped) → IsLife life → IsOffice life.opening → at.request ≡ Sell order
+      → Contains life.exchanges (sold_at s at) → IsSaleOf order s
   sold_in_life life at is office asked there = sold_here life.forward is.range at asked life.opening life.exchanges office is.stamped is.replies there
 
   sold_in_lives : (start : Office) (lives : List Life) (o : Office) → IsOffice start → LeadTo start lives o → AreSoldFor lives order s → IsSaleOf order s

@@ -91,11 +91,14 @@ eight a b c d e f g h = simp append_assoc
 behind_number : Sale → List ℕ
 behind_number s =
     line (codes "METER") s.meter ++ (line (codes "TIME") (time_text s.moment) ++ (line (codes "KWH") (kwh_text s.tenths)
-    ++ (line (codes "PRICE") (decimal s.price) ++ (line (codes "TENDER") (decimal s.tender) ++ (line (codes "CHANGE") (decimal (change_of s)) ++ line (codes "TOKEN") (grouped s.digits))))))
+    ++ (line (codes "PRICE") (decimal s.price) ++ (line (codes "TENDER") (decimal s.tender)
+    ++ (line (codes "CHANGE") (decimal (change_of s)) ++ line (codes "TOKEN") (grouped s.digits))))))
 
 begins : (s : Sale) → receipt_of s ≡ line (codes "SALE") (decimal s.number) ++ behind_number s
 unfolding receipt_of behind_number
-begins s = eight (line (codes "SALE") (decimal s.number)) (line (codes "METER") s.meter) (line (codes "TIME") (time_text s.moment)) (line (codes "KWH") (kwh_text s.tenths)) (line (codes "PRICE") (decimal s.price)) (line (codes "TENDER") (decimal s.tender)) (line (codes "CHANGE") (decimal (change_of s))) (line (codes "TOKEN") (grouped s.digits))
+begins s = eight (line (codes "SALE") (decimal s.number)) (line (codes "METER") s.meter) (line (codes "TIME") (time_text s.moment))
+    (line (codes "KWH") (kwh_text s.tenths)) (line (codes "PRICE") (decimal s.price)) (line (codes "TENDER") (decimal s.tender))
+    (line (codes "CHANGE") (decimal (change_of s))) (line (codes "TOKEN") (grouped s.digits))
 
 number_line : (value rest : List ℕ) → line (codes "SALE") value ++ rest ≡ codes "SALE " ++ (value ++ 10 ∷ rest)
 unfolding line
@@ -105,9 +108,12 @@ number_line value rest = ap (λ (t : List ℕ). codes "SALE " ++ t) (append_asso
 
 -- five values before a comma or a quote, behind their names
 fifth : (base base' change change' meter meter' moment moment' number number' rest rest' : List ℕ)
-    → IsFree 44 base → IsFree 44 base' → IsFree 44 change → IsFree 44 change' → IsFree 34 meter → IsFree 34 meter' → IsFree 44 moment → IsFree 44 moment' → IsFree 44 number → IsFree 44 number'
-    → codes "{\"base\":" ++ (base ++ (codes ",\"change\":" ++ (change ++ (codes ",\"meter\":\"" ++ (meter ++ (codes "\",\"moment\":" ++ (moment ++ (codes ",\"number\":" ++ (number ++ 44 ∷ rest)))))))))
-    ≡ codes "{\"base\":" ++ (base' ++ (codes ",\"change\":" ++ (change' ++ (codes ",\"meter\":\"" ++ (meter' ++ (codes "\",\"moment\":" ++ (moment' ++ (codes ",\"number\":" ++ (number' ++ 44 ∷ rest')))))))))
+    → IsFree 44 base → IsFree 44 base' → IsFree 44 change → IsFree 44 change' → IsFree 34 meter → IsFree 34 meter' → IsFree 44 moment
+    → IsFree 44 moment' → IsFree 44 number → IsFree 44 number'
+    → codes "{\"base\":" ++ (base ++ (codes ",\"change\":"
+    ++ (change ++ (codes ",\"meter\":\"" ++ (meter ++ (codes "\",\"moment\":" ++ (moment ++ (codes ",\"number\":" ++ (number ++ 44 ∷ rest)))))))))
+    ≡ codes "{\"base\":" ++ (base' ++ (codes ",\"change\":"
+    ++ (change' ++ (codes ",\"meter\":\"" ++ (meter' ++ (codes "\",\"moment\":" ++ (moment' ++ (codes ",\"number\":" ++ (number' ++ 44 ∷ rest')))))))))
     → number ≡ number'
 fifth base base' change change' meter meter' moment moment' number number' rest rest' b b' c c' m m' o o' n n' same =
     let at_base = append_cancel_left (codes "{\"base\":") _ _ same in
@@ -117,7 +123,8 @@ fifth base base' change change' meter meter' moment moment' number number' rest 
     let at_number = append_cancel_left (codes "\"number\":") _ _ (behind_sign 44 moment moment' _ _ o o' at_moment) in
     before_sign 44 number number' rest rest' n n' at_number
 
-module _ (plain : (o : Office) (s : Sale) → IsOffice o → Contains o.sales s → All IsPlainField (export_fields s)) (o : Office) (s t : Sale) (is : IsOffice o) (here : Contains o.sales s) (there : Contains o.sales t) where
+module _ (plain : (o : Office) (s : Sale) → IsOffice o → Contains o.sales s → All IsPlainField (export_fields s)) (o : Office) (s t : Sale)
+    (is : IsOffice o) (here : Contains o.sales s) (there : Contains o.sales t) where
   mine : AllByRecursion IsPlainField (export_fields s)
   mine = recursion_from_All IsPlainField (export_fields s) (plain o s is here)
 
@@ -128,8 +135,10 @@ module _ (plain : (o : Office) (s : Sale) → IsOffice o → Contains o.sales s 
   receipt_names same =
       let first = begins s ∙ number_line (decimal s.number) (behind_number s) in
       let second = begins t ∙ number_line (decimal t.number) (behind_number t) in
-      let lines = append_cancel_left (codes "SALE ") (decimal s.number ++ 10 ∷ behind_number s) (decimal t.number ++ 10 ∷ behind_number t) (sym first ∙ (same ∙ second)) in
-      same_number o s t is here there (before_sign 10 (decimal s.number) (decimal t.number) (behind_number s) (behind_number t) (plain_free 10 refl (decimal s.number) mine.0) (plain_free 10 refl (decimal t.number) yours.0) lines)
+      let lines = append_cancel_left (codes "SALE ") (decimal s.number ++ 10 ∷ behind_number s) (decimal t.number ++ 10 ∷ behind_number t)
+      (sym first ∙ (same ∙ second)) in
+      same_number o s t is here there (before_sign 10 (decimal s.number) (decimal t.number) (behind_number s) (behind_number t)
+      (plain_free 10 refl (decimal s.number) mine.0) (plain_free 10 refl (decimal t.number) yours.0) lines)
 
   text_names : sale_text s ≡ sale_text t → s ≡ t
   text_names same = same_number o s t is here there (fifth _ _ _ _ _ _ _ _ (decimal s.number) (decimal t.number) _ _

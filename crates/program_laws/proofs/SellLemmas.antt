@@ -53,7 +53,8 @@ same_gives : (same : Bool) (first : Sale) → GivesSale (if same then unchanged 
 same_gives true first = λ answer is. is_given first answer _ refl is
 same_gives false first = λ answer is. absurd (cc)
 
-new_gives : (forward : BlockFunction) (moment nibble : ℕ) (order : Order) (shift : Option Shift) (meter : Option MeterAccount) (count : ℕ) → GivesSale (sell forward moment nibble order shift meter count)
+new_gives : (forward : BlockFunction) (moment nibble : ℕ) (order : Order) (shift : Option Shift) (meter : Option MeterAccount) (count : ℕ)
+    → GivesSale (sell forward moment nibble order shift meter count)
 new_gives forward moment nibble order shift meter count =
     next_gives (ok_or shift refusals.NoShift) _ (λ s.
     next_gives (ok_or meter refusals.NoMeter) _ (λ m.
@@ -62,13 +63,16 @@ new_gives forward moment nibble order shift meter count =
     next_gives (ok_or (purchase_of m.steps m.prior order.tender) refusals.TooLittle) _ (λ buy.
     next_gives (next_number count) _ (λ number answer is. is_given _ answer _ refl is))))))
 
-once_gives : (forward : BlockFunction) (moment nibble : ℕ) (order : Order) (first : Option Sale) (shift : Option Shift) (meter : Option MeterAccount) (count : ℕ) → GivesSale (sell_once forward moment nibble order first shift meter count)
+once_gives : (forward : BlockFunction) (moment nibble : ℕ) (order : Order) (first : Option Sale) (shift : Option Shift)
+    (meter : Option MeterAccount) (count : ℕ) → GivesSale (sell_once forward moment nibble order first shift meter count)
 once_gives forward moment nibble order (Some first) shift meter count = same_gives _ first
 once_gives forward moment nibble order None shift meter count = new_gives forward moment nibble order shift meter count
 
-sell_gives : (forward : BlockFunction) (office : Office) (at : Stamped) (order : Order) (answer : Answer) → at.request ≡ Sell order → reply forward office at ≡ Ok answer → (sale : Sale) × (answer ≡ Sold sale)
+sell_gives : (forward : BlockFunction) (office : Office) (at : Stamped) (order : Order) (answer : Answer) → at.request ≡ Sell order
+    → reply forward office at ≡ Ok answer → (sale : Sale) × (answer ≡ Sold sale)
 sell_gives forward office at order answer is granted =
-    once_gives forward at.moment at.nibble order _ _ _ _ answer (subst (λ request. reply_of (decision_of forward office at.moment at.nibble request) ≡ Ok answer) is granted)
+    once_gives forward at.moment at.nibble order _ _ _ _ answer
+    (subst (λ request. reply_of (decision_of forward office at.moment at.nibble request) ≡ Ok answer) is granted)
 
 -- ---- a life of one request
 
@@ -76,12 +80,14 @@ pub now_is : (forward : BlockFunction) (office present : Office) → IsRunning (
 unfolding after
 now_is forward office present running = running.present
 
-one_reply : (forward : BlockFunction) (office : Office) (at : Stamped) (answer : Answer) → IsLife (extended_by (opened forward office) at (Ok answer)) → reply forward office at ≡ Ok answer
+one_reply : (forward : BlockFunction) (office : Office) (at : Stamped) (answer : Answer)
+    → IsLife (extended_by (opened forward office) at (Ok answer)) → reply forward office at ≡ Ok answer
 unfolding replies_to
 one_reply forward office at answer is =
     let same : (Ok answer ∷ []) ≡ (reply forward office at ∷ []) = is.replies in cc
 
-one_left : (forward : BlockFunction) (office : Office) (at : Stamped) (answer : Answer) (left : Office) → MayLeave (extended_by (opened forward office) at (Ok answer)) left → left ≡ step forward office at
+one_left : (forward : BlockFunction) (office : Office) (at : Stamped) (answer : Answer) (left : Office)
+    → MayLeave (extended_by (opened forward office) at (Ok answer)) left → left ≡ step forward office at
 unfolding after
 one_left forward office at answer left (inl is) = is
 one_left forward office at answer left (inr (doubted, there, is)) = absurd (omega (arith, there.1))
@@ -91,7 +97,8 @@ one_left forward office at answer left (inr (doubted, there, is)) = absurd (omeg
 not_refused : (o : Outputs) (text errors : Text) → ¬ IsTold o text errors how.Refused how.Done
 not_refused o text errors (put, told, is) = cc
 
-is_answered : (reply : Result Answer Refusal) (o : Outputs) → TellsReply reply o how.Done → (answer : Answer) × (reply ≡ Ok answer) × Takes o.old o.new (answer_text answer)
+is_answered : (reply : Result Answer Refusal) (o : Outputs) → TellsReply reply o how.Done → (answer : Answer) × (reply ≡ Ok answer)
+    × Takes o.old o.new (answer_text answer)
 is_answered (Ok answer) o (inl (put, told, is)) = (answer, refl, put)
 is_answered (Ok answer) o (inr (room, told)) = absurd (not_refused o _ _ told)
 is_answered (Err refusal) o told = absurd (not_refused o _ _ told)
@@ -101,7 +108,10 @@ pub sale_told : (sale : Sale) (o : Outputs) (end : CommandEnd) → TellsReply (O
 sale_told sale o end (inl told) = told
 sale_told sale o end (inr (none, told)) = absurd none
 
-pub ends_sold : {S : Type 0} (store : Ghosts S) (answers_stand : (forward : BlockFunction) (o : Office) (at : Stamped) → All (Contains (step forward o at).sales) (sales_of (reply forward o at))) (at : Places) (path : Text) (wait : ℕ) (transform : Shipped) (order : Order) (moment : ℕ) (office : Office) (o : Outputs) → StandsIn (at path wait).image office → IsAskedAt store at transform path wait moment (Sell order) o how.Done → EndsSold store (at path wait).closes transform order moment office o
+pub ends_sold : {S : Type 0} (store : Ghosts S) (answers_stand : (forward : BlockFunction) (o : Office) (at : Stamped)
+    → All (Contains (step forward o at).sales) (sales_of (reply forward o at))) (at : Places) (path : Text) (wait : ℕ)
+    (transform : Shipped) (order : Order) (moment : ℕ) (office : Office) (o : Outputs) → StandsIn (at path wait).image office
+    → IsAskedAt store at transform path wait moment (Sell order) o how.Done → EndsSold store (at path wait).closes transform order moment office o
 ends_sold store answers_stand places path wait transform order moment office o stands (unopened fault fails told) = absurd (not_refused o _ _ told)
 ends_sold store answers_stand places path wait transform order moment office o stands (visited old new begins finds done closes) =
     let forward = forward_of transform in
@@ -113,7 +123,8 @@ ends_sold store answers_stand places path wait transform order moment office o s
       closes,
       λ clean.
           let present = (begins.opens office stands (replies.clean clean)).running begins.running in
-          let kept = subst (λ reply. IsRepresented (extended_by (opened forward office) at reply) (seen_in new)) told.1 (replies.keeps (opened forward office) (begins.opens office stands) clean) in
+          let kept = subst (λ reply. IsRepresented (extended_by (opened forward office) at reply) (seen_in new)) told.1
+          (replies.keeps (opened forward office) (begins.opens office stands) clean) in
           let granted = one_reply forward office at told.0 kept.is_life in
           let given = sell_gives forward office at order told.0 asked.for_request granted in
           let by_rules : reply forward office at ≡ Ok (Sold given.0) = granted ∙ ap Ok given.1 in
@@ -121,7 +132,8 @@ ends_sold store answers_stand places path wait transform order moment office o s
             at = at;
             ordered = record {
               at_moment = asked.at_moment;
-              by_number = asked.by_number ∙ ap (λ n. n % 16) (present.next ∙ ap (λ (p : Office). length p.sales + 1) (sym (now_is forward office present.present present.running)));
+              by_number = asked.by_number ∙ ap (λ n. n % 16) (present.next
+                  ∙ ap (λ (p : Office). length p.sales + 1) (sym (now_is forward office present.present present.running)));
               for_order = asked.for_request;
             };
             sale = given.0;

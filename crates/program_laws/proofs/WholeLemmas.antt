@@ -79,12 +79,14 @@ module _ {X Y : Type 0} (number : X → ℕ) (show : X → Y) (key : Y → ℕ) 
       ap (map show) (take_all 100 all (omega (arith, short, length-map (take 100 all) show, length-take 100 all)))
 
   -- behind a full one are those after its last member
-  full_page : (n : ℕ) (xs : List X) (y : Y) → AreNumbered number xs → length (first_above n xs) ≡ 100 → slice_get (first_above n xs) (length (first_above n xs) - 1) ≡ Some y
+  full_page : (n : ℕ) (xs : List X) (y : Y) → AreNumbered number xs → length (first_above n xs) ≡ 100
+      → slice_get (first_above n xs) (length (first_above n xs) - 1) ≡ Some y
       → first_above n xs ++ above (key y) xs ≡ above n xs
   full_page n xs y numbered full at =
       let all = filter (λ x. nat_lt n (number x)) xs in
       let is : all ≡ drop n xs = after_numbered number n xs numbered in
-      let last : slice_get (map show (take 100 all)) 99 ≡ Some y = ap (λ len. slice_get (map show (take 100 all)) (len - 1)) {x = 100} {y = length (first_above n xs)} (sym full) ∙ at in
+      let last : slice_get (map show (take 100 all)) 99 ≡ Some y =
+      ap (λ len. slice_get (map show (take 100 all)) (len - 1)) {x = 100} {y = length (first_above n xs)} (sym full) ∙ at in
       let found = mapped_at show (slice_get (take 100 all) 99) y (sym (slice_get-map show (take 100 all) 99) ∙ last) in
       let in_all : slice_get all 99 ≡ Some found.0 = sym (slice_get-take 100 all 99 (omega arith)) ∙ found.1 in
       let in_xs = in_drop n xs 99 (n + 99) found.0 refl (subst (λ l. slice_get l 99 ≡ Some found.0) is in_all) in
@@ -96,16 +98,21 @@ module _ {X Y : Type 0} (number : X → ℕ) (show : X → Y) (key : Y → ℕ) 
   module _ (text : Bool → List Y → Text) (law : (first : Bool) (front back : List Y) → text first (front ++ back) ≡ text first front ++ text false back)
       (o : Office) (moment : ℕ) (xs : List X) (numbered : AreNumbered number xs) (list : ℕ → Listed)
       (reads : (n : ℕ) (page : Found) → Finds o moment (page_lookup (list n)) (Ok page)
-      → ((first : Bool) → page_text false first page ≡ text first (first_above n xs)) × (list_behind page ≡ option_map (λ y. list (key y)) (last_of_full (first_above n xs)))) where
+      → ((first : Bool) → page_text false first page ≡ text first (first_above n xs))
+      × (list_behind page ≡ option_map (λ y. list (key y)) (last_of_full (first_above n xs)))) where
     -- the text of pages up to one that is not full is that of all
-    pub whole_text : (pages : List Found) (first : Bool) (n : ℕ) → ArePages o moment (Some (list n)) pages None → text_from first pages ≡ text first (above n xs)
+    pub whole_text : (pages : List Found) (first : Bool) (n : ℕ) → ArePages o moment (Some (list n)) pages None → text_from first pages
+        ≡ text first (above n xs)
     whole_text [] first n none = cc
     whole_text (page ∷ pages) first n (finds, rest) =
         let has = reads n page finds in
         let behind = subst (λ (left : Option Listed). ArePages o moment left pages None) has.1 rest in
-        ap (λ l. l ++ flat_map (page_text false false) pages) (has.0 first) ∙ by_length (λ next. whole_text pages false next) (length (first_above n xs) == 100) refl behind
+        ap (λ l. l ++ flat_map (page_text false false) pages) (has.0 first)
+        ∙ by_length (λ next. whole_text pages false next) (length (first_above n xs) == 100) refl behind
       where
-        by_last : ((next : ℕ) → ArePages o moment (Some (list next)) pages None → text_from false pages ≡ text false (above next xs)) → (last : Option Y) → length (first_above n xs) ≡ 100 → slice_get (first_above n xs) (length (first_above n xs) - 1) ≡ last → ArePages o moment (option_map (λ y. list (key y)) last) pages None
+        by_last : ((next : ℕ) → ArePages o moment (Some (list next)) pages None → text_from false pages ≡ text false (above next xs))
+            → (last : Option Y) → length (first_above n xs) ≡ 100 → slice_get (first_above n xs) (length (first_above n xs) - 1) ≡ last
+            → ArePages o moment (option_map (λ y. list (key y)) last) pages None
             → text first (first_above n xs) ++ flat_map (page_text false false) pages ≡ text first (above n xs)
         by_last again None full at behind = absurd (omega (arith, full, none_past (first_above n xs) (length (first_above n xs) - 1) at))
         by_last again (Some y) full at behind =
@@ -113,34 +120,47 @@ module _ {X Y : Type 0} (number : X → ℕ) (show : X → Y) (key : Y → ℕ) 
             ∙ sym (law first (first_above n xs) (above (key y) xs))
             ∙ ap (text first) (full_page n xs y numbered full at)
 
-        by_length : ((next : ℕ) → ArePages o moment (Some (list next)) pages None → text_from false pages ≡ text false (above next xs)) → (full : Bool) → (length (first_above n xs) == 100) ≡ full → ArePages o moment (option_map (λ y. list (key y)) (last_of_full (first_above n xs))) pages None
+        by_length : ((next : ℕ) → ArePages o moment (Some (list next)) pages None → text_from false pages ≡ text false (above next xs))
+            → (full : Bool) → (length (first_above n xs) == 100) ≡ full
+            → ArePages o moment (option_map (λ y. list (key y)) (last_of_full (first_above n xs))) pages None
             → text first (first_above n xs) ++ flat_map (page_text false false) pages ≡ text first (above n xs)
         by_length again true full behind =
-            let left : last_of_full (first_above n xs) ≡ slice_get (first_above n xs) (length (first_above n xs) - 1) = ap (λ b. if b then slice_get (first_above n xs) (length (first_above n xs) - 1) else None) full in
-            by_last again _ (eqb-true _ 100 full) refl (subst (λ (last : Option Y). ArePages o moment (option_map (λ y. list (key y)) last) pages None) left behind)
+            let left : last_of_full (first_above n xs) ≡ slice_get (first_above n xs) (length (first_above n xs) - 1) =
+            ap (λ b. if b then slice_get (first_above n xs) (length (first_above n xs) - 1) else None) full in
+            by_last again _ (eqb-true _ 100 full) refl (subst (λ (last : Option Y). ArePages o moment (option_map (λ y. list (key y)) last)
+            pages None) left behind)
         by_length again false short behind =
-            let left : last_of_full (first_above n xs) ≡ None = ap (λ b. if b then slice_get (first_above n xs) (length (first_above n xs) - 1) else None) short in
-            let none = no_page_more o moment pages (subst (λ (last : Option Y). ArePages o moment (option_map (λ y. list (key y)) last) pages None) left behind) in
+            let left : last_of_full (first_above n xs) ≡ None =
+            ap (λ b. if b then slice_get (first_above n xs) (length (first_above n xs) - 1) else None) short in
+            let none = no_page_more o moment pages (subst (λ (last : Option Y). ArePages o moment (option_map (λ y. list (key y)) last)
+            pages None) left behind) in
             ap (λ l. text first (first_above n xs) ++ l) none ∙ append-nil _ ∙ ap (text first) (short_page n xs (eqb-false _ 100 short))
 
 -- ---- shifts and sales
 
 shifts_read : (o : Office) (moment n : ℕ) (page : Found) → Finds o moment (lookups.Shifts n) (Ok page)
-    → ((first : Bool) → page_text false first page ≡ shift_rows_text first (first_above (λ s. s.number) (listed_shift o) (λ l. l.shift.number) (λ s. refl) n o.shifts))
-    × (list_behind page ≡ option_map (λ l. listed.Shifts l.shift.number) (last_of_full (first_above (λ s. s.number) (listed_shift o) (λ l. l.shift.number) (λ s. refl) n o.shifts)))
-shifts_read o moment n (found.Shifts page) is = (λ first. ap (shift_rows_text first) is, ap (λ ls. option_map (λ (l : ListedShift). listed.Shifts l.shift.number) (last_of_full ls)) is)
+    → ((first : Bool) → page_text false first page ≡ shift_rows_text first
+    (first_above (λ s. s.number) (listed_shift o) (λ l. l.shift.number) (λ s. refl) n o.shifts))
+    × (list_behind page ≡ option_map (λ l. listed.Shifts l.shift.number)
+    (last_of_full (first_above (λ s. s.number) (listed_shift o) (λ l. l.shift.number) (λ s. refl) n o.shifts)))
+shifts_read o moment n (found.Shifts page) is = (
+  λ first. ap (shift_rows_text first) is,
+  ap (λ ls. option_map (λ (l : ListedShift). listed.Shifts l.shift.number) (last_of_full ls)) is,
+)
 shifts_read o moment n page none = absurd none
 
 shifts_law : (first : Bool) (front back : List ListedShift) → shift_rows_text first (front ++ back) ≡ shift_rows_text first front ++ shift_rows_text false back
 shifts_law first front back =
     let names = if first then table_row_of shift_names else [] in
-    ap (λ lines. names ++ lines) (flat_map-append listed_shift_line front back) ∙ sym (append_assoc names (flat_map listed_shift_line front) (flat_map listed_shift_line back))
+    ap (λ lines. names ++ lines) (flat_map-append listed_shift_line front back)
+    ∙ sym (append_assoc names (flat_map listed_shift_line front) (flat_map listed_shift_line back))
 
 pub whole_shifts : (o : Office) (moment after : ℕ) (pages : List Found) → IsOffice o → ArePages o moment (Some (listed.Shifts after)) pages None
     → pages_text false pages ≡ shift_rows_text true (map (listed_shift o) (filter (λ s. nat_lt after s.number) o.shifts))
 whole_shifts o moment after pages office are =
     from_first pages
-    ∙ whole_text (λ s. s.number) (listed_shift o) (λ l. l.shift.number) (λ s. refl) shift_rows_text shifts_law o moment o.shifts office.shift_numbers listed.Shifts (shifts_read o moment) pages true after are
+    ∙ whole_text (λ s. s.number) (listed_shift o) (λ l. l.shift.number) (λ s. refl) shift_rows_text shifts_law o moment o.shifts
+    office.shift_numbers listed.Shifts (shifts_read o moment) pages true after are
 
 sales_read : (o : Office) (moment n : ℕ) (page : Found) → Finds o moment (lookups.Sales n) (Ok page)
     → ((first : Bool) → page_text false first page ≡ export_of first (first_above (λ s. s.number) (λ s. s) (λ s. s.number) (λ s. refl) n o.sales))
@@ -154,5 +174,6 @@ pub whole_sales : PagesLaw → (o : Office) (moment after : ℕ) (pages : List F
     → pages_text false pages ≡ export_of true (filter (λ s. nat_lt after s.number) o.sales)
 whole_sales law o moment after pages office are =
     from_first pages
-    ∙ whole_text (λ s. s.number) (λ s. s) (λ s. s.number) (λ s. refl) export_of law o moment o.sales office.sale_numbers listed.Sales (sales_read o moment) pages true after are
+    ∙ whole_text (λ s. s.number) (λ s. s) (λ s. s.number) (λ s. refl) export_of law o moment o.sales office.sale_numbers listed.Sales
+    (sales_read o moment) pages true after are
     ∙ ap (export_of true) (map-id _)

@@ -273,7 +273,11 @@ civil-years secs c from to i = (by_low (nat_lt c.year 1993) refl, by_high (nat_l
     by_high : (t : Bool) → nat_lt 2099 c.year ≡ t → c.year ≤ 2099
     by_high true e =
         let lt : pos 2099 <ℤ pos c.year = grind (arith, nat_tests, signed_arith) in
-        let last : IsCivilDate (pos 2099) 12 31 = ((omega (arith, signed_arith), omega (arith, signed_arith)), (omega arith, omega arith), (omega arith, omega arith)) in
+        let last : IsCivilDate (pos 2099) 12 31 = (
+          (omega (arith, signed_arith), omega (arith, signed_arith)),
+          (omega arith, omega arith),
+          (omega arith, omega arith),
+        ) in
         let date = i.date in
         absurd (omega (
           arith,
@@ -290,7 +294,8 @@ civil-years secs c from to i = (by_low (nat_lt c.year 1993) refl, by_high (nat_l
 -- a date and a time of day by their parts
 same_civil : (c e : Civil) → c.year ≡ e.year → c.month ≡ e.month → c.day ≡ e.day → c.hour ≡ e.hour
     → c.minute ≡ e.minute → c.second ≡ e.second → c ≡ e
-same_civil c e year month day hour minute second = λ i. record { year = year i; month = month i; day = day i; hour = hour i; minute = minute i; second = second i }
+same_civil c e year month day hour minute second =
+    λ i. record { year = year i; month = month i; day = day i; hour = hour i; minute = minute i; second = second i }
 
 -- the day of the month on which a day lies
 day_of_month : (secs : ℕ) → ℕ
@@ -404,8 +409,17 @@ moment_of_civil c date r =
     first_count-le 0 (month_number c) (omega arith) in
     let last : first_count (month_number c + 1) ≤ day_count (pos 2100) 1 1 =
     first_count-le (month_number c + 1) 1284 (omega arith) in
-    let days = day_count (pos c.year) c.month c.day - 4_371_953 in
-    (days * 86400 + time_of_day c, (omega (arith, count_1993), omega (arith, count_2100)), record { date = date; hour = hour; minute = minute; second = second; seconds = omega (arith, signed_arith, count_1993, days_from_civil-day_count (pos c.year) c.month c.day) })
+    let days = day_count (pos c.year) c.month c.day - 4_371_953 in (
+      days * 86400 + time_of_day c,
+      (omega (arith, count_1993), omega (arith, count_2100)),
+      record {
+        date = date;
+        hour = hour;
+        minute = minute;
+        second = second;
+        seconds = omega (arith, signed_arith, count_1993, days_from_civil-day_count (pos c.year) c.month c.day);
+      },
+    )
 
 -- the day and the time of what `jiff` shows at these Unix seconds
 shown_day : (dt : DateTime) (secs : ℕ) → civil_nanos dt ≡ pos secs *ℤ pos 1_000_000_000
@@ -438,7 +452,15 @@ shown_year dt secs from e =
     (λ ge. not_negative dt.date.year (omega (arith, signed_arith)))
 
 -- that is the date and time in UTC
-pub shown_civil : (dt : DateTime) (secs : ℕ) → 725846400 ≤ secs → civil_nanos dt ≡ pos secs *ℤ pos 1_000_000_000 → IsCivil secs (record { year = unsigned_abs dt.date.year; month = dt.date.month; day = dt.date.day; hour = dt.time.hour; minute = dt.time.minute; second = dt.time.second })
+pub shown_civil : (dt : DateTime) (secs : ℕ) → 725846400 ≤ secs → civil_nanos dt ≡ pos secs *ℤ pos 1_000_000_000
+    → IsCivil secs (record {
+      year = unsigned_abs dt.date.year;
+      month = dt.date.month;
+      day = dt.date.day;
+      hour = dt.time.hour;
+      minute = dt.time.minute;
+      second = dt.time.second;
+    })
 shown_civil dt secs from e =
     let year = shown_year dt secs from e in
     let shown = shown_day dt secs e in

@@ -83,7 +83,14 @@ pub each_date : (year month date : ℕ) → IsCivilDate (pos year) month date �
 each_date year month date there years =
     let c = date_only year month date in
     let length = days_in_month_bounds (pos year) month in
-    let found = moment_of_civil c there (record { year = years; month = there.1; day = (there.2.0, omega arith); hour = omega arith; minute = omega arith; second = omega arith }) in
+    let found = moment_of_civil c there (record {
+      year = years;
+      month = there.1;
+      day = (there.2.0, omega arith);
+      hour = omega arith;
+      minute = omega arith;
+      second = omega arith;
+    }) in
     (day_at found.0, range found.0 found.1, shown found.0 c found.1 found.2)
 
 pub years : (day year month date : ℕ) → IsDay day → HasDate day year month date
@@ -92,7 +99,13 @@ years day year month date h is =
     let c = date_only year month date in
     let m = midnight-is day h in
     let days = is.days in
-    let civil : IsCivil (midnight day) c = record { date = is.there; hour = omega arith; minute = omega arith; second = omega arith; seconds = omega (arith, signed_arith, first_day-is) } in
+    let civil : IsCivil (midnight day) c = record {
+      date = is.there;
+      hour = omega arith;
+      minute = omega arith;
+      second = omega arith;
+      seconds = omega (arith, signed_arith, first_day-is);
+    } in
     civil-years (midnight day) c m.0 m.1 civil
 
 -- the date that the calendar has
@@ -149,10 +162,19 @@ pub record HasDigits (text : List ℕ) (year month date : ℕ) : Type 0 where
 pub digits-of : (text : List ℕ) (year month date : ℕ) → text ≡ iso_date year month date
     → HasDigits text year month date
 unfolding iso_date
-digits-of text year month date e = rw e (record { ten = refl; century = refl; year_in_century = refl; left = refl; month_digits = refl; right = refl; date_digits = refl })
+digits-of text year month date e = rw e (record {
+  ten = refl;
+  century = refl;
+  year_in_century = refl;
+  left = refl;
+  month_digits = refl;
+  right = refl;
+  date_digits = refl;
+})
 
 -- ten bytes are these
-ten-bytes : (text : List ℕ) → length text ≡ 10 → text ≡ get_or text 0 0 ∷ get_or text 1 0 ∷ get_or text 2 0 ∷ get_or text 3 0 ∷ get_or text 4 0 ∷ get_or text 5 0 ∷ get_or text 6 0 ∷ get_or text 7 0 ∷ get_or text 8 0 ∷ get_or text 9 0 ∷ []
+ten-bytes : (text : List ℕ) → length text ≡ 10 → text ≡ get_or text 0 0 ∷ get_or text 1 0 ∷ get_or text 2 0 ∷ get_or text 3 0
+    ∷ get_or text 4 0 ∷ get_or text 5 0 ∷ get_or text 6 0 ∷ get_or text 7 0 ∷ get_or text 8 0 ∷ get_or text 9 0 ∷ []
 ten-bytes (a ∷ b ∷ c ∷ d ∷ e ∷ f ∷ g ∷ h ∷ i ∷ j ∷ []) ten = refl
 ten-bytes (a ∷ b ∷ c ∷ d ∷ e ∷ f ∷ g ∷ h ∷ i ∷ j ∷ k ∷ more) ten = absurd (omega (arith, ten))
 ten-bytes (a ∷ b ∷ c ∷ d ∷ e ∷ f ∷ g ∷ h ∷ i ∷ []) ten = absurd (omega (arith, ten))
@@ -175,7 +197,18 @@ of-digits text year month date h =
     λ place n e. ap (λ ds. get_or ds 0 0) e in
     let second : (place : ℕ) (n : ℕ) → get_or text place 0 ∷ get_or text (suc place) 0 ∷ [] ≡ two_digits n → get_or text (suc place) 0 ≡ 48 + n % 10 =
     λ place n e. ap (λ ds. get_or ds 1 0) e in
-    ten-bytes text h.ten ∙ rw (first 0 _ h.century, second 0 _ h.century, first 2 _ h.year_in_century, second 2 _ h.year_in_century, h.left, first 5 _ h.month_digits, second 5 _ h.month_digits, h.right, first 8 _ h.date_digits, second 8 _ h.date_digits) refl
+    ten-bytes text h.ten ∙ rw (
+      first 0 _ h.century,
+      second 0 _ h.century,
+      first 2 _ h.year_in_century,
+      second 2 _ h.year_in_century,
+      h.left,
+      first 5 _ h.month_digits,
+      second 5 _ h.month_digits,
+      h.right,
+      first 8 _ h.date_digits,
+      second 8 _ h.date_digits,
+    ) refl
 
 -- the numbers of a date that the calendar has are below a hundred, and the year below a hundred
 -- centuries
@@ -202,8 +235,11 @@ iso_date-one y m d year month date there here same =
     let few = bounds y m d there in
     let less = bounds year month date here in
     let century = two_digits-one (y / 100) (year / 100) few.few_centuries less.few_centuries (sym a.century ∙ b.century) in
-    let in_century = two_digits-one (y % 100) (year % 100) few.few_years less.few_years (sym a.year_in_century ∙ b.year_in_century) in
-    (omega (arith, century, in_century), two_digits-one m month few.few_months less.few_months (sym a.month_digits ∙ b.month_digits), two_digits-one d date few.few_days less.few_days (sym a.date_digits ∙ b.date_digits))
+    let in_century = two_digits-one (y % 100) (year % 100) few.few_years less.few_years (sym a.year_in_century ∙ b.year_in_century) in (
+      omega (arith, century, in_century),
+      two_digits-one m month few.few_months less.few_months (sym a.month_digits ∙ b.month_digits),
+      two_digits-one d date few.few_days less.few_days (sym a.date_digits ∙ b.date_digits),
+    )
 
 pub one_read : (day other : ℕ) (text : Text) → IsDayText text day → IsDayText text other
     → day ≡ other

@@ -33,7 +33,8 @@ mixed_step c b =
     let high : bit_xor c b / 2 ≡ bit_xor (c / 2) (b / 2) = xor_shr c b 1 in
     elim (cases_eq (c % 2) (b % 2)) [
       | inl same ↦ step_same (bit_xor c b) 0 (omega arith) ∙ high ∙ ap (λ (n : ℕ). bit_xor n (b / 2)) (sym (step_same c (b % 2) same))
-      | inr other ↦ step_other (bit_xor c b) 0 (omega arith) ∙ ap (λ (n : ℕ). bit_xor n 0xA001) high ∙ swap_mixed (c / 2) (b / 2) 0xA001 ∙ ap (λ (n : ℕ). bit_xor n (b / 2)) (sym (step_other c (b % 2) other))
+      | inr other ↦ step_other (bit_xor c b) 0 (omega arith) ∙ ap (λ (n : ℕ). bit_xor n 0xA001) high ∙ swap_mixed (c / 2) (b / 2) 0xA001
+          ∙ ap (λ (n : ℕ). bit_xor n (b / 2)) (sym (step_other c (b % 2) other))
     ]
 
 -- the same at the bits from the place i on

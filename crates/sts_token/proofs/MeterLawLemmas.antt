@@ -121,7 +121,12 @@ first_entry read token sold came f is are all there not_came =
           false_from_ne_true (is_member taken.tids f.tid)
           (λ h. false≢true (sym (tid_not_came sold came f are all there not_came)
           ∙ now.taken_came f.tid h)) in
-          let new : IsNew taken.tids f.tid = record { few_greater = omega (arith, le, few); above_zero = let a = f_comes.above in omega arith; not_taken = not_taken } in
+          let new : IsNew taken.tids f.tid = record {
+            few_greater = omega (arith, le, few);
+            above_zero = let a = f_comes.above in
+                omega arith;
+            not_taken = not_taken;
+          } in
           record { reads = is.reads f f_comes.fields; answer = accepted_from_new taken.tids f.tid new },
     )
 
@@ -168,7 +173,8 @@ pub in_order : (read : Reader) (token : TokenFields
 in_order read token earlier later f is are =
     let sold = earlier ++ f ∷ later in
     let below = earlier_below earlier later f (rises sold are.rising) in
-    let all = All-weaker (Contains earlier) (Contains sold) (λ g there. Contains-append_left earlier (f ∷ later) g there) earlier (All-contains_itself earlier) in
+    let all = All-weaker (Contains earlier) (Contains sold) (λ g there. Contains-append_left earlier (f ∷ later) g there) earlier
+    (All-contains_itself earlier) in
     let there : Contains sold f =
     Contains-append_right earlier (f ∷ later) f (0, omega arith, refl) in
     let not_came : ¬ Contains earlier f = λ c. let under : f.tid < f.tid = holds_at (λ g. g.tid < f.tid) f earlier below (is_in f earlier c) in omega arith in
@@ -208,7 +214,8 @@ unfolding Rises
 sum_bound greatest low [] small rising fields above = omega arith
 sum_bound greatest low (f ∷ sold) small rising fields above =
     let within = fields.0.tid in
-    let rest = sum_bound greatest (suc f.tid) sold (omega arith) rising.1 fields.1 (each (λ g. f.tid < g.tid) (λ g. suc f.tid ≤ g.tid) (λ g h. omega arith) sold rising.0) in
+    let rest = sum_bound greatest (suc f.tid) sold (omega arith) rising.1 fields.1
+    (each (λ g. f.tid < g.tid) (λ g. suc f.tid ≤ g.tid) (λ g h. omega arith) sold rising.0) in
     omega (
       arith,
       sum_by-cons (λ f. f.tenths) f sold,

@@ -164,7 +164,15 @@ accepted_last read done text (Ok f) more t e h =
     let taken = taken_over read (map entered done) in
     elim (among_before taken f (answer_to taken.tids f.tid) t h) [
       | inl before ↦ inl before
-      | inr (answer, same) ↦ inr (record { earlier = done; text = text; later = more; fields = f; one_of = refl; accepts = record { reads = e; answer = answer }; identifier = same })
+      | inr (answer, same) ↦ inr (record {
+        earlier = done;
+        text = text;
+        later = more;
+        fields = f;
+        one_of = refl;
+        accepts = record { reads = e; answer = answer };
+        identifier = same;
+      })
     ]
 accepted_last read done text (Err fault) more t e h = inl h
 

@@ -85,7 +85,8 @@ block_has_bits amounts subclass f small fields =
     let code =
     code_gives f.tenths (code_of f.tenths) (amounts.each_amount f.tenths fields.tenths) in
     let check16 = check_of-lt _ in
-    let parts = bits_of_parts (block_of subclass f) subclass f.rnd f.tid (code_of f.tenths) (check_of_payload (payload_of subclass f)) refl small fields.rnd fields.tid code.bits check16 in
+    let parts = bits_of_parts (block_of subclass f) subclass f.rnd f.tid (code_of f.tenths) (check_of_payload (payload_of subclass f)) refl
+    small fields.rnd fields.tid code.bits check16 in
     let payload : block_of subclass f / 2 ^ 16 ≡ payload_of subclass f = omega (arith, check16) in
     record {
       bits = parts.0;

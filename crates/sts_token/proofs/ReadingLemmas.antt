@@ -237,7 +237,14 @@ reading_from_reads amounts forward inverse key text (Err BadCheck) transform sma
     let bad : eqb (block % 2 ^ 16) (check_of_payload (block / 2 ^ 16)) ≡ false =
     ne_eqb _ _ (λ good.
     none (block / 2 ^ 60) (fields_in block)
-    (record { subclass_bits = omega (arith, bits); fields = fields_in_are block; transformed = sent; block_bits = at.bits; number = at.number; inverted = block_from_check amounts block bits good })) in
+    (record {
+      subclass_bits = omega (arith, bits);
+      fields = fields_in_are block;
+      transformed = sent;
+      block_bits = at.bits;
+      number = at.number;
+      inverted = block_from_check amounts block bits good;
+    })) in
     read_block inverse key text is ∙ bad_check _ (eqb (block / 2 ^ 60) 0) (fields_in block) bad
 reading_from_reads amounts forward inverse key text (Err WrongSubclass) transform small
     (is, subclass, f, carries, other) =

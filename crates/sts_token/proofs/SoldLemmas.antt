@@ -156,7 +156,8 @@ follows_accepted sold came taken f follows rising i new =
           sum_by-cons (λ t. cond (p t) 1 0) f.tid taken.tids in
           omega (arith, count, more, follows.counted p);
       passed = λ t h.
-          let count : count_by (ltb t) (f.tid ∷ taken.tids) ≡ cond (ltb t f.tid) 1 0 + count_by (ltb t) taken.tids = sum_by-cons (λ u. cond (ltb t u) 1 0) f.tid taken.tids in
+          let count : count_by (ltb t) (f.tid ∷ taken.tids) ≡ cond (ltb t f.tid) 1 0 + count_by (ltb t) taken.tids =
+          sum_by-cons (λ u. cond (ltb t u) 1 0) f.tid taken.tids in
           elim (among_push came f.tid t h) [
             | inl earlier ↦ elim (follows.passed t earlier) [
               | inl there ↦ inl (among_cons f.tid taken.tids t there)

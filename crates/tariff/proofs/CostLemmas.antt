@@ -91,8 +91,10 @@ pub prices_of-cons : (s : Step) (rest : List Step) (priced upper end : ℕ) → 
 prices_of-cons s rest priced upper end within is up =
     let cut : end - priced ≡ (upper - priced) + (end - upper) = omega arith in
     let place : priced + (upper - priced) ≡ upper = omega arith in
-    let first = prices_of-flat (s ∷ rest) s.price priced (upper - priced) (λ i from to. price_at-first s rest i (ends_after-below s end i s.ends refl (omega arith))) in
-    let later = prices_of-same (s ∷ rest) rest upper (end - upper) (λ i from to. price_at-later s rest i (ends_after-above s end i s.ends refl (omega arith) (omega arith))) in
+    let first = prices_of-flat (s ∷ rest) s.price priced (upper - priced)
+    (λ i from to. price_at-first s rest i (ends_after-below s end i s.ends refl (omega arith))) in
+    let later = prices_of-same (s ∷ rest) rest upper (end - upper)
+    (λ i from to. price_at-later s rest i (ends_after-above s end i s.ends refl (omega arith) (omega arith))) in
     rw (
       cut,
       prices_of-add (s ∷ rest) priced (upper - priced) (end - upper),
@@ -121,7 +123,8 @@ is_summed_more steps prior end priced sum i upper d there is cheap s =
     let within : upper ≤ end = omega (arith, s.to_end) in
     let split =
     prices_of-cons (get_or steps i d) (drop (i + 1) steps) priced upper end s.to_end is within in
-    let here : prices_of (drop i steps) priced (end - priced) ≡ (upper - priced) * (get_or steps i d).price + prices_of (drop (i + 1) steps) upper (end - upper) = rw (drop_more steps i d there) split in
+    let here : prices_of (drop i steps) priced (end - priced)
+    ≡ (upper - priced) * (get_or steps i d).price + prices_of (drop (i + 1) steps) upper (end - upper) = rw (drop_more steps i d there) split in
     let dear = mul-le-mul_left (upper - priced) cheap in
     record {
       from_prior = omega (arith, s.from_prior);

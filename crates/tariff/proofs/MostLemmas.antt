@@ -39,7 +39,8 @@ are_paid_more steps prior budget end paid left i upper d there is enough p =
           let before = p.spent u (omega arith) to in
           let up = reach_of-earlier (get_or steps i d).ends end paid upper u is from to in
           let split = prices_of-cons (get_or steps i d) (drop (i + 1) steps) paid upper u (omega arith) up from in
-          let here : prices_of (drop i steps) paid (u - paid) ≡ (upper - paid) * (get_or steps i d).price + prices_of (drop (i + 1) steps) upper (u - upper) = rw (drop_more steps i d there) split in
+          let here : prices_of (drop i steps) paid (u - paid)
+          ≡ (upper - paid) * (get_or steps i d).price + prices_of (drop (i + 1) steps) upper (u - upper) = rw (drop_more steps i d there) split in
           omega arith;
     }
 
@@ -63,7 +64,8 @@ are_most_here steps prior cents end paid left i upper k d to there is part enoug
     let run : (j : ℕ) → j ≤ upper - paid → prices_of steps prior (paid - prior + j) + left ≡ cents * 10 + j * (get_or steps i d).price = λ j within.
     let at : paid + j - prior ≡ paid - prior + j = omega arith in
     let more : paid + j - paid ≡ j = omega arith in
-    let flat : prices_of (drop i steps) paid j ≡ j * (get_or steps i d).price = rw (drop_more steps i d there) (prices_of-within (get_or steps i d) (drop (i + 1) steps) paid upper end j is within) in
+    let flat : prices_of (drop i steps) paid j ≡ j * (get_or steps i d).price =
+    rw (drop_more steps i d there) (prices_of-within (get_or steps i d) (drop (i + 1) steps) paid upper end j is within) in
     rw (at, more, flat) at (p.spent (paid + j) (omega arith) (omega arith)) in
     let here = run k (omega arith) in
     let next = run (k + 1) (omega arith) in

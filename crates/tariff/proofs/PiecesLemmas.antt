@@ -31,7 +31,8 @@ pieces_of text = slice_split (λ b. eqb b 59) text
 pub pieces_from_text : (text : List ℕ) (steps : List Step) → IsStepsText text steps → pieces_of text
     ≡ map step_text steps
 pieces_from_text text steps t =
-    let lacks = All-map (Lacks 59) step_text steps (All-weaker IsWritable (λ s. Lacks 59 (step_text s)) (λ s w. Lacks-step_text s 59 w (omega arith)) steps t.writable) in
+    let lacks = All-map (Lacks 59) step_text steps (All-weaker IsWritable (λ s. Lacks 59 (step_text s))
+    (λ s w. Lacks-step_text s 59 w (omega arith)) steps t.writable) in
     ap pieces_of t.written
     ∙ split_joined 59 (map step_text steps)
     (omega (arith, length-map steps step_text, t.some)) lacks

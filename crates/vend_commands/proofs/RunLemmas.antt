@@ -83,17 +83,21 @@ use Rattle.office_commands.specs.declared.office.wanted.Wanted.TheVariants.{One,
 use Rattle.vend_ports.specs.declared.command_end.CommandEnd.{CommandEnd}
 
 -- what was asked for by another name
-pub done_so : {S D R W : Type 0} (store : Ghosts S) (m : Machine D R W) (asked same : Asked) (o : Outputs) (end : CommandEnd) → asked ≡ same → IsCarriedOut store m same o end → IsCarriedOut store m asked o end
+pub done_so : {S D R W : Type 0} (store : Ghosts S) (m : Machine D R W) (asked same : Asked) (o : Outputs) (end : CommandEnd) → asked
+    ≡ same → IsCarriedOut store m same o end → IsCarriedOut store m asked o end
 done_so store m asked same o end is done = subst (λ a. IsCarriedOut store m a o end) (sym is) done
 
 -- what a selfcheck found is told, by less than it found
-pub selfcheck_done : (o : Outputs) (end : CommandEnd) (Agrees Has : Type 0) (Disagrees Told : SelfcheckFault → Type 0) → (Agrees → Has) → ((fault : SelfcheckFault) → Disagrees fault → Told fault) → IsSelfchecked Agrees Disagrees o end → IsSelfchecked Has Told o end
+pub selfcheck_done : (o : Outputs) (end : CommandEnd) (Agrees Has : Type 0) (Disagrees Told : SelfcheckFault → Type 0) → (Agrees → Has)
+    → ((fault : SelfcheckFault) → Disagrees fault → Told fault) → IsSelfchecked Agrees Disagrees o end → IsSelfchecked Has Told o end
 selfcheck_done o end Agrees Has Disagrees Told less fewer (agreed is told) = agreed (less is) told
 selfcheck_done o end Agrees Has Disagrees Told less fewer (failed fault why told) = failed fault (fewer fault why) told
 
 -- what `clap` says of words is a fault of theirs, or there was no room
-pub told_by_clap : {S D R W : Type 0} (store : Ghosts S) (m : Machine D R W) (error : Error) (words : List Text) (Says : Error → Text → Type 0) (o : Outputs) (end : CommandEnd) → HasKind (faults_in words) error
-    → IsMachineIdle m → IsTold o [] (refusal_line Memory) how.Refused end ⊎ ((text : Text) × Says error text × (text ≢ []) × IsExplained (kind_of error) text o end) → IsProgramRun store m words o end
+pub told_by_clap : {S D R W : Type 0} (store : Ghosts S) (m : Machine D R W) (error : Error) (words : List Text)
+    (Says : Error → Text → Type 0) (o : Outputs) (end : CommandEnd) → HasKind (faults_in words) error
+    → IsMachineIdle m → IsTold o [] (refusal_line Memory) how.Refused end
+    ⊎ ((text : Text) × Says error text × (text ≢ []) × IsExplained (kind_of error) text o end) → IsProgramRun store m words o end
 told_by_clap store m error words Says o end kind idle (inl told) = no_room idle told
 told_by_clap store m error words Says o end (inl full) idle (inr (text, said, some, says)) = absurd (subst (λ k. IsExplained k text o end) full says)
 told_by_clap store m error words Says o end (inr among) idle (inr (text, said, some, says)) = explained idle (kind_of error) text among some says
@@ -125,12 +129,15 @@ totals_ends : (number : ℕ) (totals : Result Totals Refusal) (o : Outputs) (end
 totals_ends number (Ok totals) o end told = told_ends o _ _ how.Done end (omega arith) told
 totals_ends number (Err refusal) o end told = told_ends o _ _ how.Refused end (omega arith) told
 
-visit_ends : {S : Type 0} (store : Ghosts S) (place : Place) (transform : Shipped) (Does : (old new : Seen) → Type 0) (o : Outputs) (end : CommandEnd) → ((old new : Seen) → Does old new → exit_status_of end ≤ 1) → IsVisited store place transform Does o end → exit_status_of end ≤ 1
+visit_ends : {S : Type 0} (store : Ghosts S) (place : Place) (transform : Shipped) (Does : (old new : Seen) → Type 0) (o : Outputs)
+    (end : CommandEnd) → ((old new : Seen) → Does old new → exit_status_of end ≤ 1) → IsVisited store place transform Does o end → exit_status_of end ≤ 1
 visit_ends store place transform Does o end ends (unopened fault fails told) = told_ends o _ _ how.Refused end (omega arith) told
 visit_ends store place transform Does o end ends (visited old new opened finds done closes) = ends (seen_in old) (seen_in new) done
 
-asked_at_ends : {S : Type 0} (store : Ghosts S) (at : Places) (transform : Shipped) (file : Text) (wait moment : ℕ) (request : Request) (o : Outputs) (end : CommandEnd) → IsAskedAt store at transform file wait moment request o end → exit_status_of end ≤ 1
-asked_at_ends store at transform file wait moment request o end asked = visit_ends store _ _ _ o end (λ old new done. reply_ends done.reply o end done.told) asked
+asked_at_ends : {S : Type 0} (store : Ghosts S) (at : Places) (transform : Shipped) (file : Text) (wait moment : ℕ) (request : Request)
+    (o : Outputs) (end : CommandEnd) → IsAskedAt store at transform file wait moment request o end → exit_status_of end ≤ 1
+asked_at_ends store at transform file wait moment request o end asked =
+    visit_ends store _ _ _ o end (λ old new done. reply_ends done.reply o end done.told) asked
 
 paper_ends : (paper : Paper) (old new : Seen) (o : Outputs) (end : CommandEnd) → PrintsPaper paper old new o end → exit_status_of end ≤ 1
 paper_ends (papers.Shift number) old new o end done = reply_ends done.reply o end done.told
@@ -138,12 +145,15 @@ paper_ends (papers.Receipt number) old new o end done = reply_ends done.reply o 
 paper_ends (papers.Totals number) old new o end done = totals_ends number done.totals o end done.told
 paper_ends papers.Sales old new o end done = told_ends o _ _ (export_stop_end done.stop) end (stop_low done.stop) done.told
 
-added_ends : {S : Type 0} (store : Ghosts S) (at : Places) (untouched : Type 0) (words : ImportWords) (moment : ℕ) (rows : Result (List Row) RowFault) (o : Outputs) (end : CommandEnd) → AreAdded store at untouched words moment rows o end → exit_status_of end ≤ 1
+added_ends : {S : Type 0} (store : Ghosts S) (at : Places) (untouched : Type 0) (words : ImportWords) (moment : ℕ)
+    (rows : Result (List Row) RowFault) (o : Outputs) (end : CommandEnd) → AreAdded store at untouched words moment rows o end → exit_status_of end ≤ 1
 added_ends store at untouched words moment (Ok rows) o end added = asked_at_ends store at words.transform words.file.now words.wait moment _ o end added
 added_ends store at untouched words moment (Err fault) o end (left, told) = told_ends o _ _ how.Refused end (omega arith) told
 
-import_ends : {S D R W : Type 0} (store : Ghosts S) (m : Machine D R W) (words : ImportWords) (moment : ℕ) (o : Outputs) (end : CommandEnd) → IsFileImported store m.at m.untouched m.texts words moment o end → exit_status_of end ≤ 1
-import_ends store m words moment o end (inl (bytes, reads, (records, rows, are, reading, added))) = added_ends store m.at m.untouched words moment rows o end added
+import_ends : {S D R W : Type 0} (store : Ghosts S) (m : Machine D R W) (words : ImportWords) (moment : ℕ) (o : Outputs) (end : CommandEnd)
+    → IsFileImported store m.at m.untouched m.texts words moment o end → exit_status_of end ≤ 1
+import_ends store m words moment o end (inl (bytes, reads, (records, rows, are, reading, added))) =
+    added_ends store m.at m.untouched words moment rows o end added
 import_ends store m words moment o end (inr (fault, lacks, left, told)) = told_ends o _ _ how.Refused end (omega arith) told
 
 served_low : {B : Type 0} (served : Result (B × Bool) OpenFault) → exit_status_of (serving_end served) ≤ 1
@@ -154,11 +164,14 @@ served_low (Err fault) = omega arith
 end_low : (meant end : CommandEnd) → exit_status_of meant ≤ 1 → end ≡ meant → exit_status_of end ≤ 1
 end_low meant end low is = subst (λ e. exit_status_of e ≤ 1) (sym is) low
 
-serving_ends : {S D R W : Type 0} (store : Ghosts S) (way : Way D R W) (at : Places) (door : D) (answers : Option (List ℤ)) (words : ServeWords) (err_old err_new : Sink) (end : CommandEnd)
+serving_ends : {S D R W : Type 0} (store : Ghosts S) (way : Way D R W) (at : Places) (door : D) (answers : Option (List ℤ))
+    (words : ServeWords) (err_old err_new : Sink) (end : CommandEnd)
     → IsServing store way at door answers words err_old err_new end → exit_status_of end ≤ 1
 serving_ends store way at door answers words err_old err_new end (serves_unopened fault fails shut told ends) = end_low how.Refused end (omega arith) ends
-serving_ends store way at door answers words err_old err_new end (unheard old opens finds last deaf shut closes ends) = end_low how.Refused end (omega arith) ends
-serving_ends store way at door answers words err_old err_new end (was_open old opens finds were) = end_low (serving_end were.served) end (served_low were.served) were.ends
+serving_ends store way at door answers words err_old err_new end (unheard old opens finds last deaf shut closes ends) =
+    end_low how.Refused end (omega arith) ends
+serving_ends store way at door answers words err_old err_new end (was_open old opens finds were) =
+    end_low (serving_end were.served) end (served_low were.served) were.ends
 
 answer_told_ends : (answer : Result Audited AuditFault) (o : Outputs) (end : CommandEnd) → TellsAudit answer o end → exit_status_of end ≤ 1
 answer_told_ends (Ok audited) o end told = told_ends o _ _ how.Done end (omega arith) told
@@ -171,11 +184,13 @@ audit_ends place given o end (absent misses told) = told_ends o _ _ how.Refused 
 audit_ends place given o end (audits_unopened fault refuses told) = told_ends o _ _ how.Refused end (omega arith) told
 audit_ends place given o end (looked answer meets audits told) = answer_told_ends answer o end told
 
-report_ends : {S : Type 0} (store : Ghosts S) (at : Places) (words : ReportWords) (o : Outputs) (end : CommandEnd) → IsReported store at words o end → exit_status_of end ≤ 1
+report_ends : {S : Type 0} (store : Ghosts S) (at : Places) (words : ReportWords) (o : Outputs) (end : CommandEnd)
+    → IsReported store at words o end → exit_status_of end ≤ 1
 report_ends store at words o end (no_file misses told) = told_ends o _ _ how.Refused end (omega arith) told
 report_ends store at words o end (present printed) = visit_ends store _ _ _ o end (λ old new prints. paper_ends words.paper old new o end prints) printed
 
-found_ends : (json : Bool) (lookup : Lookup) (found : Result WhatIsFound Refusal) (o : Outputs) (end : CommandEnd) → TellsFound json lookup found o end → exit_status_of end ≤ 1
+found_ends : (json : Bool) (lookup : Lookup) (found : Result WhatIsFound Refusal) (o : Outputs) (end : CommandEnd)
+    → TellsFound json lookup found o end → exit_status_of end ≤ 1
 found_ends json lookup (Ok what) o end (inl told) = told_ends o _ _ how.Done end (omega arith) told
 found_ends json lookup (Ok what) o end (inr (room, told)) = told_ends o _ _ how.Refused end (omega arith) told
 found_ends json lookup (Err refusal) o end told = told_ends o _ _ how.Refused end (omega arith) told
@@ -184,23 +199,28 @@ read_ends : (moment : ℕ) (wanted : Wanted) (old new : Seen) (o : Outputs) (end
 read_ends moment (One lookup json) old new o end done = found_ends json lookup done.found o end done.told
 read_ends moment (Listing list json) old new o end done = told_ends o _ _ (export_stop_end done.stop) end (stop_low done.stop) done.told
 
-shown_ends : {S : Type 0} (store : Ghosts S) (at : Places) (file : Text) (wait moment : ℕ) (wanted : Wanted) (o : Outputs) (end : CommandEnd) → IsShownAt store at file wait moment wanted o end → exit_status_of end ≤ 1
+shown_ends : {S : Type 0} (store : Ghosts S) (at : Places) (file : Text) (wait moment : ℕ) (wanted : Wanted) (o : Outputs)
+    (end : CommandEnd) → IsShownAt store at file wait moment wanted o end → exit_status_of end ≤ 1
 shown_ends store at file wait moment wanted o end (shown_absent misses told) = told_ends o _ _ how.Refused end (omega arith) told
-shown_ends store at file wait moment wanted o end (shown_present visit) = visit_ends store _ _ _ o end (λ old new done. read_ends moment wanted old new o end done) visit
+shown_ends store at file wait moment wanted o end (shown_present visit) =
+    visit_ends store _ _ _ o end (λ old new done. read_ends moment wanted old new o end done) visit
 
-told_in_reply_ends : (json : Bool) (question : Question) (told : Told) (o : Outputs) (end : CommandEnd) → TellsTold json question told o end → exit_status_of end ≤ 1
+told_in_reply_ends : (json : Bool) (question : Question) (told : Told) (o : Outputs) (end : CommandEnd)
+    → TellsTold json question told o end → exit_status_of end ≤ 1
 told_in_reply_ends json question (tells.Granted granted) o end (inl told) = told_ends o _ _ how.Done end (omega arith) told
 told_in_reply_ends json question (tells.Granted granted) o end (inr (room, told)) = told_ends o _ _ how.Refused end (omega arith) told
 told_in_reply_ends json question (tells.Refused refusal) o end told = told_ends o _ _ how.Refused end (omega arith) told
 told_in_reply_ends json question tells.NoMoment o end told = told_ends o _ _ how.Refused end (omega arith) told
 
-desk_asked_ends : (calls : Calls) (uncalled : Type 0) (desk : Address) (json : Bool) (question : Question) (o : Outputs) (end : CommandEnd) → IsAskedOfDesk calls uncalled desk json question o end → exit_status_of end ≤ 1
+desk_asked_ends : (calls : Calls) (uncalled : Type 0) (desk : Address) (json : Bool) (question : Question) (o : Outputs) (end : CommandEnd)
+    → IsAskedOfDesk calls uncalled desk json question o end → exit_status_of end ≤ 1
 desk_asked_ends calls uncalled desk json question o end (replied came exchanged told is done) = told_in_reply_ends json question told o end done
 desk_asked_ends calls uncalled desk json question o end (broken came exchanged none told) = told_ends o _ _ how.Refused end (omega arith) told
 desk_asked_ends calls uncalled desk json question o end (unsent fault why told) = told_ends o _ _ how.Refused end (omega arith) told
 desk_asked_ends calls uncalled desk json question o end (desk_full left told) = told_ends o _ _ how.Refused end (omega arith) told
 
-asked_once_ends : (texts : Texts) (calls : Calls) (uncalled : Type 0) (desk : Address) (question : DeskQuestion) (o : Outputs) (end : CommandEnd) → IsAskedOnce texts calls uncalled desk question o end → exit_status_of end ≤ 1
+asked_once_ends : (texts : Texts) (calls : Calls) (uncalled : Type 0) (desk : Address) (question : DeskQuestion) (o : Outputs)
+    (end : CommandEnd) → IsAskedOnce texts calls uncalled desk question o end → exit_status_of end ≤ 1
 asked_once_ends texts calls uncalled desk question o end (desk_asked rows are done) = desk_asked_ends calls uncalled desk _ _ o end done
 asked_once_ends texts calls uncalled desk question o end (without_rows fault why left told) = told_ends o _ _ how.Refused end (omega arith) told
 
@@ -208,34 +228,54 @@ page_stop_low : (stop : Option PageFault) → exit_status_of (page_stop_end stop
 page_stop_low None = omega arith
 page_stop_low (Some fault) = omega arith
 
-answered_ends : (texts : Texts) (calls : Calls) (uncalled : Type 0) (desk : Address) (question : DeskQuestion) (o : Outputs) (end : CommandEnd) → IsAnswered texts calls uncalled desk question o end → exit_status_of end ≤ 1
-answered_ends texts calls uncalled desk (desk_asks.Import kind csv) o end done = asked_once_ends texts calls uncalled desk (desk_asks.Import kind csv) o end done
-answered_ends texts calls uncalled desk (desk_asks.MoveBase meter base) o end done = asked_once_ends texts calls uncalled desk (desk_asks.MoveBase meter base) o end done
-answered_ends texts calls uncalled desk (desk_asks.OpenShift operator) o end done = asked_once_ends texts calls uncalled desk (desk_asks.OpenShift operator) o end done
-answered_ends texts calls uncalled desk (desk_asks.CloseShift operator) o end done = asked_once_ends texts calls uncalled desk (desk_asks.CloseShift operator) o end done
+answered_ends : (texts : Texts) (calls : Calls) (uncalled : Type 0) (desk : Address) (question : DeskQuestion) (o : Outputs)
+    (end : CommandEnd) → IsAnswered texts calls uncalled desk question o end → exit_status_of end ≤ 1
+answered_ends texts calls uncalled desk (desk_asks.Import kind csv) o end done =
+    asked_once_ends texts calls uncalled desk (desk_asks.Import kind csv) o end done
+answered_ends texts calls uncalled desk (desk_asks.MoveBase meter base) o end done =
+    asked_once_ends texts calls uncalled desk (desk_asks.MoveBase meter base) o end done
+answered_ends texts calls uncalled desk (desk_asks.OpenShift operator) o end done =
+    asked_once_ends texts calls uncalled desk (desk_asks.OpenShift operator) o end done
+answered_ends texts calls uncalled desk (desk_asks.CloseShift operator) o end done =
+    asked_once_ends texts calls uncalled desk (desk_asks.CloseShift operator) o end done
 answered_ends texts calls uncalled desk (desk_asks.Sell order) o end done = asked_once_ends texts calls uncalled desk (desk_asks.Sell order) o end done
-answered_ends texts calls uncalled desk (desk_asks.ShiftReport number) o end done = asked_once_ends texts calls uncalled desk (desk_asks.ShiftReport number) o end done
+answered_ends texts calls uncalled desk (desk_asks.ShiftReport number) o end done =
+    asked_once_ends texts calls uncalled desk (desk_asks.ShiftReport number) o end done
 answered_ends texts calls uncalled desk (desk_asks.Receipt number) o end done = asked_once_ends texts calls uncalled desk (desk_asks.Receipt number) o end done
-answered_ends texts calls uncalled desk (desk_asks.ShiftTotals number) o end done = asked_once_ends texts calls uncalled desk (desk_asks.ShiftTotals number) o end done
-answered_ends texts calls uncalled desk (desk_asks.Show shown json) o end done = asked_once_ends texts calls uncalled desk (desk_asks.Show shown json) o end done
-answered_ends texts calls uncalled desk (desk_asks.Offer meter tender json) o end done = asked_once_ends texts calls uncalled desk (desk_asks.Offer meter tender json) o end done
-answered_ends texts calls uncalled desk (desk_asks.List list json) o end (left, done) = told_ends o _ _ (page_stop_end done.stop) end (page_stop_low done.stop) done.told
+answered_ends texts calls uncalled desk (desk_asks.ShiftTotals number) o end done =
+    asked_once_ends texts calls uncalled desk (desk_asks.ShiftTotals number) o end done
+answered_ends texts calls uncalled desk (desk_asks.Show shown json) o end done =
+    asked_once_ends texts calls uncalled desk (desk_asks.Show shown json) o end done
+answered_ends texts calls uncalled desk (desk_asks.Offer meter tender json) o end done =
+    asked_once_ends texts calls uncalled desk (desk_asks.Offer meter tender json) o end done
+answered_ends texts calls uncalled desk (desk_asks.List list json) o end (left, done) =
+    told_ends o _ _ (page_stop_end done.stop) end (page_stop_low done.stop) done.told
 
-done_ends : (Idle : Type 0) (At : ℕ → Type 0) (o : Outputs) (end : CommandEnd) (moment : Option ℕ) → ((moment : ℕ) → At moment → exit_status_of end ≤ 1) → IsDoneAt Idle At o end moment → exit_status_of end ≤ 1
+done_ends : (Idle : Type 0) (At : ℕ → Type 0) (o : Outputs) (end : CommandEnd) (moment : Option ℕ)
+    → ((moment : ℕ) → At moment → exit_status_of end ≤ 1) → IsDoneAt Idle At o end moment → exit_status_of end ≤ 1
 done_ends Idle At o end (Some moment) ends done = ends moment done
 done_ends Idle At o end None ends (idle, told) = told_ends o _ _ how.Refused end (omega arith) told
 
-timed_ends : (Idle : Type 0) (given : Option ℕ) (clock : Dial) (At : ℕ → Type 0) (o : Outputs) (end : CommandEnd) → ((moment : ℕ) → At moment → exit_status_of end ≤ 1) → IsTimed Idle given clock At o end → exit_status_of end ≤ 1
+timed_ends : (Idle : Type 0) (given : Option ℕ) (clock : Dial) (At : ℕ → Type 0) (o : Outputs) (end : CommandEnd)
+    → ((moment : ℕ) → At moment → exit_status_of end ≤ 1) → IsTimed Idle given clock At o end → exit_status_of end ≤ 1
 timed_ends Idle given clock At o end ends (moment, taken, done) = done_ends Idle At o end moment ends done
 
-answer_ends : {S D R W : Type 0} (store : Ghosts S) (m : Machine D R W) (asked : Asked) (o : Outputs) (end : CommandEnd) → IsCarriedOut store m asked o end → exit_status_of end ≤ 1
-answer_ends store m (asks.Trial words) o end (idle, done) = timed_ends ⊤ words.at m.clock _ o end (λ moment tried. told_ends o _ _ (trial_end tried.2) end (trial_low tried.2) tried.4) done
-answer_ends store m (asks.Import words) o end (shut, done) = timed_ends (m.untouched × m.texts.leaves) words.at m.clock _ o end (λ moment imported. import_ends store m words moment o end imported) done
-answer_ends store m (asks.Request words) o end (shut, done) = timed_ends m.untouched words.at m.clock _ o end (λ moment asked. asked_at_ends store m.at words.transform words.file.now words.wait moment words.request o end asked) done
+answer_ends : {S D R W : Type 0} (store : Ghosts S) (m : Machine D R W) (asked : Asked) (o : Outputs) (end : CommandEnd)
+    → IsCarriedOut store m asked o end → exit_status_of end ≤ 1
+answer_ends store m (asks.Trial words) o end (idle, done) =
+    timed_ends ⊤ words.at m.clock _ o end (λ moment tried. told_ends o _ _ (trial_end tried.2) end (trial_low tried.2) tried.4) done
+answer_ends store m (asks.Import words) o end (shut, done) =
+    timed_ends (m.untouched × m.texts.leaves) words.at m.clock _ o end (λ moment imported. import_ends store m words moment o end imported) done
+answer_ends store m (asks.Request words) o end (shut, done) =
+    timed_ends m.untouched words.at m.clock _ o end (λ moment asked. asked_at_ends store m.at words.transform words.file.now words.wait
+    moment words.request o end asked) done
 answer_ends store m (asks.Report words) o end (shut, done) = report_ends store m.at words o end done
-answer_ends store m (asks.Show words) o end (shut, done) = timed_ends m.untouched words.at m.clock _ o end (λ moment shown. shown_ends store m.at words.file.now words.wait moment _ o end shown) done
-answer_ends store m (asks.List words) o end (shut, done) = timed_ends m.untouched words.at m.clock _ o end (λ moment shown. shown_ends store m.at words.file.now words.wait moment _ o end shown) done
-answer_ends store m (asks.Offer words) o end (shut, done) = timed_ends m.untouched words.at m.clock _ o end (λ moment shown. shown_ends store m.at words.file.now words.wait moment _ o end shown) done
+answer_ends store m (asks.Show words) o end (shut, done) =
+    timed_ends m.untouched words.at m.clock _ o end (λ moment shown. shown_ends store m.at words.file.now words.wait moment _ o end shown) done
+answer_ends store m (asks.List words) o end (shut, done) =
+    timed_ends m.untouched words.at m.clock _ o end (λ moment shown. shown_ends store m.at words.file.now words.wait moment _ o end shown) done
+answer_ends store m (asks.Offer words) o end (shut, done) =
+    timed_ends m.untouched words.at m.clock _ o end (λ moment shown. shown_ends store m.at words.file.now words.wait moment _ o end shown) done
 answer_ends store m (asks.Meter words) o end (idle, done) = told_ends o _ _ how.Done end (omega arith) done
 answer_ends store m (asks.Quote words) o end (idle, done) =
     let bought = purchase_of words.steps words.prior words.tender in
@@ -247,7 +287,8 @@ answer_ends store m (asks.Desk words) o end (untouched, shut, done) = answered_e
 answer_ends store m (asks.Audit words) o end (shut, done) = audit_ends (m.at words.file.now words.wait) (option_map forward_of words.transform) o end done
 
 -- words that ask for something never end as bad words
-run_ends : {S D R W : Type 0} (store : Ghosts S) (m : Machine D R W) (words : List Text) (o : Outputs) (end : CommandEnd) (asked : Asked) → AskFor words asked → IsProgramRun store m words o end → exit_status_of end ≤ 1
+run_ends : {S D R W : Type 0} (store : Ghosts S) (m : Machine D R W) (words : List Text) (o : Outputs) (end : CommandEnd) (asked : Asked)
+    → AskFor words asked → IsProgramRun store m words o end → exit_status_of end ≤ 1
 run_ends store m words o end asked for (answered other other_for done) = answer_ends store m other o end done
 run_ends store m words o end asked for (bad_word idle no_fault none told) = absurd (none asked for)
 run_ends store m words o end asked for (explained idle kind text among some says) = absurd (subst (IsAmong kind) for.no_fault among)
@@ -257,5 +298,6 @@ low_status : (end : CommandEnd) (failed : Bool) → exit_status_of end ≤ 1 →
 low_status end false low = low
 low_status end true low = omega arith
 
-pub asked_ends : {S D R W : Type 0} (store : Ghosts S) (m : Machine D R W) (words : List Text) (o : Outputs) (end : CommandEnd) (cut : Bool) (asked : Asked) → AskFor words asked → IsProgramRun store m words o end → status_of end cut ≤ 1
+pub asked_ends : {S D R W : Type 0} (store : Ghosts S) (m : Machine D R W) (words : List Text) (o : Outputs) (end : CommandEnd)
+    (cut : Bool) (asked : Asked) → AskFor words asked → IsProgramRun store m words o end → status_of end cut ≤ 1
 asked_ends store m words o end cut asked for run = low_status end cut (run_ends store m words o end asked for run)

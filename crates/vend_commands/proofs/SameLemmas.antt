@@ -83,12 +83,15 @@ totals_same : (number : ℕ) (totals : Result Totals Refusal) (o : Outputs) (end
 totals_same number (Ok totals) o end told = told_same o _ _ _ end told
 totals_same number (Err refusal) o end told = told_same o _ _ _ end told
 
-visit_same : {S : Type 0} (store : Ghosts S) (place : Place) (transform : Shipped) (Does : (old new : Seen) → Type 0) (o : Outputs) (end : CommandEnd) → ((old new : Seen) → Does old new → AreSame o) → IsVisited store place transform Does o end → AreSame o
+visit_same : {S : Type 0} (store : Ghosts S) (place : Place) (transform : Shipped) (Does : (old new : Seen) → Type 0) (o : Outputs)
+    (end : CommandEnd) → ((old new : Seen) → Does old new → AreSame o) → IsVisited store place transform Does o end → AreSame o
 visit_same store place transform Does o end same (unopened fault fails told) = told_same o _ _ _ end told
 visit_same store place transform Does o end same (visited old new opened finds done closes) = same (seen_in old) (seen_in new) done
 
-asked_at_same : {S : Type 0} (store : Ghosts S) (at : Places) (transform : Shipped) (file : Text) (wait moment : ℕ) (request : Request) (o : Outputs) (end : CommandEnd) → IsAskedAt store at transform file wait moment request o end → AreSame o
-asked_at_same store at transform file wait moment request o end asked = visit_same store _ _ _ o end (λ old new done. reply_same done.reply o end done.told) asked
+asked_at_same : {S : Type 0} (store : Ghosts S) (at : Places) (transform : Shipped) (file : Text) (wait moment : ℕ) (request : Request)
+    (o : Outputs) (end : CommandEnd) → IsAskedAt store at transform file wait moment request o end → AreSame o
+asked_at_same store at transform file wait moment request o end asked =
+    visit_same store _ _ _ o end (λ old new done. reply_same done.reply o end done.told) asked
 
 paper_same : (paper : Paper) (old new : Seen) (o : Outputs) (end : CommandEnd) → PrintsPaper paper old new o end → AreSame o
 paper_same (papers.Shift number) old new o end done = reply_same done.reply o end done.told
@@ -96,12 +99,15 @@ paper_same (papers.Receipt number) old new o end done = reply_same done.reply o 
 paper_same (papers.Totals number) old new o end done = totals_same number done.totals o end done.told
 paper_same papers.Sales old new o end done = told_same o _ _ _ end done.told
 
-added_same : {S : Type 0} (store : Ghosts S) (at : Places) (untouched : Type 0) (words : ImportWords) (moment : ℕ) (rows : Result (List Row) RowFault) (o : Outputs) (end : CommandEnd) → AreAdded store at untouched words moment rows o end → AreSame o
+added_same : {S : Type 0} (store : Ghosts S) (at : Places) (untouched : Type 0) (words : ImportWords) (moment : ℕ)
+    (rows : Result (List Row) RowFault) (o : Outputs) (end : CommandEnd) → AreAdded store at untouched words moment rows o end → AreSame o
 added_same store at untouched words moment (Ok rows) o end added = asked_at_same store at words.transform words.file.now words.wait moment _ o end added
 added_same store at untouched words moment (Err fault) o end (left, told) = told_same o _ _ _ end told
 
-import_same : {S D R W : Type 0} (store : Ghosts S) (m : Machine D R W) (words : ImportWords) (moment : ℕ) (o : Outputs) (end : CommandEnd) → IsFileImported store m.at m.untouched m.texts words moment o end → AreSame o
-import_same store m words moment o end (inl (bytes, reads, (records, rows, are, reading, added))) = added_same store m.at m.untouched words moment rows o end added
+import_same : {S D R W : Type 0} (store : Ghosts S) (m : Machine D R W) (words : ImportWords) (moment : ℕ) (o : Outputs) (end : CommandEnd)
+    → IsFileImported store m.at m.untouched m.texts words moment o end → AreSame o
+import_same store m words moment o end (inl (bytes, reads, (records, rows, are, reading, added))) =
+    added_same store m.at m.untouched words moment rows o end added
 import_same store m words moment o end (inr (fault, lacks, left, told)) = told_same o _ _ _ end told
 
 deaf_same : {D R W : Type 0} (way : Way D R W) (address : Address) (door last : D) (old new : Sink) → IsDeaf way address door last old new → new.name ≡ old.name
@@ -110,10 +116,12 @@ deaf_same way address door last old new (no_listener fails told) = told.same
 deaf_same way address door last old new (no_text port is_port listens told) = told.same
 deaf_same way address door last old new (not_told port is_port listens cut told) = told.same
 
-serving_same : {S D R W : Type 0} (store : Ghosts S) (way : Way D R W) (at : Places) (door : D) (answers : Option (List ℤ)) (words : ServeWords) (old new : Sink) (end : CommandEnd)
+serving_same : {S D R W : Type 0} (store : Ghosts S) (way : Way D R W) (at : Places) (door : D) (answers : Option (List ℤ))
+    (words : ServeWords) (old new : Sink) (end : CommandEnd)
     → IsServing store way at door answers words old new end → new.name ≡ old.name
 serving_same store way at door answers words old new end (serves_unopened fault fails shut told ends) = told.same
-serving_same store way at door answers words old new end (unheard books opens finds last deaf shut closes ends) = deaf_same way words.listen door last old new deaf
+serving_same store way at door answers words old new end (unheard books opens finds last deaf shut closes ends) =
+    deaf_same way words.listen door last old new deaf
 serving_same store way at door answers words old new end (was_open books opens finds were) = were.told.same ∙ were.listens.told.same
 
 answer_told_same : (answer : Result Audited AuditFault) (o : Outputs) (end : CommandEnd) → TellsAudit answer o end → AreSame o
@@ -131,7 +139,8 @@ report_same : {S : Type 0} (store : Ghosts S) (at : Places) (words : ReportWords
 report_same store at words o end (no_file misses told) = told_same o _ _ _ end told
 report_same store at words o end (present printed) = visit_same store _ _ _ o end (λ old new prints. paper_same words.paper old new o end prints) printed
 
-found_same : (json : Bool) (lookup : Lookup) (found : Result WhatIsFound Refusal) (o : Outputs) (end : CommandEnd) → TellsFound json lookup found o end → AreSame o
+found_same : (json : Bool) (lookup : Lookup) (found : Result WhatIsFound Refusal) (o : Outputs) (end : CommandEnd)
+    → TellsFound json lookup found o end → AreSame o
 found_same json lookup (Ok what) o end (inl told) = told_same o _ _ _ end told
 found_same json lookup (Ok what) o end (inr (room, told)) = told_same o _ _ _ end told
 found_same json lookup (Err refusal) o end told = told_same o _ _ _ end told
@@ -140,9 +149,11 @@ read_same : (moment : ℕ) (wanted : Wanted) (old new : Seen) (o : Outputs) (end
 read_same moment (One lookup json) old new o end done = found_same json lookup done.found o end done.told
 read_same moment (Listing list json) old new o end done = told_same o _ _ _ end done.told
 
-shown_same : {S : Type 0} (store : Ghosts S) (at : Places) (file : Text) (wait moment : ℕ) (wanted : Wanted) (o : Outputs) (end : CommandEnd) → IsShownAt store at file wait moment wanted o end → AreSame o
+shown_same : {S : Type 0} (store : Ghosts S) (at : Places) (file : Text) (wait moment : ℕ) (wanted : Wanted) (o : Outputs)
+    (end : CommandEnd) → IsShownAt store at file wait moment wanted o end → AreSame o
 shown_same store at file wait moment wanted o end (shown_absent misses told) = told_same o _ _ _ end told
-shown_same store at file wait moment wanted o end (shown_present visit) = visit_same store _ _ _ o end (λ old new done. read_same moment wanted old new o end done) visit
+shown_same store at file wait moment wanted o end (shown_present visit) =
+    visit_same store _ _ _ o end (λ old new done. read_same moment wanted old new o end done) visit
 
 told_in_reply_same : (json : Bool) (question : Question) (told : Told) (o : Outputs) (end : CommandEnd) → TellsTold json question told o end → AreSame o
 told_in_reply_same json question (tells.Granted granted) o end (inl told) = told_same o _ _ _ end told
@@ -150,44 +161,64 @@ told_in_reply_same json question (tells.Granted granted) o end (inr (room, told)
 told_in_reply_same json question (tells.Refused refusal) o end told = told_same o _ _ _ end told
 told_in_reply_same json question tells.NoMoment o end told = told_same o _ _ _ end told
 
-desk_asked_same : (calls : Calls) (uncalled : Type 0) (desk : Address) (json : Bool) (question : Question) (o : Outputs) (end : CommandEnd) → IsAskedOfDesk calls uncalled desk json question o end → AreSame o
+desk_asked_same : (calls : Calls) (uncalled : Type 0) (desk : Address) (json : Bool) (question : Question) (o : Outputs) (end : CommandEnd)
+    → IsAskedOfDesk calls uncalled desk json question o end → AreSame o
 desk_asked_same calls uncalled desk json question o end (replied came exchanged told is done) = told_in_reply_same json question told o end done
 desk_asked_same calls uncalled desk json question o end (broken came exchanged none told) = told_same o _ _ _ end told
 desk_asked_same calls uncalled desk json question o end (unsent fault why told) = told_same o _ _ _ end told
 desk_asked_same calls uncalled desk json question o end (desk_full left told) = told_same o _ _ _ end told
 
-asked_once_same : (texts : Texts) (calls : Calls) (uncalled : Type 0) (desk : Address) (question : DeskQuestion) (o : Outputs) (end : CommandEnd) → IsAskedOnce texts calls uncalled desk question o end → AreSame o
+asked_once_same : (texts : Texts) (calls : Calls) (uncalled : Type 0) (desk : Address) (question : DeskQuestion) (o : Outputs)
+    (end : CommandEnd) → IsAskedOnce texts calls uncalled desk question o end → AreSame o
 asked_once_same texts calls uncalled desk question o end (desk_asked rows are done) = desk_asked_same calls uncalled desk _ _ o end done
 asked_once_same texts calls uncalled desk question o end (without_rows fault why left told) = told_same o _ _ _ end told
 
-answered_same : (texts : Texts) (calls : Calls) (uncalled : Type 0) (desk : Address) (question : DeskQuestion) (o : Outputs) (end : CommandEnd) → IsAnswered texts calls uncalled desk question o end → AreSame o
-answered_same texts calls uncalled desk (desk_asks.Import kind csv) o end done = asked_once_same texts calls uncalled desk (desk_asks.Import kind csv) o end done
-answered_same texts calls uncalled desk (desk_asks.MoveBase meter base) o end done = asked_once_same texts calls uncalled desk (desk_asks.MoveBase meter base) o end done
-answered_same texts calls uncalled desk (desk_asks.OpenShift operator) o end done = asked_once_same texts calls uncalled desk (desk_asks.OpenShift operator) o end done
-answered_same texts calls uncalled desk (desk_asks.CloseShift operator) o end done = asked_once_same texts calls uncalled desk (desk_asks.CloseShift operator) o end done
+answered_same : (texts : Texts) (calls : Calls) (uncalled : Type 0) (desk : Address) (question : DeskQuestion) (o : Outputs)
+    (end : CommandEnd) → IsAnswered texts calls uncalled desk question o end → AreSame o
+answered_same texts calls uncalled desk (desk_asks.Import kind csv) o end done =
+    asked_once_same texts calls uncalled desk (desk_asks.Import kind csv) o end done
+answered_same texts calls uncalled desk (desk_asks.MoveBase meter base) o end done =
+    asked_once_same texts calls uncalled desk (desk_asks.MoveBase meter base) o end done
+answered_same texts calls uncalled desk (desk_asks.OpenShift operator) o end done =
+    asked_once_same texts calls uncalled desk (desk_asks.OpenShift operator) o end done
+answered_same texts calls uncalled desk (desk_asks.CloseShift operator) o end done =
+    asked_once_same texts calls uncalled desk (desk_asks.CloseShift operator) o end done
 answered_same texts calls uncalled desk (desk_asks.Sell order) o end done = asked_once_same texts calls uncalled desk (desk_asks.Sell order) o end done
-answered_same texts calls uncalled desk (desk_asks.ShiftReport number) o end done = asked_once_same texts calls uncalled desk (desk_asks.ShiftReport number) o end done
+answered_same texts calls uncalled desk (desk_asks.ShiftReport number) o end done =
+    asked_once_same texts calls uncalled desk (desk_asks.ShiftReport number) o end done
 answered_same texts calls uncalled desk (desk_asks.Receipt number) o end done = asked_once_same texts calls uncalled desk (desk_asks.Receipt number) o end done
-answered_same texts calls uncalled desk (desk_asks.ShiftTotals number) o end done = asked_once_same texts calls uncalled desk (desk_asks.ShiftTotals number) o end done
-answered_same texts calls uncalled desk (desk_asks.Show shown json) o end done = asked_once_same texts calls uncalled desk (desk_asks.Show shown json) o end done
-answered_same texts calls uncalled desk (desk_asks.Offer meter tender json) o end done = asked_once_same texts calls uncalled desk (desk_asks.Offer meter tender json) o end done
+answered_same texts calls uncalled desk (desk_asks.ShiftTotals number) o end done =
+    asked_once_same texts calls uncalled desk (desk_asks.ShiftTotals number) o end done
+answered_same texts calls uncalled desk (desk_asks.Show shown json) o end done =
+    asked_once_same texts calls uncalled desk (desk_asks.Show shown json) o end done
+answered_same texts calls uncalled desk (desk_asks.Offer meter tender json) o end done =
+    asked_once_same texts calls uncalled desk (desk_asks.Offer meter tender json) o end done
 answered_same texts calls uncalled desk (desk_asks.List list json) o end (left, done) = told_same o _ _ _ end done.told
 
-done_same : (Idle : Type 0) (At : ℕ → Type 0) (o : Outputs) (end : CommandEnd) (moment : Option ℕ) → ((moment : ℕ) → At moment → AreSame o) → IsDoneAt Idle At o end moment → AreSame o
+done_same : (Idle : Type 0) (At : ℕ → Type 0) (o : Outputs) (end : CommandEnd) (moment : Option ℕ) → ((moment : ℕ) → At moment → AreSame o)
+    → IsDoneAt Idle At o end moment → AreSame o
 done_same Idle At o end (Some moment) same done = same moment done
 done_same Idle At o end None same (idle, told) = told_same o _ _ _ end told
 
-timed_same : (Idle : Type 0) (given : Option ℕ) (clock : Dial) (At : ℕ → Type 0) (o : Outputs) (end : CommandEnd) → ((moment : ℕ) → At moment → AreSame o) → IsTimed Idle given clock At o end → AreSame o
+timed_same : (Idle : Type 0) (given : Option ℕ) (clock : Dial) (At : ℕ → Type 0) (o : Outputs) (end : CommandEnd)
+    → ((moment : ℕ) → At moment → AreSame o) → IsTimed Idle given clock At o end → AreSame o
 timed_same Idle given clock At o end same (moment, taken, done) = done_same Idle At o end moment same done
 
-answer_same : {S D R W : Type 0} (store : Ghosts S) (m : Machine D R W) (asked : Asked) (o : Outputs) (end : CommandEnd) → IsCarriedOut store m asked o end → AreSame o
+answer_same : {S D R W : Type 0} (store : Ghosts S) (m : Machine D R W) (asked : Asked) (o : Outputs) (end : CommandEnd)
+    → IsCarriedOut store m asked o end → AreSame o
 answer_same store m (asks.Trial words) o end (idle, done) = timed_same ⊤ words.at m.clock _ o end (λ moment tried. told_same o _ _ _ end tried.4) done
-answer_same store m (asks.Import words) o end (shut, done) = timed_same (m.untouched × m.texts.leaves) words.at m.clock _ o end (λ moment imported. import_same store m words moment o end imported) done
-answer_same store m (asks.Request words) o end (shut, done) = timed_same m.untouched words.at m.clock _ o end (λ moment asked. asked_at_same store m.at words.transform words.file.now words.wait moment words.request o end asked) done
+answer_same store m (asks.Import words) o end (shut, done) =
+    timed_same (m.untouched × m.texts.leaves) words.at m.clock _ o end (λ moment imported. import_same store m words moment o end imported) done
+answer_same store m (asks.Request words) o end (shut, done) =
+    timed_same m.untouched words.at m.clock _ o end (λ moment asked. asked_at_same store m.at words.transform words.file.now words.wait
+    moment words.request o end asked) done
 answer_same store m (asks.Report words) o end (shut, done) = report_same store m.at words o end done
-answer_same store m (asks.Show words) o end (shut, done) = timed_same m.untouched words.at m.clock _ o end (λ moment shown. shown_same store m.at words.file.now words.wait moment _ o end shown) done
-answer_same store m (asks.List words) o end (shut, done) = timed_same m.untouched words.at m.clock _ o end (λ moment shown. shown_same store m.at words.file.now words.wait moment _ o end shown) done
-answer_same store m (asks.Offer words) o end (shut, done) = timed_same m.untouched words.at m.clock _ o end (λ moment shown. shown_same store m.at words.file.now words.wait moment _ o end shown) done
+answer_same store m (asks.Show words) o end (shut, done) =
+    timed_same m.untouched words.at m.clock _ o end (λ moment shown. shown_same store m.at words.file.now words.wait moment _ o end shown) done
+answer_same store m (asks.List words) o end (shut, done) =
+    timed_same m.untouched words.at m.clock _ o end (λ moment shown. shown_same store m.at words.file.now words.wait moment _ o end shown) done
+answer_same store m (asks.Offer words) o end (shut, done) =
+    timed_same m.untouched words.at m.clock _ o end (λ moment shown. shown_same store m.at words.file.now words.wait moment _ o end shown) done
 answer_same store m (asks.Meter words) o end (idle, done) = told_same o _ _ _ end done
 answer_same store m (asks.Quote words) o end (idle, done) = told_same o _ _ _ end done
 answer_same store m (asks.Serve words) o end (left, done) =
@@ -203,7 +234,8 @@ explained_same DisplayHelp text o end told = told_same o _ _ _ end told
 explained_same DisplayVersion text o end told = told_same o _ _ _ end told
 explained_same kind text o end told = told_same o [] text how.BadWords end told
 
-pub run_same : {S D R W : Type 0} (store : Ghosts S) (m : Machine D R W) (words : List Text) (o : Outputs) (end : CommandEnd) → IsProgramRun store m words o end → AreSame o
+pub run_same : {S D R W : Type 0} (store : Ghosts S) (m : Machine D R W) (words : List Text) (o : Outputs) (end : CommandEnd)
+    → IsProgramRun store m words o end → AreSame o
 run_same store m words o end (answered asked for done) = answer_same store m asked o end done
 run_same store m words o end (bad_word idle no_fault none told) = told_same o _ _ _ end told
 run_same store m words o end (explained idle kind text among some says) = explained_same kind text o end says

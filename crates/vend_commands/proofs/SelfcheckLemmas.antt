@@ -47,7 +47,8 @@ pub third_request : Contains preparing open_selfcheck_shift
 third_request = (2, omega arith, refl)
 
 -- books that granted a request keep the life that went on by it
-pub granted : (reply : Result Answer Refusal) (answer : Answer) (moment : ℕ) (request : Request) (old new : Seen) → reply ≡ Ok answer → moment ≡ clock_moment → ReplyAt moment request reply old new
+pub granted : (reply : Result Answer Refusal) (answer : Answer) (moment : ℕ) (request : Request) (old new : Seen) → reply ≡ Ok answer
+    → moment ≡ clock_moment → ReplyAt moment request reply old new
     → (life : Life) → Represents life old → (after : Life) × IsGranted request life after × Represents after new
 granted reply answer moment request old new is now (at, asked, replied) life keeps = (
   extended_by life at reply,
@@ -62,12 +63,16 @@ granted reply answer moment request old new is now (at, asked, replied) life kee
 )
 
 -- books that refused it, refused it at the clock's moment
-pub refused_so : (reply : Result Answer Refusal) (why : Refusal) (moment : ℕ) (request : Request) (old new : Seen) → reply ≡ Err why → moment ≡ clock_moment → ReplyAt moment request reply old new → ReplyAt clock_moment request (Err why) old new
-refused_so reply why moment request old new is now replied = subst (λ m. ReplyAt m request (Err why) old new) now (subst (λ r. ReplyAt moment request r old new) is replied)
+pub refused_so : (reply : Result Answer Refusal) (why : Refusal) (moment : ℕ) (request : Request) (old new : Seen) → reply ≡ Err why
+    → moment ≡ clock_moment → ReplyAt moment request reply old new → ReplyAt clock_moment request (Err why) old new
+refused_so reply why moment request old new is now replied =
+    subst (λ m. ReplyAt m request (Err why) old new) now (subst (λ r. ReplyAt moment request r old new) is replied)
 
 -- the request that was refused is one of those that prepare an office
-pub ungranted : {B : Type 0} (see : B → Seen) (request same : Request) (why : Refusal) (old new : B) → request ≡ same → Contains preparing same → ReplyAt clock_moment request (Err why) (see old) (see new) → IsUnprepared see (Refused why)
-ungranted see request same why old new is among replied = inr (same, among, old, new, subst (λ r. ReplyAt clock_moment r (Err why) (see old) (see new)) is replied)
+pub ungranted : {B : Type 0} (see : B → Seen) (request same : Request) (why : Refusal) (old new : B) → request ≡ same
+    → Contains preparing same → ReplyAt clock_moment request (Err why) (see old) (see new) → IsUnprepared see (Refused why)
+ungranted see request same why old new is among replied =
+    inr (same, among, old, new, subst (λ r. ReplyAt clock_moment r (Err why) (see old) (see new)) is replied)
 
 -- an end of which nothing is told is the whole conversation's
 pub whole_in_memory : (end : conversation.End) → fault_in_memory end ≡ None → end ≡ Closed
@@ -85,18 +90,28 @@ whole_over_net WriteFault is = absurd (cc)
 whole_over_net Memory is = absurd (cc)
 
 -- what a whole conversation over memory wrote is the replies
-pub replies_so : (forward : BlockFunction) (life : Life) (held text : List ℕ) (end : conversation.End) (told : Option SelfcheckFault) → IsPrepared forward life → held ≡ [] → ConversesWithItself life (Some messages) (Some held) (Some text) end → told ≡ fault_in_memory end → told ≡ None → AreReplies forward text
+pub replies_so : (forward : BlockFunction) (life : Life) (held text : List ℕ) (end : conversation.End) (told : Option SelfcheckFault)
+    → IsPrepared forward life → held ≡ [] → ConversesWithItself life (Some messages) (Some held) (Some text) end → told
+    ≡ fault_in_memory end → told ≡ None → AreReplies forward text
 replies_so forward life held text end told prepared fresh converses is none =
-    let closed = whole_in_memory end (sym is ∙ none) in
-    (life, prepared, subst (λ (h : List ℕ). ConversesWithItself life (Some messages) (Some h) (Some text) Closed) fresh (subst (ConversesWithItself life (Some messages) (Some held) (Some text)) closed converses))
+    let closed = whole_in_memory end (sym is ∙ none) in (
+      life,
+      prepared,
+      subst (λ (h : List ℕ). ConversesWithItself life (Some messages) (Some h) (Some text) Closed) fresh
+          (subst (ConversesWithItself life (Some messages) (Some held) (Some text)) closed converses),
+    )
 
 -- one that was cut gives none
-pub cut_so : {B : Type 0} (see : B → Seen) (forward : BlockFunction) (life : Life) (held : List ℕ) (holds : Held) (end : conversation.End) (told : Option SelfcheckFault) (fault : SelfcheckFault) → IsPrepared forward life → held ≡ [] → ConversesWithItself life (Some messages) (Some held) holds end → told ≡ fault_in_memory end → told ≡ Some fault → HasNoReplies see forward fault
+pub cut_so : {B : Type 0} (see : B → Seen) (forward : BlockFunction) (life : Life) (held : List ℕ) (holds : Held) (end : conversation.End)
+    (told : Option SelfcheckFault) (fault : SelfcheckFault) → IsPrepared forward life → held ≡ []
+    → ConversesWithItself life (Some messages) (Some held) holds end → told ≡ fault_in_memory end → told ≡ Some fault → HasNoReplies see forward fault
 cut_so see forward life held holds end told fault prepared fresh converses is some =
     cut_off life prepared holds end (subst (λ (h : List ℕ). ConversesWithItself life (Some messages) (Some h) holds end) fresh converses) (sym is ∙ some)
 
 -- what came back was not read to its end
-pub not_read : {N S B : Type 0} (of : loopback.Ghosts N S) (remaining contents : S → Held) (net : N) (forward : BlockFunction) (see : B → Seen) (fault : SelfcheckFault) (text : Text) → AreReplies forward text → (near : S)
-    → ConversesOver of remaining contents net forward near Closed → (fault ≡ Net) ⊎ (fault ≡ Refused refusal.Memory) → Disagrees of remaining contents net forward see fault
+pub not_read : {N S B : Type 0} (of : loopback.Ghosts N S) (remaining contents : S → Held) (net : N) (forward : BlockFunction)
+    (see : B → Seen) (fault : SelfcheckFault) (text : Text) → AreReplies forward text → (near : S)
+    → ConversesOver of remaining contents net forward near Closed → (fault ≡ Net) ⊎ (fault ≡ Refused refusal.Memory)
+    → Disagrees of remaining contents net forward see fault
 not_read of remaining contents net forward see fault text replies near answered (inl is) = unlike text replies near answered is
 not_read of remaining contents net forward see fault text replies near answered (inr is) = no_room is

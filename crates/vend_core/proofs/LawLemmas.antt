@@ -48,9 +48,11 @@ first_found o order first office was =
     one_of_ref o s first office there was.stands ((bytes_eq-Decides _ _).0 p.0 ∙ sym was.operator) ((bytes_eq-Decides _ _).0 p.1 ∙ sym was.order_ref))
 
 abbrev Repeats : Office → Order → Sale → Result Change Refusal → Type 0
-Repeats o order first r = (office_after o r ≡ o) × (IsSameOrder order first → reply_of r ≡ Ok (answers.Sold first)) × (¬ IsSameOrder order first → reply_of r ≡ Err refusals.RefReused)
+Repeats o order first r = (office_after o r ≡ o) × (IsSameOrder order first → reply_of r ≡ Ok (answers.Sold first))
+    × (¬ IsSameOrder order first → reply_of r ≡ Err refusals.RefReused)
 
-repeats_at : (o : Office) (order : Order) (first : Sale) (b : Bool) → (b ≡ true → IsSameOrder order first) → (IsSameOrder order first → b ≡ true) → Repeats o order first (if b then unchanged (answers.Sold first) else Err refusals.RefReused)
+repeats_at : (o : Office) (order : Order) (first : Sale) (b : Bool) → (b ≡ true → IsSameOrder order first)
+    → (IsSameOrder order first → b ≡ true) → Repeats o order first (if b then unchanged (answers.Sold first) else Err refusals.RefReused)
 repeats_at o order first true tells told = (refl, λ same. refl, λ other. absurd (other (tells refl)))
 repeats_at o order first false tells told = (refl, λ same. absurd (false≢true (told same)), λ other. refl)
 
@@ -60,11 +62,14 @@ repeats o order first =
     (λ e. let p = parts_true _ _ e in ((bytes_eq-Decides _ _).0 p.0, (Decides-eqb _ _).0 p.1))
     (λ same. both_true _ _ ((bytes_eq-Decides _ _).1 same.0) ((Decides-eqb _ _).1 same.1))
 
-pub sold_again : (forward : ℕ → ℕ → ℕ) (o : Office) (at : Stamped) (order : Order) (first : Sale) → IsOffice o → at.request ≡ requests.Sell order → WasSold o order first
-    → (step forward o at ≡ o) × (IsSameOrder order first → reply forward o at ≡ Ok (answers.Sold first)) × (¬ IsSameOrder order first → reply forward o at ≡ Err refusals.RefReused)
+pub sold_again : (forward : ℕ → ℕ → ℕ) (o : Office) (at : Stamped) (order : Order) (first : Sale) → IsOffice o → at.request
+    ≡ requests.Sell order → WasSold o order first
+    → (step forward o at ≡ o) × (IsSameOrder order first → reply forward o at ≡ Ok (answers.Sold first))
+    × (¬ IsSameOrder order first → reply forward o at ≡ Err refusals.RefReused)
 sold_again forward o at order first office asks was =
     subst (λ request. Repeats o order first (decision_of forward o at.moment at.nibble request)) (sym asks)
-    (subst (λ found. Repeats o order first (sell_once forward at.moment at.nibble order found (open_shift o order.operator) (account_of o order.meter at.moment) (length o.sales))) (sym (first_found o order first office was)) (repeats o order first))
+    (subst (λ found. Repeats o order first (sell_once forward at.moment at.nibble order found (open_shift o order.operator)
+    (account_of o order.meter at.moment) (length o.sales))) (sym (first_found o order first office was)) (repeats o order first))
 
 -- a reprint and a report change nothing, and give what stands
 reprint_stays : (o : Office) (sale : Option Sale) → office_after o (reprint sale) ≡ o
@@ -75,9 +80,11 @@ pub reprints_stay : (forward : ℕ → ℕ → ℕ) (o : Office) (at : Stamped) 
 reprints_stay forward o at number asks =
     subst (λ request. office_after o (decision_of forward o at.moment at.nibble request) ≡ o) (sym asks) (reprint_stays o (sale_numbered o number))
 
-pub reprints_the_sale : (forward : ℕ → ℕ → ℕ) (o : Office) (at : Stamped) (s : Sale) → IsOffice o → Contains o.sales s → at.request ≡ requests.Reprint s.number → reply forward o at ≡ Ok (answers.Reprinted s)
+pub reprints_the_sale : (forward : ℕ → ℕ → ℕ) (o : Office) (at : Stamped) (s : Sale) → IsOffice o → Contains o.sales s → at.request
+    ≡ requests.Reprint s.number → reply forward o at ≡ Ok (answers.Reprinted s)
 reprints_the_sale forward o at s office there asks =
-    let e = finds (λ t. t.number == s.number) o.sales s there ((Decides-eqb s.number s.number).1 refl) (λ t t_there passes. one_of_number o t s office t_there there ((Decides-eqb _ _).0 passes)) in
+    let e = finds (λ t. t.number == s.number) o.sales s there ((Decides-eqb s.number s.number).1 refl)
+    (λ t t_there passes. one_of_number o t s office t_there there ((Decides-eqb _ _).0 passes)) in
     subst (λ request. reply_of (decision_of forward o at.moment at.nibble request) ≡ Ok (answers.Reprinted s)) (sym asks)
     (subst (λ sale. reply_of (reprint sale) ≡ Ok (answers.Reprinted s)) (sym e) refl)
 
@@ -87,11 +94,14 @@ report_stays o (Some s) sales = refl
 
 pub reports_stay : (forward : ℕ → ℕ → ℕ) (o : Office) (at : Stamped) (number : ℕ) → at.request ≡ requests.ShiftReport number → step forward o at ≡ o
 reports_stay forward o at number asks =
-    subst (λ request. office_after o (decision_of forward o at.moment at.nibble request) ≡ o) (sym asks) (report_stays o (shift_numbered o number) (sales_of_shift o number))
+    subst (λ request. office_after o (decision_of forward o at.moment at.nibble request) ≡ o) (sym asks)
+    (report_stays o (shift_numbered o number) (sales_of_shift o number))
 
-pub reports_the_shift : (forward : ℕ → ℕ → ℕ) (o : Office) (at : Stamped) (s : Shift) → IsOffice o → Contains o.shifts s → at.request ≡ requests.ShiftReport s.number → reply forward o at ≡ Ok (answers.Report s (sales_of_shift o s.number))
+pub reports_the_shift : (forward : ℕ → ℕ → ℕ) (o : Office) (at : Stamped) (s : Shift) → IsOffice o → Contains o.shifts s → at.request
+    ≡ requests.ShiftReport s.number → reply forward o at ≡ Ok (answers.Report s (sales_of_shift o s.number))
 reports_the_shift forward o at s office there asks =
-    let e = finds (λ t. t.number == s.number) o.shifts s there ((Decides-eqb s.number s.number).1 refl) (λ t t_there passes. same_number (λ s. s.number) o.shifts t s office.shift_numbers t_there there ((Decides-eqb _ _).0 passes)) in
+    let e = finds (λ t. t.number == s.number) o.shifts s there ((Decides-eqb s.number s.number).1 refl)
+    (λ t t_there passes. same_number (λ s. s.number) o.shifts t s office.shift_numbers t_there there ((Decides-eqb _ _).0 passes)) in
     subst (λ request. reply_of (decision_of forward o at.moment at.nibble request) ≡ Ok (answers.Report s (sales_of_shift o s.number))) (sym asks)
     (subst (λ shift. reply_of (report shift (sales_of_shift o s.number)) ≡ Ok (answers.Report s (sales_of_shift o s.number))) (sym e) refl)
 
@@ -99,8 +109,10 @@ sold_same : (s t : Sale) → ◌≡◌ {A = Result Answer Refusal} (Ok (answers.
 sold_same s t e = cc
 
 -- a new sale that was answered is what the rules say
-new_of_result : (laws : LowerLaws) (forward : ℕ → ℕ → ℕ) (o : Office) (at : Stamped) (order : Order) (s : Sale) (r : Result Change Refusal) → IsOffice o → KeepsRange forward
-    → sell forward at.moment at.nibble order (open_shift o order.operator) (account_of o order.meter at.moment) (length o.sales) ≡ r → reply_of r ≡ Ok (answers.Sold s)
+new_of_result : (laws : LowerLaws) (forward : ℕ → ℕ → ℕ) (o : Office) (at : Stamped) (order : Order) (s : Sale) (r : Result Change Refusal)
+    → IsOffice o → KeepsRange forward
+    → sell forward at.moment at.nibble order (open_shift o order.operator) (account_of o order.meter at.moment) (length o.sales) ≡ r
+    → reply_of r ≡ Ok (answers.Sold s)
     → IsNewSale forward o at order s × ((office_after o r).sales ≡ o.sales ++ s ∷ [])
 new_of_result laws forward o at order s (Err refusal) office range e answered = cc
 new_of_result laws forward o at order s (Ok change) office range e answered =
@@ -110,11 +122,14 @@ new_of_result laws forward o at order s (Ok change) office range e answered =
       ap (λ (c : Change). (office_after o (Ok c)).sales) granted.change_is ∙ ap (λ (t : Sale). o.sales ++ t ∷ []) same,
     )
 
-pub new_sale_is : (laws : LowerLaws) (forward : ℕ → ℕ → ℕ) (o : Office) (at : Stamped) (order : Order) (s : Sale) → IsOffice o → KeepsRange forward → at.request ≡ requests.Sell order
+pub new_sale_is : (laws : LowerLaws) (forward : ℕ → ℕ → ℕ) (o : Office) (at : Stamped) (order : Order) (s : Sale) → IsOffice o
+    → KeepsRange forward → at.request ≡ requests.Sell order
     → sale_of_ref o order.operator order.order_ref ≡ None → reply forward o at ≡ Ok (answers.Sold s)
     → IsNewSale forward o at order s × ((step forward o at).sales ≡ o.sales ++ s ∷ [])
 new_sale_is laws forward o at order s office range asks alone answered =
-    let is : decision_of forward o at.moment at.nibble at.request ≡ sell forward at.moment at.nibble order (open_shift o order.operator) (account_of o order.meter at.moment) (length o.sales) =
+    let is : decision_of forward o at.moment at.nibble at.request
+    ≡ sell forward at.moment at.nibble order (open_shift o order.operator) (account_of o order.meter at.moment) (length o.sales) =
     ap (λ request. decision_of forward o at.moment at.nibble request) asks
-    ∙ ap (λ first. sell_once forward at.moment at.nibble order first (open_shift o order.operator) (account_of o order.meter at.moment) (length o.sales)) alone in
+    ∙ ap (λ first. sell_once forward at.moment at.nibble order first (open_shift o order.operator) (account_of o order.meter at.moment)
+    (length o.sales)) alone in
     new_of_result laws forward o at order s (decision_of forward o at.moment at.nibble at.request) office range (sym is) answered

@@ -34,7 +34,8 @@ after-append forward o (at ∷ ats) more = after-append forward (step forward o 
 
 module _ (laws : LowerLaws) where
   -- a sale in a reply stands after all requests
-  replied_stands : (forward : ℕ → ℕ → ℕ) (o : Office) (ats : List Stamped) (r : Result Answer Refusal) (s : Sale) → IsOffice o → All IsStamped ats → KeepsRange forward → Contains (replies_to forward o ats) r → Contains (sales_of r) s → Contains (after forward o ats).sales s
+  replied_stands : (forward : ℕ → ℕ → ℕ) (o : Office) (ats : List Stamped) (r : Result Answer Refusal) (s : Sale) → IsOffice o
+      → All IsStamped ats → KeepsRange forward → Contains (replies_to forward o ats) r → Contains (sales_of r) s → Contains (after forward o ats).sales s
   unfolding after replies_to
   replied_stands forward o [] r s office are range there holds = absurd (omega (arith, there.1))
   replied_stands forward o (at ∷ ats) r s office are range there holds =
@@ -50,17 +51,20 @@ module _ (laws : LowerLaws) where
 
   -- the requests of a life are stamped
   pub acknowledged_stamped : (life : Life) → IsLife life → All IsStamped (acknowledged life)
-  acknowledged_stamped life is = All-map IsStamped (λ (e : Exchange). e.request) _ (All-filter _ (λ (e : Exchange). IsStamped e.request) life.exchanges is.stamped)
+  acknowledged_stamped life is = All-map IsStamped (λ (e : Exchange). e.request) _
+      (All-filter _ (λ (e : Exchange). IsStamped e.request) life.exchanges is.stamped)
 
   pub doubted_stamped : (life : Life) → IsLife life → All IsStamped (in_doubt life)
   doubted_stamped life is = All-map IsStamped (λ (e : Exchange). e.request) _ (All-filter _ (λ (e : Exchange). IsStamped e.request) life.exchanges is.stamped)
 
   -- a reply that acknowledges is among the acknowledged ones
-  exchanged : (exchanges : List Exchange) (r : Result Answer Refusal) → Contains (map (λ (e : Exchange). e.reply) exchanges) r → acknowledges r ≡ true → Contains (map (λ (e : Exchange). e.reply) (filter (λ (e : Exchange). acknowledges e.reply) exchanges)) r
+  exchanged : (exchanges : List Exchange) (r : Result Answer Refusal) → Contains (map (λ (e : Exchange). e.reply) exchanges) r
+      → acknowledges r ≡ true → Contains (map (λ (e : Exchange). e.reply) (filter (λ (e : Exchange). acknowledges e.reply) exchanges)) r
   exchanged exchanges r there passes =
       let e = map_source (λ (e : Exchange). e.reply) exchanges r there in
       subst (λ q. Contains (map (λ (e : Exchange). e.reply) (filter (λ (e : Exchange). acknowledges e.reply) exchanges)) q) e.2
-      (contains_map (λ (e : Exchange). e.reply) (filter (λ (e : Exchange). acknowledges e.reply) exchanges) e.0 (kept (λ (e : Exchange). acknowledges e.reply) exchanges e.0 e.1 (ap acknowledges e.2 ∙ passes)))
+      (contains_map (λ (e : Exchange). e.reply) (filter (λ (e : Exchange). acknowledges e.reply) exchanges) e.0
+      (kept (λ (e : Exchange). acknowledges e.reply) exchanges e.0 e.1 (ap acknowledges e.2 ∙ passes)))
 
   module _ (life : Life) (is : IsLife life) (office : IsOffice life.opening) where
     pub present_office : IsOffice (present life)
@@ -68,14 +72,17 @@ module _ (laws : LowerLaws) where
 
     pub left_office : (o : Office) → MayLeave life o → IsOffice o
     left_office o (inl e) = subst IsOffice (sym e) present_office
-    left_office o (inr (at, there, e)) = subst IsOffice (sym e) (step_keeps_office laws life.forward (present life) at present_office (All-contains IsStamped (in_doubt life) at (doubted_stamped life is) there) is.range)
+    left_office o (inr (at, there, e)) = subst IsOffice (sym e)
+        (step_keeps_office laws life.forward (present life) at present_office
+        (All-contains IsStamped (in_doubt life) at (doubted_stamped life is) there) is.range)
 
     pub left_grown : (o : Office) → MayLeave life o → HasGrown (present life) o
     left_grown o (inl e) = subst (λ p. HasGrown (present life) p) (sym e) (grown_none (present life))
     left_grown o (inr (at, there, e)) = subst (λ p. HasGrown (present life) p) (sym e) (step_grows life.forward (present life) at present_office)
 
     pub opening_grown : (o : Office) → MayLeave life o → HasGrown life.opening o
-    opening_grown o may = grown_twice life.opening (present life) o (after_grows laws life.forward life.opening (acknowledged life) office (acknowledged_stamped life is) is.range) (left_grown o may)
+    opening_grown o may = grown_twice life.opening (present life) o
+        (after_grows laws life.forward life.opening (acknowledged life) office (acknowledged_stamped life is) is.range) (left_grown o may)
 
     -- a reply that hands out a sale acknowledges its request
     grants : (r : Result Answer Refusal) (s : Sale) → Contains (sales_of r) s → acknowledges r ≡ true
@@ -92,9 +99,11 @@ module _ (laws : LowerLaws) where
         let ats = acknowledged life in
         let begun = after life.forward life.opening (take n ats) in
         let begun_office = after_keeps_office laws life.forward life.opening (take n ats) office (All-take IsStamped n ats are) is.range in
-        let e : after life.forward begun (drop n ats) ≡ present life = sym (after-append life.forward life.opening (take n ats) (drop n ats)) ∙ ap (λ all. after life.forward life.opening all) (take-append-drop n ats) in
+        let e : after life.forward begun (drop n ats) ≡ present life =
+        sym (after-append life.forward life.opening (take n ats) (drop n ats)) ∙ ap (λ all. after life.forward life.opening all) (take-append-drop n ats) in
         subst (λ (o : Office). Contains o.sales s) e
-        (stands_on begun (after life.forward begun (drop n ats)) s (after_grows laws life.forward begun (drop n ats) begun_office (All-drop IsStamped n ats are) is.range) there)
+        (stands_on begun (after life.forward begun (drop n ats)) s
+        (after_grows laws life.forward begun (drop n ats) begun_office (All-drop IsStamped n ats are) is.range) there)
 
     pub handed_left : (o : Office) (s : Sale) → MayLeave life o → HandsOut life s → Contains o.sales s
     handed_left o s may hands = stands_on (present life) o s (left_grown o may) (handed_present s hands)
@@ -118,7 +127,8 @@ module _ (laws : LowerLaws) where
       let opening = subst IsOffice (sym opens) office in
       let left_is = left_office life is opening left may in
       elim (contains_cases life by lives there) [
-        | inl first ↦ stands_on left o s (led_grown left lives o left_is leads) (handed_left life is opening left s may (subst (λ l. HandsOut l s) (sym first) hands))
+        | inl first ↦ stands_on left o s (led_grown left lives o left_is leads)
+            (handed_left life is opening left s may (subst (λ l. HandsOut l s) (sym first) hands))
         | inr further ↦ led_stands left lives o s left_is leads (by, further, hands)
       ]
 

@@ -17,11 +17,14 @@ history words i = map entry_of (map (λ w. w.now) (take i words))
 
 -- the lines from word i on
 abbrev pub lines_from : Reader → List (Bor Text) → ℕ → Text
-lines_from read words i = concat (lines_after read (history words i) (map (λ w. w.now) (drop i words))) ++ credit_line (credit_of read (map entry_of (map (λ w. w.now) words)))
+lines_from read words i = concat (lines_after read (history words i) (map (λ w. w.now) (drop i words)))
+    ++ credit_line (credit_of read (map entry_of (map (λ w. w.now) words)))
 
-pub history-more : (words : List (Bor Text)) (i : ℕ) (d : Bor Text) → i < length words → history words (i + 1) ≡ history words i ++ entry_of (get_or words i d).now ∷ []
+pub history-more : (words : List (Bor Text)) (i : ℕ) (d : Bor Text) → i < length words → history words (i + 1) ≡ history words i
+    ++ entry_of (get_or words i d).now ∷ []
 history-more words i d within =
-    rw add-one (ap (λ ws. map entry_of (map (λ w. w.now) ws)) (take-suc words i d within) ∙ ap (map entry_of) (map-append (λ w. w.now) (take i words) (get_or words i d ∷ []))
+    rw add-one (ap (λ ws. map entry_of (map (λ w. w.now) ws)) (take-suc words i d within)
+    ∙ ap (map entry_of) (map-append (λ w. w.now) (take i words) (get_or words i d ∷ []))
     ∙ map-append entry_of (map (λ w. w.now) (take i words)) ((get_or words i d).now ∷ []))
 
 pub all_lines : (read : Reader) (words : List (Bor Text)) → metering read (map (λ w. w.now) words) ≡ lines_from read words 0
@@ -29,23 +32,27 @@ unfolding metering
 all_lines read words = refl
 
 -- the line of word i, and those behind it
-pub next_line : (read : Reader) (words : List (Bor Text)) (i : ℕ) (d : Bor Text) (front whole : List ℕ) → i < length words → whole ≡ front ++ lines_from read words i
+pub next_line : (read : Reader) (words : List (Bor Text)) (i : ℕ) (d : Bor Text) (front whole : List ℕ) → i < length words → whole ≡ front
+    ++ lines_from read words i
     → whole ≡ front ++ (word_line read (history words i) (get_or words i d).now ++ lines_from read words (i + 1))
 next_line read words i d front whole within left =
     let word = (get_or words i d).now in
     let end = credit_line (credit_of read (map entry_of (map (λ w. w.now) words))) in
     let rest = concat (lines_after read (history words (i + 1)) (map (λ w. w.now) (drop (i + 1) words))) in
     let first = word_line read (history words i) word in
-    let more : map (λ w. w.now) (drop i words) ≡ word ∷ map (λ w. w.now) (drop (i + 1) words) = rw add-one (ap (map (λ w. w.now)) (drop-cons words i d within)) in
+    let more : map (λ w. w.now) (drop i words) ≡ word ∷ map (λ w. w.now) (drop (i + 1) words) =
+    rw add-one (ap (map (λ w. w.now)) (drop-cons words i d within)) in
     let behind : concat (lines_after read (history words i) (map (λ w. w.now) (drop i words))) ≡ first ++ rest =
     ap (λ ws. concat (lines_after read (history words i) ws)) more
     ∙ ap (λ h. first ++ concat (lines_after read h (map (λ w. w.now) (drop (i + 1) words)))) (sym (history-more words i d within)) in
     left ∙ ap (λ l. front ++ (l ++ end)) behind ∙ ap (λ l. front ++ l) (append_assoc first rest end)
 
 -- behind the last word the credit is left
-pub last_line : (read : Reader) (words : List (Bor Text)) (i : ℕ) (front whole : List ℕ) → length words ≤ i → whole ≡ front ++ lines_from read words i → whole ≡ front ++ credit_line (credit_of read (history words i))
+pub last_line : (read : Reader) (words : List (Bor Text)) (i : ℕ) (front whole : List ℕ) → length words ≤ i → whole ≡ front
+    ++ lines_from read words i → whole ≡ front ++ credit_line (credit_of read (history words i))
 last_line read words i front whole past left =
-    left ∙ ap (λ ws. front ++ (concat (lines_after read (history words i) (map (λ w. w.now) ws)) ++ credit_line (credit_of read (map entry_of (map (λ w. w.now) words))))) (drop_all i words past)
+    left ∙ ap (λ ws. front ++ (concat (lines_after read (history words i) (map (λ w. w.now) ws))
+    ++ credit_line (credit_of read (map entry_of (map (λ w. w.now) words))))) (drop_all i words past)
     ∙ ap (λ ws. front ++ credit_line (credit_of read (map entry_of (map (λ w. w.now) ws)))) (sym (take_all i words past))
 
 -- any other word than the one that clears is entered

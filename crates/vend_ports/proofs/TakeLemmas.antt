@@ -23,12 +23,19 @@ none_taken true held = Keeps-refl held
 pub takes_none : (s : Sink) → Takes s s []
 takes_none s = record { same = refl; taken = none_taken s.failed s.held }
 
-next_taken : (a b c : Bool) (old mid new : Held) (front back : Text) → IsTaken a b old mid front → IsTaken b c mid new back → IsTaken a c old new (front ++ back)
+next_taken : (a b c : Bool) (old mid new : Held) (front back : Text) → IsTaken a b old mid front → IsTaken b c mid new back
+    → IsTaken a c old new (front ++ back)
 next_taken false false false old mid new front back p q = Appends-trans old mid new front back p q
-next_taken false false true old mid new front back p (n, short, cut) =
-    (length front + n, omega (arith, short, length-append front back), subst (Appends old new) (sym (take-append-add front back n)) (Appends-trans old mid new front (take n back) p cut))
-next_taken false true true old mid new front back (n, short, cut) q =
-    (n, omega (arith, short, length-append front back), subst (Appends old new) (sym (take-append-le n front back (omega (arith, short)))) (Appends-kept old mid new (take n front) cut q))
+next_taken false false true old mid new front back p (n, short, cut) = (
+  length front + n,
+  omega (arith, short, length-append front back),
+  subst (Appends old new) (sym (take-append-add front back n)) (Appends-trans old mid new front (take n back) p cut),
+)
+next_taken false true true old mid new front back (n, short, cut) q = (
+  n,
+  omega (arith, short, length-append front back),
+  subst (Appends old new) (sym (take-append-le n front back (omega (arith, short)))) (Appends-kept old mid new (take n front) cut q),
+)
 next_taken false true false old mid new front back p q = absurd q
 next_taken true true true old mid new front back p q = Keeps-trans old mid new p q
 next_taken true true false old mid new front back p q = absurd q
@@ -45,7 +52,8 @@ pub takes_as : (a b : Sink) (text whole : Text) → text ≡ whole → Takes a b
 takes_as a b text whole is p = subst (Takes a b) is p
 
 -- a further piece, with what is left behind it
-pub takes_more : (a b c : Sink) (front piece back whole : Text) → Takes a b front → whole ≡ front ++ (piece ++ back) → Takes b c piece → Takes a c (front ++ piece) × (whole ≡ (front ++ piece) ++ back)
+pub takes_more : (a b c : Sink) (front piece back whole : Text) → Takes a b front → whole ≡ front ++ (piece ++ back) → Takes b c piece
+    → Takes a c (front ++ piece) × (whole ≡ (front ++ piece) ++ back)
 takes_more a b c front piece back whole p is q = (takes_next a b c front piece p q, is ∙ sym (append_assoc front piece back))
 
 -- the last piece
@@ -53,7 +61,8 @@ pub takes_last : (a b c : Sink) (front piece whole : Text) → Takes a b front �
 takes_last a b c front piece whole p is q = subst (Takes a c) (sym is) (takes_next a b c front piece p q)
 
 -- what a writer that had not failed holds of a text that was handed to it
-pub written : (r : Result Unit TextFault) (failed : Bool) (old new : Held) (text : Text) → r ≢ Err Memory → failed ≡ is_err r → IsWritten old new text r → IsTaken false failed old new text
+pub written : (r : Result Unit TextFault) (failed : Bool) (old new : Held) (text : Text) → r ≢ Err Memory → failed ≡ is_err r
+    → IsWritten old new text r → IsTaken false failed old new text
 written (Ok u) true old new text whole is put = cc
 written (Ok u) false old new text whole is put = put
 written (Err Memory) failed old new text whole is put = absurd (whole refl)
@@ -63,7 +72,8 @@ written (Err Write) false old new text whole is put = cc
 -- ---- a text that is put once there is enough of it
 
 -- a piece that comes behind what was put and what is not written yet
-pub puts_more : (a b c : Sink) (front unwritten left piece back whole : Text) → Takes a b front → whole ≡ (front ++ unwritten) ++ (piece ++ back) → IsPutOn b c unwritten left piece
+pub puts_more : (a b c : Sink) (front unwritten left piece back whole : Text) → Takes a b front → whole ≡ (front ++ unwritten)
+    ++ (piece ++ back) → IsPutOn b c unwritten left piece
     → (next : Text) × Takes a c next × (whole ≡ (next ++ left) ++ back)
 puts_more a b c front unwritten left piece back whole p is (written, q, apart) = (
   front ++ written,
@@ -73,16 +83,19 @@ puts_more a b c front unwritten left piece back whole p is (written, q, apart) =
 )
 
 -- what is not written yet and a piece behind it, both put
-pub puts_all : (a b c : Sink) (first piece unwritten left : Text) → first ≡ unwritten → Takes a b first → Takes b c piece → left ≡ [] → IsPutOn a c unwritten left piece
+pub puts_all : (a b c : Sink) (first piece unwritten left : Text) → first ≡ unwritten → Takes a b first → Takes b c piece → left ≡ []
+    → IsPutOn a c unwritten left piece
 puts_all a b c first piece unwritten left is p q none =
     (first ++ piece, takes_next a b c first piece p q, rw (none, is) (sym (append-nil (unwritten ++ piece))))
 
 -- the last piece, and then what was not written
-pub puts_last : (a b c d : Sink) (front unwritten left piece last whole : Text) → Takes a b front → whole ≡ (front ++ unwritten) ++ piece → IsPutOn b c unwritten left piece
+pub puts_last : (a b c d : Sink) (front unwritten left piece last whole : Text) → Takes a b front → whole ≡ (front ++ unwritten) ++ piece
+    → IsPutOn b c unwritten left piece
     → last ≡ left → Takes c d last → Takes a d whole
 puts_last a b c d front unwritten left piece last whole p is (written, q, apart) so r =
     takes_as a d ((front ++ written) ++ last) whole
-    (ap (λ l. (front ++ written) ++ l) so ∙ append_assoc front written left ∙ ap (λ l. front ++ l) (sym apart) ∙ sym (append_assoc front unwritten piece) ∙ sym is)
+    (ap (λ l. (front ++ written) ++ l) so ∙ append_assoc front written left ∙ ap (λ l. front ++ l) (sym apart)
+    ∙ sym (append_assoc front unwritten piece) ∙ sym is)
     (takes_next a c d (front ++ written) last (takes_next a b c front written p q) r)
 
 -- ---- words on a line
@@ -98,12 +111,14 @@ spaced-join byte (word ∷ []) = append-nil word
 spaced-join byte (word ∷ next ∷ words) = ap (λ rest. word ++ (byte ∷ rest)) (spaced-join byte (next ∷ words))
 
 -- the next word of a line, with what is left behind it
-pub spaced-next : (byte : ℕ) (separator : Text) (words : List (Bor Text)) (i : ℕ) (d : Bor Text) (front whole end : List ℕ) → i < length words → whole ≡ front ++ (spaced byte separator (map (λ w. w.now) (drop i words)) ++ end)
+pub spaced-next : (byte : ℕ) (separator : Text) (words : List (Bor Text)) (i : ℕ) (d : Bor Text) (front whole end : List ℕ)
+    → i < length words → whole ≡ front ++ (spaced byte separator (map (λ w. w.now) (drop i words)) ++ end)
     → whole ≡ front ++ (separator ++ ((get_or words i d).now ++ (spaced byte (byte ∷ []) (map (λ w. w.now) (drop (i + 1) words)) ++ end)))
 spaced-next byte separator words i d front whole end within left =
     let word = (get_or words i d).now in
     let rest = spaced byte (byte ∷ []) (map (λ w. w.now) (drop (i + 1) words)) in
-    let next : spaced byte separator (map (λ w. w.now) (drop i words)) ≡ separator ++ (word ++ rest) = rw add-one (ap (λ ws. spaced byte separator (map (λ w. w.now) ws)) (drop-cons words i d within)) in
+    let next : spaced byte separator (map (λ w. w.now) (drop i words)) ≡ separator ++ (word ++ rest) =
+    rw add-one (ap (λ ws. spaced byte separator (map (λ w. w.now) ws)) (drop-cons words i d within)) in
     left ∙ ap (λ l. front ++ (l ++ end)) next
     ∙ ap (λ l. front ++ l) (append_assoc separator (word ++ rest) end ∙ ap (λ l. separator ++ l) (append_assoc word rest end))
 

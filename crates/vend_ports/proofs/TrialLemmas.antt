@@ -36,13 +36,15 @@ one_sale_more forward key base moment amounts tids tokens tid token before sale 
             let same_used = take_at tids (tid ∷ []) (length tids) refl in
             let same_tid = get_or_at tids tid [] 0 (length tids) refl in
             let same_token = get_or_at tokens token [] [] (length tids) before.one_each in
-            subst (λ (k : ℕ). IsSale forward key base moment (take k (tids ++ tid ∷ [])) (k + 1) (get_or amounts k 0) (get_or (tids ++ tid ∷ []) k 0) (get_or (tokens ++ token ∷ []) k []))
+            subst (λ (k : ℕ). IsSale forward key base moment (take k (tids ++ tid ∷ [])) (k + 1) (get_or amounts k 0)
+            (get_or (tids ++ tid ∷ []) k 0) (get_or (tokens ++ token ∷ []) k []))
             here (rw (same_used, same_tid, same_token) sale)
       ];
     }
 
 -- the identifier of a sale is greater than those before
-above_used : (used : List ℕ) (tid : ℕ) (now : Result ℕ TidFault) → MatchResult now (λ m. FreshOutcome used m (Ok tid)) (λ fault. let outcome : Result ℕ TidFault = Ok tid in outcome ≡ Err fault) → All (λ u. u < tid) used
+above_used : (used : List ℕ) (tid : ℕ) (now : Result ℕ TidFault)
+    → MatchResult now (λ m. FreshOutcome used m (Ok tid)) (λ fault. let outcome : Result ℕ TidFault = Ok tid in outcome ≡ Err fault) → All (λ u. u < tid) used
 above_used used tid (Ok now) fresh = fresh.0.may_sell.above_used
 above_used used tid (Err fault) e = cc
 
@@ -54,7 +56,8 @@ last_more base moment tids tid fresh =
     (Contains-push tids tid, All-push (λ u. u ≤ tid) tids tid at_most (omega arith))
 
 -- a refusal of the next amount ends the trial
-pub ends_by_refusal : (base : Base) (moment : ℕ) (amounts tids : List ℕ) (fault : TrialFault) → length tids < length amounts → IsRefusedBy base moment tids (get_or amounts (length tids) 0) fault → EndsTrialBy base moment amounts tids (Some fault)
+pub ends_by_refusal : (base : Base) (moment : ℕ) (amounts tids : List ℕ) (fault : TrialFault) → length tids < length amounts
+    → IsRefusedBy base moment tids (get_or amounts (length tids) 0) fault → EndsTrialBy base moment amounts tids (Some fault)
 ends_by_refusal base moment amounts tids Amount next refused = (next, refused)
 ends_by_refusal base moment amounts tids (Tid fault) next refused = (next, refused)
 ends_by_refusal base moment amounts tids Memory next refused = absurd refused

@@ -41,23 +41,27 @@ module _ (earlier : List Sale) (s : Sale) where
     abbrev is_sold : Sale → Bool
     is_sold a = bytes_eq a.meter s.meter && base_eq a.base base
 
-    pub not_after_or : (last : Option ℕ) → last ≡ greatest_of (map (λ (a : Sale). a.tid) (filter is_sold earlier)) → IsTrue (is_none last) ↔ IsNotAfter base earlier s
+    pub not_after_or : (last : Option ℕ) → last ≡ greatest_of (map (λ (a : Sale). a.tid) (filter is_sold earlier))
+        → IsTrue (is_none last) ↔ IsNotAfter base earlier s
     not_after_or last is = (
       λ none i d within meter year.
           let a = get_or earlier i d in
-          let sold = both_true (bytes_eq a.meter s.meter) (base_eq a.base base) ((bytes_eq-Decides a.meter s.meter).1 meter) ((same_year (year_of a.base) (year_of base)).1 year) in
+          let sold = both_true (bytes_eq a.meter s.meter) (base_eq a.base base) ((bytes_eq-Decides a.meter s.meter).1 meter)
+          ((same_year (year_of a.base) (year_of base)).1 year) in
           absurd (none_of (filter is_sold earlier) (ap is_none (sym is) ∙ none) a (kept is_sold earlier a (Contains-get_or earlier i d within) sold)),
       λ all. ap is_none is ∙ none_where (filter is_sold earlier) (λ a there.
           let from = kept_from is_sold earlier a there in
           let parts = parts_true (bytes_eq a.meter s.meter) (base_eq a.base base) from.1 in
           let year = (same_year (year_of a.base) (year_of base)).0 parts.1 in
-          let low = All-contains (λ (b : Sale). b.meter ≡ s.meter → year_of b.base ≡ year_of base → year_of b.base ≤ year_of s.base) earlier a all from.0 ((bytes_eq-Decides a.meter s.meter).0 parts.0) year in
+          let low = All-contains (λ (b : Sale). b.meter ≡ s.meter → year_of b.base ≡ year_of base → year_of b.base ≤ year_of s.base)
+          earlier a all from.0 ((bytes_eq-Decides a.meter s.meter).0 parts.0) year in
           omega (arith, low, later, year)),
     )
 
   -- the bases of two years decide
   pub under_present : IsNotAfter Y2014 earlier s → IsNotAfter Y2035 earlier s → IsUnderPresentBase earlier s
-  under_present second third i d within meter = latest_year (get_or earlier i d).base (year_of s.base) (first_year s.base) (second i d within meter) (third i d within meter)
+  under_present second third i d within meter = latest_year (get_or earlier i d).base (year_of s.base) (first_year s.base)
+      (second i d within meter) (third i d within meter)
 
   pub not_after_of : (base : Base) → IsUnderPresentBase earlier s → IsNotAfter base earlier s
   not_after_of base all i d within meter year = all i d within meter

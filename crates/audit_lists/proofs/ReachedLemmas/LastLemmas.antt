@@ -17,7 +17,8 @@ abbrev pub text_cmp : Bor (List ℕ) → Bor (List ℕ) → Ordering
 text_cmp a b = slice_cmp nat_cmp a.now b.now
 
 -- what is under each text where a place was put
-put_last : (m n : LastShifts) (k : Bor (List ℕ)) (at : ℕ) → Updates text_cmp m n k (Some at) → (q : List ℕ) → last_shift_under n q ≡ cond (bytes_eq k.now q) (Some at) (last_shift_under m q)
+put_last : (m n : LastShifts) (k : Bor (List ℕ)) (at : ℕ) → Updates text_cmp m n k (Some at) → (q : List ℕ) → last_shift_under n q
+    ≡ cond (bytes_eq k.now q) (Some at) (last_shift_under m q)
 put_last m n k at put q = put.0 (record { ref_ptr = (0, 0); now = q }) ∙ ap (λ (b : Bool). cond b (Some at) (last_shift_under m q)) (is_eq-slice_cmp k.now q)
 
 module _ (shifts : List Shift) (at : ℕ) (s : Shift) (there : slice_get shifts at ≡ Some s) (k : Bor (List ℕ)) (is : k.now ≡ s.operator) (q : List ℕ) where
@@ -31,23 +32,42 @@ module _ (shifts : List Shift) (at : ℕ) (s : Shift) (there : slice_get shifts 
         false≢true (sym other ∙ (bytes_eq-Decides k.now q).1 (is ∙ ap (λ (a : Shift). a.operator) (sym x_is) ∙ same))
   ]
 
-  fits : (b : Bool) → bytes_eq k.now q ≡ b → (old now : Option ℕ) → now ≡ cond b (Some at) old → MatchOption old (NoneBetween shifts 0 at q) (IsLastOf shifts at q) → MatchOption now (NoneBetween shifts 0 (at + 1) q) (IsLastOf shifts (at + 1) q)
+  fits : (b : Bool) → bytes_eq k.now q ≡ b → (old now : Option ℕ) → now ≡ cond b (Some at) old
+      → MatchOption old (NoneBetween shifts 0 at q) (IsLastOf shifts at q) → MatchOption now (NoneBetween shifts 0 (at + 1) q) (IsLastOf shifts (at + 1) q)
   fits true same old None e was = absurd (none-some at e)
-  fits true same old (Some i) e was = subst (IsLastOf shifts (at + 1) q) (sym (same_Some i at e)) (record { shift = s; before = omega arith; there = there; operator_is = sym is ∙ text_same k.now q same; after = λ j x from below. absurd (omega (arith, from, below)) })
+  fits true same old (Some i) e was = subst (IsLastOf shifts (at + 1) q) (sym (same_Some i at e))
+      (record {
+        shift = s;
+        before = omega arith;
+        there = there;
+        operator_is = sym is ∙ text_same k.now q same;
+        after = λ j x from below. absurd (omega (arith, from, below));
+      })
   fits false other None None e was = none_more other 0 was
   fits false other None (Some i) e was = absurd (none-some i (sym e))
   fits false other (Some j) None e was = absurd (none-some j e)
-  fits false other (Some j) (Some i) e was = subst (IsLastOf shifts (at + 1) q) (sym (same_Some i j e)) (record { shift = was.shift; before = (let low = was.before in omega (arith, low)); there = was.there; operator_is = was.operator_is; after = none_more other (j + 1) was.after })
+  fits false other (Some j) (Some i) e was = subst (IsLastOf shifts (at + 1) q) (sym (same_Some i j e))
+      (record {
+        shift = was.shift;
+        before = (let low = was.before in omega (arith, low));
+        there = was.there;
+        operator_is = was.operator_is;
+        after = none_more other (j + 1) was.after;
+      })
 
 -- the places with a shift more
-pub lasts_more : (shifts : List Shift) (at : ℕ) (s : Shift) → slice_get shifts at ≡ Some s → (k : Bor (List ℕ)) → k.now ≡ s.operator → (m n : LastShifts) → Updates text_cmp m n k (Some at) → AreLasts m shifts at → AreLasts n shifts (at + 1)
-lasts_more shifts at s there k is m n put are q = fits shifts at s there k is q (bytes_eq k.now q) refl (last_shift_under m q) (last_shift_under n q) (put_last m n k at put q) (are q)
+pub lasts_more : (shifts : List Shift) (at : ℕ) (s : Shift) → slice_get shifts at ≡ Some s → (k : Bor (List ℕ)) → k.now ≡ s.operator
+    → (m n : LastShifts) → Updates text_cmp m n k (Some at) → AreLasts m shifts at → AreLasts n shifts (at + 1)
+lasts_more shifts at s there k is m n put are q = fits shifts at s there k is q (bytes_eq k.now q) refl (last_shift_under m q)
+    (last_shift_under n q) (put_last m n k at put q) (are q)
 
 -- what is known of a place by whether a map has one
-pub last_some : (shifts : List Shift) (end : ℕ) (q : List ℕ) (i : ℕ) (o : Option ℕ) → o ≡ Some i → MatchOption o (NoneBetween shifts 0 end q) (IsLastOf shifts end q) → IsLastOf shifts end q i
+pub last_some : (shifts : List Shift) (end : ℕ) (q : List ℕ) (i : ℕ) (o : Option ℕ) → o ≡ Some i
+    → MatchOption o (NoneBetween shifts 0 end q) (IsLastOf shifts end q) → IsLastOf shifts end q i
 last_some shifts end q i None e is = absurd (none-some i e)
 last_some shifts end q i (Some j) e is = subst (IsLastOf shifts end q) (same_Some j i e) is
 
-pub last_none : (shifts : List Shift) (end : ℕ) (q : List ℕ) (o : Option ℕ) → o ≡ None → MatchOption o (NoneBetween shifts 0 end q) (IsLastOf shifts end q) → NoneBetween shifts 0 end q
+pub last_none : (shifts : List Shift) (end : ℕ) (q : List ℕ) (o : Option ℕ) → o ≡ None
+    → MatchOption o (NoneBetween shifts 0 end q) (IsLastOf shifts end q) → NoneBetween shifts 0 end q
 last_none shifts end q None e is = is
 last_none shifts end q (Some i) e is = absurd (none-some i (sym e))

@@ -24,11 +24,13 @@ use Rattle.audit_lists.proofs.ListLemmas.{at_pairs, contains_map, map_at, map_co
 use Rattle.audit_lists.proofs.StepLemmas.{same_first}
 
 -- ---- the lists of the first rows, and one row more
-module _ {T : Type 0} (step : T → Step) (key : T → Key) (rows : List T) (at : ℕ) (row : T) (there : slice_get rows at ≡ Some row) (listed : List ListedSteps) (lists : AreLists step key rows at listed) where
+module _ {T : Type 0} (step : T → Step) (key : T → Key) (rows : List T) (at : ℕ) (row : T) (there : slice_get rows at ≡ Some row)
+    (listed : List ListedSteps) (lists : AreLists step key rows at listed) where
   -- one that begins a list
   pub lists_more : (l : ListedSteps) → IsListOf step key rows row l → AreLists step key rows (at + 1) (listed ++ l ∷ [])
   lists_more l is = record {
-    each = each_more (λ _ (r : T). (key r).3 ≡ 0 → (x : ListedSteps) × Contains (listed ++ l ∷ []) x × IsListOf step key rows r x) rows at row there (λ _. (l, Contains-push listed l, is))
+    each = each_more (λ _ (r : T). (key r).3 ≡ 0 → (x : ListedSteps) × Contains (listed ++ l ∷ []) x × IsListOf step key rows r x) rows at
+        row there (λ _. (l, Contains-push listed l, is))
         (λ i r low at_r first. let x = lists.each i r low at_r first in (x.0, Contains-append_left listed (l ∷ []) x.0 x.1, x.2));
     only = λ x in_all. elim (Contains-push_cases listed l x in_all) [
       | inl before ↦ lists.only x before
@@ -39,7 +41,8 @@ module _ {T : Type 0} (step : T → Step) (key : T → Key) (rows : List T) (at 
   -- one that begins none
   pub lists_same : ((key row).3 ≡ 0 → ⊥) → AreLists step key rows (at + 1) listed
   lists_same later = record {
-    each = each_more (λ _ (r : T). (key r).3 ≡ 0 → (x : ListedSteps) × Contains listed x × IsListOf step key rows r x) rows at row there (λ first. absurd (later first)) lists.each;
+    each = each_more (λ _ (r : T). (key r).3 ≡ 0 → (x : ListedSteps) × Contains listed x × IsListOf step key rows r x) rows at row there
+        (λ first. absurd (later first)) lists.each;
     only = lists.only;
   }
 
@@ -50,7 +53,8 @@ module _ {T : Type 0} (step : T → Step) (key : T → Key) (rows : List T) (own
     pub once : Each (IsNew key rows) rows
     pub plain : (row : T) → (key row).1 ≡ []
     pub has : (i : ℕ) (row : T) → slice_get rows i ≡ Some row → (s : List Step) × owns (key row).0 (key row).2 s × (slice_get s (key row).3 ≡ Some (step row))
-    pub there : (tariff : List ℕ) (day : ℕ) (s : List Step) (p : ℕ) (x : Step) → owns tariff day s → slice_get s p ≡ Some x → HasStepAt step key rows (tariff, [], day, p) x
+    pub there : (tariff : List ℕ) (day : ℕ) (s : List Step) (p : ℕ) (x : Step) → owns tariff day s → slice_get s p ≡ Some x
+        → HasStepAt step key rows (tariff, [], day, p) x
     pub one : (tariff : List ℕ) (day : ℕ) (s t : List Step) → owns tariff day s → owns tariff day t → s ≡ t
     pub priced : (tariff : List ℕ) (day : ℕ) (s : List Step) → owns tariff day s → IsSteps s
 
@@ -121,15 +125,21 @@ module _ (r : OfficeRows) (o : Office) (are : AreRowsOfOffice r o) where
   steps_owned : AreOwned step_of step_key r.steps.items has_first
   steps_owned = record {
     once = λ i row at j below twice.
-        at_pairs AreApart (map step_entry r.steps.items) are.members.steps_once j i (step_entry twice.0) (step_entry row) below (map_at step_entry r.steps.items j twice.0 twice.1) (map_at step_entry r.steps.items i row at)
+        at_pairs AreApart (map step_entry r.steps.items) are.members.steps_once j i (step_entry twice.0) (step_entry row) below
+        (map_at step_entry r.steps.items j twice.0 twice.1) (map_at step_entry r.steps.items i row at)
         (ap (λ (q : Key). q.0) twice.2) (ap (λ (q : Key). q.3) twice.2);
     plain = λ row. refl;
     has = λ i row at.
         let has = (are.members.steps (step_entry row)).1 (contains_map step_entry r.steps.items i row at) in
         (has.0, (has.1, refl), has.2);
     there = λ tariff day s p x own at.
-        let f = map_contains step_entry r.steps.items (entry_of tariff p x) ((are.members.steps (entry_of tariff p x)).0 (s, own.0, at)) in
-        (f.0, f.1, f.2, ap (λ (y : stored.StepRow). place_key y.tariff 0 y.place) f.3 ∙ ap (λ (d : ℕ). place_key tariff d p) (sym own.1), ap (λ (y : stored.StepRow). y.step) f.3);
+        let f = map_contains step_entry r.steps.items (entry_of tariff p x) ((are.members.steps (entry_of tariff p x)).0 (s, own.0, at)) in (
+          f.0,
+          f.1,
+          f.2,
+          ap (λ (y : stored.StepRow). place_key y.tariff 0 y.place) f.3 ∙ ap (λ (d : ℕ). place_key tariff d p) (sym own.1),
+          ap (λ (y : stored.StepRow). y.step) f.3,
+        );
     one = λ tariff day s t a b. same_Some s t (sym a.0 ∙ b.0);
     priced = λ tariff day s own. (are.is.tariffs tariff s own.0).priced;
   }
@@ -137,12 +147,14 @@ module _ (r : OfficeRows) (o : Office) (are : AreRowsOfOffice r o) where
   dated_owned : AreOwned dated_step_of dated_key r.dated_steps.items has_dated
   dated_owned = record {
     once = λ i row at j below twice.
-        at_pairs AreDatedApart (map dated_entry r.dated_steps.items) are.members.dated_once j i (dated_entry twice.0) (dated_entry row) below (map_at dated_entry r.dated_steps.items j twice.0 twice.1) (map_at dated_entry r.dated_steps.items i row at)
+        at_pairs AreDatedApart (map dated_entry r.dated_steps.items) are.members.dated_once j i (dated_entry twice.0) (dated_entry row)
+        below (map_at dated_entry r.dated_steps.items j twice.0 twice.1) (map_at dated_entry r.dated_steps.items i row at)
         (ap (λ (q : Key). q.0) twice.2) (ap (λ (q : Key). q.2) twice.2) (ap (λ (q : Key). q.3) twice.2);
     plain = λ row. refl;
     has = λ i row at. (are.members.dated_steps (dated_entry row)).1 (contains_map dated_entry r.dated_steps.items i row at);
     there = λ tariff day s p x own at.
-        let f = map_contains dated_entry r.dated_steps.items (dated_entry_of tariff day p x) ((are.members.dated_steps (dated_entry_of tariff day p x)).0 (s, own, at)) in
+        let f = map_contains dated_entry r.dated_steps.items (dated_entry_of tariff day p x)
+        ((are.members.dated_steps (dated_entry_of tariff day p x)).0 (s, own, at)) in
         (f.0, f.1, f.2, ap (λ (y : stored.DatedStepRow). place_key y.tariff y.day y.place) f.3, ap (λ (y : stored.DatedStepRow). y.step) f.3);
     one = λ tariff day s t a b. same_Some s t (sym a ∙ b);
     priced = λ tariff day s own. (are.is.dated_steps tariff day s own).priced;
@@ -155,7 +167,8 @@ module _ (r : OfficeRows) (o : Office) (are : AreRowsOfOffice r o) where
   have_dated = have_lists dated_step_of dated_key r.dated_steps.items has_dated dated_owned
 
   -- the lists of both tables are those of the office
-  pub listed_all : (first dated : List ListedSteps) → AreLists step_of step_key r.steps.items (length r.steps.items) first → AreLists dated_step_of dated_key r.dated_steps.items (length r.dated_steps.items) dated → AreListed o (first ++ dated)
+  pub listed_all : (first dated : List ListedSteps) → AreLists step_of step_key r.steps.items (length r.steps.items) first
+      → AreLists dated_step_of dated_key r.dated_steps.items (length r.dated_steps.items) dated → AreListed o (first ++ dated)
   listed_all first dated firsts dateds day s = (
     λ of. elim of.are [
       | inl is ↦

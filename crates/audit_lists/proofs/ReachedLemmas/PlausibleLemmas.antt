@@ -32,4 +32,5 @@ none_found o f plausible (inl first) = first.2.breaks (kept_pairs o.shifts plaus
 none_found o f plausible (inr (kept, first)) =
     let b = first.breaks in
     b.breaks (All-contains (λ (r : Rule). Keeps r o (take first.place o.sales) first.sale) granting_rules first.broken
-    (keeps_all o (take first.place o.sales) first.sale (plausible.sales first.place first.sale first.there)) (contains_at granting_rules b.place first.broken b.there))
+    (keeps_all o (take first.place o.sales) first.sale (plausible.sales first.place first.sale first.there))
+    (contains_at granting_rules b.place first.broken b.there))

@@ -21,7 +21,8 @@ use Rattle.audit_lists.proofs.EachLemmas.{each_more}
 pub latest_more : (earlier : List Sale) (latest : ℕ) (s : Sale) → IsLatestOf earlier latest → IsLatestOf (earlier ++ s ∷ []) (max latest s.shift)
 latest_more earlier latest s is n some = (
   λ all.
-      let before = (is n some).0 (all_from_contains (λ (a : Sale). a.shift < n) earlier (λ a there. All-contains (λ (b : Sale). b.shift < n) (earlier ++ s ∷ []) a all (Contains-append_left earlier (s ∷ []) a there))) in
+      let before = (is n some).0 (all_from_contains (λ (a : Sale). a.shift < n) earlier
+      (λ a there. All-contains (λ (b : Sale). b.shift < n) (earlier ++ s ∷ []) a all (Contains-append_left earlier (s ∷ []) a there))) in
       let last = All-contains (λ (b : Sale). b.shift < n) (earlier ++ s ∷ []) s all (Contains-push earlier s) in
       omega (arith, before, last),
   λ less. All-push (λ (a : Sale). a.shift < n) earlier s ((is n some).1 (omega (arith, less))) (omega (arith, less)),
@@ -32,7 +33,8 @@ latest_more earlier latest s is n some = (
 kept_left : {X : Type 0} (xs ys : List X) (i : ℕ) (x : X) → slice_get xs i ≡ Some x → slice_get (xs ++ ys) i ≡ Some x
 kept_left xs ys i x at =
     let within = slice_get_within xs i x at in
-    slice_get-get_or (xs ++ ys) i x (let long = length-append xs ys in omega (arith, within, long)) ∙ ap Some (get_or_append_left xs ys x i within ∙ get_or_from_slice_get xs i x x at)
+    slice_get-get_or (xs ++ ys) i x (let long = length-append xs ys in omega (arith, within, long))
+    ∙ ap Some (get_or_append_left xs ys x i within ∙ get_or_from_slice_get xs i x x at)
 
 last_there : {X : Type 0} (xs : List X) (x : X) → slice_get (xs ++ x ∷ []) (length xs) ≡ Some x
 last_there [] x = refl
@@ -81,7 +83,8 @@ module _ (o : Office) (office : IsOffice o) (at : ℕ) where
   front_more s w new there front granted adds =
       let within = slice_get_within o.sales at s there in
       let one : take (at + 1) o.sales ≡ take at o.sales ++ s ∷ [] =
-      ap (λ (n : ℕ). take n o.sales) (add-one at) ∙ take-suc o.sales at s within ∙ ap (λ (x : Sale). take at o.sales ++ x ∷ []) (get_or_from_slice_get o.sales at s s there) in
+      ap (λ (n : ℕ). take n o.sales) (add-one at) ∙ take-suc o.sales at s within
+      ∙ ap (λ (x : Sale). take at o.sales ++ x ∷ []) (get_or_from_slice_get o.sales at s s there) in
       record {
         walked = subst (λ (l : List Sale). IsWalked o.shifts l new) (sym one) (adds (take at o.sales) (let few = few_taken in omega (arith, few)) front.walked);
         before = each_more (λ i x. IsGrantedAfter o (take i o.sales) x) o.sales at s there granted front.before;

@@ -37,7 +37,8 @@ use Rattle.book_tables.proofs.WritingLemmas.OnlyLemmas.{AreAmong, only_among, on
 -- ---- the office's members
 
 -- where its totals are made anew, its bases are listed anew, and there are no steps of later days
-members_brought : (rows totals : Rows) (bases : List (List ℕ × Base)) (o : Office) → AreMembersOf rows o → rows.dated_steps ≡ [] → ((number : List ℕ) (base : Base) → (o.bases number base ≡ true) ↔ Contains bases (number, base))
+members_brought : (rows totals : Rows) (bases : List (List ℕ × Base)) (o : Office) → AreMembersOf rows o → rows.dated_steps ≡ []
+    → ((number : List ℕ) (base : Base) → (o.bases number base ≡ true) ↔ Contains bases (number, base))
     → AllPairs (λ a b. a ≢ b) bases → AreTotalsOf o.sales totals → AreMembersOf (record (with_totals_of totals rows) { bases = bases; dated_steps = [] }) o
 members_brought rows totals bases o are none has once they = record {
   tariffs = are.tariffs;
@@ -77,9 +78,11 @@ totals_another : AllByRecursion IsAnother totals_kept
 totals_another = ((last_ids_in, refl), ((month_tenths_in, refl), ((shift_totals_in, refl), tt)))
 
 module _ (meters : List MeterRow) (sales : List Sale) where
-  pub missing_first : (old mid new : State) → IsReady old → IsReady mid → FillsTotals sales old mid → FillsBases meters mid new → FillsMissing 1 meters sales old new
+  pub missing_first : (old mid new : State) → IsReady old → IsReady mid → FillsTotals sales old mid → FillsBases meters mid new
+      → FillsMissing 1 meters sales old new
   missing_first old mid new ready then totals fills = record {
-    only = only_both _ old mid new (only_among _ (kept_names (later 1)) totals_among old mid totals.only) (only_among _ (kept_names (later 1)) bases_after_first mid new fills.only);
+    only = only_both _ old mid new (only_among _ (kept_names (later 1)) totals_among old mid totals.only)
+        (only_among _ (kept_names (later 1)) bases_after_first mid new fills.only);
     tells = told_left mid new then.has (bases_kept ∷ []) bases_another fills.only ∙ told_left old mid ready.has totals_kept totals_another totals.only;
     members = λ o rows office none handed are of_format held.
         let sums = totals.rows 1 (rows_upto 1 rows) o office handed.sales held in
@@ -87,7 +90,9 @@ module _ (meters : List MeterRow) (sales : List Sale) where
         let alone = of_format.bases (omega arith) in (
           record some { bases = map base_row_of meters },
           fills.rows 1 some sums.1,
-          members_brought rows sums.0 (map base_row_of meters) o are (of_format.dated_steps (omega arith)) (bases_are o rows meters sales handed are alone) (bases_once o rows meters sales handed are alone) (subst (λ (l : List Sale). AreTotalsOf l sums.0) handed.sales sums.2),
+          members_brought rows sums.0 (map base_row_of meters) o are (of_format.dated_steps (omega arith))
+              (bases_are o rows meters sales handed are alone) (bases_once o rows meters sales handed are alone)
+              (subst (λ (l : List Sale). AreTotalsOf l sums.0) handed.sales sums.2),
         );
   }
 
@@ -99,12 +104,15 @@ module _ (meters : List MeterRow) (sales : List Sale) where
         let alone = of_format.bases (omega arith) in (
           record rows { bases = map base_row_of meters; dated_steps = [] },
           fills.rows 2 (rows_upto 2 rows) held,
-          members_brought rows rows (map base_row_of meters) o are (of_format.dated_steps (omega arith)) (bases_are o rows meters sales handed are alone) (bases_once o rows meters sales handed are alone) are.totals,
+          members_brought rows rows (map base_row_of meters) o are (of_format.dated_steps (omega arith))
+              (bases_are o rows meters sales handed are alone) (bases_once o rows meters sales handed are alone) are.totals,
         );
   }
 
   -- nothing is to be filled
-  missing_none : (from : ℕ) (old : State) → IsReady old → ((o : Office) (rows : Rows) → (from ≡ 0 → o ≡ empty_office) → AreMembersOf rows o → IsOfFormat from rows → AreMembersOf (rows_upto from rows) o) → FillsMissing from meters sales old old
+  missing_none : (from : ℕ) (old : State) → IsReady old
+      → ((o : Office) (rows : Rows) → (from ≡ 0 → o ≡ empty_office) → AreMembersOf rows o → IsOfFormat from rows
+      → AreMembersOf (rows_upto from rows) o) → FillsMissing from meters sales old old
   missing_none from old ready members = record {
     only = nothing_written (kept_names (later from)) old ready;
     tells = refl;
@@ -115,7 +123,9 @@ module _ (meters : List MeterRow) (sales : List Sale) where
   missing_third zero below one two old ready = missing_none 0 old ready (λ o rows none are of_format. subst (AreMembersOf no_rows) (sym (none refl)) no_members)
   missing_third (suc zero) below one two old ready = absurd (one refl)
   missing_third (suc (suc zero)) below one two old ready = absurd (two refl)
-  missing_third (suc (suc (suc zero))) below one two old ready = missing_none 3 old ready (λ o rows none are of_format. members_brought rows rows rows.bases o are (of_format.dated_steps (omega arith)) are.bases are.bases_once are.totals)
+  missing_third (suc (suc (suc zero))) below one two old ready =
+      missing_none 3 old ready (λ o rows none are of_format. members_brought rows rows rows.bases o are
+      (of_format.dated_steps (omega arith)) are.bases are.bases_once are.totals)
   missing_third (suc (suc (suc (suc n)))) below one two old ready = absurd (omega (arith, below))
 
 -- ---- an older format, once its missing tables are made
@@ -130,11 +140,14 @@ rest_among ks s tree none = none.1
 pub record Completes (from : ℕ) (meters : List MeterRow) (sales : List Sale) (old new : State) : Type 0 where
   pub only : WritesOnly (kept_names (about_kept ∷ later from)) old new
   pub tells : rows_in old.now (codes "about") ≡ about_rows from → HasFormat new.now present_format
-  pub members : (o : Office) (rows : Rows) → IsOffice o → (from ≡ 0 → o ≡ empty_office) → AreHanded o meters sales → AreMembersOf rows o → IsOfFormat from rows → HoldsOf present_format from old.now (rows_upto from rows) → HoldsMembers new.now o
+  pub members : (o : Office) (rows : Rows) → IsOffice o → (from ≡ 0 → o ≡ empty_office) → AreHanded o meters sales → AreMembersOf rows o
+      → IsOfFormat from rows → HoldsOf present_format from old.now (rows_upto from rows) → HoldsMembers new.now o
 
-completes : (from : ℕ) (meters : List MeterRow) (sales : List Sale) (old filled new : State) → FillsMissing from meters sales old filled → TellsPresent from filled new → Completes from meters sales old new
+completes : (from : ℕ) (meters : List MeterRow) (sales : List Sale) (old filled new : State) → FillsMissing from meters sales old filled
+    → TellsPresent from filled new → Completes from meters sales old new
 completes from meters sales old filled new fills tells = record {
-  only = only_both _ old filled new (only_among _ (kept_names (about_kept ∷ later from)) (rest_among (later from)) old filled fills.only) (only_among _ (kept_names (about_kept ∷ later from)) (about_among (later from)) filled new tells.only);
+  only = only_both _ old filled new (only_among _ (kept_names (about_kept ∷ later from)) (rest_among (later from)) old filled fills.only)
+      (only_among _ (kept_names (about_kept ∷ later from)) (about_among (later from)) filled new tells.only);
   tells = λ told. tells.tells (fills.tells ∙ told);
   members = λ o rows office none handed are of_format held.
       let full = fills.members o rows office none handed are of_format held in
@@ -142,15 +155,23 @@ completes from meters sales old filled new fills tells = record {
 }
 
 -- so it is once the tables were filled, or it is not filled for a cause
-pub filled_on : (from : ℕ) (meters : List MeterRow) (sales : List Sale) (old filled new : State) (r : Result (Unit {0}) TableError) → Fills (IsFilling from meters sales) (FillsMissing from meters sales) old filled (Ok tt) → WritesTables (format_write from) (TellsPresent from) filled new r
+pub filled_on : (from : ℕ) (meters : List MeterRow) (sales : List Sale) (old filled new : State) (r : Result (Unit {0}) TableError)
+    → Fills (IsFilling from meters sales) (FillsMissing from meters sales) old filled (Ok tt)
+    → WritesTables (format_write from) (TellsPresent from) filled new r
     → Fills (IsBringing from meters sales) (Completes from meters sales) old new r
 filled_on from meters sales old filled new r first second =
-    fills_then old filled new (kept_names (later from)) r (λ fills. fills.only) (λ _ _ fills tells. completes from meters sales old filled new fills tells) (fills_by old filled (Ok tt) (λ w is. inl is) first) (fills_write (format_write from) (inr refl) filled new r second)
+    fills_then old filled new (kept_names (later from)) r (λ fills. fills.only)
+    (λ _ _ fills tells. completes from meters sales old filled new fills tells) (fills_by old filled (Ok tt) (λ w is. inl is) first)
+    (fills_write (format_write from) (inr refl) filled new r second)
 
-pub filled_off : (from : ℕ) (meters : List MeterRow) (sales : List Sale) (old new : State) (e : TableError) (r : Result (Unit {0}) TableError) → IsErrAnd r (λ x. x ≡ e) → Fills (IsFilling from meters sales) (FillsMissing from meters sales) old new (Err e) → Fills (IsBringing from meters sales) (Completes from meters sales) old new r
+pub filled_off : (from : ℕ) (meters : List MeterRow) (sales : List Sale) (old new : State) (e : TableError)
+    (r : Result (Unit {0}) TableError) → IsErrAnd r (λ x. x ≡ e)
+    → Fills (IsFilling from meters sales) (FillsMissing from meters sales) old new (Err e)
+    → Fills (IsBringing from meters sales) (Completes from meters sales) old new r
 filled_off from meters sales old new e r is failed = fills_off old new e r is (fills_by old new (Err e) (λ w is. inl is) failed)
 
-module _ (from : ℕ) (meters : List MeterRow) (sales : List Sale) (old mid new : State) (inside : StaysInside old mid) (made : MakesMissing from old.now mid.now) (done : Completes from meters sales mid new) where
+module _ (from : ℕ) (meters : List MeterRow) (sales : List Sale) (old mid new : State) (inside : StaysInside old mid)
+    (made : MakesMissing from old.now mid.now) (done : Completes from meters sales mid new) where
   tables_brought : BringsTables from old.now new.now
   tables_brought = record {
     had = made.had;
@@ -172,19 +193,24 @@ module _ (from : ℕ) (meters : List MeterRow) (sales : List Sale) (old mid new 
   }
 
 -- what follows of all of it, where the missing tables were made
-module _ (from : ℕ) (meters : List MeterRow) (sales : List Sale) (old mid new : State) (r : Result (Unit {0}) TableError) (makes : HasCleanDisk mid → IsSoundOfFormat from old → MakesMissing from old.now mid.now) (inside : HasCleanDisk mid → StaysInside old mid)
-    (first : KeepsTransaction {T = Unit {0}} {E = TableError} old mid (Ok tt)) (rest : Fills (IsBringing from meters sales) (Completes from meters sales) mid new r) where
+module _ (from : ℕ) (meters : List MeterRow) (sales : List Sale) (old mid new : State) (r : Result (Unit {0}) TableError)
+    (makes : HasCleanDisk mid → IsSoundOfFormat from old → MakesMissing from old.now mid.now) (inside : HasCleanDisk mid → StaysInside old mid)
+    (first : KeepsTransaction {T = Unit {0}} {E = TableError} old mid (Ok tt))
+    (rest : Fills (IsBringing from meters sales) (Completes from meters sales) mid new r) where
   early : HasCleanDisk new → HasCleanDisk mid
   early clean = omega (arith, clean, rest.survives.clean)
 
   ready_made : HasCleanDisk new → IsSoundOfFormat from old → IsReady mid
-  ready_made clean sound = let is = inside (early clean) in let made = makes (early clean) sound in record { is_open = is.is_open; under_way = is.mode; sound = made.beside.sound; has = made.has }
+  ready_made clean sound = let is = inside (early clean) in let made = makes (early clean) sound in
+      record { is_open = is.is_open; under_way = is.mode; sound = made.beside.sound; has = made.has }
 
   pub brings_office : from < present_format → HasCleanDisk new → IsSoundOfFormat from old → HandsOver old.now meters sales → OnOk r (BringsInside from old new)
-  brings_office known clean sound handed = on_ok r (λ done. office_brought from meters sales old mid new (inside (early clean)) (makes (early clean) sound) done known handed) (rest.made clean (ready_made clean sound))
+  brings_office known clean sound handed = on_ok r (λ done. office_brought from meters sales old mid new (inside (early clean))
+      (makes (early clean) sound) done known handed) (rest.made clean (ready_made clean sound))
 
   pub brings_tables : HasCleanDisk new → IsSoundOfFormat from old → OnOk r (BringsTables from old.now new.now)
-  brings_tables clean sound = on_ok r (λ done. tables_brought from meters sales old mid new (inside (early clean)) (makes (early clean) sound) done) (rest.made clean (ready_made clean sound))
+  brings_tables clean sound = on_ok r (λ done. tables_brought from meters sales old mid new (inside (early clean))
+      (makes (early clean) sound) done) (rest.made clean (ready_made clean sound))
 
   pub fails_bringing : {S : Type 0} (g : Ghosts S) → HasCleanDisk new → IsSoundOfFormat from old → IfErr r (FailsToBring g from meters sales old new)
   fails_bringing g clean sound =
@@ -200,8 +226,16 @@ module _ (from : ℕ) (meters : List MeterRow) (sales : List Sale) (old mid new 
       survives_from s = record { clean = s.clean; shield = s.shield; counts = s.counts; limit = s.limit; closes = s.closes; crash = s.crash }
 
       why_not : {S : Type 0} (g : Ghosts S) → MakesMissing from old.now mid.now → Came [] (record old { now = mid.now }) mid → (e : TableError)
-          → (writes : List Write) × AllByRecursion (IsBringing from meters sales) writes × FailsToWriteAll writes mid new e → FailsToBring g from meters sales old new e
-      why_not g made came (Failed e) why = inr (record { made = mid.now; makes = made; writes = why.0 ++ []; are = all_joined (IsBringing from meters sales) why.0 [] why.1 tt; fails = of_later [] (record old { now = mid.now }) mid new came why.0 [] (Failed e) why.2 })
+          → (writes : List Write) × AllByRecursion (IsBringing from meters sales) writes × FailsToWriteAll writes mid new e
+          → FailsToBring g from meters sales old new e
+      why_not g made came (Failed e) why = inr (record {
+        made = mid.now;
+        makes = made;
+        writes = why.0 ++ [];
+        are = all_joined (IsBringing from meters sales) why.0 [] why.1 tt;
+        fails =
+            of_later [] (record old { now = mid.now }) mid new came why.0 [] (Failed e) why.2;
+      })
       why_not g made came RowOfNoOffice why = why.2
 
   pub keeps_bringing : KeepsTransaction old new r

@@ -24,7 +24,8 @@ nothing_written names old ready = record {
   inside = still old ready.is_open ready.under_way;
   marks = refl;
   schema = refl;
-  tables = all_from (λ (u : Table). IsOfNone old.now.schema names u.tree → old.now.trees u.tree ≡ old.now.trees u.tree) old.now.schema.tables (λ u there apart. refl);
+  tables = all_from (λ (u : Table). IsOfNone old.now.schema names u.tree → old.now.trees u.tree ≡ old.now.trees u.tree)
+      old.now.schema.tables (λ u there apart. refl);
   others = λ tree apart none. refl;
   sound = ready.sound;
 }
@@ -39,18 +40,24 @@ ready_then names old mid only ready = record {
 }
 
 -- a step that fails
-pub fills_off : {Is : Write → Type 0} {A C : State → State → Type 0} (old new : State) (e : TableError) (r : Result (Unit {0}) TableError) → IsErrAnd r (λ x. x ≡ e) → Fills Is A old new (Err e) → Fills Is C old new r
+pub fills_off : {Is : Write → Type 0} {A C : State → State → Type 0} (old new : State) (e : TableError) (r : Result (Unit {0}) TableError)
+    → IsErrAnd r (λ x. x ≡ e) → Fills Is A old new (Err e) → Fills Is C old new r
 fills_off old new e (Ok x) is step = absurd is
 fills_off {Is = Is} old new e (Err x) is step = record {
   made = λ _ _. tt;
-  ends = λ clean ready. (tt, subst (λ (x : TableError). (writes : List Write) × AllByRecursion Is writes × FailsToWriteAll writes old new x) (sym is) (step.ends clean ready).1);
+  ends = λ clean ready. (
+    tt,
+    subst (λ (x : TableError). (writes : List Write) × AllByRecursion Is writes
+        × FailsToWriteAll writes old new x) (sym is) (step.ends clean ready).1,
+  );
   inside = λ _ _ _. tt;
   kept = step.kept;
   survives = step.survives;
 }
 
 -- a step whose tables are told as others
-pub fills_as : {Is : Write → Type 0} {A C : State → State → Type 0} (old new : State) (r : Result (Unit {0}) TableError) → (IsReady old → A old new → C old new) → Fills Is A old new r → Fills Is C old new r
+pub fills_as : {Is : Write → Type 0} {A C : State → State → Type 0} (old new : State) (r : Result (Unit {0}) TableError)
+    → (IsReady old → A old new → C old new) → Fills Is A old new r → Fills Is C old new r
 fills_as old new r tells step = record {
   made = λ clean ready. on_ok r (tells ready) (step.made clean ready);
   ends = step.ends;
@@ -69,7 +76,8 @@ all_joined P [] ws first second = second
 all_joined P (v ∷ vs) ws first second = (first.0, all_joined P vs ws first.1 second)
 
 -- a step whose writes are told as others
-pub fills_by : {Is So : Write → Type 0} {A : State → State → Type 0} (old new : State) (r : Result (Unit {0}) TableError) → ((w : Write) → Is w → So w) → Fills Is A old new r → Fills So A old new r
+pub fills_by : {Is So : Write → Type 0} {A : State → State → Type 0} (old new : State) (r : Result (Unit {0}) TableError)
+    → ((w : Write) → Is w → So w) → Fills Is A old new r → Fills So A old new r
 fills_by old new r so step = record {
   made = step.made;
   ends = λ clean ready.
@@ -81,12 +89,15 @@ fills_by old new r so step = record {
 }
 
 -- one write
-pub fills_write : {Is : Write → Type 0} {A : State → State → Type 0} (w : Write) → Is w → (old new : State) (r : Result (Unit {0}) TableError) → WritesTables w A old new r → Fills Is A old new r
+pub fills_write : {Is : Write → Type 0} {A : State → State → Type 0} (w : Write) → Is w
+    → (old new : State) (r : Result (Unit {0}) TableError) → WritesTables w A old new r → Fills Is A old new r
 fills_write w is old new r write = record {
   made = λ clean ready. write.made clean (λ _. ready.has);
   ends = λ clean ready.
-      let it = write.ends clean (λ _. ready.has) in
-      (on_ok r (λ written. (w ∷ [], (is, tt), written)) it.0, if_err r (λ e why. (w ∷ [], (is, tt), of_store [] old old new (came_here old ready.under_way) w [] e why)) it.1);
+      let it = write.ends clean (λ _. ready.has) in (
+        on_ok r (λ written. (w ∷ [], (is, tt), written)) it.0,
+        if_err r (λ e why. (w ∷ [], (is, tt), of_store [] old old new (came_here old ready.under_way) w [] e why)) it.1,
+      );
   inside = λ clean way _. write.transaction.inside clean way;
   kept = λ clean way _. write.transaction.kept clean way;
   survives = write.transaction.survives;
@@ -99,11 +110,19 @@ fills_none old made = record {
   ends = λ _ _. (([], tt, refl), tt);
   inside = λ _ way runs. still old runs way;
   kept = λ _ way runs. keeps_inside old old (still old runs way);
-  survives = record { clean = omega arith; shield = λ is. is; counts = omega arith; limit = refl; closes = λ clean runs. inl runs; crash = λ clean db may. inl may };
+  survives = record {
+    clean = omega arith;
+    shield = λ is. is;
+    counts = omega arith;
+    limit = refl;
+    closes = λ clean runs. inl runs;
+    crash = λ clean db may. inl may;
+  };
 }
 
 -- a step after those before it
-pub fills_then : {Is : Write → Type 0} {A B C : State → State → Type 0} (old mid new : State) (names : List (List ℕ)) (r : Result (Unit {0}) TableError) → (A old mid → WritesOnly names old mid)
+pub fills_then : {Is : Write → Type 0} {A B C : State → State → Type 0} (old mid new : State) (names : List (List ℕ))
+    (r : Result (Unit {0}) TableError) → (A old mid → WritesOnly names old mid)
     → (IsReady old → IsReady mid → A old mid → B mid new → C old new) → Fills Is A old mid (Ok tt) → Fills Is B mid new r → Fills Is C old new r
 fills_then {Is = Is} old mid new names r only join first second =
     let early : HasCleanDisk new → HasCleanDisk mid = λ clean. omega (arith, clean, second.survives.clean) in
@@ -117,8 +136,16 @@ fills_then {Is = Is} old mid new names r only join first second =
           let before = (first.ends (early clean) ready).0 in
           let came = came_by before.0 old mid before.2 made.inside first.survives in
           let it = second.ends clean (ready_then names old mid made ready) in (
-            on_ok r (λ later. (before.0 ++ later.0, all_joined Is before.0 later.0 before.1 later.1, written_then before.0 later.0 old mid new came later.2)) it.0,
-            if_err r (λ e why. (before.0 ++ (why.0 ++ []), all_joined Is before.0 (why.0 ++ []) before.1 (all_joined Is why.0 [] why.1 tt), of_later before.0 old mid new came why.0 [] e why.2)) it.1,
+            on_ok r (λ later. (
+              before.0 ++ later.0,
+              all_joined Is before.0 later.0 before.1 later.1,
+              written_then before.0 later.0 old mid new came later.2,
+            )) it.0,
+            if_err r (λ e why. (
+              before.0 ++ (why.0 ++ []),
+              all_joined Is before.0 (why.0 ++ []) before.1 (all_joined Is why.0 [] why.1 tt),
+              of_later before.0 old mid new came why.0 [] e why.2,
+            )) it.1,
           );
       inside = λ clean way runs.
           let before = first.inside (early clean) way runs in

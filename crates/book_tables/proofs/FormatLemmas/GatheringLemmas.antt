@@ -43,7 +43,8 @@ module _ {R : Type 0} (set : List R → Rows → Rows) (Are : List R → Type 0)
   pub puts_none : (old : State) → IsReady old → PutsFirst set Are [] old old
   puts_none old ready = record { only = nothing_written totals_names old ready; rows = λ told rows after are held. held }
 
-  pub puts_more : (before : List R) (r : R) (old mid new : State) → PutsFirst set Are before old mid → PutsNext set Are r mid new → PutsFirst set Are (before ++ r ∷ []) old new
+  pub puts_more : (before : List R) (r : R) (old mid new : State) → PutsFirst set Are before old mid → PutsNext set Are r mid new
+      → PutsFirst set Are (before ++ r ∷ []) old new
   puts_more before r old mid new first second = record {
     only = only_both totals_names old mid new first.only second.only;
     rows = λ told rows after are held.
@@ -96,19 +97,26 @@ module _ (sales : List Sale) (g : Gathered) (held : IsGathered sales g) (fit : F
       let few : HasRoomFor (all_totals of_shift) = (count, tenths, cash) in
       subst HasRoomFor is few
 
-  rise : (es : List (ℕ × (ℕ × Totals))) → IsStrictlySortedBy nat_cmp (map (λ e. e.0) es) → ((e : ℕ × (ℕ × Totals)) → Contains es e → e.0 ≡ e.1.0) → IsKeyedBy (λ (r : ℕ × Totals). pos r.0) (map (λ e. e.1) es)
+  rise : (es : List (ℕ × (ℕ × Totals))) → IsStrictlySortedBy nat_cmp (map (λ e. e.0) es)
+      → ((e : ℕ × (ℕ × Totals)) → Contains es e → e.0 ≡ e.1.0) → IsKeyedBy (λ (r : ℕ × Totals). pos r.0) (map (λ e. e.1) es)
   rise [] up own = tt
-  rise (e ∷ es) up own = (above es (sorted_head nat_cmp e.0 (map (λ e. e.0) es) up) (λ f there. own f (contains_further e f es there)), rise es (sorted_tail nat_cmp e.0 (map (λ e. e.0) es) up) (λ f there. own f (contains_further e f es there)))
+  rise (e ∷ es) up own = (
+    above es (sorted_head nat_cmp e.0 (map (λ e. e.0) es) up) (λ f there. own f (contains_further e f es there)),
+    rise es (sorted_tail nat_cmp e.0 (map (λ e. e.0) es) up) (λ f there. own f (contains_further e f es there)),
+  )
     where
-      above : (fs : List (ℕ × (ℕ × Totals))) → AllByRecursion (λ q. nat_cmp e.0 q ≡ Less) (map (λ f. f.0) fs) → ((f : ℕ × (ℕ × Totals)) → Contains fs f → f.0 ≡ f.1.0) → AllByRecursion (λ (r : ℕ × Totals). pos e.1.0 <ℤ pos r.0) (map (λ f. f.1) fs)
+      above : (fs : List (ℕ × (ℕ × Totals))) → AllByRecursion (λ q. nat_cmp e.0 q ≡ Less) (map (λ f. f.0) fs)
+          → ((f : ℕ × (ℕ × Totals)) → Contains fs f → f.0 ≡ f.1.0) → AllByRecursion (λ (r : ℕ × Totals). pos e.1.0 <ℤ pos r.0) (map (λ f. f.1) fs)
       above [] all mine = tt
       above (f ∷ fs) all mine = (
-        subst (λ (n : ℕ). pos n <ℤ pos f.1.0) (own e (contains_first e es)) (subst (λ (n : ℕ). pos e.0 <ℤ pos n) (mine f (contains_first f fs)) (less_below e.0 f.0 all.0)),
+        subst (λ (n : ℕ). pos n <ℤ pos f.1.0) (own e (contains_first e es))
+            (subst (λ (n : ℕ). pos e.0 <ℤ pos n) (mine f (contains_first f fs)) (less_below e.0 f.0 all.0)),
         above fs all.1 (λ h there. mine h (contains_further f h fs there)),
       )
 
   shifts_rise : IsKeyedBy (λ (r : ℕ × Totals). pos r.0) shift_rows
-  shifts_rise = rise g.shift_totals.entries held.shift_totals.ordered (λ e there. held.shift_totals.own e.0 e.1 ((btree_map_get_iff nat_cmp_total exact_unsigned g.shift_totals held.shift_totals.ordered e.0 e.1).1 there))
+  shifts_rise = rise g.shift_totals.entries held.shift_totals.ordered
+      (λ e there. held.shift_totals.own e.0 e.1 ((btree_map_get_iff nat_cmp_total exact_unsigned g.shift_totals held.shift_totals.ordered e.0 e.1).1 there))
 
   pub shifts_fit : FitShifts shift_rows
   shifts_fit = (shifts_rise, all_there (λ (r : ℕ × Totals). HasRoomFor r.1) shift_rows room_of)
@@ -130,7 +138,8 @@ pub record WritesOf (sales : List Sale) (g : Gathered) : Type 0 where
   pub months : (w : Write) → (r : (List ℕ × ℕ) × ℕ) × Contains (values g.month_tenths) r × PutsMonth r w → IsOfTotals sales w
   pub shifts : (w : Write) → (r : ℕ × Totals) × Contains (values g.shift_totals) r × PutsTotals r w → IsOfTotals sales w
 
-pub writes_gathered : ((t : ℕ) → IsRepresentable t → t ≤ 18201624) → (sales : List Sale) (g : Gathered) → (length sales ≤ 2 ^ 32 → IsGathered sales g) → WritesOf sales g
+pub writes_gathered : ((t : ℕ) → IsRepresentable t → t ≤ 18201624) → (sales : List Sale) (g : Gathered)
+    → (length sales ≤ 2 ^ 32 → IsGathered sales g) → WritesOf sales g
 writes_gathered greatest sales g gathered = record {
   ids = λ w (r, there, puts) o office same.
       let held = held_of o office same in
@@ -138,7 +147,11 @@ writes_gathered greatest sales g gathered = record {
   months = λ w (r, there, puts) o office same.
       let held = held_of o office same in
       let fit = fits o office same in
-      inr (inl (r, ((months_are sales g held fit).members r.0 r.1).1 there, puts (All-contains (λ (x : (List ℕ × ℕ) × ℕ). x.1 < 2 ^ 63) (values g.month_tenths) r (months_fit sales g held fit) there)));
+      inr (inl (
+        r,
+        ((months_are sales g held fit).members r.0 r.1).1 there,
+        puts (All-contains (λ (x : (List ℕ × ℕ) × ℕ). x.1 < 2 ^ 63) (values g.month_tenths) r (months_fit sales g held fit) there),
+      ));
   shifts = λ w (r, there, puts) o office same.
       let held = held_of o office same in
       let fit = fits o office same in
@@ -156,16 +169,22 @@ writes_gathered greatest sales g gathered = record {
 -- the first two tables have these rows, where they had none
 pub record PutsTwo (ids : List ((List ℕ × Base) × ℕ)) (months : List ((List ℕ × ℕ) × ℕ)) (old new : State) : Type 0 where
   pub only : WritesOnly totals_names old new
-  pub rows : (told : ℕ) (rows : Rows) → FitMonths months → HoldsOf present_format told old.now (with_last_ids [] (with_month_tenths [] rows)) → HoldsOf present_format told new.now (with_last_ids ids (with_month_tenths months rows))
+  pub rows : (told : ℕ) (rows : Rows) → FitMonths months
+      → HoldsOf present_format told old.now (with_last_ids [] (with_month_tenths [] rows))
+      → HoldsOf present_format told new.now (with_last_ids ids (with_month_tenths months rows))
 
-pub puts_two : (ids : List ((List ℕ × Base) × ℕ)) (months : List ((List ℕ × ℕ) × ℕ)) (old one two : State) → PutsFirst with_last_ids AreAnyIds ids old one → PutsFirst with_month_tenths FitMonths months one two → PutsTwo ids months old two
+pub puts_two : (ids : List ((List ℕ × Base) × ℕ)) (months : List ((List ℕ × ℕ) × ℕ)) (old one two : State)
+    → PutsFirst with_last_ids AreAnyIds ids old one → PutsFirst with_month_tenths FitMonths months one two → PutsTwo ids months old two
 puts_two ids months old one two first second = record {
   only = only_both totals_names old one two first.only second.only;
-  rows = λ told rows fit held. second.rows told (with_last_ids ids rows) [] (subst FitMonths (sym (append-nil months)) fit) (first.rows told (with_month_tenths [] rows) [] tt held);
+  rows = λ told rows fit held. second.rows told (with_last_ids ids rows) [] (subst FitMonths (sym (append-nil months)) fit)
+      (first.rows told (with_month_tenths [] rows) [] tt held);
 }
 
-module _ (greatest : (t : ℕ) → IsRepresentable t → t ≤ 18201624) (sales : List Sale) (g : Gathered) (gathered : length sales ≤ 2 ^ 32 → IsGathered sales g) (old two new : State) where
-  pub fills_gathered : PutsTwo (values g.last_ids) (values g.month_tenths) old two → PutsFirst with_shift_totals FitShifts (values g.shift_totals) two new → FillsTotals sales old new
+module _ (greatest : (t : ℕ) → IsRepresentable t → t ≤ 18201624) (sales : List Sale) (g : Gathered)
+    (gathered : length sales ≤ 2 ^ 32 → IsGathered sales g) (old two new : State) where
+  pub fills_gathered : PutsTwo (values g.last_ids) (values g.month_tenths) old two
+      → PutsFirst with_shift_totals FitShifts (values g.shift_totals) two new → FillsTotals sales old new
   fills_gathered both third = record {
     only = only_both totals_names old two new both.only third.only;
     rows = λ told rows o office same held.
@@ -176,6 +195,7 @@ module _ (greatest : (t : ℕ) → IsRepresentable t → t ≤ 18201624) (sales 
         let months = values g.month_tenths in
         let shifts = values g.shift_totals in
         let at_two = both.rows told (with_shift_totals [] rows) (months_fit sales g held_of fit) held in
-        let at_new = third.rows told (with_last_ids ids (with_month_tenths months rows)) [] (subst FitShifts (sym (append-nil shifts)) (shifts_fit sales g held_of fit)) at_two in
+        let at_new = third.rows told (with_last_ids ids (with_month_tenths months rows)) []
+        (subst FitShifts (sym (append-nil shifts)) (shifts_fit sales g held_of fit)) at_two in
         (with_shift_totals shifts (with_last_ids ids (with_month_tenths months rows)), at_new, totals_are sales g held_of fit rows);
   }

@@ -46,17 +46,20 @@ use Rattle.book_tables.proofs.WritingLemmas.WriteLemmas.{changes_only, only_one}
 
 -- ---- lists of tables by a test
 
-both_first : (P : Kept → Type 0) (p : Kept → Bool) (k : Kept) (ks : List Kept) (b : Bool) → AllByRecursion P (cond b (k ∷ filter p ks) (filter p ks)) → AllByRecursion P (cond (not b) (k ∷ filter (λ k. not (p k)) ks) (filter (λ k. not (p k)) ks))
+both_first : (P : Kept → Type 0) (p : Kept → Bool) (k : Kept) (ks : List Kept) (b : Bool)
+    → AllByRecursion P (cond b (k ∷ filter p ks) (filter p ks)) → AllByRecursion P (cond (not b) (k ∷ filter (λ k. not (p k)) ks) (filter (λ k. not (p k)) ks))
     → (AllByRecursion P (filter p ks) → AllByRecursion P (filter (λ k. not (p k)) ks) → AllByRecursion P ks) → AllByRecursion P (k ∷ ks)
 both_first P p k ks true these those rest = (these.0, rest these.1 those)
 both_first P p k ks false these those rest = (those.0, rest these those.1)
 
-all_both_ways : (P : Kept → Type 0) (p : Kept → Bool) (ks : List Kept) → AllByRecursion P (filter p ks) → AllByRecursion P (filter (λ k. not (p k)) ks) → AllByRecursion P ks
+all_both_ways : (P : Kept → Type 0) (p : Kept → Bool) (ks : List Kept) → AllByRecursion P (filter p ks)
+    → AllByRecursion P (filter (λ k. not (p k)) ks) → AllByRecursion P ks
 all_both_ways P p [] these those = tt
 all_both_ways P p (k ∷ ks) these those = both_first P p k ks (p k) these those (λ these those. all_both_ways P p ks these those)
 
 -- tables that were made are tables that are kept
-all_made : (b : Database) (ks : List Kept) → AllByRecursion (IsNewTable b) (kept_tables ks) → AllByRecursion (λ t. is_left_alone b.schema (tree_in b.schema t.name) ≡ true) (kept_tables ks) → AllByRecursion (IsKept b.schema) ks
+all_made : (b : Database) (ks : List Kept) → AllByRecursion (IsNewTable b) (kept_tables ks)
+    → AllByRecursion (λ t. is_left_alone b.schema (tree_in b.schema t.name) ≡ true) (kept_tables ks) → AllByRecursion (IsKept b.schema) ks
 all_made b [] new alone = tt
 all_made b (k ∷ ks) new alone = ((new.0.0, alone.0), all_made b ks new.1 alone.1)
 
@@ -68,10 +71,14 @@ none_stored : (numbered : Bool) (found : List Row) → found ≡ [] → AreStore
 none_stored true found none = none
 none_stored false found none = (ap (map (drop 1)) none, none_in_order found none)
 
-all_empty : (b : Database) (told : ℕ) (rows : Rows) (ks : List Kept) → AllByRecursion (IsNewTable b) (kept_tables ks) → AllByRecursion (λ k. k.stored told rows ≡ []) ks → AllByRecursion (HoldsRows b told rows) ks
+all_empty : (b : Database) (told : ℕ) (rows : Rows) (ks : List Kept) → AllByRecursion (IsNewTable b) (kept_tables ks)
+    → AllByRecursion (λ k. k.stored told rows ≡ []) ks → AllByRecursion (HoldsRows b told rows) ks
 all_empty b told rows [] new none = tt
-all_empty b told rows (k ∷ ks) new none =
-    (subst (λ stored. AreStoredRows k.is_numbered (rows_in b k.table.name) stored) (sym none.0) (none_stored k.is_numbered (rows_in b k.table.name) new.0.1), all_empty b told rows ks new.1 none.1)
+all_empty b told rows (k ∷ ks) new none = (
+  subst (λ stored. AreStoredRows k.is_numbered (rows_in b k.table.name) stored) (sym none.0)
+      (none_stored k.is_numbered (rows_in b k.table.name) new.0.1),
+  all_empty b told rows ks new.1 none.1,
+)
 
 -- ---- the tables that a format lacks
 
@@ -79,7 +86,8 @@ module _ (n : ℕ) (a b : Database) (had : HasOfficeOf n a.schema) (m : MakesTab
   stays : (k : Kept) → IsKept a.schema k → IsText k → IsKept b.schema k
   stays k stands text =
       let still = m.still k.table stands.0 in
-      let low = table_below a.schema (record k.table { tree = tree_in a.schema k.table.name }) (has_got a.schema.tables (place_in a.schema k.table.name) _ stands.0.has.listed) in (
+      let low = table_below a.schema (record k.table { tree = tree_in a.schema k.table.name })
+      (has_got a.schema.tables (place_in a.schema k.table.name) _ stands.0.has.listed) in (
         still.0,
         ap (is_left_alone b.schema) still.1 ∙ m.alone (tree_in a.schema k.table.name) low (are_idle (later n) (later_texts n)) stands.1,
       )
@@ -98,28 +106,38 @@ module _ (n : ℕ) (a b : Database) (had : HasOfficeOf n a.schema) (m : MakesTab
   }
 
   -- the rows of a table that stood stay, where the same is stored of the new rows
-  holds_still : (told : ℕ) (rows new : Rows) (k : Kept) → IsKept a.schema k → k.stored told new ≡ k.stored told rows → HoldsRows a told rows k → HoldsRows b told new k
+  holds_still : (told : ℕ) (rows new : Rows) (k : Kept) → IsKept a.schema k → k.stored told new ≡ k.stored told rows
+      → HoldsRows a told rows k → HoldsRows b told new k
   holds_still told rows new k stands same holds =
       let still = m.still k.table stands.0 in
-      subst (λ stored. AreStoredRows k.is_numbered (rows_in b k.table.name) stored) (sym same) (subst (λ found. AreStoredRows k.is_numbered found (k.stored told rows)) (sym still.2) holds)
+      subst (λ stored. AreStoredRows k.is_numbered (rows_in b k.table.name) stored) (sym same)
+      (subst (λ found. AreStoredRows k.is_numbered found (k.stored told rows)) (sym still.2) holds)
 
-  all_hold : (told : ℕ) (rows new : Rows) (ks : List Kept) → AllByRecursion (IsKept a.schema) ks → AllByRecursion (λ k. k.stored told new ≡ k.stored told rows) ks → AllByRecursion (HoldsRows a told rows) ks → AllByRecursion (HoldsRows b told new) ks
+  all_hold : (told : ℕ) (rows new : Rows) (ks : List Kept) → AllByRecursion (IsKept a.schema) ks
+      → AllByRecursion (λ k. k.stored told new ≡ k.stored told rows) ks → AllByRecursion (HoldsRows a told rows) ks → AllByRecursion (HoldsRows b told new) ks
   all_hold told rows new [] stand same hold = tt
   all_hold told rows new (k ∷ ks) stand same hold = (holds_still told rows new k stand.0 same.0 hold.0, all_hold told rows new ks stand.1 same.1 hold.1)
 
-  holds_all : (rows : Rows) → AllByRecursion (λ k. k.stored n (rows_upto n rows) ≡ k.stored n rows) (upto n) → AllByRecursion (λ k. k.stored n (rows_upto n rows) ≡ []) (later n) → HoldsOf n n a rows → HoldsOf present_format n b (rows_upto n rows)
+  holds_all : (rows : Rows) → AllByRecursion (λ k. k.stored n (rows_upto n rows) ≡ k.stored n rows) (upto n)
+      → AllByRecursion (λ k. k.stored n (rows_upto n rows) ≡ []) (later n) → HoldsOf n n a rows → HoldsOf present_format n b (rows_upto n rows)
   holds_all rows same none held = record {
     has = has_all;
-    are = all_both_ways (HoldsRows b n (rows_upto n rows)) (λ k. nat_le k.since n) kept (all_hold n rows (rows_upto n rows) (upto n) had.tables same held.are) (all_empty b n (rows_upto n rows) (later n) m.new none);
+    are = all_both_ways (HoldsRows b n (rows_upto n rows)) (λ k. nat_le k.since n) kept
+        (all_hold n rows (rows_upto n rows) (upto n) had.tables same held.are) (all_empty b n (rows_upto n rows) (later n) m.new none);
     of_format = record { bases = λ older. absurd (omega (arith, older)); dated_steps = λ older. absurd (omega (arith, older)) };
   }
 
 -- by the format: what is stored in the older tables is the same, and in the new ones nothing
-rows_made : (n : ℕ) → n < present_format → (a b : Database) → HasOfficeOf n a.schema → MakesTables (kept_tables (later n)) a b → (rows : Rows) → HoldsOf n n a rows → HoldsOf present_format n b (rows_upto n rows)
-rows_made zero below a b had m rows held = holds_all 0 a b had m rows tt (refl, (refl, (refl, (refl, (refl, (refl, (refl, (refl, (refl, (refl, (refl, tt))))))))))) held
-rows_made (suc zero) below a b had m rows held = holds_all 1 a b had m rows (refl, (refl, (refl, (refl, (refl, (refl, tt)))))) (refl, (refl, (refl, (refl, (refl, tt))))) held
-rows_made (suc (suc zero)) below a b had m rows held = holds_all 2 a b had m rows (refl, (refl, (refl, (refl, (refl, (refl, (refl, (refl, (refl, tt))))))))) (refl, (refl, tt)) held
-rows_made (suc (suc (suc zero))) below a b had m rows held = holds_all 3 a b had m rows (refl, (refl, (refl, (refl, (refl, (refl, (refl, (refl, (refl, (refl, tt)))))))))) (refl, tt) held
+rows_made : (n : ℕ) → n < present_format → (a b : Database) → HasOfficeOf n a.schema → MakesTables (kept_tables (later n)) a b
+    → (rows : Rows) → HoldsOf n n a rows → HoldsOf present_format n b (rows_upto n rows)
+rows_made zero below a b had m rows held = holds_all 0 a b had m rows tt
+    (refl, (refl, (refl, (refl, (refl, (refl, (refl, (refl, (refl, (refl, (refl, tt))))))))))) held
+rows_made (suc zero) below a b had m rows held = holds_all 1 a b had m rows (refl, (refl, (refl, (refl, (refl, (refl, tt))))))
+    (refl, (refl, (refl, (refl, (refl, tt))))) held
+rows_made (suc (suc zero)) below a b had m rows held =
+    holds_all 2 a b had m rows (refl, (refl, (refl, (refl, (refl, (refl, (refl, (refl, (refl, tt))))))))) (refl, (refl, tt)) held
+rows_made (suc (suc (suc zero))) below a b had m rows held =
+    holds_all 3 a b had m rows (refl, (refl, (refl, (refl, (refl, (refl, (refl, (refl, (refl, (refl, tt)))))))))) (refl, tt) held
 rows_made (suc (suc (suc (suc n)))) below a b had m rows held = absurd (omega (arith, below))
 
 beside_tables : (n : ℕ) (a b : Database) → MakesTables (kept_tables (later n)) a b → LeavesBeside n a b
@@ -131,7 +149,13 @@ beside_tables n a b m = record {
 }
 
 pub makes_missing : (n : ℕ) → n < present_format → (a b : Database) → HasOfficeOf n a.schema → MakesTables (kept_tables (later n)) a b → MakesMissing n a b
-makes_missing n below a b had m = record { had = had; has = has_all n a b had m; rows = rows_made n below a b had m; tells = told_made n a b had m; beside = beside_tables n a b m }
+makes_missing n below a b had m = record {
+  had = had;
+  has = has_all n a b had m;
+  rows = rows_made n below a b had m;
+  tells = told_made n a b had m;
+  beside = beside_tables n a b m;
+}
 
 -- a format below the present one lacks some table
 pub lacks_some : (n : ℕ) → n < present_format → 0 < length (kept_texts (later n))
@@ -157,7 +181,8 @@ new_format_whole = refl
 format_is : (tree : ℕ) (rows : List Row) → rows ≡ [] → put_row (new_row (about_table tree) new_format_terms [] rows) rows ≡ about_rows present_format
 format_is tree rows none = rw (none, cast_int (pos 1), cast_int (pos 4), cast_no_int) refl
 
-module _ (old new : State) (put : PutsRow (about_table (tree_in old.now.schema (codes "about"))) (new_row (about_table (tree_in old.now.schema (codes "about"))) new_format_terms [] (old.now.trees (tree_in old.now.schema (codes "about")))) old new) where
+module _ (old new : State) (put : PutsRow (about_table (tree_in old.now.schema (codes "about")))
+    (new_row (about_table (tree_in old.now.schema (codes "about"))) new_format_terms [] (old.now.trees (tree_in old.now.schema (codes "about")))) old new) where
   about_only : WritesOnly (codes "about" ∷ []) old new
   about_only = only_one (codes "about") (about_table (tree_in old.now.schema (codes "about"))) _ old new refl put.changed
 
@@ -208,9 +233,11 @@ module _ (n : ℕ) (a b : Database) (beside : LeavesBeside n a b) where
         by_first None none = false≢true (sym (not_found on_it a.schema.tables u none there) ∙ eq-eqb u.tree (tree_in b.schema k.table.name) same)
         by_first (Some w) is =
             let found = ap (find on_it) grown.tables ∙ found_stays on_it a.schema.tables grown.more w is in
-            let named : w.name ≡ k.table.name = ap (λ (v : Table). v.name) (same_Some w (record k.table { tree = tree_in b.schema k.table.name }) (sym found ∙ stands.0.has.by_tree)) in
+            let named : w.name ≡ k.table.name = ap (λ (v : Table). v.name)
+            (same_Some w (record k.table { tree = tree_in b.schema k.table.name }) (sym found ∙ stands.0.has.by_tree)) in
             let listed = (has_found on_it a.schema.tables w is).0 in
-            false≢true (sym (not_placed (λ v. same_name v.name k.table.name) 0 a.schema.tables w (no_table a.schema k.table.name (is_free (is_used a.schema k.table.name) free)) listed)
+            false≢true (sym (not_placed (λ v. same_name v.name k.table.name) 0 a.schema.tables w
+            (no_table a.schema k.table.name (is_free (is_used a.schema k.table.name) free)) listed)
             ∙ ap (λ n. same_name n k.table.name) named ∙ same_itself k.table.name)
 
 -- every table came up to the present format
@@ -233,7 +260,8 @@ about_may : (n : ℕ) → MayChange n about_kept
 about_may zero = (inl refl, λ came. absurd (false≢true came))
 about_may (suc n) = (inl refl, λ _. inl refl)
 
-may_first : (n : ℕ) (k : Kept) (rest : List Kept) (b : Bool) → nat_le k.since n ≡ b → Member kept k → AllByRecursion (MayChange n) rest → AllByRecursion (MayChange n) (cond (not b) (k ∷ rest) rest)
+may_first : (n : ℕ) (k : Kept) (rest : List Kept) (b : Bool) → nat_le k.since n ≡ b → Member kept k → AllByRecursion (MayChange n) rest
+    → AllByRecursion (MayChange n) (cond (not b) (k ∷ rest) rest)
 may_first n k rest true came there all = all
 may_first n k rest false later there all = ((there, λ came. absurd (false≢true (sym later ∙ came))), all)
 
@@ -247,18 +275,23 @@ missing_may n = (about_may n, later_may n kept (all_from (Member kept) kept (λ 
 
 -- what was written of such tables leaves alone all else that was there
 module _ (n : ℕ) (a : Database) (had : HasOfficeOf n a.schema) (old new : State) (beside : LeavesBeside n a old.now) (has : HasOffice old.now.schema) where
-  each_apart : (u : Table) → Member a.schema.tables u → IsOfNone a.schema (told_names n) u.tree → (k : Kept) → MayChange n k → u.tree ≢ tree_in old.now.schema k.table.name
+  each_apart : (u : Table) → Member a.schema.tables u → IsOfNone a.schema (told_names n) u.tree → (k : Kept) → MayChange n k
+      → u.tree ≢ tree_in old.now.schema k.table.name
   each_apart u there apart k may = by_test (nat_le k.since n) refl
     where
       by_test : (b : Bool) → nat_le k.since n ≡ b → u.tree ≢ tree_in old.now.schema k.table.name
       by_test true came same =
           let stands = of_upto (IsKept a.schema) n k kept may.0 came had.tables in
-          let kept_there = tree_is old.now.schema (place_in a.schema k.table.name) (record k.table { tree = tree_in a.schema k.table.name }) (beside.places (place_in a.schema k.table.name) (record k.table { tree = tree_in a.schema k.table.name }) stands.0.has) in
+          let kept_there = tree_is old.now.schema (place_in a.schema k.table.name)
+          (record k.table { tree = tree_in a.schema k.table.name })
+          (beside.places (place_in a.schema k.table.name) (record k.table { tree = tree_in a.schema k.table.name }) stands.0.has) in
           all_has (λ name. u.tree ≢ tree_in a.schema name) (told_names n) k.table.name apart (may.1 came) (same ∙ kept_there)
       by_test false later same =
-          apart_new n a old.now beside k (free_later a.schema n k kept may.0 later had.free) (of_upto (IsKept old.now.schema) present_format k kept may.0 (known k kept all_known may.0) has.tables) u there same
+          apart_new n a old.now beside k (free_later a.schema n k kept may.0 later had.free)
+          (of_upto (IsKept old.now.schema) present_format k kept may.0 (known k kept all_known may.0) has.tables) u there same
 
-  all_apart : (u : Table) → Member a.schema.tables u → IsOfNone a.schema (told_names n) u.tree → (ks : List Kept) → AllByRecursion (MayChange n) ks → IsOfNone old.now.schema (kept_names ks) u.tree
+  all_apart : (u : Table) → Member a.schema.tables u → IsOfNone a.schema (told_names n) u.tree → (ks : List Kept)
+      → AllByRecursion (MayChange n) ks → IsOfNone old.now.schema (kept_names ks) u.tree
   all_apart u there apart [] may = tt
   all_apart u there apart (k ∷ ks) may = (each_apart u there apart k may.0, all_apart u there apart ks may.1)
 
@@ -269,7 +302,8 @@ module _ (n : ℕ) (a : Database) (had : HasOfficeOf n a.schema) (old new : Stat
     others = all_from (λ u. IsOfNone a.schema (told_names n) u.tree → new.now.trees u.tree ≡ a.trees u.tree) a.schema.tables (λ u there apart.
         let g = grown n a old.now beside in
         let here = subst (λ l. Member l u) (sym g.tables) (has_left a.schema.tables g.more u there) in
-        all_has (λ u. IsOfNone old.now.schema (kept_names ks) u.tree → new.now.trees u.tree ≡ old.now.trees u.tree) old.now.schema.tables u only.tables here (all_apart u there apart ks may)
+        all_has (λ u. IsOfNone old.now.schema (kept_names ks) u.tree → new.now.trees u.tree ≡ old.now.trees u.tree) old.now.schema.tables u
+        only.tables here (all_apart u there apart ks may)
         ∙ all_has (λ u. IsOfNone a.schema (told_names n) u.tree → old.now.trees u.tree ≡ a.trees u.tree) a.schema.tables u beside.others there apart);
     sound = only.sound;
   }

@@ -84,9 +84,11 @@ by_rows n [] kinds e = absurd (cc)
 by_rows n (r ∷ []) kinds e = let one : about_shown r ≡ shown_format n = cc in ap (λ x. x ∷ []) (by_row n r kinds.0 one)
 by_rows n (r ∷ s ∷ more) kinds e = absurd (let f = ap length e in omega arith)
 
-format_shown : (db : Database) → IsDatabase db → IsKept db.schema about_kept → (n : ℕ) → (map about_shown (rows_in db (codes "about")) ≡ shown_format n ∷ []) ↔ HasFormat db n
+format_shown : (db : Database) → IsDatabase db → IsKept db.schema about_kept → (n : ℕ)
+    → (map about_shown (rows_in db (codes "about")) ≡ shown_format n ∷ []) ↔ HasFormat db n
 format_shown db sound has n =
-    let kinds = listed_holds (λ t. AllByRecursion (λ row. passes Datatype db.schema db.trees t row ≡ true) (db.trees t.tree)) db.schema.tables _ (about_table (tree_in db.schema (codes "about"))) has.0.has.listed (sound.obeys.rules Datatype) in
+    let kinds = listed_holds (λ t. AllByRecursion (λ row. passes Datatype db.schema db.trees t row ≡ true) (db.trees t.tree))
+    db.schema.tables _ (about_table (tree_in db.schema (codes "about"))) has.0.has.listed (sound.obeys.rules Datatype) in
     (by_rows n (rows_in db (codes "about")) kinds, λ e. ap (map about_shown) e)
 
 -- ---- the answer: at most two of the rows
@@ -100,7 +102,16 @@ two_of : (db : Database) (rows : List Row) → IsAnswer (format_query (tree_in d
 two_of db rows answer =
     let all : List Row = map (λ o. o.1) answer.ordered in
     let whole : IsAnswer (query_on (tree_in db.schema (codes "about")) [] format_terms [] no_limit) db.trees [] all =
-    record { staged = answer.staged; grouped = answer.grouped; kept = answer.kept; distinct = answer.distinct; ordered = answer.ordered; same = answer.same; sorted = answer.sorted; shown = refl } in
+    record {
+      staged = answer.staged;
+      grouped = answer.grouped;
+      kept = answer.kept;
+      distinct = answer.distinct;
+      ordered = answer.ordered;
+      same = answer.same;
+      sorted = answer.sorted;
+      shown = refl;
+    } in
     let listed = rows_in db (codes "about") in
     let l : IsListing db.trees (tree_in db.schema (codes "about")) [] format_terms [] (λ (r : Row). r) listed (λ _. true) about_shown =
     record { holds_them = sym (map-id listed); passes = λ r. refl; shows = λ r. refl } in
@@ -109,7 +120,10 @@ two_of db rows answer =
 
 -- one row is shown exactly where there is no other
 one_shown : (all rows some : List Row) (r : Row) → IsPermutation some all → rows ≡ take 2 all → (rows ≡ r ∷ []) ↔ (some ≡ r ∷ [])
-one_shown all rows some r same are = (λ e. back all same (sym are ∙ e), λ e. are ∙ ap (take 2) (one_permutation r all (subst (λ l. IsPermutation l all) e same)))
+one_shown all rows some r same are = (
+  λ e. back all same (sym are ∙ e),
+  λ e. are ∙ ap (take 2) (one_permutation r all (subst (λ l. IsPermutation l all) e same)),
+)
   where
     back : (all : List Row) → IsPermutation some all → take 2 all ≡ r ∷ [] → some ≡ r ∷ []
     back [] same e = absurd (let f = ap length e in omega arith)
@@ -126,7 +140,8 @@ lone (y ∷ z ∷ more) x one first = absurd (omega (arith, one))
 abbrev pub TellsOne : Row → ToldFormat → Type 0
 TellsOne row told = ReadsBack shown_format (λ n. n < 2 ^ 32) row told.format
 
-module _ (db : Database) (sound : IsDatabase db) (has : IsKept db.schema about_kept) (rows : List Row) (answer : IsAnswer (format_query (tree_in db.schema (codes "about"))) db.trees [] rows) where
+module _ (db : Database) (sound : IsDatabase db) (has : IsKept db.schema about_kept) (rows : List Row)
+    (answer : IsAnswer (format_query (tree_in db.schema (codes "about"))) db.trees [] rows) where
   shown_alone : (n : ℕ) → (rows ≡ shown_format n ∷ []) ↔ HasFormat db n
   shown_alone n =
       let two = two_of db rows answer in
@@ -135,7 +150,10 @@ module _ (db : Database) (sound : IsDatabase db) (has : IsKept db.schema about_k
       (λ e. told.0 (one.0 e), λ e. one.1 (told.1 e))
 
   pub none_told : (values : List ToldFormat) → AllZip TellsOne rows values → ¬ (length values ≡ 1) → IsFormatOf db None
-  none_told values told other n small = (λ e. absurd cc, λ has. absurd (other (alone values (subst (λ l. AllZip TellsOne l values) ((shown_alone n).1 has) told))))
+  none_told values told other n small = (
+    λ e. absurd cc,
+    λ has. absurd (other (alone values (subst (λ l. AllZip TellsOne l values) ((shown_alone n).1 has) told))),
+  )
     where
       alone : (values : List ToldFormat) → AllZip TellsOne (shown_format n ∷ []) values → length values ≡ 1
       alone [] told = absurd told
@@ -147,7 +165,10 @@ module _ (db : Database) (sound : IsDatabase db) (has : IsKept db.schema about_k
     where
       read : (row : Row) (found : Option ℕ) → ReadsBack shown_format (λ n. n < 2 ^ 32) row found → (found ≡ Some n) ↔ (row ≡ shown_format n)
       read row None told = (λ e. absurd cc, λ e. absurd (told n small (sym e)))
-      read row (Some m) told = (λ e. let same : m ≡ n = cc in sym told.0 ∙ ap shown_format same, λ e. let same : shown_format m ≡ shown_format n = told.0 ∙ e in let one : m ≡ n = cc in ap Some one)
+      read row (Some m) told = (
+        λ e. let same : m ≡ n = cc in sym told.0 ∙ ap shown_format same,
+        λ e. let same : shown_format m ≡ shown_format n = told.0 ∙ e in let one : m ≡ n = cc in ap Some one,
+      )
 
       go : (l : List Row) → rows ≡ l → AllZip TellsOne l (value ∷ []) → (value.format ≡ Some n) ↔ HasFormat db n
       go [] is told = absurd told
@@ -158,11 +179,15 @@ module _ (db : Database) (sound : IsDatabase db) (has : IsKept db.schema about_k
       go (r ∷ s ∷ more) is told = absurd told.1
 
 module _ (old new : State) (has : HasTable about_kept old) (sound : IsTrue old.is_open → IsDatabase old.now) where
-  told_rows : (values : List ToldFormat) → (given : GivesAll TellsOne format_text [] old new values) → IsTrue old.is_open → IsAnswer (format_query (tree_in old.now.schema (codes "about"))) old.now.trees [] given.rows
+  told_rows : (values : List ToldFormat) → (given : GivesAll TellsOne format_text [] old new values) → IsTrue old.is_open
+      → IsAnswer (format_query (tree_in old.now.schema (codes "about"))) old.now.trees [] given.rows
   told_rows values given runs = answer_is format_asks about_kept (λ s has. has.0.has) old new (has runs) given.rows given.shown
 
-  pub given_none : (values : List ToldFormat) → GivesAll TellsOne format_text [] old new values → IsTrue old.is_open → ¬ (length values ≡ 1) → IsFormatOf old.now None
+  pub given_none : (values : List ToldFormat) → GivesAll TellsOne format_text [] old new values → IsTrue old.is_open
+      → ¬ (length values ≡ 1) → IsFormatOf old.now None
   given_none values given runs other = none_told old.now (sound runs) (has runs) given.rows (told_rows values given runs) values given.read other
 
-  pub given_one : (values : List ToldFormat) (one : ToldFormat) → GivesAll TellsOne format_text [] old new values → IsTrue old.is_open → values ≡ one ∷ [] → IsFormatOf old.now one.format
-  given_one values one given runs is = one_told old.now (sound runs) (has runs) given.rows (told_rows values given runs) one (subst (λ l. AllZip TellsOne given.rows l) is given.read)
+  pub given_one : (values : List ToldFormat) (one : ToldFormat) → GivesAll TellsOne format_text [] old new values → IsTrue old.is_open
+      → values ≡ one ∷ [] → IsFormatOf old.now one.format
+  given_one values one given runs is = one_told old.now (sound runs) (has runs) given.rows (told_rows values given runs) one
+      (subst (λ l. AllZip TellsOne given.rows l) is given.read)

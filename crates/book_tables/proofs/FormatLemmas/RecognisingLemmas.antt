@@ -19,7 +19,8 @@ abbrev are_alone : Schema → List (List ℕ) → Type 0
 are_alone s names = list_all (λ name. is_left_alone s (tree_in s name)) names ≡ true
 
 module _ (s : Schema) where
-  each_found : (ks : List Kept) → AllByRecursion IsText ks → AllByRecursion (StandsAs s) (kept_texts ks) → are_alone s (kept_names ks) → AllByRecursion (IsKept s) ks
+  each_found : (ks : List Kept) → AllByRecursion IsText ks → AllByRecursion (StandsAs s) (kept_texts ks) → are_alone s (kept_names ks)
+      → AllByRecursion (IsKept s) ks
   each_found [] are stand alone = tt
   each_found (k ∷ ks) are stand alone =
       let parts = and_parts _ _ alone in
@@ -27,8 +28,10 @@ module _ (s : Schema) where
 
   each_stands : (ks : List Kept) → AllByRecursion IsText ks → AllByRecursion (IsKept s) ks → AllByRecursion (StandsAs s) (kept_texts ks)
   each_stands [] are kept = tt
-  each_stands (k ∷ ks) are kept =
-      (λ t is. subst (λ (u : Table). Stands s u × IsPlainTable u) (one_defined k.table t (sym are.0.defined ∙ is)) (kept.0.0, are.0.plain), each_stands ks are.1 kept.1)
+  each_stands (k ∷ ks) are kept = (
+    λ t is. subst (λ (u : Table). Stands s u × IsPlainTable u) (one_defined k.table t (sym are.0.defined ∙ is)) (kept.0.0, are.0.plain),
+    each_stands ks are.1 kept.1,
+  )
 
   each_alone : (ks : List Kept) → AllByRecursion (IsKept s) ks → are_alone s (kept_names ks)
   each_alone [] kept = refl
@@ -45,7 +48,8 @@ module _ (s : Schema) where
 
 -- the same of names and of texts that are lent
 module _ (s : Schema) where
-  pub alone_of : (names : List (Bor (List ℕ))) → list_all (λ name. is_left_alone s (tree_in s name.now)) names ≡ list_all (λ name. is_left_alone s (tree_in s name)) (map (λ n. n.now) names)
+  pub alone_of : (names : List (Bor (List ℕ))) → list_all (λ name. is_left_alone s (tree_in s name.now)) names
+      ≡ list_all (λ name. is_left_alone s (tree_in s name)) (map (λ n. n.now) names)
   alone_of [] = refl
   alone_of (name ∷ names) = ap (λ b. is_left_alone s (tree_in s name.now) && b) (alone_of names)
 

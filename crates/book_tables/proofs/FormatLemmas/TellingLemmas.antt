@@ -79,10 +79,12 @@ module _ (old new : State) where
         only = only;
         rows = λ rows held.
             let one : IsKeyedBy key (suc before ∷ []) = (tt, tt) in
-            let changed = sets_listed about is_the_row format_set_terms [] key about_row always present telling old new (suc before ∷ []) set held.are.0 one (omega arith) in
+            let changed = sets_listed about is_the_row format_set_terms [] key about_row always present telling old new (suc before ∷ [])
+            set held.are.0 one (omega arith) in
             about_changed (suc before) old.now new.now rows held (changes_only (codes "about") old new only) changed.rows_are;
         tells = λ told.
             let one : IsKeyedBy key (suc before ∷ []) = (tt, tt) in
-            let changed = sets_listed about is_the_row format_set_terms [] key about_row always present telling old new (suc before ∷ []) set told one (omega arith) in
+            let changed = sets_listed about is_the_row format_set_terms [] key about_row always present telling old new (suc before ∷ [])
+            set told one (omega arith) in
             ap (λ (s : Schema). new.now.trees (tree_in s (codes "about"))) only.schema ∙ changed.rows_are;
       }

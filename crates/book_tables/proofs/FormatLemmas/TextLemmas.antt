@@ -67,8 +67,106 @@ pub record IsText (k : Kept) : Type 0 where
 
 all_texts : AllByRecursion IsText kept
 unfolding everything is_creation
-all_texts =
-    (record { defined = about_defined; plain = record { defaults = refl; checks = refl; stamps = refl }; creation = refl; among = refl; idle = refl }, (record { defined = tariffs_defined; plain = record { defaults = refl; checks = refl; stamps = refl }; creation = refl; among = refl; idle = refl }, (record { defined = tariff_steps_defined; plain = record { defaults = refl; checks = refl; stamps = refl }; creation = refl; among = refl; idle = refl }, (record { defined = meters_defined; plain = record { defaults = refl; checks = refl; stamps = refl }; creation = refl; among = refl; idle = refl }, (record { defined = shifts_defined; plain = record { defaults = refl; checks = refl; stamps = refl }; creation = refl; among = refl; idle = refl }, (record { defined = sales_defined; plain = record { defaults = refl; checks = refl; stamps = refl }; creation = refl; among = refl; idle = refl }, (record { defined = last_ids_defined; plain = record { defaults = refl; checks = refl; stamps = refl }; creation = refl; among = refl; idle = refl }, (record { defined = month_tenths_defined; plain = record { defaults = refl; checks = refl; stamps = refl }; creation = refl; among = refl; idle = refl }, (record { defined = shift_totals_defined; plain = record { defaults = refl; checks = refl; stamps = refl }; creation = refl; among = refl; idle = refl }, (record { defined = meter_bases_defined; plain = record { defaults = refl; checks = refl; stamps = refl }; creation = refl; among = refl; idle = refl }, (record { defined = dated_steps_defined; plain = record { defaults = refl; checks = refl; stamps = refl }; creation = refl; among = refl; idle = refl }, tt)))))))))))
+all_texts = (
+  record {
+    defined = about_defined;
+    plain = record { defaults = refl; checks = refl; stamps = refl };
+    creation = refl;
+    among = refl;
+    idle = refl;
+  },
+  (
+    record {
+      defined = tariffs_defined;
+      plain = record { defaults = refl; checks = refl; stamps = refl };
+      creation = refl;
+      among = refl;
+      idle = refl;
+    },
+    (
+      record {
+        defined = tariff_steps_defined;
+        plain = record { defaults = refl; checks = refl; stamps = refl };
+        creation = refl;
+        among = refl;
+        idle = refl;
+      },
+      (
+        record {
+          defined = meters_defined;
+          plain = record { defaults = refl; checks = refl; stamps = refl };
+          creation = refl;
+          among = refl;
+          idle = refl;
+        },
+        (
+          record {
+            defined = shifts_defined;
+            plain = record { defaults = refl; checks = refl; stamps = refl };
+            creation = refl;
+            among = refl;
+            idle = refl;
+          },
+          (
+            record {
+              defined = sales_defined;
+              plain = record { defaults = refl; checks = refl; stamps = refl };
+              creation = refl;
+              among = refl;
+              idle = refl;
+            },
+            (
+              record {
+                defined = last_ids_defined;
+                plain = record { defaults = refl; checks = refl; stamps = refl };
+                creation = refl;
+                among = refl;
+                idle = refl;
+              },
+              (
+                record {
+                  defined = month_tenths_defined;
+                  plain = record { defaults = refl; checks = refl; stamps = refl };
+                  creation = refl;
+                  among = refl;
+                  idle = refl;
+                },
+                (
+                  record {
+                    defined = shift_totals_defined;
+                    plain = record { defaults = refl; checks = refl; stamps = refl };
+                    creation = refl;
+                    among = refl;
+                    idle = refl;
+                  },
+                  (
+                    record {
+                      defined = meter_bases_defined;
+                      plain = record { defaults = refl; checks = refl; stamps = refl };
+                      creation = refl;
+                      among = refl;
+                      idle = refl;
+                    },
+                    (
+                      record {
+                        defined = dated_steps_defined;
+                        plain = record { defaults = refl; checks = refl; stamps = refl };
+                        creation = refl;
+                        among = refl;
+                        idle = refl;
+                      },
+                      tt,
+                    ),
+                  ),
+                ),
+              ),
+            ),
+          ),
+        ),
+      ),
+    ),
+  ),
+)
 
 each_defined : (ks : List Kept) → AllByRecursion IsText ks → AllByRecursion (λ k. table_defined_by k.text ≡ Ok k.table) ks
 each_defined [] all = tt
@@ -77,7 +175,8 @@ each_defined (k ∷ ks) all = (all.0.defined, each_defined ks all.1)
 pub all_defined : AllByRecursion (λ k. table_defined_by k.text ≡ Ok k.table) kept
 all_defined = each_defined kept all_texts
 
-kept_first : (P : Kept → Type 0) (p : Kept → Bool) (k : Kept) (ks : List Kept) (b : Bool) → P k → AllByRecursion P (filter p ks) → AllByRecursion P (cond b (k ∷ filter p ks) (filter p ks))
+kept_first : (P : Kept → Type 0) (p : Kept → Bool) (k : Kept) (ks : List Kept) (b : Bool) → P k → AllByRecursion P (filter p ks)
+    → AllByRecursion P (cond b (k ∷ filter p ks) (filter p ks))
 kept_first P p k ks true first rest = (first, rest)
 kept_first P p k ks false first rest = rest
 

@@ -45,7 +45,10 @@ module _ (old mid new : State) (same : IsUnchanged old mid) (survives : Survives
   fails_after : (k : Kept) (e : TableError) → FailsToReadOf (TableHolds k) mid new e → FailsToReadOf (TableHolds k) old new e
   fails_after k (Failed e) (inl why) = inl (λ was_open. plainly_after e (why same.0.is_open))
   fails_after k (Failed e) (inr why) = inr (why.0, unchanged_then old mid new same why.1)
-  fails_after k RowOfNoOffice why = (λ rows held. why.0 rows (subst (λ (db : Database). TableHolds k db rows) (sym same.0.now_is) held), unchanged_then old mid new same why.1)
+  fails_after k RowOfNoOffice why = (
+    λ rows held. why.0 rows (subst (λ (db : Database). TableHolds k db rows) (sym same.0.now_is) held),
+    unchanged_then old mid new same why.1,
+  )
 
 -- ---- what both leave
 
@@ -69,7 +72,8 @@ module _ (k : Kept) {T : Type 0} {x : T} {old mid : State} (first : ReadsTable k
     was_clean r second has clean = omega (arith, (second.survives (has_after has)).clean, clean)
 
     both_survive : (r : Result U TableError) → ReadsTable k mid new r → HasTable k old → Survives old new (λ _. ⊥)
-    both_survive r second has = survives_then old mid new _ _ (λ _. ⊥) (λ _ db none. none) (λ _ db none. none) (first.survives has) (second.survives (has_after has))
+    both_survive r second has = survives_then old mid new _ _ (λ _. ⊥) (λ _ db none. none) (λ _ db none. none) (first.survives has)
+        (second.survives (has_after has))
 
     pub read_after : (r : Result U TableError) → ReadsTable k mid new r → ReadsTable k old new r
     read_after (Ok y) second = record {
@@ -83,6 +87,7 @@ module _ (k : Kept) {T : Type 0} {x : T} {old mid : State} (first : ReadsTable k
       same = λ _ _. tt;
       kept = λ clean has. left_then old mid new (first.same (was_clean (Err e) second has clean) has) (second.kept clean (has_after has));
       mode = λ outside. second.mode (first.mode outside);
-      faults = λ clean has. fails_after old mid new (first.same (was_clean (Err e) second has clean) has) (first.survives has) k e (second.faults clean (has_after has));
+      faults = λ clean has. fails_after old mid new (first.same (was_clean (Err e) second has clean) has) (first.survives has) k e
+          (second.faults clean (has_after has));
       survives = both_survive (Err e) second;
     }

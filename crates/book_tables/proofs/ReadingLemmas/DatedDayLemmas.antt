@@ -81,7 +81,8 @@ module _ (name : List ℕ) (day : ℕ) where
         contains_map day_of (filter is_until rows.dated_steps) r (passes_there is_until rows.dated_steps r there (begun_until r refl before))
 
     first_day : (found : Option ℕ) → IsLast (days_until rows) found → IsFirstDay (o.dated_steps name) day found
-    first_day None none = λ first before. none_such (o.dated_steps name first) (λ steps e. contains_none first (subst (λ ns. Contains ns first) none (there_begin first steps e before)))
+    first_day None none = λ first before. none_such (o.dated_steps name first)
+        (λ steps e. contains_none first (subst (λ ns. Contains ns first) none (there_begin first steps e before)))
     first_day (Some first) (there, least) =
         let begins = begin_on first there in
         record {
@@ -100,7 +101,8 @@ module _ (name : List ℕ) (day : ℕ) where
 
   module _ (tells : TellsGreatest) where
     -- what is found tells the day
-    pub first_day_is : (rows : Rows) (o : Office) → IsOffice o → AreMembersOf rows o → (found : Option ℕ) → found ≡ greatest_of (days_until rows) → IsFirstDay (o.dated_steps name) day found
+    pub first_day_is : (rows : Rows) (o : Office) → IsOffice o → AreMembersOf rows o → (found : Option ℕ) → found
+        ≡ greatest_of (days_until rows) → IsFirstDay (o.dated_steps name) day found
     first_day_is rows o office are found is = first_day rows o office are found ((tells (days_until rows) found).1 is)
 
     pub first_day_until : Finds dated_steps_kept first_day_text (Text name ∷ number day ∷ []) shown_number IsDay (λ rows. greatest_of (days_until rows))
@@ -111,16 +113,25 @@ module _ (name : List ℕ) (day : ℕ) where
       asks = first_day_asks name day;
       stands = λ s has. has.0.has;
       one = λ a b keeps_a keeps_b same. one_number a b same;
-      kept = λ rows of_office. keeps_day rows of_office.0 of_office.1 of_office.2 (greatest_of (days_until rows)) ((tells (days_until rows) (greatest_of (days_until rows))).1 refl);
+      kept = λ rows of_office. keeps_day rows of_office.0 of_office.1 of_office.2 (greatest_of (days_until rows))
+          ((tells (days_until rows) (greatest_of (days_until rows))).1 refl);
       answers = λ db rows held of_office answer is.
-          let found = greatest_hidden {stored = dated_columns} {xs = rows.dated_steps} {p = is_until} day_of (record { holds_them = held.1.1.0; some = λ r none. cc; passes = λ hidden r. then_term (text_is r.tariff name) (last_term (number_up_to r.day day)); shows = λ hidden r. refl }) 2 (λ hidden r. refl) answer is in
+          let found = greatest_hidden {stored = dated_columns} {xs = rows.dated_steps} {p = is_until} day_of
+          (record {
+            holds_them = held.1.1.0;
+            some = λ r none. cc;
+            passes = λ hidden r. then_term (text_is r.tariff name) (last_term (number_up_to r.day day));
+            shows = λ hidden r. refl;
+          }) 2
+          (λ hidden r. refl) answer is in
           found.2 ∙ ap (λ (o : Option ℕ). map shown_number (option_to_list o)) ((tells (days_until rows) found.0).0 found.1);
     }
 
 -- ---- the steps that begin on that day are the latest
 
 module _ (dated : ℕ → Option (List Step)) (day : ℕ) where
-  pub latest_begun : ((steps : List Step) → (latest dated day ≡ Some steps) ↔ IsLatest dated day steps) → (first : ℕ) → IsLastBegun dated day first → dated first ≡ latest dated day
+  pub latest_begun : ((steps : List Step) → (latest dated day ≡ Some steps) ↔ IsLatest dated day steps) → (first : ℕ)
+      → IsLastBegun dated day first → dated first ≡ latest dated day
   latest_begun tells first begun = by_steps (dated first) refl
     where
       by_steps : (there : Option (List Step)) → dated first ≡ there → dated first ≡ latest dated day

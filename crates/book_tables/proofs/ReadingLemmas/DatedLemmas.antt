@@ -91,20 +91,24 @@ module _ (name : List ℕ) (day : ℕ) where
   is_from r named dated = and_from (bytes_eq r.tariff name) (r.day == day) ((bytes_eq-Decides r.tariff name).1 named) (eq-eqb r.day day dated)
 
   module _ (rows : Rows) (o : Office) (are : AreMembersOf rows o) where
-    row_is : (steps : Option (List Step)) → o.dated_steps name day ≡ steps → (r : DatedStepRow) → Contains (filter is_from_day rows.dated_steps) r → Contains (dated_from 0 (listed_of steps)) r
+    row_is : (steps : Option (List Step)) → o.dated_steps name day ≡ steps → (r : DatedStepRow)
+        → Contains (filter is_from_day rows.dated_steps) r → Contains (dated_from 0 (listed_of steps)) r
     row_is steps e r there =
         let parts = there_passes is_from_day rows.dated_steps r there in
         let named = name_of r parts.1 in
         let dated = day_of r parts.1 in
         let has = (are.dated_steps r).1 parts.0 in
         let same : listed_of steps ≡ has.0 =
-        sym (ap listed_of e) ∙ ap (λ n. listed_of (o.dated_steps n day)) (sym named) ∙ ap (λ d. listed_of (o.dated_steps r.tariff d)) (sym dated) ∙ ap listed_of has.1 in
+        sym (ap listed_of e) ∙ ap (λ n. listed_of (o.dated_steps n day)) (sym named)
+        ∙ ap (λ d. listed_of (o.dated_steps r.tariff d)) (sym dated) ∙ ap listed_of has.1 in
         let at : 0 + r.place ≡ r.place = omega arith in
         let R : DatedStepRow = record { tariff = r.tariff; day = r.day; place = r.place; step = r.step } in
         let here : dated_at (0 + r.place) r.step ≡ R = cc in
-        subst (Contains (dated_from 0 (listed_of steps))) here (there_dated 0 (listed_of steps) r.place r.step (subst (λ (steps : List Step). slice_get steps r.place ≡ Some r.step) (sym same) has.2))
+        subst (Contains (dated_from 0 (listed_of steps))) here
+        (there_dated 0 (listed_of steps) r.place r.step (subst (λ (steps : List Step). slice_get steps r.place ≡ Some r.step) (sym same) has.2))
 
-    is_row : (steps : Option (List Step)) → o.dated_steps name day ≡ steps → (r : DatedStepRow) → Contains (dated_from 0 (listed_of steps)) r → Contains (filter is_from_day rows.dated_steps) r
+    is_row : (steps : Option (List Step)) → o.dated_steps name day ≡ steps → (r : DatedStepRow)
+        → Contains (dated_from 0 (listed_of steps)) r → Contains (filter is_from_day rows.dated_steps) r
     is_row None e r there = absurd (let none = (dated_there 0 [] r there).3 in cc)
     is_row (Some steps) e r there =
         let at = dated_there 0 steps r there in
@@ -119,6 +123,7 @@ module _ (name : List ℕ) (day : ℕ) where
     pub dated_are : IsPermutation (filter is_from_day rows.dated_steps) (dated_from 0 (listed_of (o.dated_steps name day)))
     dated_are =
         permuted place_of (filter is_from_day rows.dated_steps) (dated_from 0 (listed_of (o.dated_steps name day)))
-        (pairs_that_pass AreDatedApart (DifferInKey place_of) is_from_day rows.dated_steps (λ a b p q apart. apart (name_of a p ∙ sym (name_of b q)) (day_of a p ∙ sym (day_of b q))) are.dated_once)
+        (pairs_that_pass AreDatedApart (DifferInKey place_of) is_from_day rows.dated_steps
+        (λ a b p q apart. apart (name_of a p ∙ sym (name_of b q)) (day_of a p ∙ sym (day_of b q))) are.dated_once)
         (dated_differ 0 (listed_of (o.dated_steps name day)))
         (row_is (o.dated_steps name day) refl) (is_row (o.dated_steps name day) refl)

@@ -46,13 +46,21 @@ module _ (name : List ℕ) (day : ℕ) where
     one = λ a b keeps_a keeps_b same. one_shown_step a b same;
     kept = λ rows of_office found are.
         let o = of_office.0 in
-        All-same AreStepValues found (listed_of (o.dated_steps name day)) (are o of_office.1 of_office.2) (values_keep (o.dated_steps name day) (dated_keep o of_office.1 name day (o.dated_steps name day) refl));
+        All-same AreStepValues found (listed_of (o.dated_steps name day)) (are o of_office.1 of_office.2)
+        (values_keep (o.dated_steps name day) (dated_keep o of_office.1 name day (o.dated_steps name day) refl));
     answers = λ db rows held of_office answer is.
         let o = of_office.0 in
         let found = listed_of (o.dated_steps name day) in (
           found,
-          λ other other_office those. ap (λ (o : Office). listed_of (o.dated_steps name day)) (one_office rows rows (itself rows) o other of_office.2 those of_office.1 other_office),
-          rising_hidden (record { holds_them = held.1.1.0; some = λ r none. cc; passes = λ hidden r. then_term (text_is r.tariff name) (last_term (number_is r.day day)); shows = λ hidden r. refl }) 3 (λ r. pos r.place) (λ hidden r. refl) no_limit answer
+          λ other other_office those. ap (λ (o : Office). listed_of (o.dated_steps name day))
+              (one_office rows rows (itself rows) o other of_office.2 those of_office.1 other_office),
+          rising_hidden (record {
+            holds_them = held.1.1.0;
+            some = λ r none. cc;
+            passes = λ hidden r. then_term (text_is r.tariff name) (last_term (number_is r.day day));
+            shows = λ hidden r. refl;
+          }) 3
+              (λ r. pos r.place) (λ hidden r. refl) no_limit answer
               (dated_from name day 0 found) (dated_are name day rows o of_office.2) (dated_rise name day 0 found) is ∙ dated_shown name day 0 found,
         );
   }

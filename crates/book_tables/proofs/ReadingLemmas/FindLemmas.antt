@@ -36,10 +36,12 @@ pub record Finds {M : Type 0} (k : Kept) (sql : List ℕ) (params : Row) (shown 
   pub stands : (s : Schema) → IsKept s k → Has s (place_in s k.table.name) (table (tree_in s k.table.name))
   pub one : (a b : M) → keeps a → keeps b → shown a ≡ shown b → a ≡ b
   pub kept : (rows : Rows) → AreOfOffice rows → IfSome (found rows) keeps
-  pub answers : (db : Database) (rows : Rows) → TableHolds k db rows → AreOfOffice rows → (answer : List Row) → IsAnswer (query (tree_in db.schema k.table.name)) db.trees params answer
+  pub answers : (db : Database) (rows : Rows) → TableHolds k db rows → AreOfOffice rows → (answer : List Row)
+      → IsAnswer (query (tree_in db.schema k.table.name)) db.trees params answer
       → answer ≡ map shown (option_to_list (found rows))
 
-module _ {M : Type 0} {k : Kept} {sql : List ℕ} {params : Row} {shown : M → Row} {keeps : M → Type 0} {found : Rows → Option M} (f : Finds k sql params shown keeps found) where
+module _ {M : Type 0} {k : Kept} {sql : List ℕ} {params : Row} {shown : M → Row} {keeps : M → Type 0} {found : Rows → Option M}
+    (f : Finds k sql params shown keeps found) where
   pub only_asks : (s : State) → HasTable k s → OnlyAsks sql s
   only_asks = read.only_asks f.asks k f.stands
 
@@ -47,16 +49,19 @@ module _ {M : Type 0} {k : Kept} {sql : List ℕ} {params : Row} {shown : M → 
   pub gives : (old new : State) (rows : Rows) → HasTableRows k old rows → AreOfOffice rows → (r : Result (Option M) TableError) (values : Row) → values ≡ params
       → OnOk r (IsUnchanged old new) → IfOk r (GivesFirst (IsShown shown keeps) sql values old new) → IfOk r (λ x. x ≡ found rows)
   gives old new rows has of_office =
-      read.gives f.asks k f.stands shown keeps f.one old new rows has (found rows) (f.kept rows of_office) (λ answer held is. f.answers old.now rows held of_office answer is)
+      read.gives f.asks k f.stands shown keeps f.one old new rows has (found rows) (f.kept rows of_office)
+      (λ answer held is. f.answers old.now rows held of_office answer is)
 
   found_such : (P : Option M → Type 0) (x : Option M) → P x → (r : Result (Option M) TableError) → IfOk r (λ y. y ≡ x) → IfOk r P
   found_such P x such (Err e) none = none
   found_such P x such (Ok y) is = subst P (sym is) such
 
   -- what holds of the record that is found holds of what a reader gives
-  pub gives_such : (old new : State) (rows : Rows) → HasTableRows k old rows → AreOfOffice rows → (P : Option M → Type 0) → P (found rows) → (r : Result (Option M) TableError) (values : Row) → values ≡ params
+  pub gives_such : (old new : State) (rows : Rows) → HasTableRows k old rows → AreOfOffice rows → (P : Option M → Type 0) → P (found rows)
+      → (r : Result (Option M) TableError) (values : Row) → values ≡ params
       → OnOk r (IsUnchanged old new) → IfOk r (GivesFirst (IsShown shown keeps) sql values old new) → IfOk r P
-  gives_such old new rows has of_office P such r values are same given = found_such P (found rows) such r (gives old new rows has of_office r values are same given)
+  gives_such old new rows has of_office P such r values are same given =
+      found_such P (found rows) such r (gives old new rows has of_office r values are same given)
 
   readable : (o : Option M) → IfSome o keeps → All (ShowsRecord shown keeps) (map shown (option_to_list o))
   readable None kept = All-nil (ShowsRecord shown keeps)
@@ -67,24 +72,29 @@ module _ {M : Type 0} {k : Kept} {sql : List ℕ} {params : Row} {shown : M → 
       → IfErr r (FailsToShowRow (ShowsRecord shown keeps) sql values old new) → IfErr r (FailsToReadOf (TableHolds k) old new)
   fails old new has =
       read.fails f.asks k f.stands (ShowsRecord shown keeps) old new has
-      (λ rows held of_office answer is. All-same (ShowsRecord shown keeps) answer (map shown (option_to_list (found rows))) (f.answers old.now rows held of_office answer is) (readable (found rows) (f.kept rows of_office)))
+      (λ rows held of_office answer is. All-same (ShowsRecord shown keeps) answer (map shown (option_to_list (found rows)))
+      (f.answers old.now rows held of_office answer is) (readable (found rows) (f.kept rows of_office)))
 
   -- what it leaves of the tables
-  pub reads : {A : Type 0} (old new : State) (r : Result A TableError) (values : Row) → values ≡ params → ReadsOnly (OnlyAsks sql) IsUnchanged (FailsToShowRow (ShowsRecord shown keeps) sql values) old new r → ReadsTable k old new r
+  pub reads : {A : Type 0} (old new : State) (r : Result A TableError) (values : Row) → values ≡ params
+      → ReadsOnly (OnlyAsks sql) IsUnchanged (FailsToShowRow (ShowsRecord shown keeps) sql values) old new r → ReadsTable k old new r
   reads old new r values are this = read_where r (only_asks old) this (λ clean has. fails old new has r values are (this.faults clean (only_asks old has)))
 
   -- what it has seen, whatever the rows are
   abbrev pub asked : Question M
   asked = question k shown keeps sql params
 
-  pub seen : (old new : State) → HasTable k old → (values : Row) → values ≡ params → (r : Result (Option M) TableError) → OnOk r (IsUnchanged old new) → IfOk r (GivesFirst (IsShown shown keeps) sql values old new) → IfOk r (ShowsFirst asked old.now)
+  pub seen : (old new : State) → HasTable k old → (values : Row) → values ≡ params → (r : Result (Option M) TableError)
+      → OnOk r (IsUnchanged old new) → IfOk r (GivesFirst (IsShown shown keeps) sql values old new) → IfOk r (ShowsFirst asked old.now)
   seen old new has values are (Err e) same none = none
   seen old new has values are (Ok x) same given = seen_first asked f.asks f.stands old new has same values are x given
 
-  pub spoilt : {A : Type 0} (old new : State) → HasTable k old → (values : Row) → values ≡ params → (r : Result A TableError) → IfErr r (FailsToShowRow (ShowsRecord shown keeps) sql values old new) → IfErr r (λ e. e ≡ RowOfNoOffice → HasSpoilt asked old.now)
+  pub spoilt : {A : Type 0} (old new : State) → HasTable k old → (values : Row) → values ≡ params → (r : Result A TableError)
+      → IfErr r (FailsToShowRow (ShowsRecord shown keeps) sql values old new) → IfErr r (λ e. e ≡ RowOfNoOffice → HasSpoilt asked old.now)
   spoilt old new has values are r = row_spoilt asked f.asks f.stands old new has r values are
 
-  pub sees : (old new : State) (r : Result (Option M) TableError) (values : Row) → values ≡ params → ReadsOnly (OnlyAsks sql) IsUnchanged (FailsToShowRow (ShowsRecord shown keeps) sql values) old new r
+  pub sees : (old new : State) (r : Result (Option M) TableError) (values : Row) → values ≡ params
+      → ReadsOnly (OnlyAsks sql) IsUnchanged (FailsToShowRow (ShowsRecord shown keeps) sql values) old new r
       → (HasCleanDisk new → OnlyAsks sql old → IfOk r (GivesFirst (IsShown shown keeps) sql values old new)) → SeesFirst asked old new r
   sees old new r values are this given = record {
     seen = λ clean has. seen old new has values are r (this.same clean (only_asks old has)) (given clean (only_asks old has));

@@ -50,7 +50,8 @@ module _ (rows : Rows) (o : Office) (are : AreMembersOf rows o) (number : List �
       none_some (o.meters number) r.1 e (sym (ap o.meters (same_bytes r.0 number passes)) ∙ (are.meters r.0 r.1).1 there)))
   meter_cases (Some m) e =
       one_passes has_number rows.meters (number, m)
-      (pairs_weaker (λ a b. a.0 ≢ b.0) (NotBothPass has_number) rows.meters (λ a b apart p q. apart (same_bytes a.0 number p ∙ sym (same_bytes b.0 number q))) are.meters_once)
+      (pairs_weaker (λ a b. a.0 ≢ b.0) (NotBothPass has_number) rows.meters
+      (λ a b apart p q. apart (same_bytes a.0 number p ∙ sym (same_bytes b.0 number q))) are.meters_once)
       ((are.meters number m).0 e) (is_same number number refl)
 
   pub found_meter : meters_numbered rows number ≡ option_to_list (option_map (λ m. (number, m)) (o.meters number))
@@ -72,7 +73,8 @@ module _ (rows : Rows) (o : Office) (are : AreMembersOf rows o) (name : List ℕ
       false≢true none))
   tariff_cases (Some steps) e =
       one_passes has_name rows.tariffs name
-      (pairs_weaker (λ a b. a ≢ b) (NotBothPass has_name) rows.tariffs (λ a b apart p q. apart (same_bytes a name p ∙ sym (same_bytes b name q))) are.tariffs_once)
+      (pairs_weaker (λ a b. a ≢ b) (NotBothPass has_name) rows.tariffs
+      (λ a b apart p q. apart (same_bytes a name p ∙ sym (same_bytes b name q))) are.tariffs_once)
       ((are.tariffs name).0 (subst (λ (v : Option (List Step)). IsSome v) (sym e) refl)) (is_same name name refl)
 
   pub found_tariff : tariffs_named rows name ≡ option_to_list (option_map (λ _. name) (o.tariffs name))
@@ -83,7 +85,8 @@ second_of : {A B : Type 0} (a : A) (o : Option B) → map (λ (r : A × B). r.1)
 second_of a None = refl
 second_of a (Some b) = refl
 
-pub meter_found : (rows : Rows) (o : Office) (number : List ℕ) → AreMembersOf rows o → map (λ r. r.1) (meters_numbered rows number) ≡ option_to_list (o.meters number)
+pub meter_found : (rows : Rows) (o : Office) (number : List ℕ) → AreMembersOf rows o → map (λ r. r.1) (meters_numbered rows number)
+    ≡ option_to_list (o.meters number)
 meter_found rows o number are = ap (map (λ (r : List ℕ × Meter). r.1)) (found_meter rows o are number) ∙ second_of number (o.meters number)
 
 -- ---- shifts and sales
@@ -94,25 +97,30 @@ numbers_differ number xs numbered i j d before within same =
     let b = numbered j (get_or xs j d) (slice_get-get_or xs j d within) in
     omega (arith, a, b, same)
 
-pub found_numbered : {X : Type 0} (number : X → ℕ) (xs : List X) (n : ℕ) → AreNumbered number xs → filter (λ x. number x == n) xs ≡ option_to_list (find (λ x. number x == n) xs)
+pub found_numbered : {X : Type 0} (number : X → ℕ) (xs : List X) (n : ℕ) → AreNumbered number xs → filter (λ x. number x == n) xs
+    ≡ option_to_list (find (λ x. number x == n) xs)
 found_numbered number xs n numbered =
     first_is_all (λ x. number x == n) xs
-    (pairs_weaker (λ a b. number a ≢ number b) (NotBothPass (λ x. number x == n)) xs (λ a b apart p q. apart (grind (arith, nat_tests))) (numbers_differ number xs numbered))
+    (pairs_weaker (λ a b. number a ≢ number b) (NotBothPass (λ x. number x == n)) xs (λ a b apart p q. apart (grind (arith, nat_tests)))
+    (numbers_differ number xs numbered))
 
 is_open : (closed : Option ℕ) → is_none closed ≡ true → is_some closed ≡ false
 is_open None e = refl
 is_open (Some x) e = cc
 
-pub found_open : (o : Office) (operator : List ℕ) → IsOffice o → filter (λ s. bytes_eq s.operator operator && is_none s.closed) o.shifts ≡ option_to_list (open_shift o operator)
+pub found_open : (o : Office) (operator : List ℕ) → IsOffice o → filter (λ s. bytes_eq s.operator operator && is_none s.closed) o.shifts
+    ≡ option_to_list (open_shift o operator)
 found_open o operator office =
     let test : Shift → Bool = λ s. bytes_eq s.operator operator && is_none s.closed in
     first_is_all test o.shifts
     (pairs_weaker NotBothOpen (NotBothPass test) o.shifts (λ a b apart p q.
     let in_a = parts (bytes_eq a.operator operator) (is_none a.closed) p in
     let in_b = parts (bytes_eq b.operator operator) (is_none b.closed) q in
-    apart (is_open a.closed in_a.1) (is_open b.closed in_b.1) (same_bytes a.operator operator in_a.0 ∙ sym (same_bytes b.operator operator in_b.0))) office.one_open)
+    apart (is_open a.closed in_a.1) (is_open b.closed in_b.1)
+    (same_bytes a.operator operator in_a.0 ∙ sym (same_bytes b.operator operator in_b.0))) office.one_open)
 
-pub found_ref : (o : Office) (operator order_ref : List ℕ) → IsOffice o → filter (λ s. bytes_eq s.operator operator && bytes_eq s.order_ref order_ref) o.sales ≡ option_to_list (sale_of_ref o operator order_ref)
+pub found_ref : (o : Office) (operator order_ref : List ℕ) → IsOffice o
+    → filter (λ s. bytes_eq s.operator operator && bytes_eq s.order_ref order_ref) o.sales ≡ option_to_list (sale_of_ref o operator order_ref)
 found_ref o operator order_ref office =
     let test : Sale → Bool = λ s. bytes_eq s.operator operator && bytes_eq s.order_ref order_ref in
     first_is_all test o.sales

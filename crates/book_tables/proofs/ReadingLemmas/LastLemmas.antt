@@ -33,7 +33,8 @@ rise_from number from (x ∷ xs) each = (
 pub numbers_rise : {X : Type 0} (number : X → ℕ) (xs : List X) → AreNumbered number xs → IsKeyedBy (λ x. pos (number x)) xs
 numbers_rise number xs numbered = rise_from number 1 xs numbered
 
-count_from : {X : Type 0} (number : X → ℕ) (o : Option X) (from : ℕ) (xs : List X) → unwrap_or (option_map number o) 0 + 1 ≡ from → AreNumberedFrom number from xs
+count_from : {X : Type 0} (number : X → ℕ) (o : Option X) (from : ℕ) (xs : List X) → unwrap_or (option_map number o) 0 + 1 ≡ from
+    → AreNumberedFrom number from xs
     → unwrap_or (option_map number (last_or o xs)) 0 + 1 ≡ from + length xs
 count_from number o from [] is each = omega (arith, is)
 count_from number o from (x ∷ xs) is each =
@@ -53,7 +54,8 @@ number_keeps : {X : Type 0} (number : X → ℕ) (P : ℕ → Type 0) (o : Optio
 number_keeps number P None kept = _
 number_keeps number P (Some x) kept = kept
 
-pub last_number_keeps : {X : Type 0} (number : X → ℕ) (P : ℕ → Type 0) (xs : List X) → All (λ x. P (number x)) xs → IfSome (option_map number (last_or None xs)) P
+pub last_number_keeps : {X : Type 0} (number : X → ℕ) (P : ℕ → Type 0) (xs : List X) → All (λ x. P (number x)) xs
+    → IfSome (option_map number (last_or None xs)) P
 last_number_keeps number P xs all = number_keeps number P (last_or None xs) (last_keeps (λ x. P (number x)) None xs _ all)
 
 -- ---- the first row backwards
@@ -76,7 +78,8 @@ one_shown : {X : Type 0} (number : X → ℕ) (xs : List X) → take 1 (map (λ 
 one_shown number [] = refl
 one_shown number (x ∷ xs) = refl
 
-number_shown : {X : Type 0} (number : X → ℕ) (o : Option X) → map (λ x. shown_number (number x)) (option_to_list o) ≡ map shown_number (option_to_list (option_map number o))
+number_shown : {X : Type 0} (number : X → ℕ) (o : Option X) → map (λ x. shown_number (number x)) (option_to_list o)
+    ≡ map shown_number (option_to_list (option_map number o))
 number_shown number None = refl
 number_shown number (Some x) = refl
 

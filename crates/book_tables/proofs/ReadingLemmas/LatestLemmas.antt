@@ -42,7 +42,8 @@ empty (x ∷ xs) same = absurd (omega (arith, length_permutation (x ∷ xs) [] s
 -- ---- rows that hold values
 
 module _ {X : Type 0} {db : Trees} {tree : ℕ} {tests shown : List Term} {params : Row} {stored : X → Row} {xs : List X} {p : X → Bool} (key : X → ℕ)
-    (l : IsListing db tree tests shown params stored xs p (λ x. shown_number (key x))) (at : ℕ) (keeps_key : (x : X) → column (stored x) at ≡ Int (pos (key x))) where
+    (l : IsListing db tree tests shown params stored xs p (λ x. shown_number (key x))) (at : ℕ)
+    (keeps_key : (x : X) → column (stored x) at ≡ Int (pos (key x))) where
   abbrev q : Query
   q = query_on tree tests shown (falling at) (lit (Int (pos 1)))
 
@@ -75,7 +76,8 @@ module _ {X : Type 0} {db : Trees} {tree : ℕ} {tests shown : List Term} {param
     pub is_last : IsLast (map key (filter p xs)) last
     pub row : rows ≡ map shown_number (option_to_list last)
 
-  of_order : (ys : List X) → IsPermutation (filter p xs) ys → IsSorted (output_cmp q) (map out ys) → (rows : List Row) → rows ≡ take 1 (map (λ (o : Output). o.1) (map out ys)) → Greatest rows
+  of_order : (ys : List X) → IsPermutation (filter p xs) ys → IsSorted (output_cmp q) (map out ys) → (rows : List Row) → rows
+      ≡ take 1 (map (λ (o : Output). o.1) (map out ys)) → Greatest rows
   of_order [] same sorted rows is = record { last = None; is_last = ap (map key) (empty (filter p xs) same); row = is }
   of_order (y ∷ ys) same sorted rows is =
       let back = IsPermutation-sym (filter p xs) (y ∷ ys) same in
@@ -83,7 +85,8 @@ module _ {X : Type 0} {db : Trees} {tree : ℕ} {tests shown : List Term} {param
         last = Some (key y);
         is_last = (
           contains_map key (filter p xs) y (Contains-permutation (y ∷ ys) (filter p xs) y back (contains_first y ys)),
-          All-map (λ n. n ≤ key y) key (filter p xs) (All-permutation (λ z. key z ≤ key y) (y ∷ ys) (filter p xs) back (greatest_first key out (output_cmp q) out_falls y ys sorted)),
+          All-map (λ n. n ≤ key y) key (filter p xs) (All-permutation (λ z. key z ≤ key y) (y ∷ ys) (filter p xs) back
+              (greatest_first key out (output_cmp q) out_falls y ys sorted)),
         );
         row = is ∙ ap (λ (row : Row). row ∷ []) (l.shows y);
       }
@@ -91,19 +94,24 @@ module _ {X : Type 0} {db : Trees} {tree : ℕ} {tests shown : List Term} {param
   pub greatest_shown : (rows : List Row) → IsAnswer q db params rows → Greatest rows
   greatest_shown rows answer =
       let arranged : IsPermutation (map out (filter p xs)) answer.ordered =
-      subst (λ l. IsPermutation l answer.ordered) (answer.distinct ∙ ap (map (output q)) (answer.grouped ∙ matches_are) ∙ map-map (output q) (λ x. params ∷ stored x ∷ []) (filter p xs)) answer.same in
+      subst (λ l. IsPermutation l answer.ordered) (answer.distinct ∙ ap (map (output q)) (answer.grouped ∙ matches_are)
+      ∙ map-map (output q) (λ x. params ∷ stored x ∷ []) (filter p xs)) answer.same in
       let found = pull_back out (map out (filter p xs)) answer.ordered arranged (filter p xs) refl in
-      of_order found.0 found.1 (subst (IsSorted (output_cmp q)) found.2 answer.sorted) rows (answer.shown ∙ ap (λ (l : List Output). take 1 (map (λ (o : Output). o.1) l)) found.2)
+      of_order found.0 found.1 (subst (IsSorted (output_cmp q)) found.2 answer.sorted) rows
+      (answer.shown ∙ ap (λ (l : List Output). take 1 (map (λ (o : Output). o.1) l)) found.2)
 
 -- ---- rows that hold them behind hidden numbers
 
 module _ {X : Type 0} {db : Trees} {tree : ℕ} {tests shown : List Term} {params : Row} {stored : X → Row} {xs : List X} {p : X → Bool} (key : X → ℕ)
-    (l : IsHiddenListing db tree tests shown params stored xs p (λ x. shown_number (key x))) (at : ℕ) (keeps_key : (number : Value) (x : X) → column (number ∷ stored x) at ≡ Int (pos (key x))) where
-  pub greatest_hidden : (rows : List Row) → IsAnswer (query_on tree tests shown (falling at) (lit (Int (pos 1)))) db params rows → (last : Option ℕ) × IsLast (map key (filter p xs)) last × (rows ≡ map shown_number (option_to_list last))
+    (l : IsHiddenListing db tree tests shown params stored xs p (λ x. shown_number (key x))) (at : ℕ)
+    (keeps_key : (number : Value) (x : X) → column (number ∷ stored x) at ≡ Int (pos (key x))) where
+  pub greatest_hidden : (rows : List Row) → IsAnswer (query_on tree tests shown (falling at) (lit (Int (pos 1)))) db params rows
+      → (last : Option ℕ) × IsLast (map key (filter p xs)) last × (rows ≡ map shown_number (option_to_list last))
   greatest_hidden rows answer =
       let both = numbered stored l.some (db tree) xs l.holds_them in
       let beside : IsListing db tree tests shown params (with_number stored) both.0 (λ x. p x.1) (λ x. shown_number (key x.1)) =
       record { holds_them = both.1; passes = λ x. l.passes x.0 x.1; shows = λ x. l.shows x.0 x.1 } in
       let found = greatest_shown (λ (x : Value × X). key x.1) beside at (λ x. keeps_key x.0 x.1) rows answer in
-      let keys : map (λ (x : Value × X). key x.1) (filter (λ x. p x.1) both.0) ≡ map key (filter p xs) = without_numbers stored key p both.0 ∙ ap (λ (l : List X). map key (filter p l)) both.2 in
+      let keys : map (λ (x : Value × X). key x.1) (filter (λ x. p x.1) both.0) ≡ map key (filter p xs) =
+      without_numbers stored key p both.0 ∙ ap (λ (l : List X). map key (filter p l)) both.2 in
       (found.last, subst (λ (ns : List ℕ). IsLast ns found.last) keys found.is_last, found.row)

@@ -29,13 +29,15 @@ use Rattle.book_tables.proofs.ReadingLemmas.ReadLemmas.{Asks}
 
 -- ---- values that stand around a record
 
-read_of : {X M : Type 0} (IsReadAs : Row → M → Type 0) (record_of : X → M) (rows : List Row) (xs : List X) → AllZip (λ row x. IsReadAs row (record_of x)) rows xs → AllZip IsReadAs rows (map record_of xs)
+read_of : {X M : Type 0} (IsReadAs : Row → M → Type 0) (record_of : X → M) (rows : List Row) (xs : List X)
+    → AllZip (λ row x. IsReadAs row (record_of x)) rows xs → AllZip IsReadAs rows (map record_of xs)
 read_of IsReadAs record_of [] [] all = all
 read_of IsReadAs record_of [] (x ∷ xs) all = absurd all
 read_of IsReadAs record_of (row ∷ rows) [] all = absurd all
 read_of IsReadAs record_of (row ∷ rows) (x ∷ xs) all = (all.0, read_of IsReadAs record_of rows xs all.1)
 
-pub gives_records : {X M : Type 0} (shown : M → Row) (keeps : M → Type 0) (sql : List ℕ) (params : Row) (old new : State) (record_of : X → M) (xs : List X) (ms : List M) → ms ≡ map record_of xs
+pub gives_records : {X M : Type 0} (shown : M → Row) (keeps : M → Type 0) (sql : List ℕ) (params : Row) (old new : State)
+    (record_of : X → M) (xs : List X) (ms : List M) → ms ≡ map record_of xs
     → GivesAll (λ row x. IsShown shown keeps row (record_of x)) sql params old new xs → GivesAll (IsShown shown keeps) sql params old new ms
 gives_records shown keeps sql params old new record_of xs ms are given = record {
   rows = given.rows;
@@ -51,7 +53,8 @@ module _ {M : Type 0} (shown : M → Row) (keeps : M → Type 0) where
   readable (m ∷ ms) kept =
       All-cons (ShowsRecord shown keeps) (shown m) (map shown ms) (m, (refl, All-head keeps m ms kept)) (readable ms (All-tail keeps m ms kept))
 
-  pub values_are : ((a b : M) → keeps a → keeps b → shown a ≡ shown b → a ≡ b) → (found values : List M) → All keeps found → AllZip (IsShown shown keeps) (map shown found) values → values ≡ found
+  pub values_are : ((a b : M) → keeps a → keeps b → shown a ≡ shown b → a ≡ b) → (found values : List M) → All keeps found
+      → AllZip (IsShown shown keeps) (map shown found) values → values ≡ found
   values_are one [] [] kept all = refl
   values_are one [] (x ∷ xs) kept all = absurd all
   values_are one (m ∷ ms) [] kept all = absurd all
@@ -68,28 +71,33 @@ pub record Lists {M : Type 0} (k : Kept) (sql : List ℕ) (params : Row) (shown 
   pub stands : (s : Schema) → IsKept s k → Has s (place_in s k.table.name) (table (tree_in s k.table.name))
   pub one : (a b : M) → keeps a → keeps b → shown a ≡ shown b → a ≡ b
   pub kept : (rows : Rows) → AreOfOffice rows → (found : List M) → IsFound rows found → All keeps found
-  pub answers : (db : Database) (rows : Rows) → TableHolds k db rows → AreOfOffice rows → (answer : List Row) → IsAnswer (query (tree_in db.schema k.table.name)) db.trees params answer
+  pub answers : (db : Database) (rows : Rows) → TableHolds k db rows → AreOfOffice rows → (answer : List Row)
+      → IsAnswer (query (tree_in db.schema k.table.name)) db.trees params answer
       → (found : List M) × IsFound rows found × (answer ≡ map shown found)
 
-module _ {M : Type 0} {k : Kept} {sql : List ℕ} {params : Row} {shown : M → Row} {keeps : M → Type 0} {IsFound : Rows → List M → Type 0} (l : Lists k sql params shown keeps IsFound) where
+module _ {M : Type 0} {k : Kept} {sql : List ℕ} {params : Row} {shown : M → Row} {keeps : M → Type 0} {IsFound : Rows → List M → Type 0}
+    (l : Lists k sql params shown keeps IsFound) where
   pub only_asks : (s : State) → HasTable k s → OnlyAsks sql s
   only_asks = read.only_asks l.asks k l.stands
 
   -- what a reader gives
-  pub listed : (old new : State) (rows : Rows) → HasTableRows k old rows → AreOfOffice rows → IsUnchanged old new → (values : List M) → GivesAll (IsShown shown keeps) sql params old new values → IsFound rows values
+  pub listed : (old new : State) (rows : Rows) → HasTableRows k old rows → AreOfOffice rows → IsUnchanged old new → (values : List M)
+      → GivesAll (IsShown shown keeps) sql params old new values → IsFound rows values
   listed old new rows has of_office same values given =
       let held = has same.0.was_open in
       let found = l.answers old.now rows held of_office given.rows (read.answer_is l.asks k l.stands old new held.0 given.rows given.shown) in
       let read_so = subst (λ (answer : List Row). AllZip (IsShown shown keeps) answer values) found.2 given.read in
       subst (IsFound rows) (sym (values_are shown keeps l.one found.0 values (l.kept rows of_office found.0 found.1) read_so)) found.1
 
-  pub gives : {A : Type 0} (items : A → List M) (old new : State) (rows : Rows) → HasTableRows k old rows → AreOfOffice rows → (r : Result A TableError) (values : Row) → values ≡ params
+  pub gives : {A : Type 0} (items : A → List M) (old new : State) (rows : Rows) → HasTableRows k old rows → AreOfOffice rows
+      → (r : Result A TableError) (values : Row) → values ≡ params
       → OnOk r (IsUnchanged old new) → IfOk r (λ x. GivesAll (IsShown shown keeps) sql values old new (items x)) → IfOk r (λ x. IsFound rows (items x))
   gives items old new rows has of_office (Err e) values are same none = none
   gives items old new rows has of_office (Ok x) values are same given =
       listed old new rows has of_office same (items x) (subst (λ ps. GivesAll (IsShown shown keeps) sql ps old new (items x)) are given)
 
-  pub all_readable : (old : State) (rows : Rows) → TableHolds k old.now rows → AreOfOffice rows → (answer : List Row) → IsAnswer (l.query (tree_in old.now.schema k.table.name)) old.now.trees params answer → All (ShowsRecord shown keeps) answer
+  pub all_readable : (old : State) (rows : Rows) → TableHolds k old.now rows → AreOfOffice rows → (answer : List Row)
+      → IsAnswer (l.query (tree_in old.now.schema k.table.name)) old.now.trees params answer → All (ShowsRecord shown keeps) answer
   all_readable old rows held of_office answer is =
       let found = l.answers old.now rows held of_office answer is in
       All-same (ShowsRecord shown keeps) answer (map shown found.0) found.2 (readable shown keeps found.0 (l.kept rows of_office found.0 found.1))
@@ -100,22 +108,28 @@ module _ {M : Type 0} {k : Kept} {sql : List ℕ} {params : Row} {shown : M → 
   fails old new has = read.fails l.asks k l.stands (ShowsRecord shown keeps) old new has (all_readable old)
 
   -- what it leaves of the tables
-  pub reads : {A : Type 0} (old new : State) (r : Result A TableError) (values : Row) → values ≡ params → ReadsOnly (OnlyAsks sql) IsUnchanged (FailsToShowRow (ShowsRecord shown keeps) sql values) old new r → ReadsTable k old new r
+  pub reads : {A : Type 0} (old new : State) (r : Result A TableError) (values : Row) → values ≡ params
+      → ReadsOnly (OnlyAsks sql) IsUnchanged (FailsToShowRow (ShowsRecord shown keeps) sql values) old new r → ReadsTable k old new r
   reads old new r values are this = read_where r (only_asks old) this (λ clean has. fails old new has r values are (this.faults clean (only_asks old has)))
 
   -- what it has seen, whatever the rows are
   abbrev pub asked : Question M
   asked = question k shown keeps sql params
 
-  pub seen : {A : Type 0} (items : A → List M) (old new : State) → HasTable k old → (values : Row) → values ≡ params → (r : Result A TableError) → OnOk r (IsUnchanged old new) → IfOk r (λ x. GivesAll (IsShown shown keeps) sql values old new (items x)) → IfOk r (λ x. ShowsAll asked old.now (items x))
+  pub seen : {A : Type 0} (items : A → List M) (old new : State) → HasTable k old → (values : Row) → values ≡ params
+      → (r : Result A TableError) → OnOk r (IsUnchanged old new)
+      → IfOk r (λ x. GivesAll (IsShown shown keeps) sql values old new (items x)) → IfOk r (λ x. ShowsAll asked old.now (items x))
   seen items old new has values are (Err e) same none = none
   seen items old new has values are (Ok x) same given = seen_all asked l.asks l.stands old new has same values are (items x) given
 
-  pub spoilt : {A : Type 0} (old new : State) → HasTable k old → (values : Row) → values ≡ params → (r : Result A TableError) → IfErr r (FailsToShowRow (ShowsRecord shown keeps) sql values old new) → IfErr r (λ e. e ≡ RowOfNoOffice → HasSpoilt asked old.now)
+  pub spoilt : {A : Type 0} (old new : State) → HasTable k old → (values : Row) → values ≡ params → (r : Result A TableError)
+      → IfErr r (FailsToShowRow (ShowsRecord shown keeps) sql values old new) → IfErr r (λ e. e ≡ RowOfNoOffice → HasSpoilt asked old.now)
   spoilt old new has values are r = row_spoilt asked l.asks l.stands old new has r values are
 
-  pub sees : {A : Type 0} (items : A → List M) (old new : State) (r : Result A TableError) (values : Row) → values ≡ params → ReadsOnly (OnlyAsks sql) IsUnchanged (FailsToShowRow (ShowsRecord shown keeps) sql values) old new r
-      → (HasCleanDisk new → OnlyAsks sql old → IfOk r (λ x. GivesAll (IsShown shown keeps) sql values old new (items x))) → Sees k (λ db x. ShowsAll asked db (items x)) (HasSpoilt asked) old new r
+  pub sees : {A : Type 0} (items : A → List M) (old new : State) (r : Result A TableError) (values : Row) → values ≡ params
+      → ReadsOnly (OnlyAsks sql) IsUnchanged (FailsToShowRow (ShowsRecord shown keeps) sql values) old new r
+      → (HasCleanDisk new → OnlyAsks sql old → IfOk r (λ x. GivesAll (IsShown shown keeps) sql values old new (items x)))
+      → Sees k (λ db x. ShowsAll asked db (items x)) (HasSpoilt asked) old new r
   sees items old new r values are this given = record {
     seen = λ clean has. seen items old new has values are r (this.same clean (only_asks old has)) (given clean (only_asks old has));
     spoilt = λ clean has. spoilt old new has values are r (this.faults clean (only_asks old has));

@@ -35,7 +35,8 @@ second_keeps : (o : Option (List ℕ × Meter)) → IfSome o (λ r. AreMeterValu
 second_keeps None kept = _
 second_keeps (Some r) kept = kept
 
-second_shown : (o : Option (List ℕ × Meter)) → map (λ (r : List ℕ × Meter). shown_meter r.1) (option_to_list o) ≡ map shown_meter (option_to_list (option_map (λ (r : List ℕ × Meter). r.1) o))
+second_shown : (o : Option (List ℕ × Meter)) → map (λ (r : List ℕ × Meter). shown_meter r.1) (option_to_list o)
+    ≡ map shown_meter (option_to_list (option_map (λ (r : List ℕ × Meter). r.1) o))
 second_shown None = refl
 second_shown (Some r) = refl
 
@@ -49,7 +50,8 @@ module _ (number : List ℕ) where
       (pairs_weaker (λ a b. a.0 ≢ b.0) (NotBothPass has_number) rows.meters
       (λ a b apart p q. apart ((bytes_eq-Decides a.0 number).0 p ∙ sym ((bytes_eq-Decides b.0 number).0 q))) are.meters_once)
 
-  pub meter_numbered : Finds meters_kept meter_numbered_text (Text number ∷ []) shown_meter AreMeterValues (λ rows. option_map (λ r. r.1) (find has_number rows.meters))
+  pub meter_numbered : Finds meters_kept meter_numbered_text (Text number ∷ []) shown_meter AreMeterValues
+      (λ rows. option_map (λ r. r.1) (find has_number rows.meters))
   meter_numbered = record {
     table = meters_table;
     query = meter_numbered_query;
@@ -57,10 +59,16 @@ module _ (number : List ℕ) where
     asks = meter_numbered_asks number;
     stands = λ s has. has.0.has;
     one = λ a b keeps_a keeps_b same. one_shown_meter a b keeps_a.key keeps_b.key same;
-    kept = λ rows of_office. second_keeps (find has_number rows.meters) (found_keeps has_number (λ r. AreMeterValues r.1) rows.meters (meters_keep_values rows of_office));
+    kept = λ rows of_office. second_keeps (find has_number rows.meters)
+        (found_keeps has_number (λ r. AreMeterValues r.1) rows.meters (meters_keep_values rows of_office));
     answers = λ db rows held of_office answer is.
         let one = only_one rows of_office in
-        one_hidden (record { holds_them = held.1.1.0; some = λ r none. cc; passes = λ hidden r. last_term (text_is r.0 number); shows = λ hidden r. refl }) answer is
+        one_hidden (record {
+          holds_them = held.1.1.0;
+          some = λ r none. cc;
+          passes = λ hidden r. last_term (text_is r.0 number);
+          shows = λ hidden r. refl;
+        }) answer is
         (subst (λ (l : List (List ℕ × Meter)). length l ≤ 1) (sym one) (few (find has_number rows.meters)))
         ∙ ap (map (λ (r : List ℕ × Meter). shown_meter r.1)) one ∙ second_shown (find has_number rows.meters);
   }

@@ -70,10 +70,12 @@ module _ {table : ℕ → Table} {query : ℕ → Query} {names : List Name} {sq
   pub only_asks : (s : State) → HasTable k s → OnlyAsks sql s
   only_asks s has runs = is_plain (means s.now.schema (has runs))
 
-  pub answer_is : (old new : State) → IsKept old.now.schema k → (rows : List Row) → Shown sql params old new rows → IsAnswer (asked old.now.schema) old.now.trees params rows
+  pub answer_is : (old new : State) → IsKept old.now.schema k → (rows : List Row) → Shown sql params old new rows
+      → IsAnswer (asked old.now.schema) old.now.trees params rows
   answer_is old new has rows shown =
       let s = old.now.schema in
-      answered s (place_in s k.table.name) (table (tree_in s k.table.name)) (stands s has) (asked s) names sql (asks.is (tree_in s k.table.name)) params old new refl rows shown
+      answered s (place_in s k.table.name) (table (tree_in s k.table.name)) (stands s has) (asked s) names sql
+      (asks.is (tree_in s k.table.name)) params old new refl rows shown
 
   -- where each row of an answer can be read, none of the first ones is bad
   none_bad : (IsReadable : Row → Type 0) (db : Database) (new : State) → new.now ≡ db → IsKept db.schema k
@@ -89,10 +91,13 @@ module _ {table : ℕ → Table} {query : ℕ → Query} {names : List Name} {sq
   pub fails_plain : (old new : State) → IsKept old.now.schema k → (e : Error) → FailsToQuery sql params old new e → FailsPlainly old new e
   fails_plain old new has e fails =
       let s = old.now.schema in
-      fails_plainly (asked s) names (means s has) (place_in s k.table.name) (table (tree_in s k.table.name)) (stands s has) (asks.is (tree_in s k.table.name)).from (asks.bare (tree_in s k.table.name)) params (asks.typed (tree_in s k.table.name)) old new refl e asks.whole fails
+      fails_plainly (asked s) names (means s has) (place_in s k.table.name) (table (tree_in s k.table.name)) (stands s has)
+      (asks.is (tree_in s k.table.name)).from (asks.bare (tree_in s k.table.name)) params (asks.typed (tree_in s k.table.name)) old new
+      refl e asks.whole fails
 
   said : (IsReadable : Row → Type 0) (old new : State) → HasTable k old
-      → ((rows : Rows) → TableHolds k old.now rows → AreOfOffice rows → (found : List Row) → IsAnswer (asked old.now.schema) old.now.trees params found → All IsReadable found)
+      → ((rows : Rows) → TableHolds k old.now rows → AreOfOffice rows → (found : List Row)
+      → IsAnswer (asked old.now.schema) old.now.trees params found → All IsReadable found)
       → (why : ReadFault) → FailsToAnswer IsReadable sql params old new why → FailsToReadOf (TableHolds k) old new (told why)
   said IsReadable old new has all (fault.Database e) (inl why) = inl (λ runs. fails_plain old new (has runs) e why)
   said IsReadable old new has all (fault.Database e) (inr none) = inr (cc, none.1)
@@ -103,17 +108,22 @@ module _ {table : ℕ → Table} {query : ℕ → Query} {names : List Name} {sq
 
   -- why it fails, where the rows of an office can all be read
   pub fails : {A : Type 0} (IsReadable : Row → Type 0) (old new : State) → HasTable k old
-      → ((rows : Rows) → TableHolds k old.now rows → AreOfOffice rows → (found : List Row) → IsAnswer (asked old.now.schema) old.now.trees params found → All IsReadable found)
-      → (r : Result A TableError) (values : Row) → values ≡ params → IfErr r (FailsToShowRow IsReadable sql values old new) → IfErr r (FailsToReadOf (TableHolds k) old new)
+      → ((rows : Rows) → TableHolds k old.now rows → AreOfOffice rows → (found : List Row)
+      → IsAnswer (asked old.now.schema) old.now.trees params found → All IsReadable found)
+      → (r : Result A TableError) (values : Row) → values ≡ params → IfErr r (FailsToShowRow IsReadable sql values old new)
+      → IfErr r (FailsToReadOf (TableHolds k) old new)
   fails IsReadable old new has all (Ok x) values are none = none
   fails IsReadable old new has all (Err e) values are (why, is, answer) =
-      subst (FailsToReadOf (TableHolds k) old new) (sym is) (said IsReadable old new has all why (subst (λ ps. FailsToAnswer IsReadable sql ps old new why) are answer))
+      subst (FailsToReadOf (TableHolds k) old new) (sym is)
+      (said IsReadable old new has all why (subst (λ ps. FailsToAnswer IsReadable sql ps old new why) are answer))
 
   -- what it gives, where at most one record is found
   pub gives : {M : Type 0} (shown : M → Row) (keeps : M → Type 0) → ((a b : M) → keeps a → keeps b → shown a ≡ shown b → a ≡ b)
       → (old new : State) (rows : Rows) → HasTableRows k old rows → (found : Option M) → IfSome found keeps
-      → ((answer : List Row) → TableHolds k old.now rows → IsAnswer (asked old.now.schema) old.now.trees params answer → answer ≡ map shown (option_to_list found))
-      → (r : Result (Option M) TableError) (values : Row) → values ≡ params → OnOk r (IsUnchanged old new) → IfOk r (GivesFirst (IsShown shown keeps) sql values old new) → IfOk r (λ x. x ≡ found)
+      → ((answer : List Row) → TableHolds k old.now rows → IsAnswer (asked old.now.schema) old.now.trees params answer → answer
+      ≡ map shown (option_to_list found))
+      → (r : Result (Option M) TableError) (values : Row) → values ≡ params → OnOk r (IsUnchanged old new)
+      → IfOk r (GivesFirst (IsShown shown keeps) sql values old new) → IfOk r (λ x. x ≡ found)
   gives shown keeps one old new rows has found kept all (Err e) values are same none = none
   gives shown keeps one old new rows has found kept all (Ok x) values are same is =
       let held = has same.0.was_open in

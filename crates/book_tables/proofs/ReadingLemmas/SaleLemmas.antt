@@ -66,7 +66,8 @@ module _ (n : ℕ) where
     one = λ a b keeps_a keeps_b same. one_shown_sale a b same;
     kept = λ rows of_office. found_keeps has_number AreSaleValues rows.sales (sales_keep_values rows of_office);
     answers = λ db rows held of_office answer is.
-        one_row (record { holds_them = held.1.1; passes = λ s. last_term (number_is s.number n); shows = λ s. refl }) answer is (few_of_rows has_number of_one_number rows of_office)
+        one_row (record { holds_them = held.1.1; passes = λ s. last_term (number_is s.number n); shows = λ s. refl }) answer is
+        (few_of_rows has_number of_one_number rows of_office)
         ∙ ap (map shown_sale) (one_of_rows has_number of_one_number rows of_office);
   }
 
@@ -89,7 +90,12 @@ module _ (operator order_ref : List ℕ) where
     one = λ a b keeps_a keeps_b same. one_shown_sale a b same;
     kept = λ rows of_office. found_keeps has_ref AreSaleValues rows.sales (sales_keep_values rows of_office);
     answers = λ db rows held of_office answer is.
-        one_row (record { holds_them = held.1.1; passes = λ s. then_term (text_is s.operator operator) (last_term (text_is s.order_ref order_ref)); shows = λ s. refl }) answer is
+        one_row (record {
+          holds_them = held.1.1;
+          passes = λ s. then_term (text_is s.operator operator)
+              (last_term (text_is s.order_ref order_ref));
+          shows = λ s. refl;
+        }) answer is
         (few_of_rows has_ref of_one_ref rows of_office)
         ∙ ap (map shown_sale) (one_of_rows has_ref of_one_ref rows of_office);
   }
@@ -103,7 +109,8 @@ module _ (meter : List ℕ) (base : Base) (tid : ℕ) where
   of_one_tid : IsOfOne has_tid
   of_one_tid o office = found_tid o meter base tid office
 
-  pub sale_of_tid : Finds sales_kept sale_of_tid_text (Text meter ∷ number (year_of base) ∷ number tid ∷ []) shown_sale AreSaleValues (λ rows. find has_tid rows.sales)
+  pub sale_of_tid : Finds sales_kept sale_of_tid_text (Text meter ∷ number (year_of base) ∷ number tid ∷ []) shown_sale AreSaleValues
+      (λ rows. find has_tid rows.sales)
   sale_of_tid = record {
     table = sales_table;
     query = sale_of_tid_query;
@@ -113,7 +120,12 @@ module _ (meter : List ℕ) (base : Base) (tid : ℕ) where
     one = λ a b keeps_a keeps_b same. one_shown_sale a b same;
     kept = λ rows of_office. found_keeps has_tid AreSaleValues rows.sales (sales_keep_values rows of_office);
     answers = λ db rows held of_office answer is.
-        one_row (record { holds_them = held.1.1; passes = λ s. then_term (text_is s.meter meter) (then_term (number_is (year_of s.base) (year_of base)) (last_term (number_is s.tid tid))); shows = λ s. refl }) answer is
+        one_row (record {
+          holds_them = held.1.1;
+          passes = λ s. then_term (text_is s.meter meter)
+              (then_term (number_is (year_of s.base) (year_of base)) (last_term (number_is s.tid tid)));
+          shows = λ s. refl;
+        }) answer is
         (few_of_rows has_tid of_one_tid rows of_office)
         ∙ ap (map shown_sale) (one_of_rows has_tid of_one_tid rows of_office);
   }
@@ -131,7 +143,8 @@ last_sale_number = record {
   asks = last_sale_asks;
   stands = λ s has. has.0.has;
   one = λ a b keeps_a keeps_b same. one_number a b same;
-  kept = λ rows of_office. last_number_keeps (λ s. s.number) IsNumber rows.sales (All-weaker AreSaleValues (λ s. IsNumber s.number) (λ s keeps. keeps.number) rows.sales (sales_keep_values rows of_office));
+  kept = λ rows of_office. last_number_keeps (λ s. s.number) IsNumber rows.sales
+      (All-weaker AreSaleValues (λ s. IsNumber s.number) (λ s keeps. keeps.number) rows.sales (sales_keep_values rows of_office));
   answers = λ db rows held of_office answer is.
       last_by_key (record { holds_them = held.1.1; passes = λ s. refl; shows = λ s. refl }) 0 (λ s. pos s.number) (λ s. refl) (lit (Int (pos 1))) answer
       (numbers_rise (λ (s : Sale). s.number) rows.sales (numbered rows of_office)) is

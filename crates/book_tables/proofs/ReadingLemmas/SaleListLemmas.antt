@@ -60,7 +60,8 @@ module _ (after limit : ℕ) where
   abbrev is_after : Sale → Bool
   is_after s = nat_lt after s.number
 
-  pub sales_after : Lists sales_kept sales_after_text (number after ∷ number limit ∷ []) shown_sale AreSaleValues (λ rows found. found ≡ take limit (filter is_after rows.sales))
+  pub sales_after : Lists sales_kept sales_after_text (number after ∷ number limit ∷ []) shown_sale AreSaleValues
+      (λ rows found. found ≡ take limit (filter is_after rows.sales))
   sales_after = record {
     table = sales_table;
     query = sales_after_query;
@@ -74,7 +75,8 @@ module _ (after limit : ℕ) where
     answers = λ db rows held of_office answer is. (
       take limit (filter is_after rows.sales),
       refl,
-      first_by_key (record { holds_them = held.1.1; passes = λ s. last_term (number_above s.number after); shows = λ s. refl }) 0 (λ s. pos s.number) (λ s. refl) (col 0 1) answer (sales_rise rows of_office) is
+      first_by_key (record { holds_them = held.1.1; passes = λ s. last_term (number_above s.number after); shows = λ s. refl }) 0
+          (λ s. pos s.number) (λ s. refl) (col 0 1) answer (sales_rise rows of_office) is
           ∙ take-map shown_sale limit (filter is_after rows.sales),
     );
   }
@@ -98,6 +100,7 @@ module _ (shift : ℕ) where
     answers = λ db rows held of_office answer is. (
       filter is_of_shift rows.sales,
       refl,
-      first_by_key (record { holds_them = held.1.1; passes = λ s. last_term (number_is s.shift shift); shows = λ s. refl }) 0 (λ s. pos s.number) (λ s. refl) no_limit answer (sales_rise rows of_office) is,
+      first_by_key (record { holds_them = held.1.1; passes = λ s. last_term (number_is s.shift shift); shows = λ s. refl }) 0
+          (λ s. pos s.number) (λ s. refl) no_limit answer (sales_rise rows of_office) is,
     );
   }

@@ -54,7 +54,8 @@ has_tid =
 abbrev pub sale_of_tid_query : ℕ → Query
 sale_of_tid_query tree = query_on tree has_tid sale_terms [] no_limit
 
-pub sale_of_tid_asks : (meter : List ℕ) (year tid : ℕ) → Asks sales_table sale_of_tid_query sale_names sale_of_tid_text (Text meter ∷ number year ∷ number tid ∷ [])
+pub sale_of_tid_asks : (meter : List ℕ) (year tid : ℕ)
+    → Asks sales_table sale_of_tid_query sale_names sale_of_tid_text (Text meter ∷ number year ∷ number tid ∷ [])
 unfolding everything is_whole meant select_meant text_meant
 sale_of_tid_asks meter year tid =
     record { is = λ tree. record { means = refl; from = refl }; bare = λ tree. refl; typed = λ tree. refl; whole = refl }

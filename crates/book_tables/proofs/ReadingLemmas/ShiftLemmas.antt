@@ -93,7 +93,12 @@ module _ (operator : List ℕ) where
     one = λ a b keeps_a keeps_b same. one_shown_shift a b same;
     kept = λ rows of_office. found_keeps is_open AreShiftValues rows.shifts (shifts_keep_values rows of_office);
     answers = λ db rows held of_office answer is.
-        last_by_key (record { holds_them = held.1.1; passes = λ s. then_term (text_is s.operator operator) (last_term (closed_absent s.closed)); shows = λ s. refl })
+        last_by_key (record {
+          holds_them = held.1.1;
+          passes = λ s. then_term (text_is s.operator operator)
+              (last_term (closed_absent s.closed));
+          shows = λ s. refl;
+        })
         0 (λ s. pos s.number) (λ s. refl) (lit (Int (pos 1))) answer (numbers_rise (λ (s : Shift). s.number) rows.shifts (numbered rows of_office)) is
         ∙ ap (λ (l : List Shift). take 1 (map shown_shift (reverse l))) (one_of_rows is_open of_one_open rows of_office)
         ∙ only_backwards shown_shift (find is_open rows.shifts);
@@ -112,7 +117,8 @@ last_shift_number = record {
   asks = last_shift_asks;
   stands = λ s has. has.0.has;
   one = λ a b keeps_a keeps_b same. one_number a b same;
-  kept = λ rows of_office. last_number_keeps (λ s. s.number) IsNumber rows.shifts (All-weaker AreShiftValues (λ s. IsNumber s.number) (λ s keeps. keeps.number) rows.shifts (shifts_keep_values rows of_office));
+  kept = λ rows of_office. last_number_keeps (λ s. s.number) IsNumber rows.shifts
+      (All-weaker AreShiftValues (λ s. IsNumber s.number) (λ s keeps. keeps.number) rows.shifts (shifts_keep_values rows of_office));
   answers = λ db rows held of_office answer is.
       last_by_key (record { holds_them = held.1.1; passes = λ s. refl; shows = λ s. refl }) 0 (λ s. pos s.number) (λ s. refl) (lit (Int (pos 1))) answer
       (numbers_rise (λ (s : Shift). s.number) rows.shifts (numbered rows of_office)) is

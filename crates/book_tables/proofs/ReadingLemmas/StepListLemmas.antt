@@ -69,7 +69,8 @@ values_keep o office name (Some steps) e = steps_keep o office name steps e
 module _ (k : Kept) (steps_in : Office → Option (List Step)) (keeps : (o : Office) → IsOffice o → IfSome (steps_in o) IsSteps) where
   pub fails_to_make : (shown : List Step) (old new : State) → IsUnchanged old new
       → ((rows : Rows) → TableHolds k old.now rows → AreOfOffice rows → (o : Office) → IsOffice o → AreMembersOf rows o → shown ≡ listed_of (steps_in o))
-      → {A : Type 0} (r : Result A TableError) → IfErr r (λ e. IsMemory e ⊎ ((e ≡ RowOfNoOffice) × (shown ≢ []) × ¬ IsSteps shown)) → IfErr r (FailsToReadOf (TableHolds k) old new)
+      → {A : Type 0} (r : Result A TableError) → IfErr r (λ e. IsMemory e ⊎ ((e ≡ RowOfNoOffice) × (shown ≢ []) × ¬ IsSteps shown))
+      → IfErr r (FailsToReadOf (TableHolds k) old new)
   fails_to_make shown old new same are (Ok x) why = why
   fails_to_make shown old new same are (Err e) (inl is) = subst (FailsToReadOf (TableHolds k) old new) (sym is) (inr (refl, same))
   fails_to_make shown old new same are (Err e) (inr (is, some, none)) =
@@ -90,7 +91,8 @@ module _ (name : List ℕ) where
     abbrev tariff_rows : Option (List Step) → List StepRow
     tariff_rows tariff = rows_from name 0 (listed_of tariff)
 
-    row_is : (tariff : Option (List Step)) → o.tariffs name ≡ tariff → (r : StepRow) → Contains (filter is_of_tariff rows.steps) r → Contains (tariff_rows tariff) r
+    row_is : (tariff : Option (List Step)) → o.tariffs name ≡ tariff → (r : StepRow) → Contains (filter is_of_tariff rows.steps) r
+        → Contains (tariff_rows tariff) r
     row_is tariff e r there =
         let parts = there_passes is_of_tariff rows.steps r there in
         let named : r.tariff ≡ name = (bytes_eq-Decides r.tariff name).0 parts.1 in
@@ -99,9 +101,11 @@ module _ (name : List ℕ) where
         let at : 0 + r.place ≡ r.place = omega arith in
         let R : StepRow = record { tariff = r.tariff; place = r.place; step = r.step } in
         let here : record { tariff = name; place = 0 + r.place; step = r.step } ≡ R = cc in
-        subst (Contains (tariff_rows tariff)) here (there_row name 0 (listed_of tariff) r.place r.step (subst (λ (steps : List Step). slice_get steps r.place ≡ Some r.step) (sym same) has.2))
+        subst (Contains (tariff_rows tariff)) here (there_row name 0 (listed_of tariff) r.place r.step
+        (subst (λ (steps : List Step). slice_get steps r.place ≡ Some r.step) (sym same) has.2))
 
-    is_row : (tariff : Option (List Step)) → o.tariffs name ≡ tariff → (r : StepRow) → Contains (tariff_rows tariff) r → Contains (filter is_of_tariff rows.steps) r
+    is_row : (tariff : Option (List Step)) → o.tariffs name ≡ tariff → (r : StepRow) → Contains (tariff_rows tariff) r
+        → Contains (filter is_of_tariff rows.steps) r
     is_row None e r there = absurd (let none = (row_there name 0 [] r there).2 in cc)
     is_row (Some steps) e r there =
         let at = row_there name 0 steps r there in
@@ -112,7 +116,8 @@ module _ (name : List ℕ) where
     rows_are : IsPermutation (filter is_of_tariff rows.steps) (tariff_rows (o.tariffs name))
     rows_are =
         permuted place_of (filter is_of_tariff rows.steps) (tariff_rows (o.tariffs name))
-        (pairs_that_pass AreApart (DifferInKey place_of) is_of_tariff rows.steps (λ a b p q apart. apart ((bytes_eq-Decides a.tariff name).0 p ∙ sym ((bytes_eq-Decides b.tariff name).0 q))) are.steps_once)
+        (pairs_that_pass AreApart (DifferInKey place_of) is_of_tariff rows.steps
+        (λ a b p q apart. apart ((bytes_eq-Decides a.tariff name).0 p ∙ sym ((bytes_eq-Decides b.tariff name).0 q))) are.steps_once)
         (rows_differ name 0 (listed_of (o.tariffs name)))
         (row_is (o.tariffs name) refl) (is_row (o.tariffs name) refl)
 
@@ -132,13 +137,19 @@ module _ (name : List ℕ) where
     asks = steps_of_asks name;
     stands = λ s has. has.0.has;
     one = λ a b keeps_a keeps_b same. one_shown_step a b same;
-    kept = λ rows of_office found are. All-same AreStepValues found (listed_of (of_office.0.tariffs name)) (are of_office.0 of_office.2) (values_keep of_office.0 of_office.1 name (of_office.0.tariffs name) refl);
+    kept = λ rows of_office found are. All-same AreStepValues found (listed_of (of_office.0.tariffs name)) (are of_office.0 of_office.2)
+        (values_keep of_office.0 of_office.1 name (of_office.0.tariffs name) refl);
     answers = λ db rows held of_office answer is.
         let o = of_office.0 in
         let found = listed_of (o.tariffs name) in (
           found,
           λ other those. ap listed_of (same_tariff rows rows (itself rows) o other of_office.2 those name),
-          rising_hidden (record { holds_them = held.1.1.0; some = λ r none. cc; passes = λ hidden r. last_term (text_is r.tariff name); shows = λ hidden r. refl }) 2 (λ r. pos r.place) (λ hidden r. refl) no_limit answer
+          rising_hidden (record {
+            holds_them = held.1.1.0;
+            some = λ r none. cc;
+            passes = λ hidden r. last_term (text_is r.tariff name);
+            shows = λ hidden r. refl;
+          }) 2 (λ r. pos r.place) (λ hidden r. refl) no_limit answer
               (rows_from name 0 found) (rows_are rows o of_office.2) (rows_rise name 0 found) is ∙ shown_are 0 found,
         );
   }

@@ -62,6 +62,11 @@ module _ (name : List ℕ) where
     kept = λ rows of_office. found_keeps has_name IsName rows.tariffs (tariff_names_keep rows of_office);
     answers = λ db rows held of_office answer is.
         let one = only_one rows of_office in
-        one_hidden (record { holds_them = held.1.1.0; some = λ r none. cc; passes = λ hidden r. last_term (text_is r name); shows = λ hidden r. refl }) answer is
+        one_hidden (record {
+          holds_them = held.1.1.0;
+          some = λ r none. cc;
+          passes = λ hidden r. last_term (text_is r name);
+          shows = λ hidden r. refl;
+        }) answer is
         (subst (λ (l : List (List ℕ)). length l ≤ 1) (sym one) (few (find has_name rows.tariffs))) ∙ ap (map tariff_columns) one;
   }

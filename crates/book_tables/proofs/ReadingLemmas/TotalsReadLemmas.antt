@@ -45,7 +45,8 @@ shown_of : {K V M : Type 0} (show : V → Row) (shown : M → Row) (record_of : 
 shown_of show shown record_of same key None = refl
 shown_of show shown record_of same key (Some v) = ap (λ (row : Row). row ∷ []) (sym (same v))
 
-keeps_of : {V M : Type 0} (rule : V → Type 0) (keeps : M → Type 0) (record_of : V → M) → ((v : V) → rule v → keeps (record_of v)) → (o : Option V) → IfSome o rule → IfSome (option_map record_of o) keeps
+keeps_of : {V M : Type 0} (rule : V → Type 0) (keeps : M → Type 0) (record_of : V → M) → ((v : V) → rule v → keeps (record_of v))
+    → (o : Option V) → IfSome o rule → IfSome (option_map record_of o) keeps
 keeps_of rule keeps record_of each None kept = _
 keeps_of rule keeps record_of each (Some v) kept = each v kept
 
@@ -80,9 +81,11 @@ module _ (meter : List ℕ) (base : Base) where
   tids_within rows of_office =
       let sold = sales_under rows.sales base_key in
       let values = All-filter (λ s. is_under base_key (s.meter, s.base)) AreSaleValues rows.sales (sales_keep_values rows of_office) in
-      greatest_within last_tid (map (λ (s : Sale). s.tid) sold) (All-map IsTid (λ (s : Sale). s.tid) sold (All-weaker AreSaleValues (λ s. IsTid s.tid) (λ s value. value.tid) sold values))
+      greatest_within last_tid (map (λ (s : Sale). s.tid) sold)
+      (All-map IsTid (λ (s : Sale). s.tid) sold (All-weaker AreSaleValues (λ s. IsTid s.tid) (λ s value. value.tid) sold values))
 
-  pub last_id_found : Finds last_ids_kept last_id_text (Text meter ∷ number (year_of base) ∷ []) (λ (t : Tid). shown_number t.number) (λ (t : Tid). IsTid t.number) found_tid
+  pub last_id_found : Finds last_ids_kept last_id_text (Text meter ∷ number (year_of base) ∷ []) (λ (t : Tid). shown_number t.number)
+      (λ (t : Tid). IsTid t.number) found_tid
   last_id_found = record {
     table = last_ids_table;
     query = last_id_query;
@@ -94,7 +97,12 @@ module _ (meter : List ℕ) (base : Base) where
     answers = λ db rows held of_office answer is.
         let are = (own_totals rows of_office).last_ids in
         let has = λ (k : List ℕ × Base). greatest_of (map (λ (s : Sale). s.tid) (sales_under rows.sales k)) in
-        one_hidden (record { holds_them = held.1.1.0; some = λ r none. cc; passes = λ hidden r. then_term (text_is r.0.0 meter) (last_term (number_is (year_of r.0.1) (year_of base))); shows = λ hidden r. refl }) answer is
+        one_hidden (record {
+          holds_them = held.1.1.0;
+          some = λ r none. cc;
+          passes = λ hidden r. then_term (text_is r.0.0 meter) (last_term (number_is (year_of r.0.1) (year_of base)));
+          shows = λ hidden r. refl;
+        }) answer is
         (few_under (is_under base_key) base_key (tells_under base_key) rows.last_ids has are)
         ∙ ap (map (λ (r : (List ℕ × Base) × ℕ). shown_number r.1)) (found_under (is_under base_key) base_key (tells_under base_key) rows.last_ids has are)
         ∙ shown_of shown_number (λ (t : Tid). shown_number t.number) tid_of (λ n. refl) base_key (last_in rows.sales);
@@ -107,11 +115,14 @@ few_sales : (p : Sale → Bool) (rows : Rows) → AreOfOffice rows → length (f
 few_sales p rows (o, office, are) =
     omega (arith, length-filter_both p (λ s. not (p s)) (λ s. refl) rows.sales, ap length are.sales, office.sale_count)
 
-sum_within : (p : Sale → Bool) (f : Sale → ℕ) (most : ℕ) → ((s : Sale) → AreSaleValues s → f s ≤ most) → (rows : Rows) → AreOfOffice rows → sum_by f (filter p rows.sales) ≤ length (filter p rows.sales) * most
+sum_within : (p : Sale → Bool) (f : Sale → ℕ) (most : ℕ) → ((s : Sale) → AreSaleValues s → f s ≤ most) → (rows : Rows) → AreOfOffice rows
+    → sum_by f (filter p rows.sales) ≤ length (filter p rows.sales) * most
 sum_within p f most each rows of_office =
-    sum_by-le f most (filter p rows.sales) (All-weaker AreSaleValues (λ s. f s ≤ most) each (filter p rows.sales) (All-filter p AreSaleValues rows.sales (sales_keep_values rows of_office)))
+    sum_by-le f most (filter p rows.sales) (All-weaker AreSaleValues (λ s. f s ≤ most) each (filter p rows.sales)
+    (All-filter p AreSaleValues rows.sales (sales_keep_values rows of_office)))
 
-tenths_within : ((t : ℕ) → IsRepresentable t → t ≤ 18201624) → (p : Sale → Bool) (rows : Rows) → AreOfOffice rows → IsTotal (sum_by (λ (s : Sale). s.tenths) (filter p rows.sales))
+tenths_within : ((t : ℕ) → IsRepresentable t → t ≤ 18201624) → (p : Sale → Bool) (rows : Rows) → AreOfOffice rows
+    → IsTotal (sum_by (λ (s : Sale). s.tenths) (filter p rows.sales))
 tenths_within greatest p rows of_office =
     let few = few_sales p rows of_office in
     let sum = sum_within p (λ (s : Sale). s.tenths) 18201624 (λ s values. greatest s.tenths values.tenths) rows of_office in
@@ -143,7 +154,8 @@ module _ (greatest : (t : ℕ) → IsRepresentable t → t ≤ 18201624) (meter 
       let is : A ≡ B = cc in
       is
 
-  pub month_found : Finds month_tenths_kept month_sum_text (Text meter ∷ number month ∷ []) (λ (t : Tenths). shown_number t.sum) (λ (t : Tenths). IsTotal t.sum) found_tenths
+  pub month_found : Finds month_tenths_kept month_sum_text (Text meter ∷ number month ∷ []) (λ (t : Tenths). shown_number t.sum)
+      (λ (t : Tenths). IsTotal t.sum) found_tenths
   month_found = record {
     table = month_tenths_table;
     query = month_tenths_query;
@@ -158,9 +170,15 @@ module _ (greatest : (t : ℕ) → IsRepresentable t → t ≤ 18201624) (meter 
     answers = λ db rows held of_office answer is.
         let are = (own_totals rows of_office).month_tenths in
         let has = λ (k : List ℕ × ℕ). tenths_of (sales_in_month rows.sales k) in
-        one_hidden (record { holds_them = held.1.1.0; some = λ r none. cc; passes = λ hidden r. then_term (text_is r.0.0 meter) (last_term (number_is r.0.1 month)); shows = λ hidden r. refl }) answer is
+        one_hidden (record {
+          holds_them = held.1.1.0;
+          some = λ r none. cc;
+          passes = λ hidden r. then_term (text_is r.0.0 meter) (last_term (number_is r.0.1 month));
+          shows = λ hidden r. refl;
+        }) answer is
         (few_under (is_in_month month_key) month_key (tells_month month_key) rows.month_tenths has are)
-        ∙ ap (map (λ (r : (List ℕ × ℕ) × ℕ). shown_number r.1)) (found_under (is_in_month month_key) month_key (tells_month month_key) rows.month_tenths has are)
+        ∙ ap (map (λ (r : (List ℕ × ℕ) × ℕ). shown_number r.1))
+        (found_under (is_in_month month_key) month_key (tells_month month_key) rows.month_tenths has are)
         ∙ shown_of shown_number (λ (t : Tenths). shown_number t.sum) tenths_record (λ n. refl) month_key (tenths_of (sales_in_month rows.sales month_key));
   }
 
@@ -207,7 +225,9 @@ module _ (greatest : (t : ℕ) → IsRepresentable t → t ≤ 18201624) (shift 
     answers = λ db rows held of_office answer is.
         let are = (own_totals rows of_office).shift_totals in
         let has = λ (k : ℕ). totals_of (sales_in_shift rows.sales k) in
-        one_row (record { holds_them = held.1.1; passes = λ r. last_term (number_is r.0 shift); shows = λ r. refl }) answer is (few_under is_shift shift (tells_number shift) rows.shift_totals has are)
+        one_row (record { holds_them = held.1.1; passes = λ r. last_term (number_is r.0 shift); shows = λ r. refl }) answer is
+        (few_under is_shift shift (tells_number shift) rows.shift_totals has are)
         ∙ ap (map (λ (r : ℕ × Totals). shown_totals r.1)) (found_under is_shift shift (tells_number shift) rows.shift_totals has are)
-        ∙ shown_of shown_totals shown_totals (λ (t : Totals). t) (λ t. refl) shift (found_totals rows) ∙ ap (λ (o : Option Totals). map shown_totals (option_to_list o)) (same_record (found_totals rows));
+        ∙ shown_of shown_totals shown_totals (λ (t : Totals). t) (λ t. refl) shift (found_totals rows)
+        ∙ ap (λ (o : Option Totals). map shown_totals (option_to_list o)) (same_record (found_totals rows));
   }

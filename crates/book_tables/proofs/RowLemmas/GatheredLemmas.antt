@@ -92,14 +92,19 @@ module _ {Q K V : Type 0} (cmp : Q → Q → Ordering) (total : IsTotalOrder cmp
     less_not_equal : (o : Ordering) → o ≡ Less → o ≡ Equal → ⊥
     less_not_equal o less equal = let both : Less ≡ Equal = sym less ∙ equal in cc
 
-    once_of : (es : List (Q × (K × V))) → IsStrictlySortedBy cmp (map (λ e. e.0) es) → ((e : Q × (K × V)) → Contains es e → e.0 ≡ place e.1.0) → AllPairs Apart (map row_at es)
+    once_of : (es : List (Q × (K × V))) → IsStrictlySortedBy cmp (map (λ e. e.0) es)
+        → ((e : Q × (K × V)) → Contains es e → e.0 ≡ place e.1.0) → AllPairs Apart (map row_at es)
     once_of [] sorted own = no_pairs Apart
     once_of (e ∷ es) sorted own =
-        pairs_cons Apart (row_at e) (map row_at es) (once_of es (sorted_tail cmp e.0 (map (λ e. e.0) es) sorted) (λ f among. own f (contains_further e f es among))) (λ y among same.
+        pairs_cons Apart (row_at e) (map row_at es) (once_of es (sorted_tail cmp e.0 (map (λ e. e.0) es) sorted)
+        (λ f among. own f (contains_further e f es among))) (λ y among same.
         let from = map_source row_at es y among in
         let f = from.0 in
-        let keys : e.0 ≡ f.0 = own e (contains_first e es) ∙ ap place (same ∙ sym (ap (λ (x : K × V). x.0) from.2)) ∙ sym (own f (contains_further e f es from.1)) in
-        let below : cmp e.0 f.0 ≡ Less = All-contains (λ q. cmp e.0 q ≡ Less) (map (λ (e : Q × (K × V)). e.0) es) f.0 (All-from_recursion (λ q. cmp e.0 q ≡ Less) (map (λ (e : Q × (K × V)). e.0) es) (sorted_head cmp e.0 (map (λ e. e.0) es) sorted)) (contains_map (λ (e : Q × (K × V)). e.0) es f from.1) in
+        let keys : e.0 ≡ f.0 = own e (contains_first e es) ∙ ap place (same ∙ sym (ap (λ (x : K × V). x.0) from.2))
+        ∙ sym (own f (contains_further e f es from.1)) in
+        let below : cmp e.0 f.0 ≡ Less = All-contains (λ q. cmp e.0 q ≡ Less) (map (λ (e : Q × (K × V)). e.0) es) f.0
+        (All-from_recursion (λ q. cmp e.0 q ≡ Less) (map (λ (e : Q × (K × V)). e.0) es)
+        (sorted_head cmp e.0 (map (λ e. e.0) es) sorted)) (contains_map (λ (e : Q × (K × V)). e.0) es f from.1) in
         less_not_equal (cmp e.0 f.0) below (ap (cmp e.0) (sym keys) ∙ tied_itself total e.0))
 
     pub are_rows : AreRowsOf rows has
@@ -110,7 +115,8 @@ module _ {Q K V : Type 0} (cmp : Q → Q → Ordering) (total : IsTotalOrder cmp
 
     -- ---- with a value under a key
 
-    module _ (n : BTreeMap Q (K × V)) (is_key : K → Bool) (key : K) (tells : (k : K) → (is_key k ≡ true) ↔ (k ≡ key)) (one : (a b : K) → place a ≡ place b → a ≡ b) (value : V) (ordered : IsOrdered cmp n) (puts : Updates cmp m n (place key) (Some (key, value))) where
+    module _ (n : BTreeMap Q (K × V)) (is_key : K → Bool) (key : K) (tells : (k : K) → (is_key k ≡ true) ↔ (k ≡ key))
+        (one : (a b : K) → place a ≡ place b → a ≡ b) (value : V) (ordered : IsOrdered cmp n) (puts : Updates cmp m n (place key) (Some (key, value))) where
       tied : (o : Ordering) → is_eq o ≡ true → o ≡ Equal
       tied Less is = cc
       tied Equal is = refl
@@ -152,7 +158,8 @@ module _ {Q K V : Type 0} (cmp : Q → Q → Ordering) (total : IsTotalOrder cmp
 
 module _ (sales : List Sale) (s : Sale) (small : IsOfWords s) (few : length sales < 2 ^ 32) (all : All IsOfWords sales) where
   tenths_in_words : sum_by (λ t. t.tenths) sales ≤ length sales * 4294967295
-  tenths_in_words = sum_by-le (λ (t : Sale). t.tenths) 4294967295 sales (All-weaker IsOfWords (λ t. t.tenths ≤ 4294967295) (λ t is. omega (arith, is.0)) sales all)
+  tenths_in_words = sum_by-le (λ (t : Sale). t.tenths) 4294967295 sales
+      (All-weaker IsOfWords (λ t. t.tenths ≤ 4294967295) (λ t is. omega (arith, is.0)) sales all)
 
   cash_in_words : cash_of sales ≤ length sales * 4294967295
   cash_in_words = sum_by-le (λ (t : Sale). t.price) 4294967295 sales (All-weaker IsOfWords (λ t. t.price ≤ 4294967295) (λ t is. omega (arith, is.1)) sales all)
@@ -185,8 +192,12 @@ module _ (sales : List Sale) (s : Sale) (g h : Gathered) (held : IsGathered sale
       → HoldsAt nat_cmp (own_place {K = ℕ}) h.shift_totals (put_under (λ n. n == s.shift) (shift_sum sales s) shifts_of)
       → IsGathered (sales ++ s ∷ []) h
   gathered_more small ids months shifts = record {
-    last_ids = holds_same key_cmp key_total key_exact base_place h.last_ids _ (λ key. greatest_of (map (λ t. t.tid) (sales_under (sales ++ s ∷ []) key))) (last_more sales s (max (unwrap_or (ids_of (s.meter, s.base)) 0) s.tid) (last_with sales s)) ids;
-    month_tenths = holds_same key_cmp key_total key_exact (own_place {K = List ℕ × ℕ}) h.month_tenths _ (λ key. tenths_of (sales_in_month (sales ++ s ∷ []) key)) (month_more sales s) months;
-    shift_totals = holds_same nat_cmp nat_cmp_total exact_unsigned (own_place {K = ℕ}) h.shift_totals _ (λ shift. totals_of (sales_in_shift (sales ++ s ∷ []) shift)) (shift_more sales s) shifts;
+    last_ids = holds_same key_cmp key_total key_exact base_place h.last_ids _
+        (λ key. greatest_of (map (λ t. t.tid) (sales_under (sales ++ s ∷ []) key)))
+        (last_more sales s (max (unwrap_or (ids_of (s.meter, s.base)) 0) s.tid) (last_with sales s)) ids;
+    month_tenths = holds_same key_cmp key_total key_exact (own_place {K = List ℕ × ℕ}) h.month_tenths _
+        (λ key. tenths_of (sales_in_month (sales ++ s ∷ []) key)) (month_more sales s) months;
+    shift_totals = holds_same nat_cmp nat_cmp_total exact_unsigned (own_place {K = ℕ}) h.shift_totals _
+        (λ shift. totals_of (sales_in_shift (sales ++ s ∷ []) shift)) (shift_more sales s) shifts;
     small = All-push IsOfWords sales s held.small small;
   }

@@ -24,7 +24,8 @@ none_read : (o : Option ℕ) → o ≡ None → IsSome o → ⊥
 none_read o is some = let e : IsSome {T = ℕ} None = subst (λ (v : Option ℕ). IsSome v) is some in cc
 
 -- what `read_key` says of a text that stands in a place
-pub reads_key : (text : List ℕ) (place : Value) (read : Option ℕ) → Text text ≡ place → (IsSome read ↔ AreKeyDigits text) → IfSome read (λ key. IsKeyText key text) → ReadsBack (λ key. Text (secret_of key)) IsKey place read
+pub reads_key : (text : List ℕ) (place : Value) (read : Option ℕ) → Text text ≡ place → (IsSome read ↔ AreKeyDigits text)
+    → IfSome read (λ key. IsKeyText key text) → ReadsBack (λ key. Text (secret_of key)) IsKey place read
 reads_key text place None there digits value = λ key small same.
     let e : secret_of key ≡ text = cc in
     none_read None refl (digits.1 (subst AreKeyDigits e (stored_text key small).digits))

@@ -56,7 +56,9 @@ order_in s = record { operator = s.operator; order_ref = s.order_ref; meter = s.
 abbrev pub token_in : Sale → Token
 token_in s = record { base = s.base; tid = s.tid; rnd = s.rnd; tenths = s.tenths; digits = s.digits }
 
-pub shows_sale : (r : Row) (entry : Entry) (order : Order) (token : Token) (price : ℕ) → shown_entry entry ≡ entry_columns r → shown_order order ≡ order_columns r → shown_token token ≡ token_columns r → number price ≡ column r 10 → shown_sale (sale_from entry order token price) ≡ sale_part r
+pub shows_sale : (r : Row) (entry : Entry) (order : Order) (token : Token) (price : ℕ) → shown_entry entry ≡ entry_columns r
+    → shown_order order ≡ order_columns r → shown_token token ≡ token_columns r → number price ≡ column r 10
+    → shown_sale (sale_from entry order token price) ≡ sale_part r
 shows_sale r entry order token price e o t p = cc
 
 pub shows_entry : (r : Row) (s : Sale) → shown_sale s ≡ sale_part r → shown_entry (entry_in s) ≡ entry_columns r
@@ -68,5 +70,6 @@ shows_order r s e = ap order_columns e
 pub shows_token : (r : Row) (s : Sale) → shown_sale s ≡ sale_part r → shown_token (token_in s) ≡ token_columns r
 shows_token r s e = ap token_columns e
 
-pub read_whole : (r : Row) (read : Option Sale) → length r ≡ 13 → ReadsBack shown_sale AreSaleValues (sale_part r) read → ReadsBack shown_sale AreSaleValues r read
+pub read_whole : (r : Row) (read : Option Sale) → length r ≡ 13 → ReadsBack shown_sale AreSaleValues (sale_part r) read
+    → ReadsBack shown_sale AreSaleValues r read
 read_whole r read count part = subst (λ (row : Row). ReadsBack shown_sale AreSaleValues row read) (whole_sale r count) part

@@ -138,7 +138,8 @@ one_sale a b e = one_shown_sale a b (cc)
 
 -- ---- what is read of it
 
-pub reads_itself : {A T : Type 0} (stored : A → T) (rule : A → Type 0) (x : A) (read : Option A) → ((y : A) → rule y → stored y ≡ stored x → y ≡ x) → rule x → ReadsBack stored rule (stored x) read → read ≡ Some x
+pub reads_itself : {A T : Type 0} (stored : A → T) (rule : A → Type 0) (x : A) (read : Option A)
+    → ((y : A) → rule y → stored y ≡ stored x → y ≡ x) → rule x → ReadsBack stored rule (stored x) read → read ≡ Some x
 reads_itself stored rule x None one ok none = absurd (none x ok refl)
 reads_itself {A} stored rule x (Some y) one ok is = some_same (one y is.1 is.0)
   where

@@ -14,7 +14,8 @@ use Rattle.office_rules.specs.declared.office.shift.Shift.{Shift}
 use Rattle.book_tables.specs.row.Values.{AreMeterValues, AreSaleValues, AreShiftValues, AreStepValues, IsClosing, IsNumber}
 
 -- the number of a row is from 1 to the greatest count
-number_of : {X : Type 0} (number : X → ℕ) (xs : List X) (i : ℕ) (d : X) → AreNumbered number xs → length xs ≤ greatest_count → i < length xs → IsNumber (number (get_or xs i d))
+number_of : {X : Type 0} (number : X → ℕ) (xs : List X) (i : ℕ) (d : X) → AreNumbered number xs → length xs ≤ greatest_count
+    → i < length xs → IsNumber (number (get_or xs i d))
 number_of number xs i d numbered few below =
     let is = numbered i (get_or xs i d) (slice_get-get_or xs i d below) in
     (omega (arith, is), omega (arith, is))

@@ -37,14 +37,17 @@ use Rattle.book_tables.proofs.WritingLemmas.TotallingLemmas.{total_fits}
 -- ---- writes one after another
 
 -- of two writes only the tables of both may have other rows
-only_then : (names a b : List (List ℕ)) → ((s : Schema) (tree : ℕ) → IsOfNone s names tree → IsOfNone s a tree × IsOfNone s b tree) → (old mid new : State) → WritesOnly a old mid → WritesOnly b mid new → WritesOnly names old new
+only_then : (names a b : List (List ℕ)) → ((s : Schema) (tree : ℕ) → IsOfNone s names tree → IsOfNone s a tree × IsOfNone s b tree)
+    → (old mid new : State) → WritesOnly a old mid → WritesOnly b mid new → WritesOnly names old new
 only_then names a b apart old mid new first second = record {
   inside = stays_then old mid new first.inside second.inside;
   marks = second.marks ∙ first.marks;
   schema = second.schema ∙ first.schema;
   tables = all_both _ _ _ (λ u kept later none. later (there u.tree none) ∙ kept (apart old.now.schema u.tree none).0) old.now.schema.tables first.tables
-      (subst (λ (s : Schema). AllByRecursion (λ (u : Table). IsOfNone mid.now.schema b u.tree → new.now.trees u.tree ≡ mid.now.trees u.tree) s.tables) first.schema second.tables);
-  others = λ tree none no_index. second.others tree (there tree none) (subst (λ (s : Schema). IsNoIndex s tree) (sym first.schema) no_index) ∙ first.others tree (apart old.now.schema tree none).0 no_index;
+      (subst (λ (s : Schema). AllByRecursion (λ (u : Table). IsOfNone mid.now.schema b u.tree → new.now.trees u.tree
+      ≡ mid.now.trees u.tree) s.tables) first.schema second.tables);
+  others = λ tree none no_index. second.others tree (there tree none)
+      (subst (λ (s : Schema). IsNoIndex s tree) (sym first.schema) no_index) ∙ first.others tree (apart old.now.schema tree none).0 no_index;
   sound = second.sound;
 }
   where
@@ -57,14 +60,17 @@ tables_stay names old mid only has runs = subst HasOffice (sym only.schema) (has
 
 -- ---- the totals of a sale
 
-module _ (s : Sale) (last : ℕ) (shown : SaleTotals) (old one two new : State) (first : SetsLastId (s.meter, s.base) last old one) (second : AddsTenths (s.meter, month_at s.moment) s.tenths shown.month_tenths one two) (third : AddsToShift s.shift s.tenths s.price shown.shift two new) where
+module _ (s : Sale) (last : ℕ) (shown : SaleTotals) (old one two new : State) (first : SetsLastId (s.meter, s.base) last old one)
+    (second : AddsTenths (s.meter, month_at s.moment) s.tenths shown.month_tenths one two)
+    (third : AddsToShift s.shift s.tenths s.price shown.shift two new) where
   abbrev two_names : List (List ℕ)
   two_names = codes "last_ids" ∷ codes "month_tenths" ∷ []
 
   pub only_totals : WritesOnly totals_names old new
   only_totals =
       only_then totals_names two_names (codes "shift_totals" ∷ []) (λ s tree none. ((none.0, (none.1.0, tt)), (none.1.1.0, tt))) old two new
-      (only_then two_names (codes "last_ids" ∷ []) (codes "month_tenths" ∷ []) (λ s tree none. ((none.0, tt), (none.1.0, tt))) old one two first.only second.only) third.only
+      (only_then two_names (codes "last_ids" ∷ []) (codes "month_tenths" ∷ []) (λ s tree none. ((none.0, tt), (none.1.0, tt))) old one two
+      first.only second.only) third.only
 
   -- the rows with the totals of these sales and this one, and what was told of it
   record After (format : ℕ) (rows : Rows) (sales : List Sale) : Type 0 where
@@ -73,7 +79,8 @@ module _ (s : Sale) (last : ℕ) (shown : SaleTotals) (old one two new : State) 
     are : greatest_of (map (λ t. t.tid) (sales_under (sales ++ s ∷ []) (s.meter, s.base))) ≡ Some last → AreTotalsOf (sales ++ s ∷ []) totals
     shows : AreSaleTotals s (sales ++ s ∷ []) shown
 
-  after : (format : ℕ) (rows : Rows) (sales : List Sale) → HoldsOf present_format format old.now rows → AreTotalsOf sales rows → FitColumns (sales ++ s ∷ []) → After format rows sales
+  after : (format : ℕ) (rows : Rows) (sales : List Sale) → HoldsOf present_format format old.now rows → AreTotalsOf sales rows
+      → FitColumns (sales ++ s ∷ []) → After format rows sales
   after format rows sales held are fit =
       let ids = first.rows format rows (λ k. greatest_of (map (λ t. t.tid) (sales_under sales k))) held are.last_ids in
       let with_ids : Rows = record rows { last_ids = ids.0 } in
@@ -103,8 +110,10 @@ module _ (s : Sale) (last : ℕ) (shown : SaleTotals) (old one two new : State) 
       let months = still_in_order month_tenths_kept last_ids_kept month_tenths_in last_ids_in old.now one.now here to_one refl order.1.0 in
       let shifts = still_in_order shift_totals_kept last_ids_kept shift_totals_in last_ids_in old.now one.now here to_one refl order.1.1.0 in
       let shifts_then = still_in_order shift_totals_kept month_tenths_kept shift_totals_in month_tenths_in one.now two.now then to_two refl shifts in
-      keeps_then (last_id_keys (s.meter, s.base)) (month_keys (s.meter, month_at s.moment) ++ shift_totals_key s.shift) old.now one.now new.now (first.kept (order.0, tt))
-      (keeps_then (month_keys (s.meter, month_at s.moment)) (shift_totals_key s.shift) one.now two.now new.now (second.kept (months, tt)) (third.kept (shifts_then, tt)))
+      keeps_then (last_id_keys (s.meter, s.base)) (month_keys (s.meter, month_at s.moment) ++ shift_totals_key s.shift) old.now one.now
+      new.now (first.kept (order.0, tt))
+      (keeps_then (month_keys (s.meter, month_at s.moment)) (shift_totals_key s.shift) one.now two.now new.now (second.kept (months, tt))
+      (third.kept (shifts_then, tt)))
 
   pub tells_totals : HasAllTables old → TellsSaleTotals s last shown old new
   tells_totals has = record {
@@ -119,7 +128,8 @@ module _ (s : Sale) (last : ℕ) (shown : SaleTotals) (old one two new : State) 
 -- what a write finds after the one before it
 module _ (s : Sale) (last : ℕ) (old new : State) (format : ℕ) (rows : Rows) (held : HoldsOf present_format format old.now rows) where
   pub may_add_tenths : SetsLastId (s.meter, s.base) last old new → MayAddTotals s last format rows
-      → (after : Rows) × HoldsOf present_format format new.now after × MayAddTenths (s.meter, month_at s.moment) s.tenths format after × MayAddToShift s.shift s.tenths s.price format after
+      → (after : Rows) × HoldsOf present_format format new.now after × MayAddTenths (s.meter, month_at s.moment) s.tenths format after
+      × MayAddToShift s.shift s.tenths s.price format after
   may_add_tenths first (small, (sales, are, few)) =
       let ids = first.rows format rows (λ k. greatest_of (map (λ t. t.tid) (sales_under sales k))) held are.last_ids in (
         record rows { last_ids = ids.0 },
@@ -128,7 +138,8 @@ module _ (s : Sale) (last : ℕ) (old new : State) (format : ℕ) (rows : Rows) 
         ((λ k. totals_of (sales_in_shift sales k)), are.shift_totals, are.by_shift, totals_in_shift sales s few),
       )
 
-  pub may_add_to_shift : (sum : ℕ) → AddsTenths (s.meter, month_at s.moment) s.tenths sum old new → MayAddTenths (s.meter, month_at s.moment) s.tenths format rows → MayAddToShift s.shift s.tenths s.price format rows
+  pub may_add_to_shift : (sum : ℕ) → AddsTenths (s.meter, month_at s.moment) s.tenths sum old new
+      → MayAddTenths (s.meter, month_at s.moment) s.tenths format rows → MayAddToShift s.shift s.tenths s.price format rows
       → (after : Rows) × HoldsOf present_format format new.now after × MayAddToShift s.shift s.tenths s.price format after
   may_add_to_shift sum second (has, are, small) (has_totals, are_totals, up, within) =
       let month = second.rows format rows has held are (total_fits (unwrap_or (has (s.meter, month_at s.moment)) 0 + s.tenths) small) in
@@ -147,20 +158,31 @@ module _ (s : Sale) where
   }
 
   own_totals : (o : Office) (rows : Rows) → AreMembersOf rows o → AreTotalsOf o.sales (with_sale rows)
-  own_totals o rows are = record { last_ids = are.totals.last_ids; month_tenths = are.totals.month_tenths; shift_totals = are.totals.shift_totals; by_shift = are.totals.by_shift }
+  own_totals o rows are = record {
+    last_ids = are.totals.last_ids;
+    month_tenths = are.totals.month_tenths;
+    shift_totals = are.totals.shift_totals;
+    by_shift = are.totals.by_shift;
+  }
 
   -- what is found after the sale was added
-  pub may_add_totals : ((t : ℕ) → IsRepresentable t → t ≤ 18201624) → (old mid : State) → AddsSale s old mid → (format : ℕ) (rows : Rows) → HoldsOf present_format format old.now rows → MayAddSold s format rows
+  pub may_add_totals : ((t : ℕ) → IsRepresentable t → t ≤ 18201624) → (old mid : State) → AddsSale s old mid → (format : ℕ) (rows : Rows)
+      → HoldsOf present_format format old.now rows → MayAddSold s format rows
       → (after : Rows) × HoldsOf present_format format mid.now after × MayAddTotals s s.tid format after
   may_add_totals greatest old mid first format rows held (present, (o, office, meets, are)) =
       let before = subst (λ (f : ℕ). HoldsOf present_format f old.now rows) present held in
-      let after = first.rows rows before (next_is o rows office meets are) in
-      (with_sale rows, subst (λ (f : ℕ). HoldsOf present_format f mid.now (with_sale rows)) (sym present) after, (meets.values.tid, (o.sales, own_totals o rows are, sales_within greatest o s office meets)))
+      let after = first.rows rows before (next_is o rows office meets are) in (
+        with_sale rows,
+        subst (λ (f : ℕ). HoldsOf present_format f mid.now (with_sale rows)) (sym present) after,
+        (meets.values.tid, (o.sales, own_totals o rows are, sales_within greatest o s office meets)),
+      )
 
-module _ (greatest : (t : ℕ) → IsRepresentable t → t ≤ 18201624) (s : Sale) (shown : SaleTotals) (old mid new : State) (first : AddsSale s old mid) (second : TellsSaleTotals s s.tid shown mid new) where
+module _ (greatest : (t : ℕ) → IsRepresentable t → t ≤ 18201624) (s : Sale) (shown : SaleTotals) (old mid new : State)
+    (first : AddsSale s old mid) (second : TellsSaleTotals s s.tid shown mid new) where
   members : (o : Office) → IsOffice o → MeetsNewSale o s → HoldsMembers old.now o → HoldsMembers new.now (applied (AddSale s) o)
   members o office meets (rows, held, are) =
-      let it = second.adds.rows present_format (with_sale s rows) o.sales (first.rows rows held (next_is s o rows office meets are)) (own_totals s o rows are) (fit_within (o.sales ++ s ∷ []) (sales_within greatest o s office meets)) (own_last o s meets) in (
+      let it = second.adds.rows present_format (with_sale s rows) o.sales (first.rows rows held (next_is s o rows office meets are))
+      (own_totals s o rows are) (fit_within (o.sales ++ s ∷ []) (sales_within greatest o s office meets)) (own_last o s meets) in (
         with_totals_of it.0 (with_sale s rows),
         it.1,
         record {
@@ -193,19 +215,25 @@ module _ (greatest : (t : ℕ) → IsRepresentable t → t ≤ 18201624) (s : Sa
   stored_sold has =
       let then : HasOffice mid.now.schema = subst HasOffice (sym first.only.schema) (has first.only.inside.was_open) in
       let sale_in = (sales_in.there mid.now.schema then).0 in
-      let from_ids = trees_differ mid.now.schema sales_kept.table last_ids_kept.table sale_in (last_ids_in.there mid.now.schema then).0 (names_differ _ _ refl) in
-      let from_months = trees_differ mid.now.schema sales_kept.table month_tenths_kept.table sale_in (month_tenths_in.there mid.now.schema then).0 (names_differ _ _ refl) in
-      let from_shifts = trees_differ mid.now.schema sales_kept.table shift_totals_kept.table sale_in (shift_totals_in.there mid.now.schema then).0 (names_differ _ _ refl) in
-      stores_before sales_kept (sale_row s ∷ []) old.now mid.now new.now first.stored (left_by sales_kept totals_names sales_in mid new then (from_ids, (from_months, (from_shifts, tt))) second.adds.only)
+      let from_ids = trees_differ mid.now.schema sales_kept.table last_ids_kept.table sale_in (last_ids_in.there mid.now.schema then).0
+      (names_differ _ _ refl) in
+      let from_months = trees_differ mid.now.schema sales_kept.table month_tenths_kept.table sale_in
+      (month_tenths_in.there mid.now.schema then).0 (names_differ _ _ refl) in
+      let from_shifts = trees_differ mid.now.schema sales_kept.table shift_totals_kept.table sale_in
+      (shift_totals_in.there mid.now.schema then).0 (names_differ _ _ refl) in
+      stores_before sales_kept (sale_row s ∷ []) old.now mid.now new.now first.stored
+      (left_by sales_kept totals_names sales_in mid new then (from_ids, (from_months, (from_shifts, tt))) second.adds.only)
 
   pub tells_sold : HasAllTables old → TellsSold s shown old new
   tells_sold has = record {
     adds = record {
-      only = only_then (codes "sales" ∷ totals_names) (codes "sales" ∷ []) totals_names (λ s tree none. ((none.0, tt), none.1)) old mid new first.only second.adds.only;
+      only = only_then (codes "sales" ∷ totals_names) (codes "sales" ∷ []) totals_names (λ s tree none. ((none.0, tt), none.1)) old mid new
+          first.only second.adds.only;
       kept = keeps_sold has;
       stored = stored_sold has;
       members = members;
     };
     tells = λ o office meets held.
-        second.tells present_format (with_sale s held.0) o.sales (first.rows held.0 held.1 (next_is s o held.0 office meets held.2)) (own_totals s o held.0 held.2) (fit_within (o.sales ++ s ∷ []) (sales_within greatest o s office meets));
+        second.tells present_format (with_sale s held.0) o.sales (first.rows held.0 held.1 (next_is s o held.0 office meets held.2))
+        (own_totals s o held.0 held.2) (fit_within (o.sales ++ s ∷ []) (sales_within greatest o s office meets));
   }

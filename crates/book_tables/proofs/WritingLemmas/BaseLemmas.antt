@@ -49,19 +49,23 @@ module _ (old new : State) where
   base_source : (r : List ℕ × Base) → source_row bases two_terms (base_columns r) ≡ Null ∷ base_columns r
   base_source r = rw (cast_no_int, cast_int (pos (year_of r.1))) refl
 
-  pub adds_base : HasAllTables old → (number : List ℕ) (base : Base) (params : Row) → params ≡ base_columns (number, base) → PutsRow bases (new_row bases two_terms params (old.now.trees bases.tree)) old new → AddsBase number base old new
+  pub adds_base : HasAllTables old → (number : List ℕ) (base : Base) (params : Row) → params ≡ base_columns (number, base)
+      → PutsRow bases (new_row bases two_terms params (old.now.trees bases.tree)) old new → AddsBase number base old new
   adds_base has number base params bound put =
       let h = subst (λ (p : Row). PutsRow bases (new_row bases two_terms p (old.now.trees bases.tree)) old new) bound put in
       let only = only_one (codes "meter_bases") bases _ old new refl h.changed in
       let kept = changes_only (codes "meter_bases") old new only in
       record {
         only = only;
-        kept = keeps_new ((1, Text number) ∷ (2, Int (pos (year_of base))) ∷ []) old new bases_kept bases_in has _ (with_rowid Chosen (old.now.trees bases.tree) (Null ∷ base_columns (number, base))) h kept
+        kept = keeps_new ((1, Text number) ∷ (2, Int (pos (year_of base))) ∷ []) old new bases_kept bases_in has _
+            (with_rowid Chosen (old.now.trees bases.tree) (Null ∷ base_columns (number, base))) h kept
             (ap (with_rowid Chosen (old.now.trees bases.tree)) (base_source (number, base))) refl (refl, (refl, tt));
-        stored = stores_hidden (codes "meter_bases") bases old new refl _ h (base_columns (number, base)) (ap (λ (r : Row). drop 1 (with_rowid Chosen (old.now.trees bases.tree) r)) (base_source (number, base)));
+        stored = stores_hidden (codes "meter_bases") bases old new refl _ h (base_columns (number, base))
+            (ap (λ (r : Row). drop 1 (with_rowid Chosen (old.now.trees bases.tree) r)) (base_source (number, base)));
         rows = λ told rows held.
             let was = bases_in.holds told old.now rows held in
-            let it = stands_after base_columns bases two_terms (base_columns (number, base)) (number, base) (base_source (number, base)) old new h rows.bases was.0 was.1 in
+            let it = stands_after base_columns bases two_terms (base_columns (number, base)) (number, base) (base_source (number, base))
+            old new h rows.bases was.0 was.1 in
             bases_changed told old.now new.now rows held (rows.bases ++ (number, base) ∷ []) kept it.0 it.1;
       }
 
@@ -76,7 +80,8 @@ module _ (old new : State) where
   abbrev base_params : List ℕ → Base → Row
   base_params number base = Text number ∷ Int (pos (year_of base)) ∷ []
 
-  setting : (number : List ℕ) (base : Base) → SetsHidden meters is_that_meter base_set_terms (base_params number base) meter_columns (is_that old new number) (rebased base)
+  setting : (number : List ℕ) (base : Base) → SetsHidden meters is_that_meter base_set_terms (base_params number base) meter_columns
+      (is_that old new number) (rebased base)
   setting number base = record {
     passes = λ n r. last_term (text_is r.0 number);
     identifies = λ n r. refl;
@@ -86,18 +91,25 @@ module _ (old new : State) where
   abbrev base_set_row : List Term
   base_set_row = col 1 0 ∷ col 1 1 ∷ col 0 1 ∷ col 1 3 ∷ col 1 4 ∷ []
 
-  pub sets_base : HasAllTables old → (number : List ℕ) (base : Base) (params : Row) → params ≡ base_columns (number, base) → SetsRows meters (base_set_query meters.tree) params old new → SetsBase number base old new
+  pub sets_base : HasAllTables old → (number : List ℕ) (base : Base) (params : Row) → params ≡ base_columns (number, base)
+      → SetsRows meters (base_set_query meters.tree) params old new → SetsBase number base old new
   sets_base has number base params bound found =
       let h = subst (λ (p : Row). SetsRows meters (base_set_query meters.tree) p old new) bound found in
       let only = only_one (codes "meters") meters _ old new refl h.changed in
       let kept = changes_only (codes "meters") old new only in
       record {
         only = only;
-        kept = keeps_set (meter_keys number) old new meters_kept meters_in has is_that_meter base_set_row (base_params number base) h kept (λ r passes. text_found (codes "meters") number r passes)
-            (λ r is_number own. (text_kept (codes "meters") number r (cast_row meters (eval_all base_set_row (base_params number base ∷ r ∷ []))) refl own, number_kept (rowid r) is_number));
+        kept = keeps_set (meter_keys number) old new meters_kept meters_in has is_that_meter base_set_row (base_params number base) h kept
+            (λ r passes. text_found (codes "meters") number r passes)
+            (λ r is_number own. (
+              text_kept (codes "meters") number r
+                  (cast_row meters (eval_all base_set_row (base_params number base ∷ r ∷ []))) refl own,
+              number_kept (rowid r) is_number,
+            ));
         rows = λ rows held apart.
             let was = meters_in.holds present_format old.now rows held in
-            let set = sets_hidden meter_columns (is_that old new number) (rebased base) meters is_that_meter base_set_terms (base_params number base) (setting number base) (λ r none. cc)
+            let set = sets_hidden meter_columns (is_that old new number) (rebased base) meters is_that_meter base_set_terms
+            (base_params number base) (setting number base) (λ r none. cc)
             old new rows.meters h was.0 was.1.rises was.1.are_numbers (one_at_most old new number rows.meters apart) in
             let in_order : IsInOrder set.rows = record { rises = set.rises; are_numbers = set.are_numbers } in
             meters_changed present_format old.now new.now rows held (map (row_with_base number base) rows.meters) kept
@@ -111,25 +123,33 @@ both = codes "meters" ∷ codes "meter_bases" ∷ []
 
 only_two : (old mid new : State) → WritesOnly (codes "meters" ∷ []) old mid → WritesOnly (codes "meter_bases" ∷ []) mid new → WritesOnly both old new
 only_two old mid new first second =
-    only_both both old mid new (only_among (codes "meters" ∷ []) both (λ s tree apart. (apart.0, tt)) old mid first) (only_among (codes "meter_bases" ∷ []) both (λ s tree apart. (apart.1.0, tt)) mid new second)
+    only_both both old mid new (only_among (codes "meters" ∷ []) both (λ s tree apart. (apart.0, tt)) old mid first)
+    (only_among (codes "meter_bases" ∷ []) both (λ s tree apart. (apart.1.0, tt)) mid new second)
 
 then_has : (old mid : State) → WritesOnly (codes "meters" ∷ []) old mid → HasAllTables old → HasOffice mid.now.schema
 then_has old mid only has = subst HasOffice (sym only.schema) (has only.inside.was_open)
 
-pub adds_both : (number : List ℕ) (m : Meter) (old mid new : State) → HasAllTables old → AddsMeterRow number m old mid → AddsBase number m.base mid new → AddsMeter number m old new
+pub adds_both : (number : List ℕ) (m : Meter) (old mid new : State) → HasAllTables old → AddsMeterRow number m old mid
+    → AddsBase number m.base mid new → AddsMeter number m old new
 adds_both number m old mid new has first second = record {
   only = only_two old mid new first.only second.only;
   kept = keeps_then (meter_keys number) (base_keys number m.base) old.now mid.now new.now first.kept second.kept;
   stored = stores_before meters_kept (meter_columns (number, m) ∷ []) old.now mid.now new.now first.stored
-      (left_by_one meters_kept bases_kept meters_in bases_in mid.now new.now (then_has old mid first.only has) (changes_only (codes "meter_bases") mid new second.only) refl);
-  base = stores_after bases_kept (base_columns (number, m.base) ∷ []) old.now mid.now new.now (left_by_one bases_kept meters_kept bases_in meters_in old.now mid.now (has first.only.inside.was_open) (changes_only (codes "meters") old mid first.only) refl) second.stored;
+      (left_by_one meters_kept bases_kept meters_in bases_in mid.now new.now (then_has old mid first.only has)
+      (changes_only (codes "meter_bases") mid new second.only) refl);
+  base = stores_after bases_kept (base_columns (number, m.base) ∷ []) old.now mid.now new.now
+      (left_by_one bases_kept meters_kept bases_in meters_in old.now mid.now (has first.only.inside.was_open)
+      (changes_only (codes "meters") old mid first.only) refl) second.stored;
   rows = λ rows held. second.rows present_format (record rows { meters = rows.meters ++ (number, m) ∷ [] }) (first.rows rows held);
 }
 
-pub moves_both : (number : List ℕ) (base : Base) (old mid new : State) → HasAllTables old → SetsBase number base old mid → AddsBase number base mid new → MovesBase number base old new
+pub moves_both : (number : List ℕ) (base : Base) (old mid new : State) → HasAllTables old → SetsBase number base old mid
+    → AddsBase number base mid new → MovesBase number base old new
 moves_both number base old mid new has first second = record {
   only = only_two old mid new first.only second.only;
   kept = λ order. keeps_then (meter_keys number) (base_keys number base) old.now mid.now new.now (first.kept order) second.kept;
-  stored = stores_after bases_kept (base_columns (number, base) ∷ []) old.now mid.now new.now (left_by_one bases_kept meters_kept bases_in meters_in old.now mid.now (has first.only.inside.was_open) (changes_only (codes "meters") old mid first.only) refl) second.stored;
+  stored = stores_after bases_kept (base_columns (number, base) ∷ []) old.now mid.now new.now
+      (left_by_one bases_kept meters_kept bases_in meters_in old.now mid.now (has first.only.inside.was_open)
+      (changes_only (codes "meters") old mid first.only) refl) second.stored;
   rows = λ rows held apart. second.rows present_format (record rows { meters = map (row_with_base number base) rows.meters }) (first.rows rows held apart);
 }

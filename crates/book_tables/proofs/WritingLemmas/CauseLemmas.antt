@@ -22,7 +22,8 @@ use Rattle.book_tables.specs.declared.error.TableError.TheVariants.{Database as 
 -- ---- what writes make of a database
 
 -- those of two lists, one after the other
-pub make_then : (limit : Option _) (first second : List Write) (a b c : Database) → Make limit first a b → Make limit second b c → Make limit (first ++ second) a c
+pub make_then : (limit : Option _) (first second : List Write) (a b c : Database) → Make limit first a b → Make limit second b c
+    → Make limit (first ++ second) a c
 make_then limit [] second a b c none then = subst (λ (db : Database). Make limit second db c) none then
 make_then limit (w ∷ more) second a b c (tally, mid, ends, made) then = (tally, mid, ends, make_then limit more second mid b c made then)
 
@@ -53,12 +54,14 @@ came_by writes old mid written inside survives = record {
 }
 
 -- and then by others
-pub written_then : (first second : List Write) (old mid new : State) → Came first old mid → AreCarriedOut second mid new → AreCarriedOut (first ++ second) old new
+pub written_then : (first second : List Write) (old mid new : State) → Came first old mid → AreCarriedOut second mid new
+    → AreCarriedOut (first ++ second) old new
 written_then first second old mid new came then =
     make_then old.step_limit first second old.now mid.now new.now came.made (subst (λ (l : Option _). Make l second mid.now new.now) came.limit then)
 
 -- all of them, the last ones after a state that they came to
-pub came_later : {before : List Write} (writes : List Write) (old mid new : State) → Came before old mid → AreCarriedOut writes old new → StaysInside mid new → Survives mid new (λ _. ⊥) → Came writes old new
+pub came_later : {before : List Write} (writes : List Write) (old mid new : State) → Came before old mid → AreCarriedOut writes old new
+    → StaysInside mid new → Survives mid new (λ _. ⊥) → Came writes old new
 came_later writes old mid new came written inside survives = record {
   under_way = inside.mode;
   was_shut = λ shut. absurd (false≢true (sym shut ∙ inside.is_open));
@@ -74,7 +77,8 @@ module _ (before : List Write) (old mid new : State) (came : Came before old mid
   Fail e = FailsToWriteAll (before ++ w ∷ after) old new e
 
   module _ (shows : Option Returning) (command : Command) (means : IsTrue mid.is_open → MeansAs mid.now.schema w.sql command shows) (e : Error) where
-    ends : (out : Outcome (Tally × Database)) → IsTrue mid.is_open → Does mid.step_limit (mode_of mid) w.params mid.now [] shows command out → EndsWith old.step_limit w mid.now out
+    ends : (out : Outcome (Tally × Database)) → IsTrue mid.is_open
+        → Does mid.step_limit (mode_of mid) w.params mid.now [] shows command out → EndsWith old.step_limit w mid.now out
     ends out runs does = record {
       command = command;
       shows = shows;
@@ -82,16 +86,19 @@ module _ (before : List Write) (old mid new : State) (came : Came before old mid
       does = subst (λ (l : Option _). Does l (mode_of mid) w.params mid.now [] shows command out) came.limit does;
     }
 
-    refused : EndsWith old.step_limit w mid.now (Err (Some e)) ⊎ ((e ≡ store_error Unstorable) × EndsWith old.step_limit w mid.now (Err None)) → IsRefused (before ++ w ∷ after) old e
+    refused : EndsWith old.step_limit w mid.now (Err (Some e))
+        ⊎ ((e ≡ store_error Unstorable) × EndsWith old.step_limit w mid.now (Err None)) → IsRefused (before ++ w ∷ after) old e
     refused why = record { before = before; tried = w; after = after; among = refl; db = mid.now; made = came.made; refused = why }
 
-    too_long : e ≡ store_error Unstorable → (IsTrue mid.is_open → Does mid.step_limit (mode_of mid) w.params mid.now [] shows command (Err None)) → Fail (Told e)
+    too_long : e ≡ store_error Unstorable → (IsTrue mid.is_open
+        → Does mid.step_limit (mode_of mid) w.params mid.now [] shows command (Err None)) → Fail (Told e)
     too_long same does = elim (cases_Bool mid.is_open) [
       | inl runs ↦ inr (inr (inr (refused (inr (same, ends (Err None) runs (does runs))))))
       | inr shut ↦ inr (inr (inl (came.was_shut shut)))
     ]
 
-    by_cause : (cause : StoreError) → e ≡ store_error cause → HasCause mid new (IsTrue mid.is_open → Does mid.step_limit (mode_of mid) w.params mid.now [] shows command (Err None)) cause → Fail (Told e)
+    by_cause : (cause : StoreError) → e ≡ store_error cause
+        → HasCause mid new (IsTrue mid.is_open → Does mid.step_limit (mode_of mid) w.params mid.now [] shows command (Err None)) cause → Fail (Told e)
     by_cause OutOfMemory same why = inl same
     by_cause Io same why = inr (inl (omega (arith, why, came.counts)))
     by_cause Corrupt same why = inr (inl (omega (arith, why, came.counts)))
@@ -125,8 +132,10 @@ module _ (before : List Write) (old mid new : State) (came : Came before old mid
     among = append_assoc before it.before (it.tried ∷ it.after ++ after)
         ∙ ap (λ (l : List Write). before ++ l) (sym (append_assoc it.before (it.tried ∷ it.after) after) ∙ ap (λ (l : List Write). l ++ after) it.among);
     db = it.db;
-    made = make_then old.step_limit before it.before old.now mid.now it.db came.made (subst (λ (l : Option _). Make l it.before mid.now it.db) came.limit it.made);
-    refused = subst (λ (l : Option _). EndsWith l it.tried it.db (Err (Some e)) ⊎ ((e ≡ store_error Unstorable) × EndsWith l it.tried it.db (Err None))) came.limit it.refused;
+    made = make_then old.step_limit before it.before old.now mid.now it.db came.made
+        (subst (λ (l : Option _). Make l it.before mid.now it.db) came.limit it.made);
+    refused = subst (λ (l : Option _). EndsWith l it.tried it.db (Err (Some e))
+        ⊎ ((e ≡ store_error Unstorable) × EndsWith l it.tried it.db (Err None))) came.limit it.refused;
   }
 
   pub of_later : (e : TableError) → FailsToWriteAll later mid new e → FailsToWriteAll (before ++ (later ++ after)) old new e
@@ -143,10 +152,13 @@ module _ (before : List Write) (old mid new : State) (came : Came before old mid
 -- ---- how they end
 
 -- they fail, which is told as another's error
-pub ends_off : {T : Type 0} (Fail : List Write → State → State → TableError → Type 0) (writes : List Write) (old new : State) (e : TableError) (r : Result T TableError) → IsErrAnd r (λ x. x ≡ e) → Fail writes old new e → End Fail writes old new r
+pub ends_off : {T : Type 0} (Fail : List Write → State → State → TableError → Type 0) (writes : List Write) (old new : State)
+    (e : TableError) (r : Result T TableError) → IsErrAnd r (λ x. x ≡ e) → Fail writes old new e → End Fail writes old new r
 ends_off Fail writes old new e (Ok x) is why = absurd is
 ends_off Fail writes old new e (Err x) is why = (tt, subst (Fail writes old new) (sym is) why)
 
 -- a last write after others
-pub ends_then : (before : List Write) (old mid new : State) (came : Came before old mid) (w : Write) (r : Result (Unit {0}) TableError) → Ends FailsToStore w mid new r → End FailsToWriteAll (before ++ w ∷ []) old new r
-ends_then before old mid new came w r (written, fails) = (on_ok r (written_then before (w ∷ []) old mid new came) written, if_err r (of_store before old mid new came w []) fails)
+pub ends_then : (before : List Write) (old mid new : State) (came : Came before old mid) (w : Write) (r : Result (Unit {0}) TableError)
+    → Ends FailsToStore w mid new r → End FailsToWriteAll (before ++ w ∷ []) old new r
+ends_then before old mid new came w r (written, fails) =
+    (on_ok r (written_then before (w ∷ []) old mid new came) written, if_err r (of_store before old mid new came w []) fails)

@@ -41,16 +41,19 @@ module _ (old new : State) where
   dated_source : (r : DatedStepRow) → source_row dated five_terms (dated_columns r) ≡ Null ∷ dated_columns r
   dated_source r = rw (cast_no_int, cast_int (pos r.day), cast_int (pos r.place), cast_optional r.step.ends, cast_int (pos r.step.price)) refl
 
-  pub adds_dated_step : HasAllTables old → (r : DatedStepRow) (params : Row) → params ≡ dated_columns r → PutsRow dated (new_row dated five_terms params (old.now.trees dated.tree)) old new → AddsDatedStep r old new
+  pub adds_dated_step : HasAllTables old → (r : DatedStepRow) (params : Row) → params ≡ dated_columns r
+      → PutsRow dated (new_row dated five_terms params (old.now.trees dated.tree)) old new → AddsDatedStep r old new
   adds_dated_step has r params bound put =
       let h = subst (λ (p : Row). PutsRow dated (new_row dated five_terms p (old.now.trees dated.tree)) old new) bound put in
       let only = only_one (codes "dated_steps") dated _ old new refl h.changed in
       let kept = changes_only (codes "dated_steps") old new only in
       record {
         only = only;
-        kept = keeps_new ((1, Text r.tariff) ∷ (2, Int (pos r.day)) ∷ (3, Int (pos r.place)) ∷ []) old new dated_steps_kept dated_steps_in has _ (with_rowid Chosen (old.now.trees dated.tree) (Null ∷ dated_columns r)) h kept
+        kept = keeps_new ((1, Text r.tariff) ∷ (2, Int (pos r.day)) ∷ (3, Int (pos r.place)) ∷ []) old new dated_steps_kept dated_steps_in
+            has _ (with_rowid Chosen (old.now.trees dated.tree) (Null ∷ dated_columns r)) h kept
             (ap (with_rowid Chosen (old.now.trees dated.tree)) (dated_source r)) refl (refl, (refl, (refl, tt)));
-        stored = stores_hidden (codes "dated_steps") dated old new refl _ h (dated_columns r) (ap (λ (r : Row). drop 1 (with_rowid Chosen (old.now.trees dated.tree) r)) (dated_source r));
+        stored = stores_hidden (codes "dated_steps") dated old new refl _ h (dated_columns r)
+            (ap (λ (r : Row). drop 1 (with_rowid Chosen (old.now.trees dated.tree) r)) (dated_source r));
         rows = λ rows held.
             let was = dated_steps_in.holds present_format old.now rows held in
             let it = stands_after dated_columns dated five_terms (dated_columns r) r (dated_source r) old new h rows.dated_steps was.0 was.1 in
@@ -60,11 +63,13 @@ module _ (old new : State) where
 -- ---- steps, one after another
 
 module _ (name : List ℕ) (day : ℕ) where
-  rows_more : (at : ℕ) (xs : List Step) (s : Step) → dated_from name day at (xs ++ s ∷ []) ≡ dated_from name day at xs ++ dated_at name day (at + length xs) s ∷ []
+  rows_more : (at : ℕ) (xs : List Step) (s : Step) → dated_from name day at (xs ++ s ∷ []) ≡ dated_from name day at xs
+      ++ dated_at name day (at + length xs) s ∷ []
   rows_more at [] s = let here : at ≡ at + 0 = omega arith in ap (λ (n : ℕ). dated_at name day n s ∷ []) here
   rows_more at (x ∷ xs) s =
       let further : at + 1 + length xs ≡ at + length (x ∷ xs) = omega arith in
-      ap (λ (l : List DatedStepRow). dated_at name day at x ∷ l) (rows_more (at + 1) xs s ∙ ap (λ (n : ℕ). dated_from name day (at + 1) xs ++ dated_at name day n s ∷ []) further)
+      ap (λ (l : List DatedStepRow). dated_at name day at x ∷ l)
+      (rows_more (at + 1) xs s ∙ ap (λ (n : ℕ). dated_from name day (at + 1) xs ++ dated_at name day n s ∷ []) further)
 
   pub dated_more : (xs : List Step) (s : Step) → dated_rows name day (xs ++ s ∷ []) ≡ dated_rows name day xs ++ dated_at name day (length xs) s ∷ []
   dated_more xs s =
@@ -74,18 +79,22 @@ module _ (name : List ℕ) (day : ℕ) where
   -- a step of the day is under its key
   of_day : (place : ℕ) (s : Step) (a b : Database) → KeepsRows (dated_step_key (dated_at name day place s)) a b → KeepsRows (dated_keys name day) a b
   of_day place s a b kept =
-      keeps_more (dated_step_key (dated_at name day place s)) (dated_keys name day) (fewer_parts (codes "dated_steps") ((1, Text name) ∷ (2, Int (pos day)) ∷ []) ((3, Int (pos place)) ∷ [])) a b kept
+      keeps_more (dated_step_key (dated_at name day place s)) (dated_keys name day)
+      (fewer_parts (codes "dated_steps") ((1, Text name) ∷ (2, Int (pos day)) ∷ []) ((3, Int (pos place)) ∷ [])) a b kept
 
   -- the first one
   pub adds_first : (s : Step) (old new : State) → AddsDatedStep (dated_at name day 0 s) old new → AddsSteps name day (s ∷ []) old new
   adds_first s old new added = record { only = added.only; kept = of_day 0 s old.now new.now added.kept; stored = added.stored; rows = added.rows }
 
-  adds_at_end : (xs : List Step) (s : Step) (old mid new : State) → AddsSteps name day xs old mid → AddsDatedStep (dated_at name day (length xs) s) mid new → AddsSteps name day (xs ++ s ∷ []) old new
+  adds_at_end : (xs : List Step) (s : Step) (old mid new : State) → AddsSteps name day xs old mid
+      → AddsDatedStep (dated_at name day (length xs) s) mid new → AddsSteps name day (xs ++ s ∷ []) old new
   adds_at_end xs s old mid new first second = record {
     only = only_both (codes "dated_steps" ∷ []) old mid new first.only second.only;
     kept = keeps_both (dated_keys name day) old.now mid.now new.now first.kept (of_day (length xs) s mid.now new.now second.kept);
-    stored = subst (λ (l : List Row). StoresRows dated_steps_kept l old.now new.now) (sym (map_push dated_columns (dated_rows name day xs) (dated_at name day (length xs) s)) ∙ ap (map dated_columns) (sym (dated_more xs s)))
-        (stores_then dated_steps_kept (map dated_columns (dated_rows name day xs)) (dated_columns (dated_at name day (length xs) s) ∷ []) old.now mid.now new.now first.stored second.stored);
+    stored = subst (λ (l : List Row). StoresRows dated_steps_kept l old.now new.now)
+        (sym (map_push dated_columns (dated_rows name day xs) (dated_at name day (length xs) s)) ∙ ap (map dated_columns) (sym (dated_more xs s)))
+        (stores_then dated_steps_kept (map dated_columns (dated_rows name day xs)) (dated_columns (dated_at name day (length xs) s) ∷ [])
+        old.now mid.now new.now first.stored second.stored);
     rows = λ rows held.
         let all = second.rows (record rows { dated_steps = rows.dated_steps ++ dated_rows name day xs }) (first.rows rows held) in
         let last : List DatedStepRow = dated_at name day (length xs) s ∷ [] in
@@ -95,5 +104,7 @@ module _ (name : List ℕ) (day : ℕ) where
   }
 
   -- with one step more
-  pub adds_next : (xs : List Step) (place : ℕ) (s : Step) (old mid new : State) → place ≡ length xs → AddsSteps name day xs old mid → AddsDatedStep (dated_at name day place s) mid new → AddsSteps name day (xs ++ s ∷ []) old new
-  adds_next xs place s old mid new is first added = adds_at_end xs s old mid new first (subst (λ (n : ℕ). AddsDatedStep (dated_at name day n s) mid new) is added)
+  pub adds_next : (xs : List Step) (place : ℕ) (s : Step) (old mid new : State) → place ≡ length xs → AddsSteps name day xs old mid
+      → AddsDatedStep (dated_at name day place s) mid new → AddsSteps name day (xs ++ s ∷ []) old new
+  adds_next xs place s old mid new is first added = adds_at_end xs s old mid new first
+      (subst (λ (n : ℕ). AddsDatedStep (dated_at name day n s) mid new) is added)

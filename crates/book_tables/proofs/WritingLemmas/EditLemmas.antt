@@ -28,7 +28,8 @@ rows_members : (new : List Row) (rows : Rows) (o : Office) → AreMembersOf rows
 rows_members [] rows o are meet = are
 rows_members (row ∷ new) rows o are meet = rows_members new (row_added row rows) (with_row row o) (row_members rows o row are meet.0) meet.1
 
-pub edited_members : (rows : Rows) (o : Office) (edit : Edit) → AreMembersOf rows o → Meets edit o → is_sale edit ≡ false → AreMembersOf (edited edit rows) (applied edit o)
+pub edited_members : (rows : Rows) (o : Office) (edit : Edit) → AreMembersOf rows o → Meets edit o → is_sale edit ≡ false
+    → AreMembersOf (edited edit rows) (applied edit o)
 edited_members rows o (edits.AddTariff name steps) are meets no_sale = row_members rows o (kinds.Tariff name steps) are meets
 edited_members rows o (edits.AddSteps name day steps) are meets no_sale = row_members rows o (kinds.Steps name day steps) are meets
 edited_members rows o (edits.AddMeter number m) are meets no_sale = row_members rows o (kinds.Meter number m) are meets
@@ -68,10 +69,14 @@ edited_members rows o (edits.CloseShift number moment) are meets no_sale = recor
 edited_members rows o (edits.AddSale s) are meets no_sale = absurd (true≢false no_sale)
 
 none_of : {K V : Type 0} → AreRowsOf {K = K} {V = V} [] (λ _. None)
-none_of = record { members = λ key value. (λ e. absurd (none_some None value refl e), λ there. absurd (contains_none (key, value) there)); once = no_pairs (λ a b. a.0 ≢ b.0) }
+none_of = record {
+  members = λ key value. (λ e. absurd (none_some None value refl e), λ there. absurd (contains_none (key, value) there));
+  once = no_pairs (λ a b. a.0 ≢ b.0);
+}
 
 pub no_totals : (rows : Rows) → rows.last_ids ≡ [] → rows.month_tenths ≡ [] → rows.shift_totals ≡ [] → AreTotalsOf [] rows
-no_totals rows ids months shifts = same_totals [] no_rows rows (sym ids) (sym months) (sym shifts) (record { last_ids = none_of; month_tenths = none_of; shift_totals = none_of; by_shift = tt })
+no_totals rows ids months shifts = same_totals [] no_rows rows (sym ids) (sym months) (sym shifts)
+    (record { last_ids = none_of; month_tenths = none_of; shift_totals = none_of; by_shift = tt })
 
 pub no_members : AreMembersOf no_rows empty_office
 no_members = record {

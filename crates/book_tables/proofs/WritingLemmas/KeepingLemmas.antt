@@ -43,11 +43,13 @@ use Rattle.book_tables.proofs.WritingLemmas.OtherRowsLemmas.{drop_own, eq_is, ke
 
 -- ---- one table
 
-module _ (keys : Keys) (a b : Database) (k : Kept) (there : IsKept a.schema k) (only : ChangesOnly k.table.name a b) (same : others_in keys b k.table.name ≡ others_in keys a k.table.name) where
+module _ (keys : Keys) (a b : Database) (k : Kept) (there : IsKept a.schema k) (only : ChangesOnly k.table.name a b)
+    (same : others_in keys b k.table.name ≡ others_in keys a k.table.name) where
   stays_in : (j : Kept) → IsKept a.schema j → others_in keys b j.table.name ≡ others_in keys a j.table.name
   stays_in j stands = elim (cases_Bool (bytes_eq j.table.name k.table.name)) [
     | inl e ↦ subst (λ (n : List ℕ). others_in keys b n ≡ others_in keys a n) (sym ((bytes_eq-Decides j.table.name k.table.name).0 e)) same
-    | inr e ↦ ap (λ (l : List Row). filter (λ row. not (is_own keys j.table.name row)) l) (rows_kept a b j.table k.table only stands.0 there.0 (names_differ _ _ e))
+    | inr e ↦ ap (λ (l : List Row). filter (λ row. not (is_own keys j.table.name row)) l)
+        (rows_kept a b j.table k.table only stands.0 there.0 (names_differ _ _ e))
   ]
 
   stays_in_all : (js : List Kept) → AllByRecursion (IsKept a.schema) js → AllByRecursion (λ name. others_in keys b name ≡ others_in keys a name) (kept_names js)
@@ -104,7 +106,8 @@ keeps_more keys more among a b kept = record {
 
 pub keeps_both : (keys : Keys) (a b c : Database) → KeepsRows keys a b → KeepsRows keys b c → KeepsRows keys a c
 keeps_both keys a b c first second = record {
-  others = all_both (λ name. others_in keys b name ≡ others_in keys a name) (λ name. others_in keys c name ≡ others_in keys b name) (λ name. others_in keys c name ≡ others_in keys a name)
+  others = all_both (λ name. others_in keys b name ≡ others_in keys a name) (λ name. others_in keys c name ≡ others_in keys b name)
+      (λ name. others_in keys c name ≡ others_in keys a name)
       (λ name before after. after ∙ before) table_names first.others second.others;
   order = λ held. second.order (first.order held);
 }
@@ -123,14 +126,16 @@ own_right (k ∷ keys) more name row h = or_right (bytes_eq k.0 name && has_key 
 -- what two writes leave, one after the other
 pub keeps_then : (keys more : Keys) (a b c : Database) → KeepsRows keys a b → KeepsRows more b c → KeepsRows (keys ++ more) a c
 keeps_then keys more a b c first second =
-    keeps_both (keys ++ more) a b c (keeps_more keys (keys ++ more) (own_left keys more) a b first) (keeps_more more (keys ++ more) (own_right keys more) b c second)
+    keeps_both (keys ++ more) a b c (keeps_more keys (keys ++ more) (own_left keys more) a b first)
+    (keeps_more more (keys ++ more) (own_right keys more) b c second)
 
 -- ---- rows of a key
 
 -- the values stand at its places
 pub has_values : (key : Key) (row : Row) → AllByRecursion (λ part. column row part.0 ≡ part.1) key → has_key key row ≡ true
 has_values [] row are = refl
-has_values (part ∷ key) row are = ap₂ ◌&&◌ (ap (λ (v : Value). is_eq (value_cmp v part.1)) are.0 ∙ ap is_eq (tied_itself value_cmp_total part.1)) (has_values key row are.1)
+has_values (part ∷ key) row are = ap₂ ◌&&◌ (ap (λ (v : Value). is_eq (value_cmp v part.1)) are.0
+    ∙ ap is_eq (tied_itself value_cmp_total part.1)) (has_values key row are.1)
 
 one_name : (name : List ℕ) → bytes_eq name name ≡ true
 one_name name = (bytes_eq-Decides name name).1 refl
@@ -173,7 +178,8 @@ number_stays Null n h = absurd (false≢true (sym (ap is_eq (value_cmp-apart Nul
 number_stays (Int m) n h = ap (λ (w : Value). is_eq (value_cmp w (Int n))) (cast_int m) ∙ h
 number_stays (Real x) n h = whole (is_eq (value_cmp (unary ToInt (Real x)) (Real x))) refl (is_lt (value_cmp (Real (minus_two_to 63)) (Real x)))
   where
-    whole : (b : Bool) → is_eq (value_cmp (unary ToInt (Real x)) (Real x)) ≡ b → (c : Bool) → is_eq (value_cmp (if b && c then unary ToInt (Real x) else Real x) (Int n)) ≡ true
+    whole : (b : Bool) → is_eq (value_cmp (unary ToInt (Real x)) (Real x)) ≡ b → (c : Bool)
+        → is_eq (value_cmp (if b && c then unary ToInt (Real x) else Real x) (Int n)) ≡ true
     whole true e true = ap is_eq (value_cmp_total.congr (unary ToInt (Real x)) (Real x) (Int n) (eq_is _ e)) ∙ h
     whole true e false = h
     whole false e c = h
@@ -190,34 +196,44 @@ number_kept (Blob b) h = absurd (false≢true h)
 
 -- ---- a row that is put in
 
-pub keeps_put : (keys : Keys) (old new : State) (k : Kept) → IsInOffice k → HasAllTables old → (row : Row) → PutsRow (record k.table { tree = tree_in old.now.schema k.table.name }) row old new → ChangesOnly k.table.name old.now new.now
+pub keeps_put : (keys : Keys) (old new : State) (k : Kept) → IsInOffice k → HasAllTables old → (row : Row)
+    → PutsRow (record k.table { tree = tree_in old.now.schema k.table.name }) row old new → ChangesOnly k.table.name old.now new.now
     → is_own keys k.table.name row ≡ true → IsTrue (is_int (rowid row)) → KeepsRows keys old.now new.now
 keeps_put keys old new k is_in has row puts only own is_number =
     let here = has puts.changed.inside.was_open in
-    keeps_in keys old.now new.now k (is_in.there old.now.schema here) here only (put_keeps (is_own keys k.table.name) (record k.table { tree = tree_in old.now.schema k.table.name }) row old new puts own)
+    keeps_in keys old.now new.now k (is_in.there old.now.schema here) here only
+    (put_keeps (is_own keys k.table.name) (record k.table { tree = tree_in old.now.schema k.table.name }) row old new puts own)
     (put_in_order (record k.table { tree = tree_in old.now.schema k.table.name }) row old new puts is_number)
 
 -- a row of the values of a key
-pub keeps_new : (key : Key) (old new : State) (k : Kept) → IsInOffice k → HasAllTables old → (row stored : Row) → PutsRow (record k.table { tree = tree_in old.now.schema k.table.name }) row old new → ChangesOnly k.table.name old.now new.now
-    → row ≡ stored → IsTrue (is_int (rowid stored)) → AllByRecursion (λ part. column stored part.0 ≡ part.1) key → KeepsRows ((k.table.name, key) ∷ []) old.now new.now
+pub keeps_new : (key : Key) (old new : State) (k : Kept) → IsInOffice k → HasAllTables old → (row stored : Row)
+    → PutsRow (record k.table { tree = tree_in old.now.schema k.table.name }) row old new → ChangesOnly k.table.name old.now new.now
+    → row ≡ stored → IsTrue (is_int (rowid stored)) → AllByRecursion (λ part. column stored part.0 ≡ part.1) key
+    → KeepsRows ((k.table.name, key) ∷ []) old.now new.now
 keeps_new key old new k is_in has row stored puts only is is_number values =
-    keeps_put ((k.table.name, key) ∷ []) old new k is_in has row puts only (own_of_key k.table.name key row (ap (has_key key) is ∙ has_values key stored values)) (subst (λ (r : Row). IsTrue (is_int (rowid r))) (sym is) is_number)
+    keeps_put ((k.table.name, key) ∷ []) old new k is_in has row puts only
+    (own_of_key k.table.name key row (ap (has_key key) is ∙ has_values key stored values))
+    (subst (λ (r : Row). IsTrue (is_int (rowid r))) (sym is) is_number)
 
 -- ---- rows that are found by a key, and that keep it
 
 module _ (name : List ℕ) where
   -- the text in front
-  pub text_found : (t : List ℕ) (r : Row) → (is_true (binary (Compare Eq Binary) (column r 1) (Text t)) && true) ≡ true → is_own ((name, (1, Text t) ∷ []) ∷ []) name r ≡ true
+  pub text_found : (t : List ℕ) (r : Row) → (is_true (binary (Compare Eq Binary) (column r 1) (Text t)) && true) ≡ true
+      → is_own ((name, (1, Text t) ∷ []) ∷ []) name r ≡ true
   text_found t r found =
-      own_of_key name ((1, Text t) ∷ []) r (ap (λ (b : Bool). b && true) (compares (column r 1) (Text t) (and_parts (is_true (binary (Compare Eq Binary) (column r 1) (Text t))) true found).0))
+      own_of_key name ((1, Text t) ∷ []) r (ap (λ (b : Bool). b && true)
+      (compares (column r 1) (Text t) (and_parts (is_true (binary (Compare Eq Binary) (column r 1) (Text t))) true found).0))
 
-  pub text_kept : (t : List ℕ) (r n : Row) → column n 1 ≡ cast kind.Text (column r 1) → is_own ((name, (1, Text t) ∷ []) ∷ []) name r ≡ true → is_own ((name, (1, Text t) ∷ []) ∷ []) name n ≡ true
+  pub text_kept : (t : List ℕ) (r n : Row) → column n 1 ≡ cast kind.Text (column r 1) → is_own ((name, (1, Text t) ∷ []) ∷ []) name r
+      ≡ true → is_own ((name, (1, Text t) ∷ []) ∷ []) name n ≡ true
   text_kept t r n is own =
       let here = (and_parts (is_eq (value_cmp (column r 1) (Text t))) true (key_of_own name ((1, Text t) ∷ []) r own)).0 in
       own_of_key name ((1, Text t) ∷ []) n (ap (λ (b : Bool). b && true) (ap (λ (v : Value). is_eq (value_cmp v (Text t))) is ∙ text_stays (column r 1) t here))
 
   -- the text in front and the number after it, which are one UNIQUE
-  pub pair_found : (t : List ℕ) (b : ℕ) (given r : Row) → column given 1 ≡ Text t → column given 2 ≡ Int (pos b) → is_of_key ((true, 1 ∷ 2 ∷ [], plain) ∷ []) (1 ∷ 2 ∷ []) given r ≡ true
+  pub pair_found : (t : List ℕ) (b : ℕ) (given r : Row) → column given 1 ≡ Text t → column given 2 ≡ Int (pos b)
+      → is_of_key ((true, 1 ∷ 2 ∷ [], plain) ∷ []) (1 ∷ 2 ∷ []) given r ≡ true
       → is_own ((name, (1, Text t) ∷ (2, Int (pos b)) ∷ []) ∷ []) name r ≡ true
   unfolding first_key
   pair_found t b given r text number found =
@@ -233,17 +249,20 @@ module _ (name : List ℕ) where
       (ap (λ (v : Value). is_eq (value_cmp (column r 1) v)) (sym text) ∙ compares (column r 1) (column given 1) parts.0)
       (ap (λ (v : Value). is_eq (value_cmp (column r 2) v)) (sym number) ∙ compares (column r 2) (column given 2) last))
 
-  pub pair_kept : (t : List ℕ) (b : ℕ) (r n : Row) → column n 1 ≡ cast kind.Text (column r 1) → column n 2 ≡ cast kind.Integer (column r 2) → is_own ((name, (1, Text t) ∷ (2, Int (pos b)) ∷ []) ∷ []) name r ≡ true
+  pub pair_kept : (t : List ℕ) (b : ℕ) (r n : Row) → column n 1 ≡ cast kind.Text (column r 1) → column n 2 ≡ cast kind.Integer (column r 2)
+      → is_own ((name, (1, Text t) ∷ (2, Int (pos b)) ∷ []) ∷ []) name r ≡ true
       → is_own ((name, (1, Text t) ∷ (2, Int (pos b)) ∷ []) ∷ []) name n ≡ true
   pair_kept t b r n text number own =
-      let parts = and_parts (is_eq (value_cmp (column r 1) (Text t))) (is_eq (value_cmp (column r 2) (Int (pos b))) && true) (key_of_own name ((1, Text t) ∷ (2, Int (pos b)) ∷ []) r own) in
+      let parts = and_parts (is_eq (value_cmp (column r 1) (Text t))) (is_eq (value_cmp (column r 2) (Int (pos b))) && true)
+      (key_of_own name ((1, Text t) ∷ (2, Int (pos b)) ∷ []) r own) in
       let last = (and_parts (is_eq (value_cmp (column r 2) (Int (pos b)))) true parts.1).0 in
       own_of_key name ((1, Text t) ∷ (2, Int (pos b)) ∷ []) n (ap₂ (λ (x y : Bool). x && (y && true))
       (ap (λ (v : Value). is_eq (value_cmp v (Text t))) text ∙ text_stays (column r 1) t parts.0)
       (ap (λ (v : Value). is_eq (value_cmp v (Int (pos b)))) number ∙ number_stays (column r 2) (pos b) last))
 
   -- the row's own number
-  pub number_found : (b : ℕ) (given r : Row) → column given 0 ≡ Int (pos b) → is_of_key [] (0 ∷ []) given r ≡ true → is_own ((name, (0, Int (pos b)) ∷ []) ∷ []) name r ≡ true
+  pub number_found : (b : ℕ) (given r : Row) → column given 0 ≡ Int (pos b) → is_of_key [] (0 ∷ []) given r ≡ true
+      → is_own ((name, (0, Int (pos b)) ∷ []) ∷ []) name r ≡ true
   unfolding first_key
   number_found b given r number found =
       let first : Bool = is_true (binary (Compare Eq Binary) (column r 0) (column given 0)) in
@@ -251,38 +270,48 @@ module _ (name : List ℕ) where
         | inl it ↦ it
         | inr none ↦ absurd (false≢true none)
       ] in
-      own_of_key name ((0, Int (pos b)) ∷ []) r (ap (λ (b : Bool). b && true) (ap (λ (v : Value). is_eq (value_cmp (column r 0) v)) (sym number) ∙ compares (column r 0) (column given 0) (and_parts first true both).0))
+      own_of_key name ((0, Int (pos b)) ∷ []) r (ap (λ (b : Bool). b && true)
+      (ap (λ (v : Value). is_eq (value_cmp (column r 0) v)) (sym number) ∙ compares (column r 0) (column given 0) (and_parts first true both).0))
 
-  pub own_number_kept : (b : ℕ) (r n : Row) → column n 0 ≡ column r 0 → is_own ((name, (0, Int (pos b)) ∷ []) ∷ []) name r ≡ true → is_own ((name, (0, Int (pos b)) ∷ []) ∷ []) name n ≡ true
+  pub own_number_kept : (b : ℕ) (r n : Row) → column n 0 ≡ column r 0 → is_own ((name, (0, Int (pos b)) ∷ []) ∷ []) name r ≡ true
+      → is_own ((name, (0, Int (pos b)) ∷ []) ∷ []) name n ≡ true
   own_number_kept b r n same own =
-      own_of_key name ((0, Int (pos b)) ∷ []) n (ap (λ (v : Value). is_eq (value_cmp v (Int (pos b))) && true) same ∙ key_of_own name ((0, Int (pos b)) ∷ []) r own)
+      own_of_key name ((0, Int (pos b)) ∷ []) n (ap (λ (v : Value). is_eq (value_cmp v (Int (pos b))) && true) same
+      ∙ key_of_own name ((0, Int (pos b)) ∷ []) r own)
 
 -- ---- statements by a key
 
 -- rows of a table of the office are set
 pub keeps_set : (keys : Keys) (old new : State) (k : Kept) → IsInOffice k → HasAllTables old → (tests rest : List Term) (params : Row)
-    → SetsRows (record k.table { tree = tree_in old.now.schema k.table.name }) (query_on (tree_in old.now.schema k.table.name) tests (col 1 0 ∷ rest) [] no_limit) params old new → ChangesOnly k.table.name old.now new.now
+    → SetsRows (record k.table { tree = tree_in old.now.schema k.table.name })
+    (query_on (tree_in old.now.schema k.table.name) tests (col 1 0 ∷ rest) [] no_limit) params old new → ChangesOnly k.table.name old.now new.now
     → ((r : Row) → list_all (holds (params ∷ r ∷ [])) tests ≡ true → is_own keys k.table.name r ≡ true)
     → ((r : Row) → IsTrue (is_int (rowid r)) → is_own keys k.table.name r ≡ true
-    → (is_own keys k.table.name (cast_row k.table (eval_all rest (params ∷ r ∷ []))) ≡ true) × (rowid (cast_row k.table (eval_all rest (params ∷ r ∷ []))) ≡ rowid r))
+    → (is_own keys k.table.name (cast_row k.table (eval_all rest (params ∷ r ∷ []))) ≡ true)
+    × (rowid (cast_row k.table (eval_all rest (params ∷ r ∷ []))) ≡ rowid r))
     → AreInOrder (k.table.name ∷ []) old.now → KeepsRows keys old.now new.now
 keeps_set keys old new k is_in has tests rest params sets only passes becomes order =
     let here = has sets.changed.inside.was_open in
-    let kept = set_keeps (is_own keys k.table.name) (record k.table { tree = tree_in old.now.schema k.table.name }) tests rest params old new order.0 sets passes becomes in
+    let kept = set_keeps (is_own keys k.table.name) (record k.table { tree = tree_in old.now.schema k.table.name }) tests rest params old
+    new order.0 sets passes becomes in
     keeps_in keys old.now new.now k (is_in.there old.now.schema here) here only kept.0 (λ _. kept.1)
 
 -- a row of a table of the office is put in or merged
 pub keeps_merge : (keys : Keys) (old new : State) (k : Kept) → IsInOffice k → HasAllTables old → (m : Merging) (params row : Row)
-    → Upserts (record k.table { tree = tree_in old.now.schema k.table.name }) m params old new row → ChangesOnly k.table.name old.now new.now → IsTrue old.is_open
+    → Upserts (record k.table { tree = tree_in old.now.schema k.table.name }) m params old new row
+    → ChangesOnly k.table.name old.now new.now → IsTrue old.is_open
     → is_own keys k.table.name (cast_row k.table (given_row k.table m params (old.now.trees (tree_in old.now.schema k.table.name)))) ≡ true
     → IsTrue (is_int (rowid (cast_row k.table (given_row k.table m params (old.now.trees (tree_in old.now.schema k.table.name))))))
-    → ((r : Row) → is_of_key (own_keys k.table) m.key (given_row k.table m params (old.now.trees (tree_in old.now.schema k.table.name))) r ≡ true → is_own keys k.table.name r ≡ true)
+    → ((r : Row) → is_of_key (own_keys k.table) m.key (given_row k.table m params (old.now.trees (tree_in old.now.schema k.table.name))) r
+    ≡ true → is_own keys k.table.name r ≡ true)
     → ((r : Row) → IsTrue (is_int (rowid r)) → is_own keys k.table.name r ≡ true
-    → (is_own keys k.table.name (set_row k.table m params (old.now.trees (tree_in old.now.schema k.table.name)) r) ≡ true) × (rowid (set_row k.table m params (old.now.trees (tree_in old.now.schema k.table.name)) r) ≡ rowid r))
+    → (is_own keys k.table.name (set_row k.table m params (old.now.trees (tree_in old.now.schema k.table.name)) r) ≡ true)
+    × (rowid (set_row k.table m params (old.now.trees (tree_in old.now.schema k.table.name)) r) ≡ rowid r))
     → AreInOrder (k.table.name ∷ []) old.now → KeepsRows keys old.now new.now
 keeps_merge keys old new k is_in has m params row merged only runs given given_number keyed becomes order =
     let here = has runs in
-    let kept = merge_keeps (is_own keys k.table.name) (record k.table { tree = tree_in old.now.schema k.table.name }) m params old new row order.0 merged given given_number keyed becomes in
+    let kept = merge_keeps (is_own keys k.table.name) (record k.table { tree = tree_in old.now.schema k.table.name }) m params old new row
+    order.0 merged given given_number keyed becomes in
     keeps_in keys old.now new.now k (is_in.there old.now.schema here) here only kept.0 (λ _. kept.1)
 
 -- ---- a key of fewer parts
@@ -295,13 +324,15 @@ has_front (part ∷ key) rest row has =
 
 pub fewer_parts : (table : List ℕ) (key rest : Key) → AreAmongKeys ((table, key ++ rest) ∷ []) ((table, key) ∷ [])
 fewer_parts table key rest name row own = elim (or_cases (bytes_eq table name && has_key (key ++ rest) row) false own) [
-  | inl here ↦ let parts = and_parts (bytes_eq table name) (has_key (key ++ rest) row) here in ap₂ (λ (x y : Bool). x && y || false) parts.0 (has_front key rest row parts.1)
+  | inl here ↦ let parts = and_parts (bytes_eq table name) (has_key (key ++ rest) row) here in
+      ap₂ (λ (x y : Bool). x && y || false) parts.0 (has_front key rest row parts.1)
   | inr none ↦ absurd (false≢true none)
 ]
 
 -- ---- another table stays in order
 
-pub still_in_order : (j k : Kept) → IsInOffice j → IsInOffice k → (a b : Database) → HasOffice a.schema → ChangesOnly k.table.name a b → bytes_eq j.table.name k.table.name ≡ false
+pub still_in_order : (j k : Kept) → IsInOffice j → IsInOffice k → (a b : Database) → HasOffice a.schema → ChangesOnly k.table.name a b
+    → bytes_eq j.table.name k.table.name ≡ false
     → IsInOrder (rows_in a j.table.name) → IsInOrder (rows_in b j.table.name)
 still_in_order j k j_in k_in a b has only apart order =
     subst IsInOrder (sym (rows_kept a b j.table k.table only (j_in.there a.schema has).0 (k_in.there a.schema has).0 (names_differ _ _ apart))) order

@@ -70,7 +70,8 @@ module _ (rows : Rows) (o : Office) (are : AreMembersOf rows o) (number : List �
 
 -- ---- a meter
 
-module _ (rows : Rows) (o : Office) (are : AreMembersOf rows o) (number : List ℕ) (m : Meter) (free : o.meters number ≡ None) (no_base : o.bases number m.base ≡ false) where
+module _ (rows : Rows) (o : Office) (are : AreMembersOf rows o) (number : List ℕ) (m : Meter) (free : o.meters number ≡ None)
+    (no_base : o.bases number m.base ≡ false) where
   widened : Office
   widened = applied (edits.AddMeter number m) o
 
@@ -127,11 +128,13 @@ set_number : (b : Bool) (f : Meter → Meter) (r : List ℕ × Meter) → (set_r
 set_number true f r = refl
 set_number false f r = refl
 
-set_of : (b : Bool) (q : List ℕ) (f : Meter → Meter) (m : Meter) (there : Option Meter) → there ≡ Some m → (if b then option_map f there else there) ≡ Some (set_row b f (q, m)).1
+set_of : (b : Bool) (q : List ℕ) (f : Meter → Meter) (m : Meter) (there : Option Meter) → there ≡ Some m
+    → (if b then option_map f there else there) ≡ Some (set_row b f (q, m)).1
 set_of true q f m there e = ap (option_map f) e
 set_of false q f m there e = e
 
-set_source : (b : Bool) (f : Meter → Meter) (n : Meter) (there : Option Meter) → (if b then option_map f there else there) ≡ Some n → (m : Meter) × (there ≡ Some m)
+set_source : (b : Bool) (f : Meter → Meter) (n : Meter) (there : Option Meter) → (if b then option_map f there else there) ≡ Some n
+    → (m : Meter) × (there ≡ Some m)
 set_source true f n None e = cc
 set_source true f n (Some m) e = (m, refl)
 set_source false f n there e = (n, e)
@@ -167,7 +170,8 @@ module _ (rows : Rows) (o : Office) (are : AreMembersOf rows o) (number : List �
   set_once = pairs_map (λ a b. a.0 ≢ b.0) set rows.meters (λ a b apart same.
       apart (sym (set_number (bytes_eq a.0 number) f a) ∙ same ∙ set_number (bytes_eq b.0 number) f b)) are.meters_once
 
-pub tariff_set : (rows : Rows) (o : Office) (are : AreMembersOf rows o) (number name : List ℕ) → AreMembersOf (edited (edits.SetTariff number name) rows) (applied (edits.SetTariff number name) o)
+pub tariff_set : (rows : Rows) (o : Office) (are : AreMembersOf rows o) (number name : List ℕ)
+    → AreMembersOf (edited (edits.SetTariff number name) rows) (applied (edits.SetTariff number name) o)
 tariff_set rows o are number name = record {
   tariffs = are.tariffs;
   steps = are.steps;
@@ -184,7 +188,8 @@ tariff_set rows o are number name = record {
   dated_once = are.dated_once;
 }
 
-pub base_moved : (rows : Rows) (o : Office) (are : AreMembersOf rows o) (number : List ℕ) (base : Base) → o.bases number base ≡ false → AreMembersOf (edited (edits.MoveBase number base) rows) (applied (edits.MoveBase number base) o)
+pub base_moved : (rows : Rows) (o : Office) (are : AreMembersOf rows o) (number : List ℕ) (base : Base) → o.bases number base ≡ false
+    → AreMembersOf (edited (edits.MoveBase number base) rows) (applied (edits.MoveBase number base) o)
 base_moved rows o are number base free = record {
   tariffs = are.tariffs;
   steps = are.steps;

@@ -30,8 +30,10 @@ only_both names old mid new first second = record {
   marks = second.marks ∙ first.marks;
   schema = second.schema ∙ first.schema;
   tables = all_both _ _ _ (λ u kept later apart. later (there u.tree apart) ∙ kept apart) old.now.schema.tables first.tables
-      (subst (λ (s : Schema). AllByRecursion (λ (u : Table). IsOfNone mid.now.schema names u.tree → new.now.trees u.tree ≡ mid.now.trees u.tree) s.tables) first.schema second.tables);
-  others = λ tree apart none. second.others tree (there tree apart) (subst (λ (s : Schema). IsNoIndex s tree) (sym first.schema) none) ∙ first.others tree apart none;
+      (subst (λ (s : Schema). AllByRecursion (λ (u : Table). IsOfNone mid.now.schema names u.tree → new.now.trees u.tree
+      ≡ mid.now.trees u.tree) s.tables) first.schema second.tables);
+  others = λ tree apart none. second.others tree (there tree apart) (subst (λ (s : Schema). IsNoIndex s tree) (sym first.schema) none)
+      ∙ first.others tree apart none;
   sound = second.sound;
 }
   where
@@ -39,5 +41,6 @@ only_both names old mid new first second = record {
     there tree apart = subst (λ (s : Schema). IsOfNone s names tree) (sym first.schema) apart
 
 -- the office's tables are still there
-pub tables_there : (names : List (List ℕ)) (old mid : State) → WritesOnly names old mid → (IsTrue old.is_open → HasOffice old.now.schema) → IsTrue mid.is_open → HasOffice mid.now.schema
+pub tables_there : (names : List (List ℕ)) (old mid : State) → WritesOnly names old mid → (IsTrue old.is_open → HasOffice old.now.schema)
+    → IsTrue mid.is_open → HasOffice mid.now.schema
 tables_there names old mid only has is = subst HasOffice (sym only.schema) (has only.inside.was_open)

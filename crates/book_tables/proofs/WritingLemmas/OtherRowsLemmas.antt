@@ -83,7 +83,8 @@ module _ (p : Row → Bool) where
   put_past new own [] spares = drop_own new [] own
   put_past new own (r ∷ rs) spares = go (value_cmp (rowid r) (rowid new)) refl (put_past new own rs spares.1)
     where
-      go : (o : Ordering) → value_cmp (rowid r) (rowid new) ≡ o → others (put_row new rs) ≡ others rs → others (match_ordering o (r ∷ put_row new rs) (new ∷ rs) (new ∷ r ∷ rs)) ≡ others (r ∷ rs)
+      go : (o : Ordering) → value_cmp (rowid r) (rowid new) ≡ o → others (put_row new rs) ≡ others rs
+          → others (match_ordering o (r ∷ put_row new rs) (new ∷ rs) (new ∷ r ∷ rs)) ≡ others (r ∷ rs)
       go Less e more = keep_first r (put_row new rs) rs more
       go Equal e more = drop_own new rs own ∙ sym (drop_own r rs (spares.0 (ap is_eq e)))
       go Greater e more = drop_own new (r ∷ rs) own
@@ -92,14 +93,16 @@ module _ (p : Row → Bool) where
   without_past id [] spares = refl
   without_past id (r ∷ rs) spares = go (has_rowid id r) refl (without_past id rs spares.1)
     where
-      go : (b : Bool) → has_rowid id r ≡ b → others (without_rowid id rs) ≡ others rs → others (if not b then r ∷ without_rowid id rs else without_rowid id rs) ≡ others (r ∷ rs)
+      go : (b : Bool) → has_rowid id r ≡ b → others (without_rowid id rs) ≡ others rs
+          → others (if not b then r ∷ without_rowid id rs else without_rowid id rs) ≡ others (r ∷ rs)
       go true e more = more ∙ sym (drop_own r rs (spares.0 e))
       go false e more = keep_first r (without_rowid id rs) rs more
 
   -- a row whose number none has is put in
   pub put_fresh : (new : Row) (rows : List Row) → p new ≡ true → is_taken rows new ≡ false → others (put_row new rows) ≡ others rows
   put_fresh new rows own fresh =
-      put_past new own rows (all_weaker _ (Spares (rowid new)) (λ r none is. absurd (false≢true (sym none ∙ is))) rows (none_from_any (λ r. is_eq (value_cmp (rowid r) (rowid new))) rows fresh))
+      put_past new own rows (all_weaker _ (Spares (rowid new)) (λ r none is. absurd (false≢true (sym none ∙ is))) rows
+      (none_from_any (λ r. is_eq (value_cmp (rowid r) (rowid new))) rows fresh))
 
   -- ---- rows that are taken out by their numbers, and put in under these
 
@@ -107,7 +110,8 @@ module _ (p : Row → Bool) where
     abbrev AllSpare : List Row → Type 0
     AllSpare rows = AllByRecursion (λ r. (v : Value) → IsOwnNumber v → Spares v r) rows
 
-    without_others : (ids : List ℤ) (rows : List Row) → AllByRecursion (λ id. IsOwnNumber (Int id)) ids → AllSpare rows → others (without_all rows ids) ≡ others rows
+    without_others : (ids : List ℤ) (rows : List Row) → AllByRecursion (λ id. IsOwnNumber (Int id)) ids → AllSpare rows
+        → others (without_all rows ids) ≡ others rows
     without_others [] rows are spare = refl
     without_others (id ∷ ids) rows are spare =
         without_others ids (without_rowid id rows) are.1 (all-filter _ (λ r. not (has_rowid id r)) rows spare)
@@ -117,13 +121,15 @@ module _ (p : Row → Bool) where
     spare_left [] rows spare = spare
     spare_left (id ∷ ids) rows spare = spare_left ids (without_rowid id rows) (all-filter _ (λ r. not (has_rowid id r)) rows spare)
 
-    put_others : (news rows : List Row) → AllByRecursion (λ n. (p n ≡ true) × IsOwnNumber (rowid n)) news → AllSpare rows → others (put_all rows news) ≡ others rows
+    put_others : (news rows : List Row) → AllByRecursion (λ n. (p n ≡ true) × IsOwnNumber (rowid n)) news → AllSpare rows
+        → others (put_all rows news) ≡ others rows
     put_others [] rows are spare = refl
     put_others (n ∷ news) rows are spare =
         put_others news (put_row n rows) are.1 (all-put_row (λ r. (v : Value) → IsOwnNumber v → Spares v r) n rows (λ v is e. are.0.0) spare)
         ∙ put_past n are.0.0 rows (all_weaker _ (Spares (rowid n)) (λ r s. s (rowid n) are.0.1) rows spare)
 
-    replaced_others : (ids : List ℤ) (news rows : List Row) → AllByRecursion (λ id. IsOwnNumber (Int id)) ids → AllByRecursion (λ n. (p n ≡ true) × IsOwnNumber (rowid n)) news → AllSpare rows
+    replaced_others : (ids : List ℤ) (news rows : List Row) → AllByRecursion (λ id. IsOwnNumber (Int id)) ids
+        → AllByRecursion (λ n. (p n ≡ true) × IsOwnNumber (rowid n)) news → AllSpare rows
         → others (put_all (without_all rows ids) news) ≡ others rows
     replaced_others ids news rows gone are spare = put_others news (without_all rows ids) are (spare_left ids rows spare) ∙ without_others ids rows gone spare
 
@@ -161,11 +167,13 @@ number_too a b same is_number = subst (λ (v : Value). IsTrue (is_int v)) (sym s
 -- ---- statements
 
 -- a row with a number is put in
-pub put_in_order : (t : Table) (row : Row) (old new : State) → PutsRow t row old new → IsTrue (is_int (rowid row)) → IsInOrder (old.now.trees t.tree) → IsInOrder (new.now.trees t.tree)
+pub put_in_order : (t : Table) (row : Row) (old new : State) → PutsRow t row old new → IsTrue (is_int (rowid row))
+    → IsInOrder (old.now.trees t.tree) → IsInOrder (new.now.trees t.tree)
 put_in_order t row old new puts is_number order = subst IsInOrder (sym puts.changed.rows_are) (order_put row (old.now.trees t.tree) is_number order)
 
 module _ (p : Row → Bool) where
-  pub put_keeps : (t : Table) (row : Row) (old new : State) → PutsRow t row old new → p row ≡ true → others p (new.now.trees t.tree) ≡ others p (old.now.trees t.tree)
+  pub put_keeps : (t : Table) (row : Row) (old new : State) → PutsRow t row old new → p row ≡ true → others p (new.now.trees t.tree)
+      ≡ others p (old.now.trees t.tree)
   put_keeps t row old new puts own = ap (others p) puts.changed.rows_are ∙ put_fresh p row (old.now.trees t.tree) own puts.fresh
 
   module _ (t : Table) (tests rest : List Term) (params : Row) (old new : State) where
@@ -190,13 +198,22 @@ module _ (p : Row → Bool) where
         → ((r : Row) → IsTrue (is_int (rowid r)) → p r ≡ true → (p (made_of r) ≡ true) × (rowid (made_of r) ≡ rowid r))
         → (others p (new.now.trees t.tree) ≡ others p rows) × IsInOrder (new.now.trees t.tree)
     set_keeps order sets passes becomes =
-        let listing : IsListing old.now.trees t.tree tests (col 1 0 ∷ rest) params (λ (r : Row). r) rows test show = record { holds_them = sym (map-id rows); passes = λ _. refl; shows = λ _. refl } in
+        let listing : IsListing old.now.trees t.tree tests (col 1 0 ∷ rest) params (λ (r : Row). r) rows test show =
+        record { holds_them = sym (map-id rows); passes = λ _. refl; shows = λ _. refl } in
         let found : AllByRecursion IsFound sets.found =
         all-permutation IsFound (map show (filter test rows)) sets.found (all_rows listing sets.found sets.answer)
-        (all_map IsFound show (filter test rows) (all_from (λ r. IsFound (show r)) (filter test rows) (λ r there. let it = has_filtered test rows r there in (r, it.0, it.1, refl)))) in
+        (all_map IsFound show (filter test rows) (all_from (λ r. IsFound (show r)) (filter test rows)
+        (λ r there. let it = has_filtered test rows r there in (r, it.0, it.1, refl)))) in
         let gone : AllByRecursion (λ id. OfOwn p rows (Int id)) (ids_of sets.found) =
         all_map (λ id. OfOwn p rows (Int id)) (λ s. id_in (rowid s)) sets.found
-        (all_weaker IsFound (λ s. OfOwn p rows (Int (id_in (rowid s)))) (λ s it. (it.0, it.1, passes it.0 it.2, ap (λ (x : Row). Int (id_in (rowid x))) it.3 ∙ int_back (rowid it.0) (all_has _ rows it.0 order.are_numbers it.1))) sets.found found) in
+        (all_weaker IsFound (λ s. OfOwn p rows (Int (id_in (rowid s))))
+        (λ s it. (
+          it.0,
+          it.1,
+          passes it.0 it.2,
+          ap (λ (x : Row). Int (id_in (rowid x))) it.3
+              ∙ int_back (rowid it.0) (all_has _ rows it.0 order.are_numbers it.1),
+        )) sets.found found) in
         let news : AllByRecursion (λ n. (p n ≡ true) × OfOwn p rows (rowid n)) (map (λ s. cast_row t (drop 1 s)) sets.found) =
         all_map (λ n. (p n ≡ true) × OfOwn p rows (rowid n)) (λ s. cast_row t (drop 1 s)) sets.found
         (all_weaker IsFound (λ s. (p (cast_row t (drop 1 s)) ≡ true) × OfOwn p rows (rowid (cast_row t (drop 1 s)))) (λ s it.
@@ -205,12 +222,19 @@ module _ (p : Row → Bool) where
         let is : cast_row t (drop 1 s) ≡ made_of it.0 = ap (λ (x : Row). cast_row t (drop 1 x)) it.3 in
         (ap p is ∙ after.0, (it.0, it.1, own, ap rowid is ∙ after.1))) sets.found found) in
         let ints : AllByRecursion (λ n. IsTrue (is_int (rowid n))) (map (λ s. cast_row t (drop 1 s)) sets.found) =
-        all_map (λ n. IsTrue (is_int (rowid n))) (λ s. cast_row t (drop 1 s)) sets.found (all_weaker IsFound (λ s. IsTrue (is_int (rowid (cast_row t (drop 1 s))))) (λ s it.
+        all_map (λ n. IsTrue (is_int (rowid n))) (λ s. cast_row t (drop 1 s)) sets.found
+        (all_weaker IsFound (λ s. IsTrue (is_int (rowid (cast_row t (drop 1 s))))) (λ s it.
         let is_number = all_has _ rows it.0 order.are_numbers it.1 in
         let after = becomes it.0 is_number (passes it.0 it.2) in
         number_too (cast_row t (drop 1 s)) it.0 (ap (λ (x : Row). rowid (cast_row t (drop 1 x))) it.3 ∙ after.1) is_number) sets.found found) in
-        let rows_are = (sets.changed.rows_are ∙ ap (λ (l : List Row). put_all (without_all rows (ids_of sets.found)) l) (given_ids (without_all rows (ids_of sets.found)) (map (λ s. cast_row t (drop 1 s)) sets.found))) in
-        (ap (others p) rows_are ∙ replaced_others p (OfOwn p rows) (ids_of sets.found) (map (λ s. cast_row t (drop 1 s)) sets.found) rows gone news (all_spare p rows order.rises), subst IsInOrder (sym rows_are) (order_put_all (map (λ s. cast_row t (drop 1 s)) sets.found) (without_all rows (ids_of sets.found)) ints (order_without (ids_of sets.found) rows order)))
+        let rows_are = (sets.changed.rows_are ∙ ap (λ (l : List Row). put_all (without_all rows (ids_of sets.found)) l)
+        (given_ids (without_all rows (ids_of sets.found)) (map (λ s. cast_row t (drop 1 s)) sets.found))) in (
+          ap (others p) rows_are ∙ replaced_others p (OfOwn p rows) (ids_of sets.found) (map (λ s. cast_row t (drop 1 s)) sets.found) rows
+              gone news (all_spare p rows order.rises),
+          subst IsInOrder (sym rows_are)
+              (order_put_all (map (λ s. cast_row t (drop 1 s)) sets.found) (without_all rows (ids_of sets.found)) ints
+              (order_without (ids_of sets.found) rows order)),
+        )
 
   module _ (t : Table) (m : Merging) (params : Row) (old new : State) where
     abbrev rows_then : List Row
@@ -221,13 +245,21 @@ module _ (p : Row → Bool) where
     pub merge_keeps : (row : Row) → IsInOrder rows_then → Upserts t m params old new row → p (cast_row t (given_row t m params rows_then)) ≡ true
         → IsTrue (is_int (rowid (cast_row t (given_row t m params rows_then))))
         → ((r : Row) → is_of_key (own_keys t) m.key (given_row t m params rows_then) r ≡ true → p r ≡ true)
-        → ((r : Row) → IsTrue (is_int (rowid r)) → p r ≡ true → (p (set_row t m params rows_then r) ≡ true) × (rowid (set_row t m params rows_then r) ≡ rowid r))
+        → ((r : Row) → IsTrue (is_int (rowid r)) → p r ≡ true → (p (set_row t m params rows_then r) ≡ true)
+        × (rowid (set_row t m params rows_then r) ≡ rowid r))
         → (others p (new.now.trees t.tree) ≡ others p rows_then) × IsInOrder (new.now.trees t.tree)
-    merge_keeps row order (inl g) given given_number keyed becomes = (put_keeps t row old new g.puts (ap p g.is ∙ given), put_in_order t row old new g.puts (number_too row (cast_row t (given_row t m params rows_then)) (ap rowid g.is) given_number) order)
+    merge_keeps row order (inl g) given given_number keyed becomes = (
+      put_keeps t row old new g.puts (ap p g.is ∙ given),
+      put_in_order t row old new g.puts (number_too row (cast_row t (given_row t m params rows_then)) (ap rowid g.is) given_number) order,
+    )
     merge_keeps row order (inr s) given given_number keyed becomes =
         let own = keyed s.there s.keyed in
         let is_number = all_has _ rows_then s.there order.are_numbers s.found in
         let after = becomes s.there is_number own in
         let number : OfOwn p rows_then (Int (id_in (rowid s.there))) = (s.there, s.found, own, int_back (rowid s.there) is_number) in
-        let new_number : OfOwn p rows_then (rowid row) = (s.there, s.found, own, ap rowid s.is ∙ after.1) in
-        (ap (others p) s.changed.rows_are ∙ replaced_others p (OfOwn p rows_then) (id_in (rowid s.there) ∷ []) (row ∷ []) rows_then (number, tt) ((ap p s.is ∙ after.0, new_number), tt) (all_spare p rows_then order.rises), subst IsInOrder (sym s.changed.rows_are) (order_put row (without_rowid (id_in (rowid s.there)) rows_then) (number_too row s.there (ap rowid s.is ∙ after.1) is_number) (order_without (id_in (rowid s.there) ∷ []) rows_then order)))
+        let new_number : OfOwn p rows_then (rowid row) = (s.there, s.found, own, ap rowid s.is ∙ after.1) in (
+          ap (others p) s.changed.rows_are ∙ replaced_others p (OfOwn p rows_then) (id_in (rowid s.there) ∷ []) (row ∷ []) rows_then
+              (number, tt) ((ap p s.is ∙ after.0, new_number), tt) (all_spare p rows_then order.rises),
+          subst IsInOrder (sym s.changed.rows_are) (order_put row (without_rowid (id_in (rowid s.there)) rows_then)
+              (number_too row s.there (ap rowid s.is ∙ after.1) is_number) (order_without (id_in (rowid s.there) ∷ []) rows_then order)),
+        )

@@ -14,7 +14,8 @@ use Rattle.book_tables.specs.declared.row.totals.Totals.{Totals}
 
 -- ---- the same totals, beside other rows
 
-pub same_totals : (sales : List Sale) (a b : Rows) → a.last_ids ≡ b.last_ids → a.month_tenths ≡ b.month_tenths → a.shift_totals ≡ b.shift_totals → AreTotalsOf sales a → AreTotalsOf sales b
+pub same_totals : (sales : List Sale) (a b : Rows) → a.last_ids ≡ b.last_ids → a.month_tenths ≡ b.month_tenths → a.shift_totals
+    ≡ b.shift_totals → AreTotalsOf sales a → AreTotalsOf sales b
 same_totals sales a b ids months shifts t = record {
   last_ids = subst (λ (l : List ((List ℕ × Base) × ℕ)). AreRowsOf l (λ key. greatest_of (map (λ s. s.tid) (sales_under sales key)))) ids t.last_ids;
   month_tenths = subst (λ (l : List ((List ℕ × ℕ) × ℕ)). AreRowsOf l (λ key. tenths_of (sales_in_month sales key))) months t.month_tenths;
@@ -28,11 +29,13 @@ pub put_here : {A : Type 0} (b : Bool) (q name : List ℕ) (x : A) (there : Opti
 put_here true q name x there is same = refl
 put_here false q name x there is same = absurd (false≢true (sym is ∙ (bytes_eq-Decides q name).1 same))
 
-pub put_elsewhere : {A : Type 0} (b : Bool) (q name : List ℕ) (x : A) (there : Option A) → bytes_eq q name ≡ b → q ≢ name → (if b then Some x else there) ≡ there
+pub put_elsewhere : {A : Type 0} (b : Bool) (q name : List ℕ) (x : A) (there : Option A) → bytes_eq q name ≡ b → q ≢ name
+    → (if b then Some x else there) ≡ there
 put_elsewhere true q name x there is apart = absurd (apart ((bytes_eq-Decides q name).0 is))
 put_elsewhere false q name x there is apart = refl
 
-pub put_cases : {A : Type 0} (b : Bool) (q name : List ℕ) (x y : A) (there : Option A) → bytes_eq q name ≡ b → (if b then Some x else there) ≡ Some y → ((q ≡ name) × (x ≡ y)) ⊎ (there ≡ Some y)
+pub put_cases : {A : Type 0} (b : Bool) (q name : List ℕ) (x y : A) (there : Option A) → bytes_eq q name ≡ b
+    → (if b then Some x else there) ≡ Some y → ((q ≡ name) × (x ≡ y)) ⊎ (there ≡ Some y)
 put_cases true q name x y there is e = inl ((bytes_eq-Decides q name).0 is, same_Some x y e)
 put_cases false q name x y there is e = inr e
 

@@ -76,7 +76,8 @@ module _ {X : Type 0} (key : X → ℤ) where
   insert_above : (ys : List X) (x : X) (after : List X) → IsKeyedBy key (ys ++ x ∷ after) → insert_by key ys x ≡ ys ++ x ∷ []
   insert_above [] x after up = refl
   insert_above (y ∷ ys) x after up =
-      ap (λ (o : Ordering). match_ordering o (y ∷ insert_by key ys x) (x ∷ ys) (x ∷ y ∷ ys)) (Less-from_lt (key y) (key x) (last_below y ys x after up.0)) ∙ ap (λ (l : List X). y ∷ l) (insert_above ys x after up.1)
+      ap (λ (o : Ordering). match_ordering o (y ∷ insert_by key ys x) (x ∷ ys) (x ∷ y ∷ ys))
+      (Less-from_lt (key y) (key x) (last_below y ys x after up.0)) ∙ ap (λ (l : List X). y ∷ l) (insert_above ys x after up.1)
 
 -- ---- the rows after a row was put in
 
@@ -100,7 +101,8 @@ module _ (old new : State) where
   id_source : (r : (List ℕ × Base) × ℕ) → source_row ids three_terms (last_id_columns r) ≡ Null ∷ last_id_columns r
   id_source r = rw (cast_no_int, cast_int (pos (year_of r.0.1)), cast_int (pos r.1)) refl
 
-  pub puts_last_id : (r : (List ℕ × Base) × ℕ) (params : Row) → params ≡ last_id_columns r → PutsRow ids (new_row ids three_terms params (old.now.trees ids.tree)) old new → PutsNext with_last_ids AreAnyIds r old new
+  pub puts_last_id : (r : (List ℕ × Base) × ℕ) (params : Row) → params ≡ last_id_columns r
+      → PutsRow ids (new_row ids three_terms params (old.now.trees ids.tree)) old new → PutsNext with_last_ids AreAnyIds r old new
   puts_last_id r params bound put =
       let h = subst (λ (p : Row). PutsRow ids (new_row ids three_terms p (old.now.trees ids.tree)) old new) bound put in
       let only = only_one (codes "last_ids") ids _ old new refl h.changed in
@@ -118,7 +120,8 @@ module _ (old new : State) where
   month_source : (r : (List ℕ × ℕ) × ℕ) → source_row months three_terms (month_columns r) ≡ Null ∷ month_columns r
   month_source r = rw (cast_no_int, cast_int (pos r.0.1), cast_int (pos r.1)) refl
 
-  pub puts_month_tenths : (r : (List ℕ × ℕ) × ℕ) (params : Row) → (r.1 < 2 ^ 63 → params ≡ month_columns r) → PutsRow months (new_row months three_terms params (old.now.trees months.tree)) old new
+  pub puts_month_tenths : (r : (List ℕ × ℕ) × ℕ) (params : Row) → (r.1 < 2 ^ 63 → params ≡ month_columns r)
+      → PutsRow months (new_row months three_terms params (old.now.trees months.tree)) old new
       → PutsNext with_month_tenths FitMonths r old new
   puts_month_tenths r params bound put =
       let only = only_one (codes "month_tenths") months _ old new refl put.changed in
@@ -129,7 +132,8 @@ module _ (old new : State) where
             let h = subst (λ (p : Row). PutsRow months (new_row months three_terms p (old.now.trees months.tree)) old new) (bound fits) put in
             let was = month_tenths_in.holds told old.now (with_month_tenths before rows) held in
             let it = stands_after month_columns months three_terms (month_columns r) r (month_source r) old new h before was.0 was.1 in
-            month_tenths_changed told old.now new.now (with_month_tenths before rows) held (before ++ r ∷ []) (changes_only (codes "month_tenths") old new only) it.0 it.1;
+            month_tenths_changed told old.now new.now (with_month_tenths before rows) held (before ++ r ∷ [])
+            (changes_only (codes "month_tenths") old new only) it.0 it.1;
       }
 
   abbrev shifts : Table
@@ -138,7 +142,8 @@ module _ (old new : State) where
   totals_is : (r : ℕ × Totals) (rows : List Row) → new_row shifts totals_terms (totals_columns r) rows ≡ totals_row r
   totals_is r rows = rw (cast_int (pos r.0), cast_no_int, cast_int (pos r.1.sales), cast_int (pos r.1.tenths), cast_int (pos r.1.cash)) refl
 
-  pub puts_shift_totals : (r : ℕ × Totals) (params : Row) → (HasRoomFor r.1 → params ≡ totals_columns r) → PutsRow shifts (new_row shifts totals_terms params (old.now.trees shifts.tree)) old new
+  pub puts_shift_totals : (r : ℕ × Totals) (params : Row) → (HasRoomFor r.1 → params ≡ totals_columns r)
+      → PutsRow shifts (new_row shifts totals_terms params (old.now.trees shifts.tree)) old new
       → PutsNext with_shift_totals FitShifts r old new
   puts_shift_totals r params bound put =
       let only = only_one (codes "shift_totals") shifts _ old new refl put.changed in
@@ -147,8 +152,12 @@ module _ (old new : State) where
         rows = λ told rows before after may held.
             let there = old.now.trees shifts.tree in
             let fits = of_all (λ (x : ℕ × Totals). HasRoomFor x.1) before r after may.1 in
-            let row : new_row shifts totals_terms params there ≡ totals_row r = ap (λ (p : Row). new_row shifts totals_terms p there) (bound fits) ∙ totals_is r there in
-            let stands = put.changed.rows_are ∙ ap (λ (x : Row). put_row x there) row ∙ ap (put_row (totals_row r)) (shift_totals_in.holds told old.now (with_shift_totals before rows) held)
-            ∙ puts-map (λ (x : ℕ × Totals). pos x.0) totals_row (λ x. refl) (r ∷ []) before ∙ ap (map totals_row) (insert_above (λ (x : ℕ × Totals). pos x.0) before r after may.0) in
-            shift_totals_changed told old.now new.now (with_shift_totals before rows) held (before ++ r ∷ []) (changes_only (codes "shift_totals") old new only) stands;
+            let row : new_row shifts totals_terms params there ≡ totals_row r =
+            ap (λ (p : Row). new_row shifts totals_terms p there) (bound fits) ∙ totals_is r there in
+            let stands = put.changed.rows_are ∙ ap (λ (x : Row). put_row x there) row
+            ∙ ap (put_row (totals_row r)) (shift_totals_in.holds told old.now (with_shift_totals before rows) held)
+            ∙ puts-map (λ (x : ℕ × Totals). pos x.0) totals_row (λ x. refl) (r ∷ []) before
+            ∙ ap (map totals_row) (insert_above (λ (x : ℕ × Totals). pos x.0) before r after may.0) in
+            shift_totals_changed told old.now new.now (with_shift_totals before rows) held (before ++ r ∷ [])
+            (changes_only (codes "shift_totals") old new only) stands;
       }

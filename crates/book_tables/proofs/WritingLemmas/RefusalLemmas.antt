@@ -22,7 +22,8 @@ use Rattle.book_tables.specs.declared.error.TableError.{TableError}
 use Rattle.book_tables.specs.declared.error.TableError.TheVariants.{Database, RowOfNoOffice}
 
 -- a write failed, which is told so
-pub fails_to_store : {A : Type 0} {old new : State} {e : Error} (w : Write) (command : Command) (r : Result A TableError) → IsErrAnd r (λ x. x ≡ Database e) → (IsTrue old.is_open → Means old.now.schema w.sql command) → FailsToWrite command w.params old new e
+pub fails_to_store : {A : Type 0} {old new : State} {e : Error} (w : Write) (command : Command) (r : Result A TableError)
+    → IsErrAnd r (λ x. x ≡ Database e) → (IsTrue old.is_open → Means old.now.schema w.sql command) → FailsToWrite command w.params old new e
     → Ends FailsToStore w old new r
 fails_to_store w command (Ok x) told means fails = absurd told
 fails_to_store {old = old} {new = new} w command (Err x) told means fails = (tt, subst (FailsToStore w old new) (sym told) (command, means, fails))
@@ -31,30 +32,39 @@ pub same_error : {A : Type 0} (x y : TableError) → ◌≡◌ {A = Result A Tab
 same_error x y e = cc
 
 -- the error that a failure hands on
-pub handed_on : {A B : Type 0} (e y : TableError) (r : Result A TableError) → IsErrAnd r (λ x. x ≡ e) → r ≡ Err y → ◌≡◌ {A = Result B TableError} (Err e) (Err y)
+pub handed_on : {A B : Type 0} (e y : TableError) (r : Result A TableError) → IsErrAnd r (λ x. x ≡ e) → r ≡ Err y
+    → ◌≡◌ {A = Result B TableError} (Err e) (Err y)
 handed_on e y (Ok x) is known = absurd is
 handed_on {B = B} e y (Err x) is known = ap (λ (z : TableError). let r : Result B TableError = Err z in r) (sym is ∙ same_error x y known)
 
 -- what the text of an upsert means
-pub means_merging : (sql : List ℕ) (s : Schema) (t : Table) (at : ℕ) (m : Merging) → IsUpsert t m sql → StandsForUpserts s at t → MeansAs s sql (upsert_as at t m) (Some (returning_as m))
+pub means_merging : (sql : List ℕ) (s : Schema) (t : Table) (at : ℕ) (m : Merging) → IsUpsert t m sql → StandsForUpserts s at t
+    → MeansAs s sql (upsert_as at t m) (Some (returning_as m))
 means_merging sql s t at m is k = (means_upsert s at t k.has k.keys m sql is).0
 
 -- an upsert failed, which is told so
-pub fails_to_merge : {A : Type 0} (old new : State) (w : Write) (t : Table) (m : Merging) (at : ℕ) (why : ReadFault) (r : Result A TableError) → IsErrAnd r (λ x. x ≡ told why)
-    → (IsTrue old.is_open → MeansAs old.now.schema w.sql (upsert_as at t m) (Some (returning_as m))) → FailsToTouch t m w.params old new at why → Ends FailsToMerge w old new r
+pub fails_to_merge : {A : Type 0} (old new : State) (w : Write) (t : Table) (m : Merging) (at : ℕ) (why : ReadFault)
+    (r : Result A TableError) → IsErrAnd r (λ x. x ≡ told why)
+    → (IsTrue old.is_open → MeansAs old.now.schema w.sql (upsert_as at t m) (Some (returning_as m)))
+    → FailsToTouch t m w.params old new at why → Ends FailsToMerge w old new r
 fails_to_merge old new w t m at why (Ok x) is means fails = absurd is
-fails_to_merge old new w t m at (fault.Database e) (Err x) is means fails = (tt, subst (FailsToMerge w old new) (sym is) (record { table = t; merging = m; at = at; means = means; fails = fails }))
-fails_to_merge old new w t m at fault.Row (Err x) is means fails = (tt, subst (FailsToMerge w old new) (sym is) (record { table = t; merging = m; at = at; means = means; fails = fails }))
+fails_to_merge old new w t m at (fault.Database e) (Err x) is means fails =
+    (tt, subst (FailsToMerge w old new) (sym is) (record { table = t; merging = m; at = at; means = means; fails = fails }))
+fails_to_merge old new w t m at fault.Row (Err x) is means fails =
+    (tt, subst (FailsToMerge w old new) (sym is) (record { table = t; merging = m; at = at; means = means; fails = fails }))
 
 -- it is told that a row is no office's only where what is shown of the row that was written is none
-pub false_row : {A : Type 0} {old new : State} (t : Table) (m : Merging) (params : Row) (at : ℕ) (IsReadable : Row → Type 0) (why : ReadFault) (r : Result A TableError) → IsErrAnd r (λ x. x ≡ told why) → FailsToUpsert t m params old new at IsReadable why
+pub false_row : {A : Type 0} {old new : State} (t : Table) (m : Merging) (params : Row) (at : ℕ) (IsReadable : Row → Type 0)
+    (why : ReadFault) (r : Result A TableError) → IsErrAnd r (λ x. x ≡ told why) → FailsToUpsert t m params old new at IsReadable why
     → r ≡ Err RowOfNoOffice → (row : Row) × (¬ IsReadable (shown_row t m params row)) × Upserts t m params old new row
 false_row t m params at IsReadable why (Ok x) is fails known = absurd is
-false_row t m params at IsReadable (fault.Database e) (Err x) is fails known = absurd (let wrong : Database e ≡ RowOfNoOffice = sym is ∙ same_error x RowOfNoOffice known in cc)
+false_row t m params at IsReadable (fault.Database e) (Err x) is fails known =
+    absurd (let wrong : Database e ≡ RowOfNoOffice = sym is ∙ same_error x RowOfNoOffice known in cc)
 false_row t m params at IsReadable fault.Row (Err x) is fails known = fails
 
 -- what is left of the tables where a write that answers something fails, and why it does
-pub merge_off : {T : Type 0} {w : Write} {Makes : T → State → State → Type 0} {old new : State} (e : TableError) (r : Result T TableError) → IsErrAnd r (λ x. x ≡ e) → (HasCleanDisk new → IsUnderWay old → KeepsCommit old new) → Survives old new (λ _. ⊥)
+pub merge_off : {T : Type 0} {w : Write} {Makes : T → State → State → Type 0} {old new : State} (e : TableError) (r : Result T TableError)
+    → IsErrAnd r (λ x. x ≡ e) → (HasCleanDisk new → IsUnderWay old → KeepsCommit old new) → Survives old new (λ _. ⊥)
     → (HasCleanDisk new → IsUnderWay old → HasAllTables old → FailsToMerge w old new e) → MergesTables w Makes old new r
 merge_off e (Ok x) is kept survives fails = absurd is
 merge_off {w = w} {old = old} {new = new} e (Err x) is kept survives fails = record {

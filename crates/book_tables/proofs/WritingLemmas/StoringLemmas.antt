@@ -26,11 +26,13 @@ use Rattle.book_tables.proofs.OfficeTableLemmas.{IsInOffice}
 
 -- ---- a row whose number none has
 
-put_apart : (new : Row) (rows : List Row) → AllByRecursion (λ r. is_eq (value_cmp (rowid r) (rowid new)) ≡ false) rows → IsPermutation (rows ++ new ∷ []) (put_row new rows)
+put_apart : (new : Row) (rows : List Row) → AllByRecursion (λ r. is_eq (value_cmp (rowid r) (rowid new)) ≡ false) rows
+    → IsPermutation (rows ++ new ∷ []) (put_row new rows)
 put_apart new [] apart = IsPermutation-refl (new ∷ [])
 put_apart new (r ∷ rs) apart = go (value_cmp (rowid r) (rowid new)) refl (put_apart new rs apart.1)
   where
-    go : (o : Ordering) → value_cmp (rowid r) (rowid new) ≡ o → IsPermutation (rs ++ new ∷ []) (put_row new rs) → IsPermutation (r ∷ (rs ++ new ∷ [])) (match_ordering o (r ∷ put_row new rs) (new ∷ rs) (new ∷ r ∷ rs))
+    go : (o : Ordering) → value_cmp (rowid r) (rowid new) ≡ o → IsPermutation (rs ++ new ∷ []) (put_row new rs)
+        → IsPermutation (r ∷ (rs ++ new ∷ [])) (match_ordering o (r ∷ put_row new rs) (new ∷ rs) (new ∷ r ∷ rs))
     go Less e more = IsPermutation-cons r (rs ++ new ∷ []) (put_row new rs) more
     go Equal e more = absurd (false≢true (sym apart.0 ∙ ap is_eq e))
     go Greater e more = IsPermutation-append_comm (r ∷ rs) (new ∷ [])
@@ -44,7 +46,8 @@ module _ (name : List _) (t : Table) (old new : State) (at : t.tree ≡ tree_in 
   rows_put : IsPermutation (rows_in old.now name ++ row ∷ []) (rows_in new.now name)
   rows_put =
       let here : rows_in new.now name ≡ put_row row (rows_in old.now name) =
-      ap (λ (s : Schema). new.now.trees (tree_in s name)) puts.changed.schema ∙ subst (λ n. new.now.trees n ≡ put_row row (old.now.trees n)) at puts.changed.rows_are in
+      ap (λ (s : Schema). new.now.trees (tree_in s name)) puts.changed.schema
+      ∙ subst (λ n. new.now.trees n ≡ put_row row (old.now.trees n)) at puts.changed.rows_are in
       let fresh = subst (λ n. is_taken (old.now.trees n) row ≡ false) at puts.fresh in
       subst (IsPermutation (rows_in old.now name ++ row ∷ [])) (sym here) (put_beside row (rows_in old.now name) fresh)
 
@@ -53,9 +56,11 @@ module _ (name : List _) (t : Table) (old new : State) (at : t.tree ≡ tree_in 
   stores_numbered stored is = subst (λ (r : Row). IsPermutation (rows_in old.now name ++ r ∷ []) (rows_in new.now name)) is rows_put
 
   -- one behind a hidden number
-  pub stores_hidden : (stored : Row) → drop 1 row ≡ stored → IsPermutation (map (drop 1) (rows_in old.now name) ++ stored ∷ []) (map (drop 1) (rows_in new.now name))
+  pub stores_hidden : (stored : Row) → drop 1 row ≡ stored
+      → IsPermutation (map (drop 1) (rows_in old.now name) ++ stored ∷ []) (map (drop 1) (rows_in new.now name))
   stores_hidden stored is =
-      subst (λ (l : List Row). IsPermutation l (map (drop 1) (rows_in new.now name))) (map-append (drop 1) (rows_in old.now name) (row ∷ []) ∙ ap (λ (r : Row). map (drop 1) (rows_in old.now name) ++ r ∷ []) is)
+      subst (λ (l : List Row). IsPermutation l (map (drop 1) (rows_in new.now name)))
+      (map-append (drop 1) (rows_in old.now name) (row ∷ []) ∙ ap (λ (r : Row). map (drop 1) (rows_in old.now name) ++ r ∷ []) is)
       (IsPermutation-map (drop 1) (rows_in old.now name ++ row ∷ []) (rows_in new.now name) rows_put)
 
 -- ---- several writes
@@ -68,7 +73,8 @@ stores_none k a b same = subst (IsPermutation (bare_rows k a ++ [])) (append-nil
 pub stores_then : (k : Kept) (xs ys : List Row) (a b c : Database) → StoresRows k xs a b → StoresRows k ys b c → StoresRows k (xs ++ ys) a c
 stores_then k xs ys a b c first second =
     subst (λ (l : List Row). IsPermutation l (bare_rows k c)) (append_assoc (bare_rows k a) xs ys)
-    (IsPermutation-trans ((bare_rows k a ++ xs) ++ ys) (bare_rows k b ++ ys) (bare_rows k c) (IsPermutation-append_left ys (bare_rows k a ++ xs) (bare_rows k b) first) second)
+    (IsPermutation-trans ((bare_rows k a ++ xs) ++ ys) (bare_rows k b ++ ys) (bare_rows k c)
+    (IsPermutation-append_left ys (bare_rows k a ++ xs) (bare_rows k b) first) second)
 
 -- before or after what leaves the table
 pub stores_before : (k : Kept) (xs : List Row) (a b c : Database) → StoresRows k xs a b → bare_rows k c ≡ bare_rows k b → StoresRows k xs a c
@@ -83,13 +89,16 @@ bare_same : (k : Kept) (a b : Database) → rows_in b k.table.name ≡ rows_in a
 bare_same k a b same = ap (λ (rows : List Row). if k.is_numbered then rows else map (drop 1) rows) same
 
 -- a write of another one
-pub left_by_one : (j k : Kept) → IsInOffice j → IsInOffice k → (a b : Database) → HasOffice a.schema → ChangesOnly k.table.name a b → bytes_eq j.table.name k.table.name ≡ false → bare_rows j b ≡ bare_rows j a
+pub left_by_one : (j k : Kept) → IsInOffice j → IsInOffice k → (a b : Database) → HasOffice a.schema → ChangesOnly k.table.name a b
+    → bytes_eq j.table.name k.table.name ≡ false → bare_rows j b ≡ bare_rows j a
 left_by_one j k j_in k_in a b has only apart =
     bare_same j a b (rows_kept a b j.table k.table only (j_in.there a.schema has).0 (k_in.there a.schema has).0 (names_differ _ _ apart))
 
 -- writes of others
-pub left_by : (j : Kept) (names : List (List _)) → IsInOffice j → (old new : State) → HasOffice old.now.schema → IsOfNone old.now.schema names (tree_in old.now.schema j.table.name) → WritesOnly names old new → bare_rows j new.now ≡ bare_rows j old.now
+pub left_by : (j : Kept) (names : List (List _)) → IsInOffice j → (old new : State) → HasOffice old.now.schema
+    → IsOfNone old.now.schema names (tree_in old.now.schema j.table.name) → WritesOnly names old new → bare_rows j new.now ≡ bare_rows j old.now
 left_by j names j_in old new has none only =
     let there = (j_in.there old.now.schema has).0.has.listed in
     bare_same j old.now new.now (ap (λ (s : Schema). new.now.trees (tree_in s j.table.name)) only.schema
-    ∙ listed_holds (λ (u : Table). IsOfNone old.now.schema names u.tree → new.now.trees u.tree ≡ old.now.trees u.tree) old.now.schema.tables _ (record j.table { tree = tree_in old.now.schema j.table.name }) there only.tables none)
+    ∙ listed_holds (λ (u : Table). IsOfNone old.now.schema names u.tree → new.now.trees u.tree ≡ old.now.trees u.tree)
+    old.now.schema.tables _ (record j.table { tree = tree_in old.now.schema j.table.name }) there only.tables none)

@@ -117,8 +117,11 @@ module _ (rows : Rows) (o : Office) (are : AreMembersOf rows o) (name : List ℕ
   new_step r new =
       let m = made_in (step_row name) 0 steps r new in
       let at : m.further ≡ r.place = omega (arith, made_at (step_row name) (λ (r : StepRow). r.place) (λ n s. refl) 0 steps r m) in
-      let step : m.step ≡ r.step = sym (ap (λ (r : StepRow). r.step) m.is) in
-      (ap (λ (r : StepRow). r.tariff) m.is, subst (λ (k : ℕ). slice_get steps k ≡ Some r.step) at (m.there ∙ ap (λ (s : Step). let v : Option Step = Some s in v) step))
+      let step : m.step ≡ r.step = sym (ap (λ (r : StepRow). r.step) m.is) in (
+        ap (λ (r : StepRow). r.tariff) m.is,
+        subst (λ (k : ℕ). slice_get steps k ≡ Some r.step) at
+            (m.there ∙ ap (λ (s : Step). let v : Option Step = Some s in v) step),
+      )
 
   step_back : (r : StepRow) → Contains (rows.steps ++ step_rows name steps) r → HasStep grown r
   unfolding grown
@@ -126,7 +129,8 @@ module _ (rows : Rows) (o : Office) (are : AreMembersOf rows o) (name : List ℕ
       elim (Contains-append_cases rows.steps (step_rows name steps) r there) [
         | inl old ↦
             let has = (are.steps r).1 old in
-            let kept = put_elsewhere (bytes_eq r.tariff name) r.tariff name steps (o.tariffs r.tariff) refl (not_free o.tariffs r.tariff name has.0 free has.1) in
+            let kept = put_elsewhere (bytes_eq r.tariff name) r.tariff name steps (o.tariffs r.tariff) refl
+            (not_free o.tariffs r.tariff name has.0 free has.1) in
             (has.0, kept ∙ has.1, has.2)
         | inr new ↦ let is = new_step r new in (steps, put_here (bytes_eq r.tariff name) r.tariff name steps (o.tariffs r.tariff) refl is.0, is.1)
       ]
@@ -146,7 +150,8 @@ module _ (rows : Rows) (o : Office) (are : AreMembersOf rows o) (name : List ℕ
         let found = some_of (o.tariffs q) ((are.tariffs q).1 there) in
         not_free o.tariffs q name found.0 free found.1 same);
     steps_once = pairs_append AreApart rows.steps (step_rows name steps) are.steps_once
-        (pairs_weaker (λ a b. a.place ≢ b.place) AreApart (step_rows name steps) (λ a b apart _. apart) (made_apart (step_row name) (λ (r : StepRow). r.place) (λ n s. refl) 0 steps)) (λ a b old new same.
+        (pairs_weaker (λ a b. a.place ≢ b.place) AreApart (step_rows name steps) (λ a b apart _. apart)
+        (made_apart (step_row name) (λ (r : StepRow). r.place) (λ n s. refl) 0 steps)) (λ a b old new same.
         let has = (are.steps a).1 old in
         absurd (not_free o.tariffs a.tariff name has.0 free has.1 (same ∙ (new_step b new).0)));
     meters_once = are.meters_once;
@@ -176,7 +181,8 @@ module _ (rows : Rows) (o : Office) (are : AreMembersOf rows o) (name : List ℕ
   unfolding dated is_it
   had_or_put q d xs e = by_test (is_it q d) refl e
     where
-      by_test : (b : Bool) → is_it q d ≡ b → (if b then Some steps else o.dated_steps q d) ≡ Some xs → ((q ≡ name) × (d ≡ day) × (steps ≡ xs)) ⊎ (o.dated_steps q d ≡ Some xs)
+      by_test : (b : Bool) → is_it q d ≡ b → (if b then Some steps else o.dated_steps q d) ≡ Some xs
+          → ((q ≡ name) × (d ≡ day) × (steps ≡ xs)) ⊎ (o.dated_steps q d ≡ Some xs)
       by_test true is e = let n = names_it q d is in inl (n.0, n.1, same_Some steps xs e)
       by_test false is e = inr e
 
@@ -193,7 +199,8 @@ module _ (rows : Rows) (o : Office) (are : AreMembersOf rows o) (name : List ℕ
   had_still q d xs e = by_test (is_it q d) refl
     where
       by_test : (b : Bool) → is_it q d ≡ b → (if b then Some steps else o.dated_steps q d) ≡ Some xs
-      by_test true is = let n = names_it q d is in absurd (none_some (o.dated_steps name day) xs free (sym (ap (λ (k : List ℕ × ℕ). o.dated_steps k.0 k.1) (pair n.0 n.1)) ∙ e))
+      by_test true is = let n = names_it q d is in absurd
+          (none_some (o.dated_steps name day) xs free (sym (ap (λ (k : List ℕ × ℕ). o.dated_steps k.0 k.1) (pair n.0 n.1)) ∙ e))
         where
           pair : q ≡ name → d ≡ day → ◌≡◌ {A = List ℕ × ℕ} (q, d) (name, day)
           pair e f = cc
@@ -214,7 +221,9 @@ module _ (rows : Rows) (o : Office) (are : AreMembersOf rows o) (name : List ℕ
       elim (had_or_put r.tariff r.day has.0 has.1) [
         | inl here ↦
             let at : slice_get steps r.place ≡ Some r.step = subst (λ (xs : List Step). slice_get xs r.place ≡ Some r.step) (sym here.2) has.2 in
-            Contains-append_right rows.dated_steps (dated_rows name day steps) r (subst (Contains (dated_rows name day steps)) (same_row r (sym here.0) (sym here.1)) (made_among (dated_row name day) 0 steps r.place r.step at))
+            Contains-append_right rows.dated_steps (dated_rows name day steps) r
+            (subst (Contains (dated_rows name day steps)) (same_row r (sym here.0) (sym here.1))
+            (made_among (dated_row name day) 0 steps r.place r.step at))
         | inr old ↦ Contains-append_left rows.dated_steps (dated_rows name day steps) r ((are.dated_steps r).0 (has.0, old, has.2))
       ]
     where
@@ -249,7 +258,8 @@ module _ (rows : Rows) (o : Office) (are : AreMembersOf rows o) (name : List ℕ
     meters_once = are.meters_once;
     bases_once = are.bases_once;
     dated_once = pairs_append AreDatedApart rows.dated_steps (dated_rows name day steps) are.dated_once
-        (pairs_weaker (λ a b. a.place ≢ b.place) AreDatedApart (dated_rows name day steps) (λ a b apart _ _. apart) (made_apart (dated_row name day) (λ (r : DatedStepRow). r.place) (λ n s. refl) 0 steps)) (λ a b old new same on.
+        (pairs_weaker (λ a b. a.place ≢ b.place) AreDatedApart (dated_rows name day steps) (λ a b apart _ _. apart)
+        (made_apart (dated_row name day) (λ (r : DatedStepRow). r.place) (λ n s. refl) 0 steps)) (λ a b old new same on.
         let has = (are.dated_steps a).1 old in
         let is = dated_new b new in
         let here : ◌≡◌ {A = List ℕ × ℕ} (a.tariff, a.day) (name, day) = let e = same ∙ is.0 in let f = on ∙ is.1 in cc in

@@ -56,7 +56,8 @@ use Rattle.book_tables.proofs.WritingLemmas.WriteLemmas.{changes_only, only_one}
 
 -- ---- a value that is put under its key, or made of the one that is there
 
-module _ {K V : Type 0} (stored : K × V → Row) (is_key : K → Bool) (key : K) (tells : (k : K) → (is_key k ≡ true) ↔ (k ≡ key)) (value : V) (to : Option V → V) (first : value ≡ to None) (rows : List (K × V)) (has : K → Option V) (are : AreRowsOf rows has) where
+module _ {K V : Type 0} (stored : K × V → Row) (is_key : K → Bool) (key : K) (tells : (k : K) → (is_key k ≡ true) ↔ (k ≡ key)) (value : V)
+    (to : Option V → V) (first : value ≡ to None) (rows : List (K × V)) (has : K → Option V) (are : AreRowsOf rows has) where
   abbrev pub picks : K × V → Bool
   picks r = is_key r.0
 
@@ -101,7 +102,8 @@ module _ {K V : Type 0} (stored : K × V → Row) (is_key : K → Bool) (key : K
       pub id : ℤ
       pub is : row ≡ Int id ∷ stored after
 
-    pub hidden_after : MergesHidden t m params stored given picks with_next rows → map (drop 1) (old.now.trees t.tree) ≡ map stored rows → IsInOrder (old.now.trees t.tree) → (row : Row) → Upserts t m params old new row → HiddenAfter row
+    pub hidden_after : MergesHidden t m params stored given picks with_next rows → map (drop 1) (old.now.trees t.tree) ≡ map stored rows
+        → IsInOrder (old.now.trees t.tree) → (row : Row) → Upserts t m params old new row → HiddenAfter row
     hidden_after so hidden order row merged =
         elim (upserts_hidden t m params old new stored given picks with_next rows so hidden order (few_under is_key key tells rows has are) row merged) [
           | inl g ↦
@@ -110,7 +112,8 @@ module _ {K V : Type 0} (stored : K × V → Row) (is_key : K → Bool) (key : K
                 rest = rows ++ given ∷ [];
                 columns = ap (map (drop 1)) g.changed.rows_are ∙ g.holds;
                 in_order = subst IsInOrder (sym g.changed.rows_are) g.in_order;
-                now_are = subst (λ (v : V). AreRowsOf (rows ++ given ∷ []) (put_under is_key v has)) (value_is none) (rows_appended is_key key tells rows has are value none);
+                now_are = subst (λ (v : V). AreRowsOf (rows ++ given ∷ []) (put_under is_key v has)) (value_is none)
+                    (rows_appended is_key key tells rows has are value none);
                 id = g.number;
                 is = g.is ∙ ap (λ (r : K × V). Int g.number ∷ stored r) (given_is none);
               }
@@ -126,7 +129,8 @@ module _ {K V : Type 0} (stored : K × V → Row) (is_key : K → Bool) (key : K
         ]
 
 -- the same of a table of which the key is the number of a row
-module _ {V : Type 0} (stored : ℕ × V → Row) (key : ℕ) (value : V) (to : Option V → V) (first : value ≡ to None) (rows : List (ℕ × V)) (has : ℕ → Option V) (are : AreRowsOf rows has) (up : IsKeyedBy (λ (r : ℕ × V). pos r.0) rows) where
+module _ {V : Type 0} (stored : ℕ × V → Row) (key : ℕ) (value : V) (to : Option V → V) (first : value ≡ to None) (rows : List (ℕ × V))
+    (has : ℕ → Option V) (are : AreRowsOf rows has) (up : IsKeyedBy (λ (r : ℕ × V). pos r.0) rows) where
   abbrev number_of : ℕ × V → ℤ
   number_of r = pos r.0
 
@@ -141,17 +145,22 @@ module _ {V : Type 0} (stored : ℕ × V → Row) (key : ℕ) (value : V) (to : 
       pub in_order : IsKeyedBy (λ (r : ℕ × V). pos r.0) rest
       pub is : row ≡ stored (key, to (has key))
 
-    pub numbered_after : MergesAs t m params (old.now.trees t.tree) (λ (r : ℕ × V). pos r.0) stored (key, value) (λ (r : ℕ × V). r.0 == key) (λ (r : ℕ × V). (r.0, to (Some r.1))) rows → old.now.trees t.tree ≡ map stored rows → (row : Row) → Upserts t m params old new row → NumberedAfter row
+    pub numbered_after : MergesAs t m params (old.now.trees t.tree) (λ (r : ℕ × V). pos r.0) stored (key, value)
+        (λ (r : ℕ × V). r.0 == key) (λ (r : ℕ × V). (r.0, to (Some r.1))) rows → old.now.trees t.tree ≡ map stored rows → (row : Row)
+        → Upserts t m params old new row → NumberedAfter row
     numbered_after so holds row merged =
         let tells = tells_number key in
-        elim (upserts_listed t m params old new number_of stored (key, value) (picks stored has_number key tells value to first rows has are) (with_next stored has_number key tells value to first rows has are) rows so holds up (few_under has_number key tells rows has are) row merged) [
+        elim (upserts_listed t m params old new number_of stored (key, value)
+        (picks stored has_number key tells value to first rows has are)
+        (with_next stored has_number key tells value to first rows has are) rows so holds up (few_under has_number key tells rows has are) row merged) [
           | inl g ↦
               let none = free_under has_number key tells rows has are g.free in
               let put = rows_inserted has_number key tells rows has are up value none in
               record {
                 rest = insert_by number_of rows (key, value);
                 columns = g.changed.rows_are;
-                now_are = subst (λ (v : V). AreRowsOf (insert_by number_of rows (key, value)) (put_under has_number v has)) (value_is stored has_number key tells value to first rows has are none) put.0;
+                now_are = subst (λ (v : V). AreRowsOf (insert_by number_of rows (key, value)) (put_under has_number v has))
+                    (value_is stored has_number key tells value to first rows has are none) put.0;
                 in_order = put.1;
                 is = g.is ∙ ap stored (given_is stored has_number key tells value to first rows has are none);
               }
@@ -188,7 +197,8 @@ in_order rows up = record {
 pub stands_for : (k : Kept) (s : Schema) → IsKept s k → StandsForUpserts s (place_in s k.table.name) (record k.table { tree = tree_in s k.table.name })
 stands_for k s has = record { has = has.0.has; keys = has.0.keys; left_alone = has.1 }
 
-takes : (k : Kept) (s : State) → IsKept s.now.schema k → IsInOrder (s.now.trees (tree_in s.now.schema k.table.name)) → TakesUpserts s.now (place_in s.now.schema k.table.name) (record k.table { tree = tree_in s.now.schema k.table.name })
+takes : (k : Kept) (s : State) → IsKept s.now.schema k → IsInOrder (s.now.trees (tree_in s.now.schema k.table.name))
+    → TakesUpserts s.now (place_in s.now.schema k.table.name) (record k.table { tree = tree_in s.now.schema k.table.name })
 takes k s has order = record { has = has.0.has; keys = has.0.keys; left_alone = has.1; in_order = order }
 
 -- what is upserted is so on an open connection
@@ -210,7 +220,8 @@ module _ (old new : State) where
     base_key = (meter, base)
 
     sets_tid : (rows : List ((List ℕ × Base) × ℕ))
-        → MergesHidden last_ids last_id_merging (last_id_columns (base_key, tid)) last_id_columns (base_key, tid) (λ (r : (List ℕ × Base) × ℕ). is_under base_key r.0) (λ (r : (List ℕ × Base) × ℕ). (r.0, tid)) rows
+        → MergesHidden last_ids last_id_merging (last_id_columns (base_key, tid)) last_id_columns (base_key, tid)
+        (λ (r : (List ℕ × Base) × ℕ). is_under base_key r.0) (λ (r : (List ℕ × Base) × ℕ). (r.0, tid)) rows
     sets_tid rows = record {
       source = rw (cast_no_int, cast_int (pos (year_of base)), cast_int (pos tid)) refl;
       fits = rw (cast_int (pos (year_of base)), cast_int (pos tid)) refl;
@@ -218,44 +229,71 @@ module _ (old new : State) where
       becomes = λ id n r there met. rw (cast_int n, cast_int (pos (year_of r.0.1)), cast_int (pos tid)) refl;
     }
 
-    module _ (params : Row) (bound : params ≡ last_id_columns (base_key, tid)) (format : ℕ) (rows : Rows) (held : IsTrue old.is_open → HoldsOf present_format format old.now rows) (has : (List ℕ × Base) → Option ℕ) (are : AreRowsOf rows.last_ids has) where
+    module _ (params : Row) (bound : params ≡ last_id_columns (base_key, tid)) (format : ℕ) (rows : Rows)
+        (held : IsTrue old.is_open → HoldsOf present_format format old.now rows) (has : (List ℕ × Base) → Option ℕ) (are : AreRowsOf rows.last_ids has) where
       pub takes_last_id : IsTrue old.is_open → TakesUpserts old.now last_ids_at last_ids
       takes_last_id runs = takes last_ids_kept old (last_ids_in.there old.now.schema (held runs).has) (last_ids_in.holds format old.now rows (held runs)).1
 
-      last_id_after : (row : Row) → Upserts last_ids last_id_merging params old new row → HiddenAfter last_id_columns (is_under base_key) base_key (tells_under base_key) tid (λ o. tid) refl rows.last_ids has are last_ids last_id_merging params old new row
+      last_id_after : (row : Row) → Upserts last_ids last_id_merging params old new row
+          → HiddenAfter last_id_columns (is_under base_key) base_key (tells_under base_key) tid (λ o. tid) refl rows.last_ids has are
+          last_ids last_id_merging params old new row
       last_id_after row merged =
           let hidden = last_ids_in.holds format old.now rows (held (was_open merged)) in
-          hidden_after last_id_columns (is_under base_key) base_key (tells_under base_key) tid (λ o. tid) refl rows.last_ids has are last_ids last_id_merging params old new
-          (subst (λ (p : Row). MergesHidden last_ids last_id_merging p last_id_columns (base_key, tid) (λ (r : (List ℕ × Base) × ℕ). is_under base_key r.0) (λ (r : (List ℕ × Base) × ℕ). (r.0, tid)) rows.last_ids) (sym bound) (sets_tid rows.last_ids))
+          hidden_after last_id_columns (is_under base_key) base_key (tells_under base_key) tid (λ o. tid) refl rows.last_ids has are
+          last_ids last_id_merging params old new
+          (subst (λ (p : Row). MergesHidden last_ids last_id_merging p last_id_columns (base_key, tid)
+          (λ (r : (List ℕ × Base) × ℕ). is_under base_key r.0) (λ (r : (List ℕ × Base) × ℕ). (r.0, tid)) rows.last_ids) (sym bound)
+          (sets_tid rows.last_ids))
           hidden.0 hidden.1 row merged
 
       pub tid_shown : (row : Row) → Upserts last_ids last_id_merging params old new row → shown_row last_ids last_id_merging params row ≡ shown_number tid
-      tid_shown row merged = ap (λ (p : Row). shown_row last_ids last_id_merging p row) bound ∙ ap (shown_row last_ids last_id_merging (last_id_columns (base_key, tid))) (last_id_after row merged).is
+      tid_shown row merged = ap (λ (p : Row). shown_row last_ids last_id_merging p row) bound
+          ∙ ap (shown_row last_ids last_id_merging (last_id_columns (base_key, tid))) (last_id_after row merged).is
 
       -- what comes back is no false row
-      pub tid_is_shown : IsTid tid → ((row : Row) × (¬ ShowsRecord (λ (t : Tid). shown_number t.number) (λ (t : Tid). IsTid t.number) (shown_row last_ids last_id_merging params row)) × Upserts last_ids last_id_merging params old new row) → ⊥
+      pub tid_is_shown : IsTid tid → ((row : Row) × (¬ ShowsRecord (λ (t : Tid). shown_number t.number) (λ (t : Tid). IsTid t.number)
+          (shown_row last_ids last_id_merging params row)) × Upserts last_ids last_id_merging params old new row) → ⊥
       tid_is_shown small (row, unread, merged) = unread (record { number = tid }, (sym (tid_shown row merged), small))
 
     pub sets_last_id : HasAllTables old → (params : Row) → params ≡ last_id_columns (base_key, tid) → Touches last_ids last_id_merging params old new
-        → ((IsTrue old.is_open → TakesUpserts old.now last_ids_at last_ids) → (row : Row) × Upserts last_ids last_id_merging params old new row) → SetsLastId base_key tid old new
+        → ((IsTrue old.is_open → TakesUpserts old.now last_ids_at last_ids) → (row : Row)
+        × Upserts last_ids last_id_merging params old new row) → SetsLastId base_key tid old new
     sets_last_id has_all params bound touches merged =
         let only = only_one (codes "last_ids") last_ids touches.0 old new refl touches.1 in
         record {
           only = only;
           kept = λ order.
               let it = merged (λ runs. takes last_ids_kept old (last_ids_in.there old.now.schema (has_all runs)) order.0) in
-              let given : given_row last_ids last_id_merging params (old.now.trees last_ids.tree) ≡ with_rowid Chosen (old.now.trees last_ids.tree) (Null ∷ last_id_columns (base_key, tid)) =
-              ap (λ (p : Row). given_row last_ids last_id_merging p (old.now.trees last_ids.tree)) bound ∙ ap (with_rowid Chosen (old.now.trees last_ids.tree)) ((sets_tid []).source) in
-              keeps_merge (last_id_keys base_key) old new last_ids_kept last_ids_in has_all last_id_merging params it.0 it.1 (changes_only (codes "last_ids") old new only) (was_open it.1)
-              (own_of_key (codes "last_ids") ((1, Text meter) ∷ (2, Int (pos (year_of base))) ∷ []) (cast_row last_ids (given_row last_ids last_id_merging params (old.now.trees last_ids.tree))) (ap (λ (r : Row). has_key ((1, Text meter) ∷ (2, Int (pos (year_of base))) ∷ []) (cast_row last_ids r)) given
-              ∙ has_values ((1, Text meter) ∷ (2, Int (pos (year_of base))) ∷ []) (cast_row last_ids (with_rowid Chosen (old.now.trees last_ids.tree) (Null ∷ last_id_columns (base_key, tid)))) (refl, (cast_int (pos (year_of base)), tt))))
-              (subst (λ (r : Row). IsTrue (is_int (rowid (cast_row last_ids r)))) (sym given) (subst (λ (v : Value). IsTrue (is_int v)) (sym (cast_int (next_rowid (old.now.trees last_ids.tree)))) refl))
-              (λ r found. pair_found (codes "last_ids") meter (year_of base) (given_row last_ids last_id_merging params (old.now.trees last_ids.tree)) r (ap (λ (g : Row). column g 1) given) (ap (λ (g : Row). column g 2) given) found)
-              (λ r is_number own. (pair_kept (codes "last_ids") meter (year_of base) r (set_row last_ids last_id_merging params (old.now.trees last_ids.tree) r) refl refl own, number_kept (rowid r) is_number)) order;
+              let given : given_row last_ids last_id_merging params (old.now.trees last_ids.tree)
+              ≡ with_rowid Chosen (old.now.trees last_ids.tree) (Null ∷ last_id_columns (base_key, tid)) =
+              ap (λ (p : Row). given_row last_ids last_id_merging p (old.now.trees last_ids.tree)) bound
+              ∙ ap (with_rowid Chosen (old.now.trees last_ids.tree)) ((sets_tid []).source) in
+              keeps_merge (last_id_keys base_key) old new last_ids_kept last_ids_in has_all last_id_merging params it.0 it.1
+              (changes_only (codes "last_ids") old new only) (was_open it.1)
+              (own_of_key (codes "last_ids") ((1, Text meter) ∷ (2, Int (pos (year_of base))) ∷ [])
+              (cast_row last_ids (given_row last_ids last_id_merging params (old.now.trees last_ids.tree)))
+              (ap (λ (r : Row). has_key ((1, Text meter) ∷ (2, Int (pos (year_of base))) ∷ []) (cast_row last_ids r)) given
+              ∙ has_values ((1, Text meter) ∷ (2, Int (pos (year_of base))) ∷ [])
+              (cast_row last_ids (with_rowid Chosen (old.now.trees last_ids.tree) (Null ∷ last_id_columns (base_key, tid))))
+              (refl, (cast_int (pos (year_of base)), tt))))
+              (subst (λ (r : Row). IsTrue (is_int (rowid (cast_row last_ids r)))) (sym given)
+              (subst (λ (v : Value). IsTrue (is_int v)) (sym (cast_int (next_rowid (old.now.trees last_ids.tree)))) refl))
+              (λ r found. pair_found (codes "last_ids") meter (year_of base)
+              (given_row last_ids last_id_merging params (old.now.trees last_ids.tree)) r (ap (λ (g : Row). column g 1) given)
+              (ap (λ (g : Row). column g 2) given) found)
+              (λ r is_number own. (
+                pair_kept (codes "last_ids") meter (year_of base) r
+                    (set_row last_ids last_id_merging params (old.now.trees last_ids.tree) r) refl refl own,
+                number_kept (rowid r) is_number,
+              )) order;
           rows = λ format rows has held are.
               let it = merged (takes_last_id params bound format rows (λ _. held) has are) in
-              let after = last_id_after params bound format rows (λ _. held) has are it.0 it.1 in
-              (after.rest, last_ids_changed format old.now new.now rows held after.rest (changes_only (codes "last_ids") old new only) after.columns after.in_order, after.now_are);
+              let after = last_id_after params bound format rows (λ _. held) has are it.0 it.1 in (
+                after.rest,
+                last_ids_changed format old.now new.now rows held after.rest (changes_only (codes "last_ids") old new only)
+                    after.columns after.in_order,
+                after.now_are,
+              );
         }
 
   -- ---- the tenths of a meter in a month
@@ -277,7 +315,8 @@ module _ (old new : State) where
     is_that_month r = is_in_month month_key r.0
 
     adds_these : (rows : List ((List ℕ × ℕ) × ℕ)) → ((r : (List ℕ × ℕ) × ℕ) → Member rows r → is_that_month r ≡ true → r.1 + tenths < 2 ^ 63)
-        → MergesHidden month_tenths tenths_merging (month_columns (month_key, tenths)) month_columns (month_key, tenths) is_that_month (λ (r : (List ℕ × ℕ) × ℕ). (r.0, r.1 + tenths)) rows
+        → MergesHidden month_tenths tenths_merging (month_columns (month_key, tenths)) month_columns (month_key, tenths) is_that_month
+        (λ (r : (List ℕ × ℕ) × ℕ). (r.0, r.1 + tenths)) rows
     adds_these rows low = record {
       source = rw (cast_no_int, cast_int (pos month), cast_int (pos tenths)) refl;
       fits = rw (cast_int (pos month), cast_int (pos tenths)) refl;
@@ -285,32 +324,45 @@ module _ (old new : State) where
       becomes = λ id n r there met. rw (cast_int n, cast_int (pos r.0.1), cast_sum r.1 tenths (low r there met)) refl;
     }
 
-    module _ (params : Row) (bound : params ≡ month_columns (month_key, tenths)) (format : ℕ) (rows : Rows) (held : IsTrue old.is_open → HoldsOf present_format format old.now rows) (has : (List ℕ × ℕ) → Option ℕ) (are : AreRowsOf rows.month_tenths has) (low : sum_of (has month_key) < 2 ^ 63) where
+    module _ (params : Row) (bound : params ≡ month_columns (month_key, tenths)) (format : ℕ) (rows : Rows)
+        (held : IsTrue old.is_open → HoldsOf present_format format old.now rows) (has : (List ℕ × ℕ) → Option ℕ)
+        (are : AreRowsOf rows.month_tenths has) (low : sum_of (has month_key) < 2 ^ 63) where
       pub takes_tenths : IsTrue old.is_open → TakesUpserts old.now month_tenths_at month_tenths
-      takes_tenths runs = takes month_tenths_kept old (month_tenths_in.there old.now.schema (held runs).has) (month_tenths_in.holds format old.now rows (held runs)).1
+      takes_tenths runs = takes month_tenths_kept old (month_tenths_in.there old.now.schema (held runs).has)
+          (month_tenths_in.holds format old.now rows (held runs)).1
 
       first_sum : tenths ≡ sum_of None
       first_sum = omega arith
 
       within : (r : (List ℕ × ℕ) × ℕ) → Member rows.month_tenths r → is_that_month r ≡ true → r.1 + tenths < 2 ^ 63
-      within r there met = subst (λ (o : Option ℕ). sum_of o < 2 ^ 63) (value_under (is_in_month month_key) month_key (tells_month month_key) rows.month_tenths has are r there met) low
+      within r there met = subst (λ (o : Option ℕ). sum_of o < 2 ^ 63)
+          (value_under (is_in_month month_key) month_key (tells_month month_key) rows.month_tenths has are r there met) low
 
-      tenths_after : (row : Row) → Upserts month_tenths tenths_merging params old new row → HiddenAfter month_columns (is_in_month month_key) month_key (tells_month month_key) tenths sum_of first_sum rows.month_tenths has are month_tenths tenths_merging params old new row
+      tenths_after : (row : Row) → Upserts month_tenths tenths_merging params old new row
+          → HiddenAfter month_columns (is_in_month month_key) month_key (tells_month month_key) tenths sum_of first_sum rows.month_tenths
+          has are month_tenths tenths_merging params old new row
       tenths_after row merged =
           let hidden = month_tenths_in.holds format old.now rows (held (was_open merged)) in
-          hidden_after month_columns (is_in_month month_key) month_key (tells_month month_key) tenths sum_of first_sum rows.month_tenths has are month_tenths tenths_merging params old new
-          (subst (λ (p : Row). MergesHidden month_tenths tenths_merging p month_columns (month_key, tenths) is_that_month (λ (r : (List ℕ × ℕ) × ℕ). (r.0, r.1 + tenths)) rows.month_tenths) (sym bound) (adds_these rows.month_tenths within))
+          hidden_after month_columns (is_in_month month_key) month_key (tells_month month_key) tenths sum_of first_sum rows.month_tenths
+          has are month_tenths tenths_merging params old new
+          (subst (λ (p : Row). MergesHidden month_tenths tenths_merging p month_columns (month_key, tenths) is_that_month
+          (λ (r : (List ℕ × ℕ) × ℕ). (r.0, r.1 + tenths)) rows.month_tenths) (sym bound) (adds_these rows.month_tenths within))
           hidden.0 hidden.1 row merged
 
-      pub sum_shown : (row : Row) → Upserts month_tenths tenths_merging params old new row → shown_row month_tenths tenths_merging params row ≡ shown_number (sum_of (has month_key))
-      sum_shown row merged = ap (λ (p : Row). shown_row month_tenths tenths_merging p row) bound ∙ ap (shown_row month_tenths tenths_merging (month_columns (month_key, tenths))) (tenths_after row merged).is
+      pub sum_shown : (row : Row) → Upserts month_tenths tenths_merging params old new row
+          → shown_row month_tenths tenths_merging params row ≡ shown_number (sum_of (has month_key))
+      sum_shown row merged = ap (λ (p : Row). shown_row month_tenths tenths_merging p row) bound
+          ∙ ap (shown_row month_tenths tenths_merging (month_columns (month_key, tenths))) (tenths_after row merged).is
 
       pub sum_is_shown : IsTotal (sum_of (has month_key))
-          → ((row : Row) × (¬ ShowsRecord (λ (t : Tenths). shown_number t.sum) (λ (t : Tenths). IsTotal t.sum) (shown_row month_tenths tenths_merging params row)) × Upserts month_tenths tenths_merging params old new row) → ⊥
+          → ((row : Row) × (¬ ShowsRecord (λ (t : Tenths). shown_number t.sum) (λ (t : Tenths). IsTotal t.sum)
+          (shown_row month_tenths tenths_merging params row)) × Upserts month_tenths tenths_merging params old new row) → ⊥
       sum_is_shown small (row, unread, merged) = unread (record { sum = sum_of (has month_key) }, (sym (sum_shown row merged), small))
 
-    pub adds_tenths : HasAllTables old → (shown : Tenths) (params : Row) → params ≡ month_columns (month_key, tenths) → Touches month_tenths tenths_merging params old new
-        → ((IsTrue old.is_open → TakesUpserts old.now month_tenths_at month_tenths) → (row : Row) × IsShown (λ (t : Tenths). shown_number t.sum) (λ (t : Tenths). IsTotal t.sum) (shown_row month_tenths tenths_merging params row) shown
+    pub adds_tenths : HasAllTables old → (shown : Tenths) (params : Row) → params ≡ month_columns (month_key, tenths)
+        → Touches month_tenths tenths_merging params old new
+        → ((IsTrue old.is_open → TakesUpserts old.now month_tenths_at month_tenths) → (row : Row)
+        × IsShown (λ (t : Tenths). shown_number t.sum) (λ (t : Tenths). IsTotal t.sum) (shown_row month_tenths tenths_merging params row) shown
         × Upserts month_tenths tenths_merging params old new row) → AddsTenths month_key tenths shown.sum old new
     adds_tenths has_all shown params bound touches merged =
         let only = only_one (codes "month_tenths") month_tenths touches.0 old new refl touches.1 in
@@ -318,19 +370,34 @@ module _ (old new : State) where
           only = only;
           kept = λ order.
               let it = merged (λ runs. takes month_tenths_kept old (month_tenths_in.there old.now.schema (has_all runs)) order.0) in
-              let given : given_row month_tenths tenths_merging params (old.now.trees month_tenths.tree) ≡ with_rowid Chosen (old.now.trees month_tenths.tree) (Null ∷ month_columns (month_key, tenths)) =
-              ap (λ (p : Row). given_row month_tenths tenths_merging p (old.now.trees month_tenths.tree)) bound ∙ ap (with_rowid Chosen (old.now.trees month_tenths.tree)) ((adds_these [] (λ r none met. absurd none)).source) in
-              keeps_merge ((codes "month_tenths", (1, Text meter) ∷ (2, Int (pos month)) ∷ []) ∷ []) old new month_tenths_kept month_tenths_in has_all tenths_merging params it.0 it.2 (changes_only (codes "month_tenths") old new only) (was_open it.2)
-              (own_of_key (codes "month_tenths") ((1, Text meter) ∷ (2, Int (pos month)) ∷ []) (cast_row month_tenths (given_row month_tenths tenths_merging params (old.now.trees month_tenths.tree))) (ap (λ (r : Row). has_key ((1, Text meter) ∷ (2, Int (pos month)) ∷ []) (cast_row month_tenths r)) given
-              ∙ has_values ((1, Text meter) ∷ (2, Int (pos month)) ∷ []) (cast_row month_tenths (with_rowid Chosen (old.now.trees month_tenths.tree) (Null ∷ month_columns (month_key, tenths)))) (refl, (cast_int (pos month), tt))))
-              (subst (λ (r : Row). IsTrue (is_int (rowid (cast_row month_tenths r)))) (sym given) (subst (λ (v : Value). IsTrue (is_int v)) (sym (cast_int (next_rowid (old.now.trees month_tenths.tree)))) refl))
-              (λ r found. pair_found (codes "month_tenths") meter month (given_row month_tenths tenths_merging params (old.now.trees month_tenths.tree)) r (ap (λ (g : Row). column g 1) given) (ap (λ (g : Row). column g 2) given) found)
-              (λ r is_number own. (pair_kept (codes "month_tenths") meter month r (set_row month_tenths tenths_merging params (old.now.trees month_tenths.tree) r) refl refl own, number_kept (rowid r) is_number)) order;
+              let given : given_row month_tenths tenths_merging params (old.now.trees month_tenths.tree)
+              ≡ with_rowid Chosen (old.now.trees month_tenths.tree) (Null ∷ month_columns (month_key, tenths)) =
+              ap (λ (p : Row). given_row month_tenths tenths_merging p (old.now.trees month_tenths.tree)) bound
+              ∙ ap (with_rowid Chosen (old.now.trees month_tenths.tree)) ((adds_these [] (λ r none met. absurd none)).source) in
+              keeps_merge ((codes "month_tenths", (1, Text meter) ∷ (2, Int (pos month)) ∷ []) ∷ []) old new month_tenths_kept
+              month_tenths_in has_all tenths_merging params it.0 it.2 (changes_only (codes "month_tenths") old new only) (was_open it.2)
+              (own_of_key (codes "month_tenths") ((1, Text meter) ∷ (2, Int (pos month)) ∷ [])
+              (cast_row month_tenths (given_row month_tenths tenths_merging params (old.now.trees month_tenths.tree)))
+              (ap (λ (r : Row). has_key ((1, Text meter) ∷ (2, Int (pos month)) ∷ []) (cast_row month_tenths r)) given
+              ∙ has_values ((1, Text meter) ∷ (2, Int (pos month)) ∷ [])
+              (cast_row month_tenths (with_rowid Chosen (old.now.trees month_tenths.tree) (Null ∷ month_columns (month_key, tenths))))
+              (refl, (cast_int (pos month), tt))))
+              (subst (λ (r : Row). IsTrue (is_int (rowid (cast_row month_tenths r)))) (sym given)
+              (subst (λ (v : Value). IsTrue (is_int v)) (sym (cast_int (next_rowid (old.now.trees month_tenths.tree)))) refl))
+              (λ r found. pair_found (codes "month_tenths") meter month
+              (given_row month_tenths tenths_merging params (old.now.trees month_tenths.tree)) r (ap (λ (g : Row). column g 1) given)
+              (ap (λ (g : Row). column g 2) given) found)
+              (λ r is_number own. (
+                pair_kept (codes "month_tenths") meter month r
+                    (set_row month_tenths tenths_merging params (old.now.trees month_tenths.tree) r) refl refl own,
+                number_kept (rowid r) is_number,
+              )) order;
           rows = λ format rows has held are low.
               let it = merged (takes_tenths params bound format rows (λ _. held) has are low) in
               let after = tenths_after params bound format rows (λ _. held) has are low it.0 it.2 in (
                 after.rest,
-                month_tenths_changed format old.now new.now rows held after.rest (changes_only (codes "month_tenths") old new only) after.columns after.in_order,
+                month_tenths_changed format old.now new.now rows held after.rest (changes_only (codes "month_tenths") old new only)
+                    after.columns after.in_order,
                 after.now_are,
                 one_number shown.sum (sum_of (has month_key)) (it.1.0 ∙ sum_shown params bound format rows (λ _. held) has are low it.0 it.2),
               );
@@ -358,15 +425,19 @@ module _ (old new : State) where
     is_first =
         let all_tenths : tenths ≡ 0 + tenths = omega arith in
         let all_cash : price ≡ 0 + price = omega arith in
-        ap (λ (n : ℕ). let t : Totals = record { sales = 1; tenths = n; cash = price } in t) all_tenths ∙ ap (λ (n : ℕ). let t : Totals = record { sales = 1; tenths = 0 + tenths; cash = n } in t) all_cash
+        ap (λ (n : ℕ). let t : Totals = record { sales = 1; tenths = n; cash = price } in t) all_tenths
+        ∙ ap (λ (n : ℕ). let t : Totals = record { sales = 1; tenths = 0 + tenths; cash = n } in t) all_cash
 
     adds_one : (rows : List (ℕ × Totals)) → ((r : ℕ × Totals) → Member rows r → (r.0 == shift) ≡ true → HasRoomFor (one_more tenths price r.1))
-        → MergesAs shift_totals totals_merging sale_params (old.now.trees shift_totals.tree) (λ (r : ℕ × Totals). pos r.0) totals_row (shift, first_totals) (λ (r : ℕ × Totals). r.0 == shift) (λ (r : ℕ × Totals). (r.0, one_more tenths price r.1)) rows
+        → MergesAs shift_totals totals_merging sale_params (old.now.trees shift_totals.tree) (λ (r : ℕ × Totals). pos r.0) totals_row
+        (shift, first_totals) (λ (r : ℕ × Totals). r.0 == shift) (λ (r : ℕ × Totals). (r.0, one_more tenths price r.1)) rows
     adds_one rows low = record {
       keyed = λ r. refl;
-      gives = given_numbered shift_totals totals_merging sale_params (totals_row (shift, first_totals)) (pos shift) (rw (cast_int (pos shift), cast_no_int, cast_int (pos 1), cast_int (pos tenths), cast_int (pos price)) refl) refl (old.now.trees shift_totals.tree);
+      gives = given_numbered shift_totals totals_merging sale_params (totals_row (shift, first_totals)) (pos shift)
+          (rw (cast_int (pos shift), cast_no_int, cast_int (pos 1), cast_int (pos tenths), cast_int (pos price)) refl) refl (old.now.trees shift_totals.tree);
       fits = rw (cast_int (pos shift), cast_no_int, cast_int (pos 1), cast_int (pos tenths), cast_int (pos price)) refl;
-      meets = λ r. of_number shift r.0 (Null ∷ number 1 ∷ number tenths ∷ number price ∷ []) (Null ∷ number r.1.sales ∷ number r.1.tenths ∷ number r.1.cash ∷ []);
+      meets = λ r. of_number shift r.0 (Null ∷ number 1 ∷ number tenths ∷ number price ∷ [])
+          (Null ∷ number r.1.sales ∷ number r.1.tenths ∷ number r.1.cash ∷ []);
       becomes = λ r there met. let room = low r there met in
           rw (cast_int (pos r.0), cast_no_int, cast_sum r.1.sales 1 room.0, cast_sum r.1.tenths tenths room.1, cast_sum r.1.cash price room.2) refl;
       stays = λ r. refl;
@@ -379,27 +450,40 @@ module _ (old new : State) where
         let is : A ≡ B = cc in
         is
 
-    module _ (params : Row) (bound : params ≡ sale_params) (format : ℕ) (rows : Rows) (held : IsTrue old.is_open → HoldsOf present_format format old.now rows) (has : ℕ → Option Totals) (are : AreRowsOf rows.shift_totals has) (up : IsKeyedBy (λ (r : ℕ × Totals). pos r.0) rows.shift_totals) (room : HasRoomFor (totals_after (has shift))) where
+    module _ (params : Row) (bound : params ≡ sale_params) (format : ℕ) (rows : Rows)
+        (held : IsTrue old.is_open → HoldsOf present_format format old.now rows) (has : ℕ → Option Totals)
+        (are : AreRowsOf rows.shift_totals has) (up : IsKeyedBy (λ (r : ℕ × Totals). pos r.0) rows.shift_totals)
+        (room : HasRoomFor (totals_after (has shift))) where
       pub takes_totals : IsTrue old.is_open → TakesUpserts old.now shift_totals_at shift_totals
-      takes_totals runs = takes shift_totals_kept old (shift_totals_in.there old.now.schema (held runs).has) (subst IsInOrder (sym (shift_totals_in.holds format old.now rows (held runs))) (in_order rows.shift_totals up))
+      takes_totals runs = takes shift_totals_kept old (shift_totals_in.there old.now.schema (held runs).has)
+          (subst IsInOrder (sym (shift_totals_in.holds format old.now rows (held runs))) (in_order rows.shift_totals up))
 
       within_room : (r : ℕ × Totals) → Member rows.shift_totals r → (r.0 == shift) ≡ true → HasRoomFor (one_more tenths price r.1)
-      within_room r there met = subst (λ (o : Option Totals). HasRoomFor (totals_after o)) (value_under (λ n. n == shift) shift (tells_number shift) rows.shift_totals has are r there met) room
+      within_room r there met = subst (λ (o : Option Totals). HasRoomFor (totals_after o))
+          (value_under (λ n. n == shift) shift (tells_number shift) rows.shift_totals has are r there met) room
 
-      shift_after : (row : Row) → Upserts shift_totals totals_merging params old new row → NumberedAfter totals_row shift first_totals totals_after is_first rows.shift_totals has are up shift_totals totals_merging params old new row
+      shift_after : (row : Row) → Upserts shift_totals totals_merging params old new row
+          → NumberedAfter totals_row shift first_totals totals_after is_first rows.shift_totals has are up shift_totals totals_merging params old new row
       shift_after row merged =
           numbered_after totals_row shift first_totals totals_after is_first rows.shift_totals has are up shift_totals totals_merging params old new
-          (subst (λ (p : Row). MergesAs shift_totals totals_merging p (old.now.trees shift_totals.tree) (λ (r : ℕ × Totals). pos r.0) totals_row (shift, first_totals) (λ (r : ℕ × Totals). r.0 == shift) (λ (r : ℕ × Totals). (r.0, one_more tenths price r.1)) rows.shift_totals) (sym bound) (adds_one rows.shift_totals within_room))
+          (subst (λ (p : Row). MergesAs shift_totals totals_merging p (old.now.trees shift_totals.tree) (λ (r : ℕ × Totals). pos r.0)
+          totals_row (shift, first_totals) (λ (r : ℕ × Totals). r.0 == shift) (λ (r : ℕ × Totals). (r.0, one_more tenths price r.1))
+          rows.shift_totals) (sym bound) (adds_one rows.shift_totals within_room))
           (shift_totals_in.holds format old.now rows (held (was_open merged))) row merged
 
-      pub totals_shown : (row : Row) → Upserts shift_totals totals_merging params old new row → shown_row shift_totals totals_merging params row ≡ shown_totals (totals_after (has shift))
-      totals_shown row merged = ap (λ (p : Row). shown_row shift_totals totals_merging p row) bound ∙ ap (shown_row shift_totals totals_merging sale_params) (shift_after row merged).is
+      pub totals_shown : (row : Row) → Upserts shift_totals totals_merging params old new row
+          → shown_row shift_totals totals_merging params row ≡ shown_totals (totals_after (has shift))
+      totals_shown row merged = ap (λ (p : Row). shown_row shift_totals totals_merging p row) bound
+          ∙ ap (shown_row shift_totals totals_merging sale_params) (shift_after row merged).is
 
-      pub totals_are_shown : AreTotalsValues (totals_after (has shift)) → ((row : Row) × (¬ ShowsRecord shown_totals AreTotalsValues (shown_row shift_totals totals_merging params row)) × Upserts shift_totals totals_merging params old new row) → ⊥
+      pub totals_are_shown : AreTotalsValues (totals_after (has shift))
+          → ((row : Row) × (¬ ShowsRecord shown_totals AreTotalsValues (shown_row shift_totals totals_merging params row))
+          × Upserts shift_totals totals_merging params old new row) → ⊥
       totals_are_shown small (row, unread, merged) = unread (totals_after (has shift), (sym (totals_shown row merged), small))
 
     pub adds_to_shift : HasAllTables old → (shown : Totals) (params : Row) → params ≡ sale_params → Touches shift_totals totals_merging params old new
-        → ((IsTrue old.is_open → TakesUpserts old.now shift_totals_at shift_totals) → (row : Row) × IsShown shown_totals AreTotalsValues (shown_row shift_totals totals_merging params row) shown
+        → ((IsTrue old.is_open → TakesUpserts old.now shift_totals_at shift_totals) → (row : Row)
+        × IsShown shown_totals AreTotalsValues (shown_row shift_totals totals_merging params row) shown
         × Upserts shift_totals totals_merging params old new row) → AddsToShift shift tenths price shown old new
     adds_to_shift has_all shown params bound touches merged =
         let only = only_one (codes "shift_totals") shift_totals touches.0 old new refl touches.1 in
@@ -408,13 +492,23 @@ module _ (old new : State) where
           kept = λ order.
               let it = merged (λ runs. takes shift_totals_kept old (shift_totals_in.there old.now.schema (has_all runs)) order.0) in
               let given : given_row shift_totals totals_merging params (old.now.trees shift_totals.tree) ≡ totals_row (shift, first_totals) =
-              ap (λ (p : Row). given_row shift_totals totals_merging p (old.now.trees shift_totals.tree)) bound ∙ (adds_one [] (λ r none met. absurd none)).gives in
-              keeps_merge (shift_totals_key shift) old new shift_totals_kept shift_totals_in has_all totals_merging params it.0 it.2 (changes_only (codes "shift_totals") old new only) (was_open it.2)
-              (own_of_key (codes "shift_totals") ((0, Int (pos shift)) ∷ []) (cast_row shift_totals (given_row shift_totals totals_merging params (old.now.trees shift_totals.tree))) (ap (λ (r : Row). has_key ((0, Int (pos shift)) ∷ []) (cast_row shift_totals r)) given
+              ap (λ (p : Row). given_row shift_totals totals_merging p (old.now.trees shift_totals.tree)) bound
+              ∙ (adds_one [] (λ r none met. absurd none)).gives in
+              keeps_merge (shift_totals_key shift) old new shift_totals_kept shift_totals_in has_all totals_merging params it.0 it.2
+              (changes_only (codes "shift_totals") old new only) (was_open it.2)
+              (own_of_key (codes "shift_totals") ((0, Int (pos shift)) ∷ [])
+              (cast_row shift_totals (given_row shift_totals totals_merging params (old.now.trees shift_totals.tree)))
+              (ap (λ (r : Row). has_key ((0, Int (pos shift)) ∷ []) (cast_row shift_totals r)) given
               ∙ has_values ((0, Int (pos shift)) ∷ []) (cast_row shift_totals (totals_row (shift, first_totals))) (cast_int (pos shift), tt)))
-              (subst (λ (r : Row). IsTrue (is_int (rowid (cast_row shift_totals r)))) (sym given) (subst (λ (v : Value). IsTrue (is_int v)) (sym (cast_int (pos shift))) refl))
-              (λ r found. number_found (codes "shift_totals") shift (given_row shift_totals totals_merging params (old.now.trees shift_totals.tree)) r (ap (λ (g : Row). column g 0) given) found)
-              (λ r is_number own. let same = number_kept (rowid r) is_number in (own_number_kept (codes "shift_totals") shift r (set_row shift_totals totals_merging params (old.now.trees shift_totals.tree) r) same own, same)) order;
+              (subst (λ (r : Row). IsTrue (is_int (rowid (cast_row shift_totals r)))) (sym given)
+              (subst (λ (v : Value). IsTrue (is_int v)) (sym (cast_int (pos shift))) refl))
+              (λ r found. number_found (codes "shift_totals") shift
+              (given_row shift_totals totals_merging params (old.now.trees shift_totals.tree)) r (ap (λ (g : Row). column g 0) given) found)
+              (λ r is_number own. let same = number_kept (rowid r) is_number in (
+                own_number_kept (codes "shift_totals") shift r (set_row shift_totals totals_merging params
+                    (old.now.trees shift_totals.tree) r) same own,
+                same,
+              )) order;
           rows = λ format rows has held are up room.
               let it = merged (takes_totals params bound format rows (λ _. held) has are up room) in
               let after = shift_after params bound format rows (λ _. held) has are up room it.0 it.2 in (

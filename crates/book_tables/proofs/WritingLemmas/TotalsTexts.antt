@@ -42,7 +42,8 @@ month_tenths_query tree = query_on tree is_that_pair (col 1 3 ∷ []) [] no_limi
 abbrev pub month_tenths_names : List Name
 month_tenths_names = codes "tenths" ∷ []
 
-pub month_tenths_asks : (meter : List ℕ) (month : ℕ) → Asks month_tenths_table month_tenths_query month_tenths_names month_sum_text (Text meter ∷ number month ∷ [])
+pub month_tenths_asks : (meter : List ℕ) (month : ℕ)
+    → Asks month_tenths_table month_tenths_query month_tenths_names month_sum_text (Text meter ∷ number month ∷ [])
 unfolding everything is_whole meant select_meant text_meant
 month_tenths_asks meter month =
     record { is = λ tree. record { means = refl; from = refl }; bare = λ tree. refl; typed = λ tree. refl; whole = refl }

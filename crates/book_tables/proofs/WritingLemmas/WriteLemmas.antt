@@ -100,7 +100,8 @@ module _ {X : Type 0} (number : X → ℕ) where
 
 -- ---- one table
 
-pub only_one : (name : List ℕ) (t : Table) (rows : List Row) (old new : State) → t.tree ≡ tree_in old.now.schema name → HasChanged t rows old new → WritesOnly (name ∷ []) old new
+pub only_one : (name : List ℕ) (t : Table) (rows : List Row) (old new : State) → t.tree ≡ tree_in old.now.schema name
+    → HasChanged t rows old new → WritesOnly (name ∷ []) old new
 only_one name t rows old new is h = record {
   inside = h.inside;
   marks = h.marks;
@@ -132,7 +133,19 @@ few (Some x) = omega arith
 
 sale_is : (tree : ℕ) (s : Sale) (rows : List Row) → new_row (sales_table tree) new_sale_terms (sale_columns s) rows ≡ sale_row s
 sale_is tree s rows =
-    rw (cast_int (pos s.number), cast_no_int, cast_int (pos s.moment), cast_int (pos (month_at s.moment)), cast_int (pos s.shift), cast_int (pos (year_of s.base)), cast_int (pos s.tid), cast_int (pos s.rnd), cast_int (pos s.tenths), cast_int (pos s.price), cast_int (pos s.tender)) refl
+    rw (
+      cast_int (pos s.number),
+      cast_no_int,
+      cast_int (pos s.moment),
+      cast_int (pos (month_at s.moment)),
+      cast_int (pos s.shift),
+      cast_int (pos (year_of s.base)),
+      cast_int (pos s.tid),
+      cast_int (pos s.rnd),
+      cast_int (pos s.tenths),
+      cast_int (pos s.price),
+      cast_int (pos s.tender),
+    ) refl
 
 module _ (old new : State) (s : Sale) (params : Row) (bound : params ≡ sale_columns s) where
   abbrev sales : Table
@@ -151,7 +164,8 @@ module _ (old new : State) (s : Sale) (params : Row) (bound : params ≡ sale_co
         rows = λ rows held next.
             let put = h.changed.rows_are ∙ ap (λ (r : Row). put_row r (old.now.trees sales.tree)) row
             ∙ ap (put_row (sale_row s)) held.are.1.1.1.1.1.0
-            ∙ appends (λ (x : Sale). pos x.number) sale_row (λ x. refl) rows.sales s (numbers_rise (λ (x : Sale). x.number) rows.sales next.numbered) (next_number (λ (x : Sale). x.number) rows.sales s.number next) in
+            ∙ appends (λ (x : Sale). pos x.number) sale_row (λ x. refl) rows.sales s
+            (numbers_rise (λ (x : Sale). x.number) rows.sales next.numbered) (next_number (λ (x : Sale). x.number) rows.sales s.number next) in
             sales_changed present_format old.now new.now rows held (rows.sales ++ s ∷ []) kept put;
       }
 
@@ -164,7 +178,8 @@ module _ (old new : State) where
   abbrev shifts : Table
   shifts = shifts_table (tree_in old.now.schema (codes "shifts"))
 
-  pub adds_shift : HasAllTables old → (s : Shift) (params : Row) → params ≡ shift_columns s → PutsRow shifts (new_row shifts new_shift_terms params (old.now.trees shifts.tree)) old new → AddsShift s old new
+  pub adds_shift : HasAllTables old → (s : Shift) (params : Row) → params ≡ shift_columns s
+      → PutsRow shifts (new_row shifts new_shift_terms params (old.now.trees shifts.tree)) old new → AddsShift s old new
   adds_shift has s params bound h =
       let only = only_one (codes "shifts") shifts _ old new refl h.changed in
       let kept = changes_only (codes "shifts") old new only in
@@ -176,7 +191,8 @@ module _ (old new : State) where
         stored = stores_numbered (codes "shifts") shifts old new refl _ h (shift_row s) row;
         rows = λ rows held next.
             let put = h.changed.rows_are ∙ ap (λ (r : Row). put_row r (old.now.trees shifts.tree)) row ∙ ap (put_row (shift_row s)) held.are.1.1.1.1.0
-            ∙ appends (λ (x : Shift). pos x.number) shift_row (λ x. refl) rows.shifts s (numbers_rise (λ (x : Shift). x.number) rows.shifts next.numbered) (next_number (λ (x : Shift). x.number) rows.shifts s.number next) in
+            ∙ appends (λ (x : Shift). pos x.number) shift_row (λ x. refl) rows.shifts s
+            (numbers_rise (λ (x : Shift). x.number) rows.shifts next.numbered) (next_number (λ (x : Shift). x.number) rows.shifts s.number next) in
             shifts_changed present_format old.now new.now rows held (rows.shifts ++ s ∷ []) kept put;
       }
 
@@ -185,7 +201,8 @@ module _ (old new : State) where
   abbrev is_that : ℕ → Shift → Bool
   is_that number s = s.number == number
 
-  closing : (number moment : ℕ) → Sets shifts is_that_shift shift_closed_terms (Int (pos number) ∷ Int (pos moment) ∷ []) (λ (s : Shift). pos s.number) shift_row (is_that number) (closed_at moment)
+  closing : (number moment : ℕ) → Sets shifts is_that_shift shift_closed_terms (Int (pos number) ∷ Int (pos moment) ∷ [])
+      (λ (s : Shift). pos s.number) shift_row (is_that number) (closed_at moment)
   closing number moment = record {
     keyed = λ s. refl;
     passes = λ s. last_term (number_is s.number number);
@@ -198,26 +215,34 @@ module _ (old new : State) where
   closed_row = col 1 0 ∷ lit Null ∷ col 1 2 ∷ col 1 3 ∷ col 0 1 ∷ []
 
   -- what is closed has the number, and keeps it
-  closes_own : (number moment : ℕ) (r : Row) → list_all (holds ((Int (pos number) ∷ Int (pos moment) ∷ []) ∷ r ∷ [])) is_that_shift ≡ true → is_own (shift_keys number) (codes "shifts") r ≡ true
+  closes_own : (number moment : ℕ) (r : Row) → list_all (holds ((Int (pos number) ∷ Int (pos moment) ∷ []) ∷ r ∷ [])) is_that_shift ≡ true
+      → is_own (shift_keys number) (codes "shifts") r ≡ true
   closes_own number moment r found = own_of_key (codes "shifts") ((0, Int (pos number)) ∷ []) r
-      (ap (λ (b : Bool). b && true) (compares (column r 0) (Int (pos number)) (and_parts (is_true (binary (Compare Eq Binary) (column r 0) (Int (pos number)))) true found).0))
+      (ap (λ (b : Bool). b && true) (compares (column r 0) (Int (pos number))
+      (and_parts (is_true (binary (Compare Eq Binary) (column r 0) (Int (pos number)))) true found).0))
 
   closed_own : (number moment : ℕ) (r : Row) → IsTrue (is_int (rowid r)) → is_own (shift_keys number) (codes "shifts") r ≡ true
       → (is_own (shift_keys number) (codes "shifts") (cast_row shifts (eval_all closed_row ((Int (pos number) ∷ Int (pos moment) ∷ []) ∷ r ∷ []))) ≡ true)
       × (rowid (cast_row shifts (eval_all closed_row ((Int (pos number) ∷ Int (pos moment) ∷ []) ∷ r ∷ []))) ≡ rowid r)
-  closed_own number moment r is_number own = let same = number_kept (rowid r) is_number in (own_number_kept (codes "shifts") number r (cast_row shifts (eval_all closed_row ((Int (pos number) ∷ Int (pos moment) ∷ []) ∷ r ∷ []))) same own, same)
+  closed_own number moment r is_number own = let same = number_kept (rowid r) is_number in
+      (own_number_kept (codes "shifts") number r (cast_row shifts (eval_all closed_row ((Int (pos number) ∷ Int (pos moment) ∷ []) ∷ r ∷ []))) same own, same)
 
-  pub closes_shift : HasAllTables old → (number moment : ℕ) (params : Row) → params ≡ Int (pos number) ∷ Int (pos moment) ∷ [] → SetsRows shifts (shift_closed_query shifts.tree) params old new → ClosesShift number moment old new
+  pub closes_shift : HasAllTables old → (number moment : ℕ) (params : Row) → params ≡ Int (pos number) ∷ Int (pos moment) ∷ []
+      → SetsRows shifts (shift_closed_query shifts.tree) params old new → ClosesShift number moment old new
   closes_shift has number moment params bound h =
       let set = subst (λ (p : Row). SetsRows shifts (shift_closed_query shifts.tree) p old new) bound h in
       let only = only_one (codes "shifts") shifts _ old new refl set.changed in
       let kept = changes_only (codes "shifts") old new only in
       record {
         only = only;
-        kept = keeps_set (shift_keys number) old new shifts_kept shifts_in has is_that_shift closed_row (Int (pos number) ∷ Int (pos moment) ∷ []) set kept (closes_own number moment) (closed_own number moment);
+        kept = keeps_set (shift_keys number) old new shifts_kept shifts_in has is_that_shift closed_row
+            (Int (pos number) ∷ Int (pos moment) ∷ []) set kept (closes_own number moment) (closed_own number moment);
         rows = λ rows held numbered.
-            let one : length (filter (is_that number) rows.shifts) ≤ 1 = subst (λ (l : List Shift). length l ≤ 1) (sym (found_numbered (λ (s : Shift). s.number) rows.shifts number numbered)) (few (find (is_that number) rows.shifts)) in
-            let changed = sets_listed shifts is_that_shift shift_closed_terms (Int (pos number) ∷ Int (pos moment) ∷ []) (λ (s : Shift). pos s.number) shift_row (is_that number) (closed_at moment) (closing number moment)
+            let one : length (filter (is_that number) rows.shifts) ≤ 1 =
+            subst (λ (l : List Shift). length l ≤ 1) (sym (found_numbered (λ (s : Shift). s.number) rows.shifts number numbered))
+            (few (find (is_that number) rows.shifts)) in
+            let changed = sets_listed shifts is_that_shift shift_closed_terms (Int (pos number) ∷ Int (pos moment) ∷ [])
+            (λ (s : Shift). pos s.number) shift_row (is_that number) (closed_at moment) (closing number moment)
             old new rows.shifts set held.are.1.1.1.1.0 (numbers_rise (λ (s : Shift). s.number) rows.shifts numbered) one in
             shifts_changed present_format old.now new.now rows held (map (shift_closed number moment) rows.shifts) kept changed.rows_are;
       }

@@ -19,7 +19,8 @@ use Rattle.book_tables.specs.writing.Writes.{new_meter_text, new_sale_text, new_
 
 abbrev pub new_sale_terms : List Term
 new_sale_terms =
-    col 0 0 ∷ lit Null ∷ col 0 1 ∷ col 0 2 ∷ col 0 3 ∷ col 0 4 ∷ col 0 5 ∷ col 0 6 ∷ col 0 7 ∷ col 0 8 ∷ col 0 9 ∷ col 0 10 ∷ col 0 11 ∷ col 0 12 ∷ col 0 13 ∷ []
+    col 0 0 ∷ lit Null ∷ col 0 1 ∷ col 0 2 ∷ col 0 3 ∷ col 0 4 ∷ col 0 5 ∷ col 0 6 ∷ col 0 7 ∷ col 0 8 ∷ col 0 9 ∷ col 0 10 ∷ col 0 11
+    ∷ col 0 12 ∷ col 0 13 ∷ []
 
 pub new_sale_means : (tree : ℕ) → IsInsert (sales_table tree) new_sale_terms new_sale_text
 unfolding everything insert_meant insert_in puts_meant

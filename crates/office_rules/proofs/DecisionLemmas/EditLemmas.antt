@@ -92,11 +92,13 @@ pub put_at : {A : Type 0} (b : Bool) (x y : A) (there : Option A) → (if b then
 put_at true x y there e = inl (refl, same_Some x y e)
 put_at false x y there e = inr e
 
-pub put_cases : {A : Type 0} (b : Bool) (q name : List ℕ) (x y : A) (there : Option A) → bytes_eq q name ≡ b → (if b then Some x else there) ≡ Some y → ((q ≡ name) × (x ≡ y)) ⊎ (there ≡ Some y)
+pub put_cases : {A : Type 0} (b : Bool) (q name : List ℕ) (x y : A) (there : Option A) → bytes_eq q name ≡ b
+    → (if b then Some x else there) ≡ Some y → ((q ≡ name) × (x ≡ y)) ⊎ (there ≡ Some y)
 put_cases true q name x y there is e = inl ((bytes_eq-Decides q name).0 is, same_Some x y e)
 put_cases false q name x y there is e = inr e
 
-pub keeps_add_tariff : (o : Office) (name : List ℕ) (steps : List Step) → IsOffice o → IsName name → IsSteps steps → IsOffice (applied (edits.AddTariff name steps) o)
+pub keeps_add_tariff : (o : Office) (name : List ℕ) (steps : List Step) → IsOffice o → IsName name → IsSteps steps
+    → IsOffice (applied (edits.AddTariff name steps) o)
 keeps_add_tariff o name steps office named priced =
     let p = applied (edits.AddTariff name steps) o in
     let keeps : Keeps o p = record {
@@ -126,7 +128,8 @@ keeps_add_tariff o name steps office named priced =
 equal_days : (d day : ℕ) → (d == day) ≡ true → d ≡ day
 equal_days d day e = grind (arith, nat_tests)
 
-pub keeps_add_steps : (o : Office) (name : List ℕ) (day : ℕ) (steps : List Step) → IsOffice o → IsDay day → IsSteps steps → IsSome (o.tariffs name) → IsOffice (applied (edits.AddSteps name day steps) o)
+pub keeps_add_steps : (o : Office) (name : List ℕ) (day : ℕ) (steps : List Step) → IsOffice o → IsDay day → IsSteps steps
+    → IsSome (o.tariffs name) → IsOffice (applied (edits.AddSteps name day steps) o)
 keeps_add_steps o name day steps office is priced tariff =
     let p = applied (edits.AddSteps name day steps) o in
     let keeps : Keeps o p = keeps_rows o p refl refl refl (omega arith) in
@@ -177,7 +180,8 @@ more_here number base bases =
     let here : bytes_eq number number ≡ true = (bytes_eq-Decides number number).1 refl in
     ap (λ (x : Bool). (x && base_eq base base) || bases number base) here ∙ ap (λ (x : Bool). x || bases number base) (base_eq-refl base)
 
-pub keeps_add_meter : (o : Office) (number : List ℕ) (m : Meter) → IsOffice o → IsMeter number m → o.meters number ≡ None → IsSome (o.tariffs m.tariff) → IsOffice (applied (edits.AddMeter number m) o)
+pub keeps_add_meter : (o : Office) (number : List ℕ) (m : Meter) → IsOffice o → IsMeter number m → o.meters number ≡ None
+    → IsSome (o.tariffs m.tariff) → IsOffice (applied (edits.AddMeter number m) o)
 keeps_add_meter o number m office is free tariff =
     let p = applied (edits.AddMeter number m) o in
     let keeps : Keeps o p = record {
@@ -213,11 +217,13 @@ keeps_add_meter o number m office is free tariff =
     }
 
 -- what stands under a number where the meter there is set
-pub set_kept : (b : Bool) (f : Meter → Meter) (m : Meter) (there : Option Meter) → there ≡ Some m → (if b then option_map f there else there) ≡ Some (if b then f m else m)
+pub set_kept : (b : Bool) (f : Meter → Meter) (m : Meter) (there : Option Meter) → there ≡ Some m
+    → (if b then option_map f there else there) ≡ Some (if b then f m else m)
 set_kept true f m there is = ap (option_map f) is
 set_kept false f m there is = is
 
-set_cases : (b : Bool) (f : Meter → Meter) (m : Meter) (there : Option Meter) → (if b then option_map f there else there) ≡ Some m → (k : Meter) × (there ≡ Some k) × (((b ≡ true) × (f k ≡ m)) ⊎ (k ≡ m))
+set_cases : (b : Bool) (f : Meter → Meter) (m : Meter) (there : Option Meter) → (if b then option_map f there else there) ≡ Some m
+    → (k : Meter) × (there ≡ Some k) × (((b ≡ true) × (f k ≡ m)) ⊎ (k ≡ m))
 set_cases true f m None is = cc
 set_cases true f m (Some k) is = (k, refl, inl (refl, same_Some (f k) m is))
 set_cases false f m there is = (m, is, inr refl)
@@ -232,8 +238,11 @@ keeps_set_tariff o number name office named =
     let keeps : Keeps o p = record {
       tariffs = λ n some. some;
       bases = λ q b had. had;
-      meters = λ q m is.
-          ((if bytes_eq q number then with_tariff name m else m), set_kept (bytes_eq q number) (with_tariff name) m (o.meters q) is, omega (arith, ap year_of (same_base (bytes_eq q number) name m)));
+      meters = λ q m is. (
+        (if bytes_eq q number then with_tariff name m else m),
+        set_kept (bytes_eq q number) (with_tariff name) m (o.meters q) is,
+        omega (arith, ap year_of (same_base (bytes_eq q number) name m)),
+      );
       shifts = omega arith;
     } in
     record {
@@ -258,24 +267,30 @@ keeps_set_tariff o number name office named =
     }
 
 -- a meter that is moved to a later base
-pub moved_base : (b : Bool) (q number : List ℕ) (base : Base) (m k : Meter) (meters : List ℕ → Option Meter) → bytes_eq q number ≡ b → meters number ≡ Some m → year_of m.base ≤ year_of base → meters q ≡ Some k → year_of k.base ≤ year_of (if b then with_base base k else k).base
+pub moved_base : (b : Bool) (q number : List ℕ) (base : Base) (m k : Meter) (meters : List ℕ → Option Meter) → bytes_eq q number ≡ b
+    → meters number ≡ Some m → year_of m.base ≤ year_of base → meters q ≡ Some k → year_of k.base ≤ year_of (if b then with_base base k else k).base
 moved_base true q number base m k meters is there later at =
     let same : k ≡ m = same_Some k m (sym at ∙ ap meters ((bytes_eq-Decides q number).0 is) ∙ there) in
     omega (arith, later, ap (λ (n : Meter). year_of n.base) same)
 moved_base false q number base m k meters is there later at = omega arith
 
-pub keeps_move_base : (o : Office) (number : List ℕ) (base : Base) (m : Meter) → IsOffice o → o.meters number ≡ Some m → year_of m.base ≤ year_of base → IsOffice (applied (edits.MoveBase number base) o)
+pub keeps_move_base : (o : Office) (number : List ℕ) (base : Base) (m : Meter) → IsOffice o → o.meters number ≡ Some m
+    → year_of m.base ≤ year_of base → IsOffice (applied (edits.MoveBase number base) o)
 keeps_move_base o number base m office there later =
     let p = applied (edits.MoveBase number base) o in
     let keeps : Keeps o p = record {
       tariffs = λ n some. some;
       bases = λ q b had. more_kept (bytes_eq q number && base_eq b base) (o.bases q b) had;
-      meters = λ q k is.
-          ((if bytes_eq q number then with_base base k else k), set_kept (bytes_eq q number) (with_base base) k (o.meters q) is, moved_base (bytes_eq q number) q number base m k o.meters refl there later is);
+      meters = λ q k is. (
+        (if bytes_eq q number then with_base base k else k),
+        set_kept (bytes_eq q number) (with_base base) k (o.meters q) is,
+        moved_base (bytes_eq q number) q number base m k o.meters refl there later is,
+      );
       shifts = omega arith;
     } in
     let put : p.meters number ≡ Some (with_base base m) =
-    ap (λ (x : Bool). if x then option_map (with_base base) (o.meters number) else o.meters number) ((bytes_eq-Decides number number).1 refl) ∙ ap (option_map (with_base base)) there in
+    ap (λ (x : Bool). if x then option_map (with_base base) (o.meters number) else o.meters number)
+    ((bytes_eq-Decides number number).1 refl) ∙ ap (option_map (with_base base)) there in
     record {
       tariffs = office.tariffs;
       meters = λ q k e.
@@ -283,7 +298,8 @@ keeps_move_base o number base m office there later =
           let old = office.meters q was.0 was.1 in
           elim was.2 [
             | inl set ↦
-                let here : p.bases q base ≡ true = subst (λ (n : List ℕ). p.bases n base ≡ true) (sym ((bytes_eq-Decides q number).0 set.0)) (more_here number base o.bases) in
+                let here : p.bases q base ≡ true = subst (λ (n : List ℕ). p.bases n base ≡ true)
+                (sym ((bytes_eq-Decides q number).0 set.0)) (more_here number base o.bases) in
                 subst (λ (k : Meter). IsMeterRow p q k) set.1 (record { numbered = old.numbered; key = old.key; tariff = old.tariff; base = here })
             | inr same ↦ subst (λ (k : Meter). IsMeterRow p q k) same (meter_row_kept o p keeps q was.0 old)
           ];
@@ -306,10 +322,12 @@ keeps_move_base o number base m office there later =
     }
 
 -- an open shift of the operator is found
-both_open : (a : Shift) (operator : List ℕ) (b : Bool) → bytes_eq a.operator operator ≡ true → is_none a.closed ≡ b → IsNone a.closed → (bytes_eq a.operator operator && is_none a.closed) ≡ false → ⊥
+both_open : (a : Shift) (operator : List ℕ) (b : Bool) → bytes_eq a.operator operator ≡ true → is_none a.closed ≡ b → IsNone a.closed
+    → (bytes_eq a.operator operator && is_none a.closed) ≡ false → ⊥
 both_open a operator b same is none fails = let opened : is_none a.closed ≡ true = ap not none in grind (arith, nat_tests)
 
-pub keeps_open_shift : (o : Office) (s : Shift) → IsOffice o → IsShiftRow s → s.number ≡ length o.shifts + 1 → open_shift o s.operator ≡ None → length o.shifts < greatest_count → IsOffice (applied (edits.OpenShift s) o)
+pub keeps_open_shift : (o : Office) (s : Shift) → IsOffice o → IsShiftRow s → s.number ≡ length o.shifts + 1 → open_shift o s.operator
+    ≡ None → length o.shifts < greatest_count → IsOffice (applied (edits.OpenShift s) o)
 keeps_open_shift o s office row number alone room =
     let p = applied (edits.OpenShift s) o in
     let more = length_push o.shifts s in
@@ -343,7 +361,8 @@ closing_row : (b : Bool) (moment : ℕ) (s : Shift) → IsMoment moment → IsSh
 closing_row true moment s is row = record { operator = row.operator; opened = row.opened; closed = λ secs e. subst IsMoment (same_Some moment secs e) is }
 closing_row false moment s is row = row
 
-closing_open : (b : Bool) (moment : ℕ) (s : Shift) → IsNone (if b then closed_at moment s else s).closed → IsNone s.closed × ((if b then closed_at moment s else s).operator ≡ s.operator)
+closing_open : (b : Bool) (moment : ℕ) (s : Shift) → IsNone (if b then closed_at moment s else s).closed → IsNone s.closed
+    × ((if b then closed_at moment s else s).operator ≡ s.operator)
 closing_open true moment s none = cc
 closing_open false moment s none = (none, refl)
 
@@ -363,7 +382,9 @@ keeps_close_shift o number moment office is =
       meters = λ q m e. meter_row_kept o p keeps q m (office.meters q m e);
       bases = λ q b had. base_row_kept o p keeps q b (office.bases q b had);
       dated_steps = λ q d s e. dated_row_kept o p keeps q d s (office.dated_steps q d s e);
-      shifts = All-map IsShiftRow (closing number moment) o.shifts (All-weaker IsShiftRow (λ s. IsShiftRow (closing number moment s)) (λ s row. closing_row (s.number == number) moment s is row) o.shifts office.shifts);
+      shifts = All-map IsShiftRow (closing number moment) o.shifts
+          (All-weaker IsShiftRow (λ s. IsShiftRow (closing number moment s)) (λ s row. closing_row (s.number == number) moment s is row)
+          o.shifts office.shifts);
       shift_numbers = numbered_map (λ s. s.number) (closing number moment) o.shifts (λ s. closing_number (s.number == number) moment s) office.shift_numbers;
       one_open = all_pairs_map NotBothOpen (closing number moment) o.shifts (closing_apart number moment) office.one_open;
       shift_count = omega (arith, same, office.shift_count);
@@ -373,7 +394,8 @@ keeps_close_shift o number moment office is =
       sale_count = office.sale_count;
     }
 
-pub keeps_add_sale : (o : Office) (s : Sale) → IsOffice o → IsSaleRow o s → s.number ≡ length o.sales + 1 → ((a : Sale) → Contains o.sales a → IsBefore a s) → length o.sales < greatest_count → IsOffice (applied (edits.AddSale s) o)
+pub keeps_add_sale : (o : Office) (s : Sale) → IsOffice o → IsSaleRow o s → s.number ≡ length o.sales + 1
+    → ((a : Sale) → Contains o.sales a → IsBefore a s) → length o.sales < greatest_count → IsOffice (applied (edits.AddSale s) o)
 keeps_add_sale o s office row number after room =
     let p = applied (edits.AddSale s) o in
     let more = length_push o.sales s in

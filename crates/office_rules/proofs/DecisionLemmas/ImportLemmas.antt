@@ -23,24 +23,29 @@ Grants o row change =
     ((is_some change.edit ≡ false) × (office_after o (Ok change) ≡ o))
     ⊎ ((is_some change.edit ≡ true) × (office_after o (Ok change) ≡ with_row row o) × RowsFit (row ∷ []) o)
 
-stands_if : (o : Office) (row : Row) (b : Bool) (answer : Answer) (refusal : Refusal) (change : Change) → (if b then unchanged answer else Err refusal) ≡ Ok change → Grants o row change
+stands_if : (o : Office) (row : Row) (b : Bool) (answer : Answer) (refusal : Refusal) (change : Change)
+    → (if b then unchanged answer else Err refusal) ≡ Ok change → Grants o row change
 stands_if o row true answer refusal change e = subst (Grants o row) (same_Ok _ _ e) (inl (refl, refl))
 stands_if o row false answer refusal change e = cc
 
-tariff_grants : (o : Office) (name : List ℕ) (steps : List Step) (there : Option (List Step)) (change : Change) → add_tariff name steps there ≡ Ok change → Grants o (kinds.Tariff name steps) change
+tariff_grants : (o : Office) (name : List ℕ) (steps : List Step) (there : Option (List Step)) (change : Change)
+    → add_tariff name steps there ≡ Ok change → Grants o (kinds.Tariff name steps) change
 tariff_grants o name steps None change e = subst (Grants o (kinds.Tariff name steps)) (same_Ok _ _ e) (inr (refl, refl, tt))
 tariff_grants o name steps (Some there) change e = stands_if o (kinds.Tariff name steps) (steps_eq there steps) _ _ change e
 
-day_grants : (o : Office) (name : List ℕ) (day : ℕ) (steps : List Step) (b : Bool) (change : Change) → (if b then changed (edits.AddSteps name day steps) answers.Done else Err refusals.DayPast) ≡ Ok change → Grants o (kinds.Steps name day steps) change
+day_grants : (o : Office) (name : List ℕ) (day : ℕ) (steps : List Step) (b : Bool) (change : Change)
+    → (if b then changed (edits.AddSteps name day steps) answers.Done else Err refusals.DayPast) ≡ Ok change → Grants o (kinds.Steps name day steps) change
 day_grants o name day steps true change e = subst (Grants o (kinds.Steps name day steps)) (same_Ok _ _ e) (inr (refl, refl, tt))
 day_grants o name day steps false change e = cc
 
-steps_grants : (o : Office) (name : List ℕ) (day today : ℕ) (steps : List Step) (has : Bool) (there : Option (List Step)) (change : Change) → add_steps name day steps today has there ≡ Ok change → Grants o (kinds.Steps name day steps) change
+steps_grants : (o : Office) (name : List ℕ) (day today : ℕ) (steps : List Step) (has : Bool) (there : Option (List Step)) (change : Change)
+    → add_steps name day steps today has there ≡ Ok change → Grants o (kinds.Steps name day steps) change
 steps_grants o name day today steps false there change e = cc
 steps_grants o name day today steps true (Some there) change e = stands_if o (kinds.Steps name day steps) (steps_eq there steps) _ _ change e
 steps_grants o name day today steps true None change e = day_grants o name day steps (nat_lt today day) change e
 
-meter_grants : (o : Office) (number : List ℕ) (m : Meter) (there : Option Meter) (has : Bool) (change : Change) → is_some (o.tariffs m.tariff) ≡ has → add_meter number m there has ≡ Ok change → Grants o (kinds.Meter number m) change
+meter_grants : (o : Office) (number : List ℕ) (m : Meter) (there : Option Meter) (has : Bool) (change : Change)
+    → is_some (o.tariffs m.tariff) ≡ has → add_meter number m there has ≡ Ok change → Grants o (kinds.Meter number m) change
 meter_grants o number m (Some there) has change is e = stands_if o (kinds.Meter number m) (meter_eq there m) _ _ change e
 meter_grants o number m None true change is e = subst (Grants o (kinds.Meter number m)) (same_Ok _ _ e) (inr (refl, refl, (is, tt)))
 meter_grants o number m None false change is e = cc
@@ -66,7 +71,8 @@ pub record Takes (o : Office) (today number : ℕ) (row : Row) (rest new : List 
   pub new_is : new ≡ (if is_some change.edit then row ∷ more else more)
   pub grants : Grants o row change
 
-pub takes : (o : Office) (today number : ℕ) (row : Row) (rest new : List Row) → new_rows o today number (row ∷ rest) ≡ Ok new → Takes o today number row rest new
+pub takes : (o : Office) (today number : ℕ) (row : Row) (rest new : List Row) → new_rows o today number (row ∷ rest) ≡ Ok new
+    → Takes o today number row rest new
 takes o today number row rest new e =
     let a = bind_ok (at_row number (row_decision o today row)) _ new e in
     let b = bind_ok (new_rows (office_after o (Ok a.0)) today (number + 1) rest) _ new a.2 in
@@ -81,13 +87,15 @@ takes o today number row rest new e =
     }
 
 -- the office with the new rows is the one after the first row, with those among the rest
-with_rest : (o : Office) (row : Row) (more : List Row) (change : Change) → Grants o row change → with_rows (if is_some change.edit then row ∷ more else more) o ≡ with_rows more (office_after o (Ok change))
+with_rest : (o : Office) (row : Row) (more : List Row) (change : Change) → Grants o row change
+    → with_rows (if is_some change.edit then row ∷ more else more) o ≡ with_rows more (office_after o (Ok change))
 with_rest o row more change (inl (none, same)) =
     ap (λ (b : Bool). with_rows (if b then row ∷ more else more) o) none ∙ ap (with_rows more) (sym same)
 with_rest o row more change (inr (some, put, fits)) =
     ap (λ (b : Bool). with_rows (if b then row ∷ more else more) o) some ∙ ap (with_rows more) (sym put)
 
-pub taken_office : (o : Office) (today number : ℕ) (row : Row) (rest new : List Row) (t : Takes o today number row rest new) → with_rows new o ≡ with_rows t.more (office_after o (Ok t.change))
+pub taken_office : (o : Office) (today number : ℕ) (row : Row) (rest new : List Row) (t : Takes o today number row rest new)
+    → with_rows new o ≡ with_rows t.more (office_after o (Ok t.change))
 taken_office o today number row rest new t = ap (λ (rows : List Row). with_rows rows o) t.new_is ∙ with_rest o row t.more t.change t.grants
 
 -- the new rows fit, one after another
@@ -96,7 +104,8 @@ fits_first o (kinds.Tariff name steps) more first rest = rest
 fits_first o (kinds.Steps name day steps) more first rest = rest
 fits_first o (kinds.Meter number m) more first rest = (first.0, rest)
 
-fits_grant : (o : Office) (row : Row) (more : List Row) (change : Change) → Grants o row change → RowsFit more (office_after o (Ok change)) → RowsFit (if is_some change.edit then row ∷ more else more) o
+fits_grant : (o : Office) (row : Row) (more : List Row) (change : Change) → Grants o row change → RowsFit more (office_after o (Ok change))
+    → RowsFit (if is_some change.edit then row ∷ more else more) o
 fits_grant o row more change (inl (none, same)) fits =
     subst (λ (b : Bool). RowsFit (if b then row ∷ more else more) o) (sym none) (subst (RowsFit more) same fits)
 fits_grant o row more change (inr (some, put, first)) fits =
@@ -114,12 +123,14 @@ after_add o [] = refl
 after_add o (row ∷ rest) = refl
 
 -- what each row keeps, an import keeps
-module _ (P : Office → Type 0) (Q : Row → Type 0) (today : ℕ) (each : (o : Office) (row : Row) → Q row → P o → P (office_after o (row_decision o today row))) where
+module _ (P : Office → Type 0) (Q : Row → Type 0) (today : ℕ)
+    (each : (o : Office) (row : Row) → Q row → P o → P (office_after o (row_decision o today row))) where
   pub new_rows_keep : (o : Office) (number : ℕ) (rows new : List Row) → All Q rows → P o → new_rows o today number rows ≡ Ok new → P (with_rows new o)
   new_rows_keep o number [] new are holds e = subst (λ (rows : List Row). P (with_rows rows o)) (same_Ok _ new e) holds
   new_rows_keep o number (row ∷ rest) new are holds e =
       let t = takes o today number row rest new e in
-      let here : P (office_after o (Ok t.change)) = subst (λ (r : Result Change Refusal). P (office_after o r)) t.granted (each o row (All-head Q row rest are) holds) in
+      let here : P (office_after o (Ok t.change)) = subst (λ (r : Result Change Refusal). P (office_after o r)) t.granted
+      (each o row (All-head Q row rest are) holds) in
       subst P (sym (taken_office o today number row rest new t))
       (new_rows_keep (office_after o (Ok t.change)) (number + 1) rest t.more (All-tail Q row rest are) here t.further)
 

@@ -27,13 +27,16 @@ use Rattle.office_rules.proofs.OfficeLemmas.RowLemmas.{contains_first, contains_
 pub record LowerLaws : Type 0 where
   pub fresh : (used : List ℕ) (now : ℕ) (last : Option ℕ) → IsLast used last → FreshOutcome used now (fresh_after now last)
   pub purchase : (steps : List Step) (prior tender : ℕ) (b : Buy) → (purchase_of steps prior tender ≡ Some b) ↔ IsPurchase steps prior tender b
-  pub token : (forward : ℕ → ℕ → ℕ) (key : ℕ) (f : TokenFields) → KeepsRange forward → key < 2 ^ 64 → AreFields f → IsToken forward key f (token_of forward key f)
+  pub token : (forward : ℕ → ℕ → ℕ) (key : ℕ) (f : TokenFields) → KeepsRange forward → key < 2 ^ 64 → AreFields f
+      → IsToken forward key f (token_of forward key f)
 
 -- the greatest of some numbers is the last identifier where they are those sold
 greatest_more : (n : ℕ) (ns : List ℕ) (last : Option ℕ) → IsLast ns last → IsLast (n ∷ ns) (Some (max n (unwrap_or last 0)))
 greatest_more n ns None none =
-    let alone : max n 0 ≡ n = omega arith in
-    (subst (λ g. Contains (n ∷ ns) g) (sym alone) (contains_first n ns), All-cons (λ u. u ≤ max n 0) n ns (omega arith) (λ k d below. absurd (omega (arith, ap length none))))
+    let alone : max n 0 ≡ n = omega arith in (
+      subst (λ g. Contains (n ∷ ns) g) (sym alone) (contains_first n ns),
+      All-cons (λ u. u ≤ max n 0) n ns (omega arith) (λ k d below. absurd (omega (arith, ap length none))),
+    )
 greatest_more n ns (Some last) is = (
   elim (cases_lt n last) [
     | inl less ↦ let g : last ≡ max n last = omega arith in subst (λ g. Contains (n ∷ ns) g) g (contains_further n last ns is.0)
@@ -49,10 +52,17 @@ greatest_is_last (n ∷ ns) = greatest_more n ns (greatest_of ns) (greatest_is_l
 -- the new sale
 module _ (laws : LowerLaws) (forward : ℕ → ℕ → ℕ) (o : Office) (at : Stamped) (order : Order) where
   abbrev pub facts_of : Meter → MeterAccount
-  facts_of m = record { meter = m; steps = steps_on o m.tariff (day_at at.moment); last = greatest_of (used o order.meter m.base); prior = prior o order.meter (month_at at.moment) }
+  facts_of m = record {
+    meter = m;
+    steps = steps_on o m.tariff (day_at at.moment);
+    last = greatest_of (used o order.meter m.base);
+    prior = prior o order.meter (month_at at.moment);
+  }
 
-  fresh_is : (m : Meter) (now tid : ℕ) → fresh_after now (greatest_of (used o order.meter m.base)) ≡ Ok tid → FreshOutcome (used o order.meter m.base) now (Ok tid)
-  fresh_is m now tid e = subst (λ r. FreshOutcome (used o order.meter m.base) now r) e (laws.fresh (used o order.meter m.base) now _ (greatest_is_last (used o order.meter m.base)))
+  fresh_is : (m : Meter) (now tid : ℕ) → fresh_after now (greatest_of (used o order.meter m.base)) ≡ Ok tid
+      → FreshOutcome (used o order.meter m.base) now (Ok tid)
+  fresh_is m now tid e = subst (λ r. FreshOutcome (used o order.meter m.base) now r) e
+      (laws.fresh (used o order.meter m.base) now _ (greatest_is_last (used o order.meter m.base)))
 
   pub record Granted (change : Change) : Type 0 where
     pub sale : Sale
@@ -63,7 +73,8 @@ module _ (laws : LowerLaws) (forward : ℕ → ℕ → ℕ) (o : Office) (at : S
   abbrev Sells : Change → Type 0
   Sells change = Selling forward at.moment at.nibble order (open_shift o order.operator) (account_of o order.meter at.moment) (length o.sales) change
 
-  granted_at : (change : Change) (m : Meter) → KeepsRange forward → IsOffice o → o.meters order.meter ≡ Some m → (s : Sells change) → s.facts ≡ facts_of m → Granted change
+  granted_at : (change : Change) (m : Meter) → KeepsRange forward → IsOffice o → o.meters order.meter ≡ Some m → (s : Sells change)
+      → s.facts ≡ facts_of m → Granted change
   granted_at change m range office there s is =
       let minute = subst (λ (f : MeterAccount). minute_of f.meter.base at.moment ≡ Ok s.now) is s.minute_is in
       let fresh = fresh_is m s.now s.tid (subst (λ (f : MeterAccount). fresh_after s.now f.last ≡ Ok s.tid) is s.fresh_is) in
@@ -96,10 +107,12 @@ module _ (laws : LowerLaws) (forward : ℕ → ℕ → ℕ) (o : Office) (at : S
               (record { rnd = at.nibble_in_range; tid = omega (arith, fresh.0.may_sell.within); tenths = bought.representable });
         };
         room = s.room;
-        change_is = subst (λ (f : MeterAccount). change ≡ sale_change (sale_made forward at.moment at.nibble order s.opened f s.tid s.buy (length o.sales + 1))) is s.change_is;
+        change_is = subst (λ (f : MeterAccount). change ≡ sale_change
+            (sale_made forward at.moment at.nibble order s.opened f s.tid s.buy (length o.sales + 1))) is s.change_is;
       }
 
-  pub granted_sale : (change : Change) → KeepsRange forward → IsOffice o → sell forward at.moment at.nibble order (open_shift o order.operator) (account_of o order.meter at.moment) (length o.sales) ≡ Ok change → Granted change
+  pub granted_sale : (change : Change) → KeepsRange forward → IsOffice o
+      → sell forward at.moment at.nibble order (open_shift o order.operator) (account_of o order.meter at.moment) (length o.sales) ≡ Ok change → Granted change
   granted_sale change range office e =
       let s = sell_ok forward at.moment at.nibble order (open_shift o order.operator) (account_of o order.meter at.moment) (length o.sales) change e in
       let m = option_map_some facts_of (o.meters order.meter) s.facts s.meter_is in

@@ -36,7 +36,8 @@ stayed_twice o p q first next = record {
 }
 
 -- a row that is put where there is none leaves the others
-pub put_beside : {A : Type 0} (b : Bool) (q name : List ℕ) (x y : A) (rows : List ℕ → Option A) → bytes_eq q name ≡ b → rows name ≡ None → rows q ≡ Some y → (if b then Some x else rows q) ≡ Some y
+pub put_beside : {A : Type 0} (b : Bool) (q name : List ℕ) (x y : A) (rows : List ℕ → Option A) → bytes_eq q name ≡ b → rows name ≡ None
+    → rows q ≡ Some y → (if b then Some x else rows q) ≡ Some y
 put_beside true q name x y rows is none at = let here : rows q ≡ rows name = ap rows ((bytes_eq-Decides q name).0 is) in cc
 put_beside false q name x y rows is none at = at
 
@@ -44,7 +45,8 @@ pub stayed_if : (o : Office) (b : Bool) (answer : Answer) (refusal : Refusal) �
 stayed_if o true answer refusal = stayed_none o
 stayed_if o false answer refusal = stayed_none o
 
-pub stayed_by_tariff : (o : Office) (name : List ℕ) (steps : List Step) (there : Option (List Step)) → o.tariffs name ≡ there → HaveStayed o (office_after o (add_tariff name steps there))
+pub stayed_by_tariff : (o : Office) (name : List ℕ) (steps : List Step) (there : Option (List Step)) → o.tariffs name ≡ there
+    → HaveStayed o (office_after o (add_tariff name steps there))
 stayed_by_tariff o name steps None none = record {
   tariffs = record {
     first = λ q s at. put_beside (bytes_eq q name) q name steps s o.tariffs refl none at;
@@ -55,7 +57,8 @@ stayed_by_tariff o name steps None none = record {
 stayed_by_tariff o name steps (Some there) at = stayed_if o (steps_eq there steps) _ _
 
 -- the same of steps under a name and a first day
-steps_beside : (n k : Bool) (q name : List ℕ) (d day : ℕ) (x y : List Step) (rows : List ℕ → ℕ → Option (List Step)) → bytes_eq q name ≡ n → (d == day) ≡ k → rows name day ≡ None → rows q d ≡ Some y → (if n && k then Some x else rows q d) ≡ Some y
+steps_beside : (n k : Bool) (q name : List ℕ) (d day : ℕ) (x y : List Step) (rows : List ℕ → ℕ → Option (List Step)) → bytes_eq q name ≡ n
+    → (d == day) ≡ k → rows name day ≡ None → rows q d ≡ Some y → (if n && k then Some x else rows q d) ≡ Some y
 steps_beside true true q name d day x y rows named is none at =
     let same : d ≡ day = grind (arith, nat_tests) in
     let here : rows q d ≡ rows name day = ap (λ (n : List ℕ). rows n d) ((bytes_eq-Decides q name).0 named) ∙ ap (rows name) same in
@@ -63,7 +66,8 @@ steps_beside true true q name d day x y rows named is none at =
 steps_beside true false q name d day x y rows named is none at = at
 steps_beside false k q name d day x y rows named is none at = at
 
-stayed_by_day : (o : Office) (name : List ℕ) (day : ℕ) (steps : List Step) (b : Bool) → o.dated_steps name day ≡ None → HaveStayed o (office_after o (if b then changed (edits.AddSteps name day steps) answers.Done else Err refusals.DayPast))
+stayed_by_day : (o : Office) (name : List ℕ) (day : ℕ) (steps : List Step) (b : Bool) → o.dated_steps name day ≡ None
+    → HaveStayed o (office_after o (if b then changed (edits.AddSteps name day steps) answers.Done else Err refusals.DayPast))
 stayed_by_day o name day steps true none = record {
   tariffs = record {
     first = λ q s at. at;
@@ -73,12 +77,14 @@ stayed_by_day o name day steps true none = record {
 }
 stayed_by_day o name day steps false none = stayed_none o
 
-pub stayed_by_steps : (o : Office) (name : List ℕ) (day today : ℕ) (steps : List Step) (has : Bool) (there : Option (List Step)) → o.dated_steps name day ≡ there → HaveStayed o (office_after o (add_steps name day steps today has there))
+pub stayed_by_steps : (o : Office) (name : List ℕ) (day today : ℕ) (steps : List Step) (has : Bool) (there : Option (List Step))
+    → o.dated_steps name day ≡ there → HaveStayed o (office_after o (add_steps name day steps today has there))
 stayed_by_steps o name day today steps false there at = stayed_none o
 stayed_by_steps o name day today steps true (Some there) at = stayed_if o (steps_eq there steps) _ _
 stayed_by_steps o name day today steps true None none = stayed_by_day o name day steps (nat_lt today day) none
 
-pub stayed_by_meter : (o : Office) (number : List ℕ) (m : Meter) (there : Option Meter) (has : Bool) → o.meters number ≡ there → HaveStayed o (office_after o (add_meter number m there has))
+pub stayed_by_meter : (o : Office) (number : List ℕ) (m : Meter) (there : Option Meter) (has : Bool) → o.meters number ≡ there
+    → HaveStayed o (office_after o (add_meter number m there has))
 stayed_by_meter o number m (Some there) has at = stayed_if o (meter_eq there m) _ _
 stayed_by_meter o number m None false none = stayed_none o
 stayed_by_meter o number m None true none = record {
@@ -92,11 +98,15 @@ stayed_by_row o today (kinds.Steps name day steps) = stayed_by_steps o name day 
 stayed_by_row o today (kinds.Meter number m) = stayed_by_meter o number m (o.meters number) (is_some (o.tariffs m.tariff)) refl
 
 -- a row that differs from what the office has differs from it later too
-differs_tariff : (name : List ℕ) (steps : List Step) (there later : Option (List Step)) → ((s : List Step) → there ≡ Some s → later ≡ Some s) → add_tariff name steps there ≡ Err refusals.Differs → add_tariff name steps later ≡ Err refusals.Differs
+differs_tariff : (name : List ℕ) (steps : List Step) (there later : Option (List Step))
+    → ((s : List Step) → there ≡ Some s → later ≡ Some s) → add_tariff name steps there ≡ Err refusals.Differs
+    → add_tariff name steps later ≡ Err refusals.Differs
 differs_tariff name steps None later stays e = cc
 differs_tariff name steps (Some there) later stays e = ap (add_tariff name steps) (stays there refl) ∙ e
 
-differs_meter : (number : List ℕ) (m : Meter) (there later : Option Meter) (has had : Bool) → ((k : Meter) → there ≡ Some k → later ≡ Some k) → add_meter number m there has ≡ Err refusals.Differs → add_meter number m later had ≡ Err refusals.Differs
+differs_meter : (number : List ℕ) (m : Meter) (there later : Option Meter) (has had : Bool)
+    → ((k : Meter) → there ≡ Some k → later ≡ Some k) → add_meter number m there has ≡ Err refusals.Differs → add_meter number m later had
+    ≡ Err refusals.Differs
 differs_meter number m None later true had stays e = cc
 differs_meter number m None later false had stays e = cc
 differs_meter number m (Some there) later has had stays e = ap (λ k. add_meter number m k had) (stays there refl) ∙ e
@@ -105,17 +115,21 @@ pub still_there : {A : Type 0} (there later : Option A) → ((x : A) → there �
 still_there None later stays e = cc
 still_there (Some x) later stays e = ap is_some (stays x refl)
 
-differs_steps : (name : List ℕ) (day today : ℕ) (steps : List Step) (has had : Bool) (there later : Option (List Step)) → (has ≡ true → had ≡ true) → ((s : List Step) → there ≡ Some s → later ≡ Some s) → add_steps name day steps today has there ≡ Err refusals.Differs → add_steps name day steps today had later ≡ Err refusals.Differs
+differs_steps : (name : List ℕ) (day today : ℕ) (steps : List Step) (has had : Bool) (there later : Option (List Step))
+    → (has ≡ true → had ≡ true) → ((s : List Step) → there ≡ Some s → later ≡ Some s) → add_steps name day steps today has there
+    ≡ Err refusals.Differs → add_steps name day steps today had later ≡ Err refusals.Differs
 differs_steps name day today steps false had there later has_still stays e = cc
 differs_steps name day today steps true had (Some there) later has_still stays e =
-    ap (λ (l : Option (List Step)). add_steps name day steps today had l) (stays there refl) ∙ ap (λ (b : Bool). add_steps name day steps today b (Some there)) (has_still refl) ∙ e
+    ap (λ (l : Option (List Step)). add_steps name day steps today had l) (stays there refl)
+    ∙ ap (λ (b : Bool). add_steps name day steps today b (Some there)) (has_still refl) ∙ e
 differs_steps name day today steps true had None later has_still stays e = absurd (not_differs (nat_lt today day) e)
   where
     not_differs : (b : Bool) → (if b then changed (edits.AddSteps name day steps) answers.Done else Err refusals.DayPast) ≡ Err refusals.Differs → ⊥
     not_differs true e = cc
     not_differs false e = cc
 
-pub differs_still : (o p : Office) (today : ℕ) (row : Row) → HaveStayed o p → row_decision o today row ≡ Err refusals.Differs → row_decision p today row ≡ Err refusals.Differs
+pub differs_still : (o p : Office) (today : ℕ) (row : Row) → HaveStayed o p → row_decision o today row ≡ Err refusals.Differs
+    → row_decision p today row ≡ Err refusals.Differs
 differs_still o p today (kinds.Tariff name steps) stayed e = differs_tariff name steps (o.tariffs name) (p.tariffs name) (stayed.tariffs.first name) e
 differs_still o p today (kinds.Steps name day steps) stayed e =
     differs_steps name day today steps (is_some (o.tariffs name)) (is_some (p.tariffs name)) (o.dated_steps name day) (p.dated_steps name day)

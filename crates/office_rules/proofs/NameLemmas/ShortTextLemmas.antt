@@ -7,7 +7,8 @@ pub put_in_room : (n : ℕ) (text : List ℕ) → length text ≤ n → IsPadded
 put_in_room n text fits =
     let rest = drop-replicate (length text) n 0 in
     record {
-      room = length-append text (drop (length text) (replicate n 0)) ∙ ap (λ (xs : List ℕ). length text + length xs) rest ∙ omega (arith, length-replicate {A = ℕ} (n - length text) 0);
+      room = length-append text (drop (length text) (replicate n 0)) ∙ ap (λ (xs : List ℕ). length text + length xs) rest
+          ∙ omega (arith, length-replicate {A = ℕ} (n - length text) 0);
       within = fits;
       zeros = drop_at text (drop (length text) (replicate n 0)) (length text) refl ∙ rest;
     }

@@ -29,7 +29,9 @@ any_same f p q (x ∷ xs) same =
     ap (λ b. b || list_any p (map f xs)) (All-head (λ x. p (f x) ≡ q x) x xs same)
     ∙ ap (λ b. q x || b) (any_same f p q xs (All-tail (λ x. p (f x) ≡ q x) x xs same))
 
-kept_here : {X Y : Type 0} (f : X → Y) (p : Y → Bool) (x : X) (xs : List X) (b : Bool) → filter p (map f xs) ≡ map f (filter (λ x. p (f x)) xs) → cond b (f x ∷ filter p (map f xs)) (filter p (map f xs)) ≡ map f (cond b (x ∷ filter (λ x. p (f x)) xs) (filter (λ x. p (f x)) xs))
+kept_here : {X Y : Type 0} (f : X → Y) (p : Y → Bool) (x : X) (xs : List X) (b : Bool) → filter p (map f xs)
+    ≡ map f (filter (λ x. p (f x)) xs) → cond b (f x ∷ filter p (map f xs)) (filter p (map f xs))
+    ≡ map f (cond b (x ∷ filter (λ x. p (f x)) xs) (filter (λ x. p (f x)) xs))
 kept_here f p x xs true rest = ap (λ ys. f x ∷ ys) rest
 kept_here f p x xs false rest = rest
 
@@ -43,7 +45,8 @@ sum_of_map f n xs = fold-map (λ a y. a + n y) f 0 xs
 pub all_from_contains : {X : Type 0} (P : X → Type 0) (xs : List X) → ((x : X) → Contains xs x → P x) → All P xs
 all_from_contains P xs each k d below = each (get_or xs k d) (Contains-get_or xs k d below)
 
-pub pairs_map_contained : {X Y : Type 0} (R : Y → Y → Type 0) (S : X → X → Type 0) (f : X → Y) (xs : List X) → AllPairs S xs → ((a b : X) → Contains xs a → Contains xs b → S a b → R (f a) (f b)) → AllPairs R (map f xs)
+pub pairs_map_contained : {X Y : Type 0} (R : Y → Y → Type 0) (S : X → X → Type 0) (f : X → Y) (xs : List X) → AllPairs S xs
+    → ((a b : X) → Contains xs a → Contains xs b → S a b → R (f a) (f b)) → AllPairs R (map f xs)
 pairs_map_contained R S f [] pairs each i j d before within = absurd (omega arith)
 pairs_map_contained R S f (x ∷ xs) pairs each i j d before within =
     let all = x ∷ xs in

@@ -16,7 +16,8 @@ contains_first x xs = (0, omega arith, refl)
 pub contains_further : {X : Type 0} (x y : X) (xs : List X) → Contains xs y → Contains (x ∷ xs) y
 contains_further x y xs there = (there.0 + 1, omega (arith, there.1), rw add-one there.2)
 
-found_here : {X : Type 0} (p : X → Bool) (x : X) (xs : List X) (y : X) (b : Bool) → (find p xs ≡ Some y → Contains xs y × (p y ≡ true)) → p x ≡ b → cond b (Some x) (find p xs) ≡ Some y → Contains (x ∷ xs) y × (p y ≡ true)
+found_here : {X : Type 0} (p : X → Bool) (x : X) (xs : List X) (y : X) (b : Bool) → (find p xs ≡ Some y → Contains xs y × (p y ≡ true))
+    → p x ≡ b → cond b (Some x) (find p xs) ≡ Some y → Contains (x ∷ xs) y × (p y ≡ true)
 found_here p x xs y true rest is e =
     let same : x ≡ y = same_Some x y e in
     (subst (λ z. Contains (x ∷ xs) z) same (contains_first x xs), ap p (sym same) ∙ is)
@@ -27,7 +28,8 @@ pub found : {X : Type 0} (p : X → Bool) (xs : List X) (y : X) → find p xs �
 found p [] y e = cc
 found p (x ∷ xs) y e = found_here p x xs y (p x) (found p xs y) refl e
 
-found_none_here : {X : Type 0} (p : X → Bool) (x : X) (xs : List X) (b : Bool) → (find p xs ≡ None → All (λ x. p x ≡ false) xs) → p x ≡ b → cond b (Some x) (find p xs) ≡ None → All (λ x. p x ≡ false) (x ∷ xs)
+found_none_here : {X : Type 0} (p : X → Bool) (x : X) (xs : List X) (b : Bool) → (find p xs ≡ None → All (λ x. p x ≡ false) xs) → p x ≡ b
+    → cond b (Some x) (find p xs) ≡ None → All (λ x. p x ≡ false) (x ∷ xs)
 found_none_here p x xs true rest is e = cc
 found_none_here p x xs false rest is e = All-cons (λ x. p x ≡ false) x xs is (rest e)
 
@@ -36,7 +38,8 @@ pub found_none : {X : Type 0} (p : X → Bool) (xs : List X) → find p xs ≡ N
 found_none p [] e = All-nil (λ x. p x ≡ false)
 found_none p (x ∷ xs) e = found_none_here p x xs (p x) (found_none p xs) refl e
 
-finds_at : {X : Type 0} (p : X → Bool) (xs : List X) (x : X) (o : Option X) → find p xs ≡ o → Contains xs x → p x ≡ true → ((y : X) → Contains xs y → p y ≡ true → y ≡ x) → o ≡ Some x
+finds_at : {X : Type 0} (p : X → Bool) (xs : List X) (x : X) (o : Option X) → find p xs ≡ o → Contains xs x → p x ≡ true
+    → ((y : X) → Contains xs y → p y ≡ true → y ≡ x) → o ≡ Some x
 finds_at p xs x None e there passes only = absurd (false≢true (sym (All-contains (λ y. p y ≡ false) xs x (found_none p xs e) there) ∙ passes))
 finds_at p xs x (Some y) e there passes only = let is = found p xs y e in ap Some (only y is.0 is.1)
 
@@ -66,7 +69,8 @@ numbered_push number xs x numbered is i row at =
     let more = length_push xs x in
     elim (cases_lt i (length xs)) [
       | inl below ↦
-          numbered i row (slice_get-get_or xs i row below ∙ ap Some (sym (get_or_append_left xs (x ∷ []) row i below) ∙ get_or_from_slice_get (xs ++ x ∷ []) i row row at))
+          numbered i row (slice_get-get_or xs i row below ∙ ap Some
+          (sym (get_or_append_left xs (x ∷ []) row i below) ∙ get_or_from_slice_get (xs ++ x ∷ []) i row row at))
       | inr past ↦
           let last : length xs ≡ i = omega arith in
           let same : x ≡ row = sym (get_or_push xs x row i last) ∙ get_or_from_slice_get (xs ++ x ∷ []) i row row at in
@@ -80,7 +84,8 @@ related R xs x y pairs a b =
     elim (cases_lt a.0 b.0) [
       | inl before ↦ inr (inl (subst (λ u. R u y) (get_or_default xs a.0 y x a.1 ∙ a.2) (subst (λ v. R (get_or xs a.0 y) v) b.2 (pairs a.0 b.0 y before b.1))))
       | inr after ↦ elim (cases_lt b.0 a.0) [
-        | inl before ↦ inr (inr (subst (λ u. R u x) (get_or_default xs b.0 x y b.1 ∙ b.2) (subst (λ v. R (get_or xs b.0 x) v) a.2 (pairs b.0 a.0 x before a.1))))
+        | inl before ↦ inr (inr (subst (λ u. R u x) (get_or_default xs b.0 x y b.1 ∙ b.2)
+            (subst (λ v. R (get_or xs b.0 x) v) a.2 (pairs b.0 a.0 x before a.1))))
         | inr same ↦
             let e : a.0 ≡ b.0 = omega arith in
             inl (sym a.2 ∙ ap (λ k. get_or xs k x) e ∙ get_or_default xs b.0 x y b.1 ∙ b.2)
@@ -92,7 +97,8 @@ option_map_some f None y e = cc
 option_map_some f (Some x) y e = (x, refl, same_Some (f x) y e)
 
 -- rows that keep their numbers, or their relation, when each is changed
-pub numbered_map : {X : Type 0} (number : X → ℕ) (f : X → X) (xs : List X) → ((x : X) → number (f x) ≡ number x) → AreNumbered number xs → AreNumbered number (map f xs)
+pub numbered_map : {X : Type 0} (number : X → ℕ) (f : X → X) (xs : List X) → ((x : X) → number (f x) ≡ number x) → AreNumbered number xs
+    → AreNumbered number (map f xs)
 numbered_map number f xs same numbered i row at =
     let old = option_map_some f (slice_get xs i) row (sym (slice_get-map f xs i) ∙ at) in
     ap number (sym old.2) ∙ same old.0 ∙ numbered i old.0 old.1
@@ -109,7 +115,8 @@ pub pairs_push : {X : Type 0} (R : X → X → Type 0) (xs : List X) (y : X) →
 pairs_push R xs y pairs each = all_pairs_push R xs y pairs (λ k d below. each (get_or xs k d) (Contains-get_or xs k d below))
 
 -- a row that passes is kept
-kept_here : {X : Type 0} (p : X → Bool) (x y : X) (xs : List X) (b : Bool) → p x ≡ b → Contains (filter p xs) y → Contains (cond b (x ∷ filter p xs) (filter p xs)) y
+kept_here : {X : Type 0} (p : X → Bool) (x y : X) (xs : List X) (b : Bool) → p x ≡ b → Contains (filter p xs) y
+    → Contains (cond b (x ∷ filter p xs) (filter p xs)) y
 kept_here p x y xs true is there = contains_further x y (filter p xs) there
 kept_here p x y xs false is there = there
 
@@ -123,14 +130,17 @@ kept p (x ∷ xs) y there passes =
     elim (contains_cases x y xs there) [
       | inl first ↦
           let is : p x ≡ true = ap p first ∙ passes in
-          subst (λ b. Contains (cond b (x ∷ filter p xs) (filter p xs)) y) (sym is) (subst (λ z. Contains (x ∷ filter p xs) z) first (contains_first x (filter p xs)))
+          subst (λ b. Contains (cond b (x ∷ filter p xs) (filter p xs)) y) (sym is)
+          (subst (λ z. Contains (x ∷ filter p xs) z) first (contains_first x (filter p xs)))
       | inr further ↦ kept_here p x y xs (p x) refl (kept p xs y further passes)
     ]
 
 -- what is kept stood in the list, and passes
 pub kept_from : {X : Type 0} (p : X → Bool) (xs : List X) (y : X) → Contains (filter p xs) y → Contains xs y × (p y ≡ true)
-kept_from p xs y there =
-    (All-contains (Contains xs) (filter p xs) y (All-filter p (Contains xs) xs (All-contains_itself xs)) there, All-contains (λ x. p x ≡ true) (filter p xs) y (filter_passes p xs) there)
+kept_from p xs y there = (
+  All-contains (Contains xs) (filter p xs) y (All-filter p (Contains xs) xs (All-contains_itself xs)) there,
+  All-contains (λ x. p x ≡ true) (filter p xs) y (filter_passes p xs) there,
+)
 
 pub contains_map : {X Y : Type 0} (f : X → Y) (xs : List X) (x : X) → Contains xs x → Contains (map f xs) (f x)
 contains_map f xs x there =

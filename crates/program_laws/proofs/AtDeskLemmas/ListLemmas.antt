@@ -49,7 +49,8 @@ use Rattle.program_laws.proofs.AtDeskLemmas.TellableLemmas.{look_tells, no_count
 -- one body tells one page
 abbrev pub OnePage : Type 0
 OnePage =
-    (kind : PageKind) (page other : Found) → IsToldPage kind page → IsToldPage kind other → pages.page_as_read page ≡ pages.page_as_read other → AreAlike page other
+    (kind : PageKind) (page other : Found) → IsToldPage kind page → IsToldPage kind other → pages.page_as_read page
+    ≡ pages.page_as_read other → AreAlike page other
 
 -- what was told as a page is one that was found
 page_of : (body : Bor (List ℕ)) (r : Result Found Refusal) → TellAlike (told.Granted (granted.Page body)) (told_look forms.Json r)

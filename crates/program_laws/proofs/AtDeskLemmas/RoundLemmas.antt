@@ -81,7 +81,8 @@ one_more x xs ys = refl
 regroup : (s d r more : List ℕ) → (s ++ (d ++ 13 ∷ 10 ∷ 13 ∷ 10 ∷ r)) ++ more ≡ s ++ (d ++ 13 ∷ 10 ∷ 13 ∷ 10 ∷ (r ++ more))
 regroup s d r more = simp (append_assoc, one_more)
 
-cut_reply : (t u : Told) (a b : List ℕ) → length (told_text t) ≤ longest_reply_body → length (reply_text u ++ b) < 2 ^ 64 → reply_text t ++ a ≡ reply_text u ++ b
+cut_reply : (t u : Told) (a b : List ℕ) → length (told_text t) ≤ longest_reply_body → length (reply_text u ++ b) < 2 ^ 64 → reply_text t
+    ++ a ≡ reply_text u ++ b
     → (reply_text t ≡ reply_text u) × (a ≡ b)
 cut_reply t u a b short few same =
     let small : length (told_text u) < 2 ^ 64 = omega (arith, few, length-append (reply_text u) b, reply_length u) in

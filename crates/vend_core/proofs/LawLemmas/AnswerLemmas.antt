@@ -40,7 +40,8 @@ AnswersStand o r = All (Contains (office_after o r).sales) (sales_of (reply_of r
 
 -- a decision leaves the sales, or adds the one that it answers, of which New holds
 abbrev pub AddsOne : Office → (Sale → Type 0) → Result Change Refusal → Type 0
-AddsOne o New r = ((office_after o r).sales ≡ o.sales) ⊎ ((s : Sale) × New s × ((office_after o r).sales ≡ o.sales ++ s ∷ []) × (reply_of r ≡ Ok (answers.Sold s)))
+AddsOne o New r = ((office_after o r).sales ≡ o.sales)
+    ⊎ ((s : Sale) × New s × ((office_after o r).sales ≡ o.sales ++ s ∷ []) × (reply_of r ≡ Ok (answers.Sold s)))
 
 pub record IsHonest (o : Office) (New : Sale → Type 0) (r : Result Change Refusal) : Type 0 where
   pub stand : AnswersStand o r
@@ -54,7 +55,8 @@ module _ (o : Office) (New : Sale → Type 0) where
   one_standing s there = All-cons (Contains o.sales) s [] there (nothing o)
 
   -- a test between no change and a refusal
-  stand_if : (b : Bool) (answer : Answer) (refusal : Refusal) → All (Contains o.sales) (sales_in answer) → IsHonest o New (if b then unchanged answer else Err refusal)
+  stand_if : (b : Bool) (answer : Answer) (refusal : Refusal) → All (Contains o.sales) (sales_in answer)
+      → IsHonest o New (if b then unchanged answer else Err refusal)
   stand_if true answer refusal there = record { stand = there; adds = inl refl }
   stand_if false answer refusal there = record { stand = nothing o; adds = inl refl }
 
@@ -62,11 +64,13 @@ module _ (o : Office) (New : Sale → Type 0) where
   stand_add_tariff name steps None = record { stand = nothing o; adds = inl refl }
   stand_add_tariff name steps (Some there) = stand_if (steps_eq there steps) _ _ (nothing o)
 
-  stand_day : (name : List ℕ) (day : ℕ) (steps : List Step) (b : Bool) → IsHonest o New (if b then changed (edits.AddSteps name day steps) answers.Done else Err refusals.DayPast)
+  stand_day : (name : List ℕ) (day : ℕ) (steps : List Step) (b : Bool)
+      → IsHonest o New (if b then changed (edits.AddSteps name day steps) answers.Done else Err refusals.DayPast)
   stand_day name day steps true = record { stand = nothing o; adds = inl refl }
   stand_day name day steps false = record { stand = nothing o; adds = inl refl }
 
-  stand_add_steps : (name : List ℕ) (day today : ℕ) (steps : List Step) (has : Bool) (there : Option (List Step)) → IsHonest o New (add_steps name day steps today has there)
+  stand_add_steps : (name : List ℕ) (day today : ℕ) (steps : List Step) (has : Bool) (there : Option (List Step))
+      → IsHonest o New (add_steps name day steps today has there)
   stand_add_steps name day today steps false there = record { stand = nothing o; adds = inl refl }
   stand_add_steps name day today steps true (Some there) = stand_if (steps_eq there steps) _ _ (nothing o)
   stand_add_steps name day today steps true None = stand_day name day steps (nat_lt today day)
@@ -86,7 +90,8 @@ module _ (o : Office) (New : Sale → Type 0) where
   stand_set_tariff number name (Some m) true = stand_set (bytes_eq m.tariff name) number name
 
   stand_later : (number : List ℕ) (base : Base) (same earlier before : Bool)
-      → IsHonest o New (if same then unchanged answers.Done else (if earlier then Err refusals.NotLater else (if before then Err refusals.BeforeBase else changed (edits.MoveBase number base) answers.Done)))
+      → IsHonest o New (if same then unchanged answers.Done else
+      (if earlier then Err refusals.NotLater else (if before then Err refusals.BeforeBase else changed (edits.MoveBase number base) answers.Done)))
   stand_later number base true earlier before = record { stand = nothing o; adds = inl refl }
   stand_later number base false true before = record { stand = nothing o; adds = inl refl }
   stand_later number base false false true = record { stand = nothing o; adds = inl refl }
@@ -108,11 +113,13 @@ module _ (o : Office) (New : Sale → Type 0) where
   stand_rows (row ∷ rest) = record { stand = nothing (with_rows (row ∷ rest) o); adds = inl (rows_add_none (row ∷ rest) o) }
 
   stand_import : (today : ℕ) (rows : List Row) → IsHonest o New (import o today rows)
-  stand_import today rows = after_test (IsHonest o New) (new_rows o today 1 rows) add_rows (λ refusal. record { stand = nothing o; adds = inl refl }) (λ new e. stand_rows new)
+  stand_import today rows = after_test (IsHonest o New) (new_rows o today 1 rows) add_rows
+      (λ refusal. record { stand = nothing o; adds = inl refl }) (λ new e. stand_rows new)
 
   stand_open_shift : (moment : ℕ) (operator : List ℕ) (there : Option Shift) (count : ℕ) → IsHonest o New (open_a_shift moment operator there count)
   stand_open_shift moment operator (Some there) count = record { stand = nothing o; adds = inl refl }
-  stand_open_shift moment operator None count = after_test (IsHonest o New) (next_number count) _ (λ refusal. record { stand = nothing o; adds = inl refl }) (λ number next. record { stand = nothing o; adds = inl refl })
+  stand_open_shift moment operator None count = after_test (IsHonest o New) (next_number count) _
+      (λ refusal. record { stand = nothing o; adds = inl refl }) (λ number next. record { stand = nothing o; adds = inl refl })
 
   stand_close_shift : (moment : ℕ) (there : Option Shift) → IsHonest o New (close_shift moment there)
   stand_close_shift moment None = record { stand = nothing o; adds = inl refl }
@@ -134,9 +141,12 @@ module _ (o : Office) (New : Sale → Type 0) where
       let sold = sells change refl in
       subst (λ (c : Change). IsHonest o New (Ok c)) (sym sold.2) (stand_added sold.0 sold.1)
 
-  stand_sell : (forward : ℕ → ℕ → ℕ) (moment nibble : ℕ) (order : Order) (first : Option Sale) (shift : Option Shift) (meter : Option MeterAccount) (count : ℕ) → sale_of_ref o order.operator order.order_ref ≡ first → SellsNew (sell forward moment nibble order shift meter count) → IsHonest o New (sell_once forward moment nibble order first shift meter count)
+  stand_sell : (forward : ℕ → ℕ → ℕ) (moment nibble : ℕ) (order : Order) (first : Option Sale) (shift : Option Shift)
+      (meter : Option MeterAccount) (count : ℕ) → sale_of_ref o order.operator order.order_ref ≡ first
+      → SellsNew (sell forward moment nibble order shift meter count) → IsHonest o New (sell_once forward moment nibble order first shift meter count)
   stand_sell forward moment nibble order None shift meter count e sells = stand_new_sale _ sells
-  stand_sell forward moment nibble order (Some first) shift meter count e sells = stand_if _ (answers.Sold first) _ (one_standing first (found _ o.sales first e).0)
+  stand_sell forward moment nibble order (Some first) shift meter count e sells =
+      stand_if _ (answers.Sold first) _ (one_standing first (found _ o.sales first e).0)
 
   stand_reprint : (number : ℕ) (sale : Option Sale) → sale_numbered o number ≡ sale → IsHonest o New (reprint sale)
   stand_reprint number None e = record { stand = nothing o; adds = inl refl }
@@ -144,14 +154,19 @@ module _ (o : Office) (New : Sale → Type 0) where
 
   stand_report : (shift : Option Shift) (number : ℕ) → IsHonest o New (report shift (sales_of_shift o number))
   stand_report None number = record { stand = nothing o; adds = inl refl }
-  stand_report (Some s) number = record { stand = All-filter (λ t. t.shift == number) (Contains o.sales) o.sales (All-contains_itself o.sales); adds = inl refl }
+  stand_report (Some s) number = record {
+    stand = All-filter (λ t. t.shift == number) (Contains o.sales) o.sales
+        (All-contains_itself o.sales);
+    adds = inl refl;
+  }
 
   module _ (forward : ℕ → ℕ → ℕ) (moment nibble : ℕ) where
     -- the sale that an order makes where it was not served before
     abbrev pub sold_to : Order → Result Change Refusal
     sold_to order = sell forward moment nibble order (open_shift o order.operator) (account_of o order.meter moment) (length o.sales)
 
-    pub honest : (request : Request) → ((order : Order) → request ≡ requests.Sell order → SellsNew (sold_to order)) → IsHonest o New (decision_of forward o moment nibble request)
+    pub honest : (request : Request) → ((order : Order) → request ≡ requests.Sell order → SellsNew (sold_to order))
+        → IsHonest o New (decision_of forward o moment nibble request)
     honest (requests.AddTariff name steps) sells = stand_add_tariff name steps (o.tariffs name)
     honest (requests.AddSteps name day steps) sells = stand_add_steps name day (day_at moment) steps (is_some (o.tariffs name)) (o.dated_steps name day)
     honest (requests.AddMeter number m) sells = stand_add_meter number m (o.meters number) (is_some (o.tariffs m.tariff))
@@ -161,7 +176,8 @@ module _ (o : Office) (New : Sale → Type 0) where
     honest (requests.OpenShift operator) sells = stand_open_shift moment operator (open_shift o operator) (length o.shifts)
     honest (requests.CloseShift operator) sells = stand_close_shift moment (open_shift o operator)
     honest (requests.Sell order) sells =
-        stand_sell forward moment nibble order (sale_of_ref o order.operator order.order_ref) (open_shift o order.operator) (account_of o order.meter moment) (length o.sales) refl (sells order refl)
+        stand_sell forward moment nibble order (sale_of_ref o order.operator order.order_ref) (open_shift o order.operator)
+        (account_of o order.meter moment) (length o.sales) refl (sells order refl)
     honest (requests.Reprint number) sells = stand_reprint number (sale_numbered o number) refl
     honest (requests.ShiftReport number) sells = stand_report (shift_numbered o number) number
 
@@ -175,6 +191,7 @@ answered_stand forward o at =
 -- a step of an office leaves the sales, or adds the new one of an order
 pub sells_one : LowerLaws → (forward : ℕ → ℕ → ℕ) (o : Office) (at : Stamped) → IsOffice o → KeepsRange forward → SellsOne forward o at
 sells_one laws forward o at office range =
-    (honest o (λ s. (order : Order) × (at.request ≡ requests.Sell order) × IsNewSale forward o at order s) forward at.moment at.nibble at.request (λ order asks change e.
+    (honest o (λ s. (order : Order) × (at.request ≡ requests.Sell order) × IsNewSale forward o at order s) forward at.moment at.nibble
+    at.request (λ order asks change e.
     let granted = granted_sale laws forward o at order change range office e in
     (granted.sale, (order, asks, granted.new), granted.change_is))).adds

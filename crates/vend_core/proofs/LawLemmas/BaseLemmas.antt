@@ -37,10 +37,13 @@ present_is_greatest o number m office there = record {
 -- what a move decides, by its three tests
 abbrev decided : List ℕ → Base → Bool → Bool → Bool → Result Change Refusal
 decided number base same earlier before =
-    if same then unchanged answers.Done else (if earlier then Err refusals.NotLater else (if before then Err refusals.BeforeBase else changed (edits.MoveBase number base) answers.Done))
+    if same then unchanged answers.Done else (if earlier then Err refusals.NotLater else
+    (if before then Err refusals.BeforeBase else changed (edits.MoveBase number base) answers.Done))
 
-module _ (forward : ℕ → ℕ → ℕ) (o : Office) (at : Stamped) (number : List ℕ) (base : Base) (m : Meter) (there : o.meters number ≡ Some m) (asks : at.request ≡ requests.MoveBase number base) where
-  move_is : decision_of forward o at.moment at.nibble at.request ≡ decided number base (base_eq m.base base) (is_earlier base m.base) (nat_lt at.moment (base_date base))
+module _ (forward : ℕ → ℕ → ℕ) (o : Office) (at : Stamped) (number : List ℕ) (base : Base) (m : Meter) (there : o.meters number ≡ Some m)
+    (asks : at.request ≡ requests.MoveBase number base) where
+  move_is : decision_of forward o at.moment at.nibble at.request
+      ≡ decided number base (base_eq m.base base) (is_earlier base m.base) (nat_lt at.moment (base_date base))
   move_is = ap (decision_of forward o at.moment at.nibble) asks ∙ ap (move_base number base at.moment) there
 
   decided_by : (same earlier before : Bool) → base_eq m.base base ≡ same → is_earlier base m.base ≡ earlier → nat_lt at.moment (base_date base) ≡ before

@@ -45,7 +45,8 @@ not_later v k base (row ∷ rows) numbered low =
     let here : counted v k row ≡ 0 = grind (arith, nat_tests) in
     omega (arith, sum_by-cons (counted v k) row rows, here, rest)
 
-once_here : (v k base : ℕ) (row : Shift) (rows : List Shift) (b : Bool) → (k == row.number) ≡ b → NumberedFrom base (row ∷ rows) → base < k → (base + 1 < k → sum_by (counted v k) rows ≡ v) → sum_by (counted v k) (row ∷ rows) ≡ v
+once_here : (v k base : ℕ) (row : Shift) (rows : List Shift) (b : Bool) → (k == row.number) ≡ b → NumberedFrom base (row ∷ rows) → base < k
+    → (base + 1 < k → sum_by (counted v k) rows ≡ v) → sum_by (counted v k) (row ∷ rows) ≡ v
 once_here v k base row rows true is numbered high further =
     let first = numbered 0 row refl in
     let rest = not_later v k (base + 1) rows (rest_numbered base row rows numbered) (grind (arith, nat_tests)) in
@@ -63,7 +64,9 @@ once v k base (row ∷ rows) numbered high low = once_here v k base row rows (k 
     (λ further. once v k (base + 1) rows (rest_numbered base row rows numbered) further (omega arith))
 
 -- one more sale counts in its shift
-cash_here : (s : Sale) (sales : List Sale) (shift : Shift) (b : Bool) → (s.shift == shift.number) ≡ b → cash_of (cond b (s ∷ filter (λ t. t.shift == shift.number) sales) (filter (λ t. t.shift == shift.number) sales)) ≡ cond b s.price 0 + cash_of (filter (λ t. t.shift == shift.number) sales)
+cash_here : (s : Sale) (sales : List Sale) (shift : Shift) (b : Bool) → (s.shift == shift.number) ≡ b
+    → cash_of (cond b (s ∷ filter (λ t. t.shift == shift.number) sales) (filter (λ t. t.shift == shift.number) sales))
+    ≡ cond b s.price 0 + cash_of (filter (λ t. t.shift == shift.number) sales)
 cash_here s sales shift true is = sum_by-cons (λ t. t.price) s (filter (λ t. t.shift == shift.number) sales)
 cash_here s sales shift false is = omega arith
 
@@ -73,9 +76,11 @@ cash_over shifts [] numbered each = sum_by_none _ shifts (λ shift. refl)
 cash_over shifts (s ∷ sales) numbered each =
     let rest = cash_over shifts sales numbered (All-tail (λ (s : Sale). (1 ≤ s.shift) × (s.shift ≤ length shifts)) s sales each) in
     let first = All-head (λ (s : Sale). (1 ≤ s.shift) × (s.shift ≤ length shifts)) s sales each in
-    let both = sum_by_both (counted s.price s.shift) (λ shift. cash_of (filter (λ t. t.shift == shift.number) sales)) (λ shift. cash_of (filter (λ t. t.shift == shift.number) (s ∷ sales))) shifts
+    let both = sum_by_both (counted s.price s.shift) (λ shift. cash_of (filter (λ t. t.shift == shift.number) sales))
+    (λ shift. cash_of (filter (λ t. t.shift == shift.number) (s ∷ sales))) shifts
     (λ shift. cash_here s sales shift (s.shift == shift.number) refl) in
-    both ∙ ap (λ n. n + sum_by (λ shift. cash_of (filter (λ t. t.shift == shift.number) sales)) shifts) (once s.price s.shift 0 shifts numbered (omega (arith, first)) (omega (arith, first)))
+    both ∙ ap (λ n. n + sum_by (λ shift. cash_of (filter (λ t. t.shift == shift.number) sales)) shifts)
+    (once s.price s.shift 0 shifts numbered (omega (arith, first)) (omega (arith, first)))
     ∙ ap (λ n. s.price + n) rest ∙ sym (sum_by-cons (λ t. t.price) s sales)
 
 shifts_add_up : (o : Office) → IsOffice o → sum_by (λ shift. cash_of (sales_of_shift o shift.number)) o.shifts ≡ cash_of o.sales
@@ -94,6 +99,7 @@ sums_same f g (x ∷ xs) same =
 pub cash_adds_up : (forward : ℕ → ℕ → ℕ) (o : Office) (ats : ℕ → Stamped) → IsOffice o → AskForReports ats → cash_of_reports forward o ats ≡ cash_of o.sales
 cash_adds_up forward o ats office ask =
     sums_same (λ (shift : Shift). cash_of (sales_of (reply forward o (ats shift.number)))) (λ shift. cash_of (sales_of_shift o shift.number)) o.shifts
-    (all_from_contains (λ (shift : Shift). cash_of (sales_of (reply forward o (ats shift.number))) ≡ cash_of (sales_of_shift o shift.number)) o.shifts (λ shift there.
+    (all_from_contains (λ (shift : Shift). cash_of (sales_of (reply forward o (ats shift.number)))
+    ≡ cash_of (sales_of_shift o shift.number)) o.shifts (λ shift there.
     ap (λ r. cash_of (sales_of r)) (reports_the_shift forward o (ats shift.number) shift office there (ask shift.number))))
     ∙ shifts_add_up o office

@@ -12,12 +12,14 @@ abbrev with_before : List ℕ → Taken → Taken
 with_before amounts taken = record { tids = taken.tids; amounts = taken.amounts ++ amounts }
 
 module _ (read : Reader) (amounts : List ℕ) where
-  answered_alike : (taken : Taken) (f : TokenFields) (answer : TidAnswer) → answered (with_before amounts taken) f answer ≡ with_before amounts (answered taken f answer)
+  answered_alike : (taken : Taken) (f : TokenFields) (answer : TidAnswer) → answered (with_before amounts taken) f answer
+      ≡ with_before amounts (answered taken f answer)
   answered_alike taken f accepted = refl
   answered_alike taken f used = refl
   answered_alike taken f old = refl
 
-  read_alike : (taken : Taken) (reading : Result TokenFields TokenFault) → after_reading (with_before amounts taken) reading ≡ with_before amounts (after_reading taken reading)
+  read_alike : (taken : Taken) (reading : Result TokenFields TokenFault) → after_reading (with_before amounts taken) reading
+      ≡ with_before amounts (after_reading taken reading)
   read_alike taken (Ok f) = answered_alike taken f (answer_to taken.tids f.tid)
   read_alike taken (Err fault) = refl
 
@@ -26,7 +28,8 @@ module _ (read : Reader) (amounts : List ℕ) where
   entered_alike taken cleared = refl
 
   -- what it makes of entries does not rest on the amounts
-  taken_alike : (taken : Taken) (history : List Entry) → fold (after_entry read) (with_before amounts taken) history ≡ with_before amounts (fold (after_entry read) taken history)
+  taken_alike : (taken : Taken) (history : List Entry) → fold (after_entry read) (with_before amounts taken) history
+      ≡ with_before amounts (fold (after_entry read) taken history)
   taken_alike taken [] = refl
   taken_alike taken (e ∷ history) =
       ap (λ (t : Taken). fold (after_entry read) t history) (entered_alike taken e)

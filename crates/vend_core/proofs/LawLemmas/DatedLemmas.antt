@@ -43,7 +43,8 @@ use Rattle.office_rules.proofs.StoreLemmas.LatestLemmas.{LatestIs, latest_is, on
 
 -- the steps of a tariff on a day are one list
 module _ (o : Office) (name : List ℕ) (day : ℕ) where
-  steps_chosen : (last first : Option (List Step)) → LatestIs (o.dated_steps name) day last → o.tariffs name ≡ first → IsSome first → AreStepsOn o name day (unwrap_or (option_or last first) [])
+  steps_chosen : (last first : Option (List Step)) → LatestIs (o.dated_steps name) day last → o.tariffs name ≡ first → IsSome first
+      → AreStepsOn o name day (unwrap_or (option_or last first) [])
   steps_chosen (Some steps) first is there some = inl is
   steps_chosen None (Some steps) none there some = inr (none, there)
   steps_chosen None None none there some = cc
@@ -60,8 +61,10 @@ module _ (o : Office) (name : List ℕ) (day : ℕ) where
       (λ are. one_on steps (steps_on o name day) are these, λ e. subst (AreStepsOn o name day) (sym e) these)
 
 -- steps that are asked for, where the tariff is there
-module _ (forward : ℕ → ℕ → ℕ) (o : Office) (at : Stamped) (name : List ℕ) (day : ℕ) (steps : List Step) (some : IsSome (o.tariffs name)) (asks : at.request ≡ requests.AddSteps name day steps) where
-  decided_with : (there : Option (List Step)) → o.dated_steps name day ≡ there → decision_of forward o at.moment at.nibble at.request ≡ add_steps name day steps (day_at at.moment) true there
+module _ (forward : ℕ → ℕ → ℕ) (o : Office) (at : Stamped) (name : List ℕ) (day : ℕ) (steps : List Step) (some : IsSome (o.tariffs name))
+    (asks : at.request ≡ requests.AddSteps name day steps) where
+  decided_with : (there : Option (List Step)) → o.dated_steps name day ≡ there → decision_of forward o at.moment at.nibble at.request
+      ≡ add_steps name day steps (day_at at.moment) true there
   decided_with there is =
       ap (decision_of forward o at.moment at.nibble) asks
       ∙ ap (λ (has : Bool). add_steps name day steps (day_at at.moment) has (o.dated_steps name day)) some
@@ -70,7 +73,8 @@ module _ (forward : ℕ → ℕ → ℕ) (o : Office) (at : Stamped) (name : Lis
   abbrev if_later : Bool → Result Change Refusal
   if_later later = if later then changed (edits.AddSteps name day steps) answers.Done else Err refusals.DayPast
 
-  pub adds_steps : o.dated_steps name day ≡ None → day_at at.moment < day → (reply forward o at ≡ Ok answers.Done) × ((step forward o at).dated_steps name day ≡ Some steps)
+  pub adds_steps : o.dated_steps name day ≡ None → day_at at.moment < day → (reply forward o at ≡ Ok answers.Done)
+      × ((step forward o at).dated_steps name day ≡ Some steps)
   adds_steps free later =
       let e = decided_with None free ∙ ap if_later (lt-ltb (day_at at.moment) day later) in
       let here = both_true (bytes_eq name name) (day == day) ((bytes_eq-Decides name name).1 refl) ((Decides-eqb day day).1 refl) in (
@@ -88,7 +92,8 @@ module _ (forward : ℕ → ℕ → ℕ) (o : Office) (at : Stamped) (name : Lis
   adds_no_passed_steps free past = ap reply_of (decided_with None free ∙ ap if_later (le-ltb (day_at at.moment) day past))
 
 -- what is found for a day rests on the days up to it
-latest_same : (earlier later : ℕ → Option (List Step)) (day : ℕ) → ((first : ℕ) → first ≤ day → later first ≡ earlier first) → latest later day ≡ latest earlier day
+latest_same : (earlier later : ℕ → Option (List Step)) (day : ℕ) → ((first : ℕ) → first ≤ day → later first ≡ earlier first)
+    → latest later day ≡ latest earlier day
 unfolding latest
 latest_same earlier later zero same = same zero (omega arith)
 latest_same earlier later (suc day) same =
@@ -126,7 +131,8 @@ module _ (day : ℕ) (o : Office) where
       beside_day (bytes_eq q name) (d == first) (Some steps) (o.dated_steps q d) other
   same_by_day name first today steps false past later = λ q d below. refl
 
-  same_by_steps : (name : List ℕ) (first today : ℕ) (steps : List Step) (has : Bool) (there : Option (List Step)) → day ≤ today → Same (add_steps name first steps today has there)
+  same_by_steps : (name : List ℕ) (first today : ℕ) (steps : List Step) (has : Bool) (there : Option (List Step)) → day ≤ today
+      → Same (add_steps name first steps today has there)
   same_by_steps name first today steps false there past = λ q d below. refl
   same_by_steps name first today steps true (Some there) past = same_if (steps_eq there steps) _ _
   same_by_steps name first today steps true None past = same_by_day name first today steps (nat_lt today first) past refl
@@ -146,7 +152,8 @@ module _ (day : ℕ) (o : Office) where
   same_by_set number name (Some m) true = same_by_setting number name (bytes_eq m.tariff name)
 
   same_by_later : (number : List ℕ) (base : Base) (same earlier before : Bool)
-      → Same (if same then unchanged answers.Done else (if earlier then Err refusals.NotLater else (if before then Err refusals.BeforeBase else changed (edits.MoveBase number base) answers.Done)))
+      → Same (if same then unchanged answers.Done else (if earlier then Err refusals.NotLater else
+      (if before then Err refusals.BeforeBase else changed (edits.MoveBase number base) answers.Done)))
   same_by_later number base true earlier before = λ q d below. refl
   same_by_later number base false true before = λ q d below. refl
   same_by_later number base false false true = λ q d below. refl
@@ -169,13 +176,15 @@ module _ (day : ℕ) (o : Office) where
   same_by_close moment None = λ q d below. refl
   same_by_close moment (Some s) = λ q d below. refl
 
-  same_by_new : (forward : ℕ → ℕ → ℕ) (moment nibble : ℕ) (order : Order) (shift : Option Shift) (account : Option MeterAccount) (count : ℕ) (r : Result Change Refusal) → sell forward moment nibble order shift account count ≡ r → Same r
+  same_by_new : (forward : ℕ → ℕ → ℕ) (moment nibble : ℕ) (order : Order) (shift : Option Shift) (account : Option MeterAccount)
+      (count : ℕ) (r : Result Change Refusal) → sell forward moment nibble order shift account count ≡ r → Same r
   same_by_new forward moment nibble order shift account count (Err refusal) e = λ q d below. refl
   same_by_new forward moment nibble order shift account count (Ok change) e =
       let is = (sell_ok forward moment nibble order shift account count change e).change_is in
       subst (λ (c : Change). Same (Ok c)) (sym is) (λ q d below. refl)
 
-  same_by_sell : (forward : ℕ → ℕ → ℕ) (moment nibble : ℕ) (order : Order) (first : Option Sale) (shift : Option Shift) (account : Option MeterAccount) (count : ℕ) → Same (sell_once forward moment nibble order first shift account count)
+  same_by_sell : (forward : ℕ → ℕ → ℕ) (moment nibble : ℕ) (order : Order) (first : Option Sale) (shift : Option Shift)
+      (account : Option MeterAccount) (count : ℕ) → Same (sell_once forward moment nibble order first shift account count)
   same_by_sell forward moment nibble order None shift account count = same_by_new forward moment nibble order shift account count _ refl
   same_by_sell forward moment nibble order (Some first) shift account count = same_if _ _ _
 
@@ -189,11 +198,15 @@ module _ (day : ℕ) (o : Office) where
 
 same_by_import : (day : ℕ) (o : Office) (today : ℕ) (rows : List Row) → day ≤ today → SameUntil day o (office_after o (import o today rows))
 same_by_import day o today rows past =
-    import_keeps (SameUntil day o) (λ row. Unit {0}) today (λ p row any same. same_twice day o p (office_after p (row_decision p today row)) same (same_by_row day p today row past)) o rows (λ i d within. tt) (λ q d below. refl)
+    import_keeps (SameUntil day o) (λ row. Unit {0}) today
+    (λ p row any same. same_twice day o p (office_after p (row_decision p today row)) same (same_by_row day p today row past)) o rows
+    (λ i d within. tt) (λ q d below. refl)
 
-same_by : (day : ℕ) (o : Office) (forward : ℕ → ℕ → ℕ) (moment nibble : ℕ) (request : Request) → day ≤ day_at moment → SameUntil day o (office_after o (decision_of forward o moment nibble request))
+same_by : (day : ℕ) (o : Office) (forward : ℕ → ℕ → ℕ) (moment nibble : ℕ) (request : Request) → day ≤ day_at moment
+    → SameUntil day o (office_after o (decision_of forward o moment nibble request))
 same_by day o forward moment nibble (requests.AddTariff name steps) past = same_by_tariff day o name steps (o.tariffs name)
-same_by day o forward moment nibble (requests.AddSteps name first steps) past = same_by_steps day o name first (day_at moment) steps (is_some (o.tariffs name)) (o.dated_steps name first) past
+same_by day o forward moment nibble (requests.AddSteps name first steps) past =
+    same_by_steps day o name first (day_at moment) steps (is_some (o.tariffs name)) (o.dated_steps name first) past
 same_by day o forward moment nibble (requests.AddMeter number m) past = same_by_meter day o number m (o.meters number) (is_some (o.tariffs m.tariff))
 same_by day o forward moment nibble (requests.Import rows) past = same_by_import day o (day_at moment) rows past
 same_by day o forward moment nibble (requests.SetTariff number name) past = same_by_set day o number name (o.meters number) (is_some (o.tariffs name))
@@ -201,7 +214,8 @@ same_by day o forward moment nibble (requests.MoveBase number base) past = same_
 same_by day o forward moment nibble (requests.OpenShift operator) past = same_by_open day o moment operator (open_shift o operator) (length o.shifts)
 same_by day o forward moment nibble (requests.CloseShift operator) past = same_by_close day o moment (open_shift o operator)
 same_by day o forward moment nibble (requests.Sell order) past =
-    same_by_sell day o forward moment nibble order (sale_of_ref o order.operator order.order_ref) (open_shift o order.operator) (account_of o order.meter moment) (length o.sales)
+    same_by_sell day o forward moment nibble order (sale_of_ref o order.operator order.order_ref) (open_shift o order.operator)
+    (account_of o order.meter moment) (length o.sales)
 same_by day o forward moment nibble (requests.Reprint number) past = same_by_reprint day o (sale_numbered o number)
 same_by day o forward moment nibble (requests.ShiftReport number) past = same_by_report day o (shift_numbered o number) (sales_of_shift o number)
 
@@ -210,17 +224,21 @@ after_same : (day : ℕ) (forward : ℕ → ℕ → ℕ) (o : Office) (ats : Lis
 unfolding after
 after_same day forward o [] past = λ q d below. refl
 after_same day forward o (at ∷ ats) past =
-    same_twice day o (step forward o at) (after forward (step forward o at) ats) (same_by day o forward at.moment at.nibble at.request (All-head (IsNotBefore day) at ats past))
+    same_twice day o (step forward o at) (after forward (step forward o at) ats)
+    (same_by day o forward at.moment at.nibble at.request (All-head (IsNotBefore day) at ats past))
     (after_same day forward (step forward o at) ats (All-tail (IsNotBefore day) at ats past))
 
 -- a tariff that stays, with the same further steps up to a day, has the same steps on that day
-same_steps_on : (o p : Office) (name : List ℕ) (day : ℕ) (there : Option (List Step)) → o.tariffs name ≡ there → IsSome there → ((steps : List Step) → o.tariffs name ≡ Some steps → p.tariffs name ≡ Some steps) → SameUntil day o p → steps_on p name day ≡ steps_on o name day
+same_steps_on : (o p : Office) (name : List ℕ) (day : ℕ) (there : Option (List Step)) → o.tariffs name ≡ there → IsSome there
+    → ((steps : List Step) → o.tariffs name ≡ Some steps → p.tariffs name ≡ Some steps) → SameUntil day o p → steps_on p name day ≡ steps_on o name day
 same_steps_on o p name day None is some stays same = cc
 same_steps_on o p name day (Some steps) is some stays same =
     ap (λ (l : Option (List Step)). unwrap_or (option_or l (p.tariffs name)) []) (latest_same (o.dated_steps name) (p.dated_steps name) day (same name))
     ∙ ap (λ (t : Option (List Step)). unwrap_or (option_or (latest (o.dated_steps name) day) t) []) (stays steps is ∙ sym is)
 
-pub passed_steps_stay : LowerLaws → (forward : ℕ → ℕ → ℕ) (o : Office) (ats : List Stamped) (name : List ℕ) (day : ℕ) → IsOffice o → All IsStamped ats → KeepsRange forward → IsSome (o.tariffs name) → All (IsNotBefore day) ats
+pub passed_steps_stay : LowerLaws → (forward : ℕ → ℕ → ℕ) (o : Office) (ats : List Stamped) (name : List ℕ) (day : ℕ) → IsOffice o
+    → All IsStamped ats → KeepsRange forward → IsSome (o.tariffs name) → All (IsNotBefore day) ats
     → steps_on (after forward o ats) name day ≡ steps_on o name day
 passed_steps_stay laws forward o ats name day office are range some past =
-    same_steps_on o (after forward o ats) name day (o.tariffs name) refl some ((after_grows laws forward o ats office are range).tariffs.first name) (after_same day forward o ats past)
+    same_steps_on o (after forward o ats) name day (o.tariffs name) refl some
+    ((after_grows laws forward o ats office are range).tariffs.first name) (after_same day forward o ats past)

@@ -111,11 +111,14 @@ grown_shift o s =
       same_shift t,
     ))
 
-closed_same : (number moment : ℕ) (s : Shift) (b : Bool) → (s.number == number) ≡ b → (b ≡ true → IsNone s.closed) → IsSameShift s (if b then closed_at moment s else s)
-closed_same number moment s true is opened = record { number = refl; operator = refl; opened = refl; closed = λ some. absurd (false≢true (sym (opened refl) ∙ some)) }
+closed_same : (number moment : ℕ) (s : Shift) (b : Bool) → (s.number == number) ≡ b → (b ≡ true → IsNone s.closed)
+    → IsSameShift s (if b then closed_at moment s else s)
+closed_same number moment s true is opened = record
+    { number = refl; operator = refl; opened = refl; closed = λ some. absurd (false≢true (sym (opened refl) ∙ some)) }
 closed_same number moment s false is opened = same_shift s
 
-grown_close : (o : Office) (c : Shift) (moment : ℕ) → IsOffice o → Contains o.shifts c → IsNone c.closed → HasGrown o (applied (edits.CloseShift c.number moment) o)
+grown_close : (o : Office) (c : Shift) (moment : ℕ) → IsOffice o → Contains o.shifts c → IsNone c.closed
+    → HasGrown o (applied (edits.CloseShift c.number moment) o)
 grown_close o c moment office there none =
     grown o (applied (edits.CloseShift c.number moment) o) (names_same o _ refl refl refl refl) [] (sym (append-nil o.sales)) (λ i t at.
     let within = slice_get_within o.shifts i t at in
@@ -146,24 +149,29 @@ module _ (o : Office) where
   stayed_names : (p : Office) → HaveStayed o p → ((number : List ℕ) (base : Base) → o.bases number base ≡ true → p.bases number base ≡ true) → NamesGrow o p
   stayed_names p stayed bases = record { tariffs = stayed.tariffs; meters = λ number m at. (m, stayed.meters number m at, omega arith); bases = bases }
 
-  grown_by_tariff : (name : List ℕ) (steps : List Step) (there : Option (List Step)) → o.tariffs name ≡ there → HasGrown o (office_after o (add_tariff name steps there))
+  grown_by_tariff : (name : List ℕ) (steps : List Step) (there : Option (List Step)) → o.tariffs name ≡ there
+      → HasGrown o (office_after o (add_tariff name steps there))
   grown_by_tariff name steps None at = new_names _ (stayed_names _ (stayed_by_tariff o name steps None at) (λ q b had. had)) refl refl
   grown_by_tariff name steps (Some there) at = grown_if (steps_eq there steps) _ _
 
-  grown_by_day : (name : List ℕ) (day : ℕ) (steps : List Step) (b : Bool) → HaveStayed o (office_after o (if b then changed (edits.AddSteps name day steps) answers.Done else Err refusals.DayPast))
+  grown_by_day : (name : List ℕ) (day : ℕ) (steps : List Step) (b : Bool)
+      → HaveStayed o (office_after o (if b then changed (edits.AddSteps name day steps) answers.Done else Err refusals.DayPast))
       → HasGrown o (office_after o (if b then changed (edits.AddSteps name day steps) answers.Done else Err refusals.DayPast))
   grown_by_day name day steps true stayed = new_names _ (stayed_names _ stayed (λ q b had. had)) refl refl
   grown_by_day name day steps false stayed = grown_none o
 
-  grown_by_steps : (name : List ℕ) (day today : ℕ) (steps : List Step) (has : Bool) (there : Option (List Step)) → o.dated_steps name day ≡ there → HasGrown o (office_after o (add_steps name day steps today has there))
+  grown_by_steps : (name : List ℕ) (day today : ℕ) (steps : List Step) (has : Bool) (there : Option (List Step)) → o.dated_steps name day
+      ≡ there → HasGrown o (office_after o (add_steps name day steps today has there))
   grown_by_steps name day today steps false there at = grown_none o
   grown_by_steps name day today steps true (Some there) at = grown_if (steps_eq there steps) _ _
   grown_by_steps name day today steps true None at = grown_by_day name day steps (nat_lt today day) (stayed_by_steps o name day today steps true None at)
 
-  grown_by_meter : (number : List ℕ) (m : Meter) (there : Option Meter) (has : Bool) → o.meters number ≡ there → HasGrown o (office_after o (add_meter number m there has))
+  grown_by_meter : (number : List ℕ) (m : Meter) (there : Option Meter) (has : Bool) → o.meters number ≡ there
+      → HasGrown o (office_after o (add_meter number m there has))
   grown_by_meter number m (Some there) has at = grown_if (meter_eq there m) _ _
   grown_by_meter number m None true at =
-      new_names _ (stayed_names _ (stayed_by_meter o number m None true at) (λ q b had. more_kept (bytes_eq q number && base_eq b m.base) (o.bases q b) had)) refl refl
+      new_names _ (stayed_names _ (stayed_by_meter o number m None true at)
+      (λ q b had. more_kept (bytes_eq q number && base_eq b m.base) (o.bases q b) had)) refl refl
   grown_by_meter number m None false at = grown_none o
 
   -- a meter that is given a tariff has its base
@@ -171,12 +179,17 @@ module _ (o : Office) where
   same_base true name m = omega arith
   same_base false name m = omega arith
 
-  grown_by_setting : (number name : List ℕ) (b : Bool) → HasGrown o (office_after o (if b then unchanged answers.Done else changed (edits.SetTariff number name) answers.Done))
+  grown_by_setting : (number name : List ℕ) (b : Bool)
+      → HasGrown o (office_after o (if b then unchanged answers.Done else changed (edits.SetTariff number name) answers.Done))
   grown_by_setting number name true = grown_none o
   grown_by_setting number name false = new_names (applied (edits.SetTariff number name) o) (record {
     tariffs = record { first = λ q steps at. at; dated = λ q day steps at. at };
     meters =
-        λ q m at. ((if bytes_eq q number then with_tariff name m else m), set_kept (bytes_eq q number) (with_tariff name) m (o.meters q) at, same_base (bytes_eq q number) name m);
+        λ q m at. (
+          (if bytes_eq q number then with_tariff name m else m),
+          set_kept (bytes_eq q number) (with_tariff name) m (o.meters q) at,
+          same_base (bytes_eq q number) name m,
+        );
     bases = λ q b had. had;
   }) refl refl
 
@@ -186,7 +199,8 @@ module _ (o : Office) where
   grown_by_set number name (Some m) true = grown_by_setting number name (bytes_eq m.tariff name)
 
   -- a meter that is moved to a base that is not earlier
-  grown_by_move : (number : List ℕ) (base : Base) (m : Meter) (b : Bool) → o.meters number ≡ Some m → year_of m.base ≤ year_of base → HasGrown o (office_after o (if b then Err refusals.BeforeBase else changed (edits.MoveBase number base) answers.Done))
+  grown_by_move : (number : List ℕ) (base : Base) (m : Meter) (b : Bool) → o.meters number ≡ Some m → year_of m.base ≤ year_of base
+      → HasGrown o (office_after o (if b then Err refusals.BeforeBase else changed (edits.MoveBase number base) answers.Done))
   grown_by_move number base m true there later = grown_none o
   grown_by_move number base m false there later = new_names (applied (edits.MoveBase number base) o) (record {
     tariffs = record { first = λ q steps at. at; dated = λ q day steps at. at };
@@ -199,14 +213,17 @@ module _ (o : Office) where
   }) refl refl
 
   grown_by_later : (number : List ℕ) (base : Base) (moment : ℕ) (m : Meter) (same earlier : Bool) → o.meters number ≡ Some m → is_earlier base m.base ≡ earlier
-      → HasGrown o (office_after o (if same then unchanged answers.Done else (if earlier then Err refusals.NotLater else (if nat_lt moment (base_date base) then Err refusals.BeforeBase else changed (edits.MoveBase number base) answers.Done))))
+      → HasGrown o (office_after o (if same then unchanged answers.Done else
+      (if earlier then Err refusals.NotLater else (if nat_lt moment (base_date base) then Err refusals.BeforeBase else
+      changed (edits.MoveBase number base) answers.Done))))
   grown_by_later number base moment m true earlier there e = grown_none o
   grown_by_later number base moment m false true there e = grown_none o
   grown_by_later number base moment m false false there e =
       let later : year_of m.base ≤ year_of base = grind (arith, nat_tests) in
       grown_by_move number base m (nat_lt moment (base_date base)) there later
 
-  grown_by_move_base : (number : List ℕ) (base : Base) (moment : ℕ) (there : Option Meter) → o.meters number ≡ there → HasGrown o (office_after o (move_base number base moment there))
+  grown_by_move_base : (number : List ℕ) (base : Base) (moment : ℕ) (there : Option Meter) → o.meters number ≡ there
+      → HasGrown o (office_after o (move_base number base moment there))
   grown_by_move_base number base moment None at = grown_none o
   grown_by_move_base number base moment (Some m) at = grown_by_later number base moment m (base_eq m.base base) (is_earlier base m.base) at refl
 
@@ -217,26 +234,31 @@ module _ (o : Office) where
 
 grown_by_import : (o : Office) (today : ℕ) (rows : List Row) → HasGrown o (office_after o (import o today rows))
 grown_by_import o today rows =
-    import_keeps (HasGrown o) (λ row. Unit {0}) today (λ p row any grown. grown_twice o p (office_after p (row_decision p today row)) grown (grown_by_row p today row)) o rows (λ i d within. tt) (grown_none o)
+    import_keeps (HasGrown o) (λ row. Unit {0}) today (λ p row any grown. grown_twice o p (office_after p (row_decision p today row)) grown
+    (grown_by_row p today row)) o rows (λ i d within. tt) (grown_none o)
 
 module _ (o : Office) (office : IsOffice o) where
   grown_by_open : (moment : ℕ) (operator : List ℕ) (there : Option Shift) (count : ℕ) → HasGrown o (office_after o (open_a_shift moment operator there count))
   grown_by_open moment operator (Some there) count = grown_none o
-  grown_by_open moment operator None count = after_test (λ r. HasGrown o (office_after o r)) (next_number count) _ (λ refusal. grown_none o) (λ number next. grown_shift o _)
+  grown_by_open moment operator None count = after_test (λ r. HasGrown o (office_after o r)) (next_number count) _
+      (λ refusal. grown_none o) (λ number next. grown_shift o _)
 
-  grown_by_close : (moment : ℕ) (operator : List ℕ) (there : Option Shift) → open_shift o operator ≡ there → HasGrown o (office_after o (close_shift moment there))
+  grown_by_close : (moment : ℕ) (operator : List ℕ) (there : Option Shift) → open_shift o operator ≡ there
+      → HasGrown o (office_after o (close_shift moment there))
   grown_by_close moment operator None e = grown_none o
   grown_by_close moment operator (Some s) e =
       let is = found _ o.shifts s e in
       grown_close o s moment office is.0 (open_is_open _ s.closed is.1)
 
-  grown_by_new : (forward : ℕ → ℕ → ℕ) (moment nibble : ℕ) (order : Order) (shift : Option Shift) (meter : Option MeterAccount) (count : ℕ) (r : Result Change Refusal) → sell forward moment nibble order shift meter count ≡ r → HasGrown o (office_after o r)
+  grown_by_new : (forward : ℕ → ℕ → ℕ) (moment nibble : ℕ) (order : Order) (shift : Option Shift) (meter : Option MeterAccount) (count : ℕ)
+      (r : Result Change Refusal) → sell forward moment nibble order shift meter count ≡ r → HasGrown o (office_after o r)
   grown_by_new forward moment nibble order shift meter count (Err refusal) e = grown_none o
   grown_by_new forward moment nibble order shift meter count (Ok change) e =
       let is = (sell_ok forward moment nibble order shift meter count change e).change_is in
       subst (λ (c : Change). HasGrown o (office_after o (Ok c))) (sym is) (grown_sale o _)
 
-  grown_by_sell : (forward : ℕ → ℕ → ℕ) (moment nibble : ℕ) (order : Order) (first : Option Sale) (shift : Option Shift) (meter : Option MeterAccount) (count : ℕ) → HasGrown o (office_after o (sell_once forward moment nibble order first shift meter count))
+  grown_by_sell : (forward : ℕ → ℕ → ℕ) (moment nibble : ℕ) (order : Order) (first : Option Sale) (shift : Option Shift)
+      (meter : Option MeterAccount) (count : ℕ) → HasGrown o (office_after o (sell_once forward moment nibble order first shift meter count))
   grown_by_sell forward moment nibble order None shift meter count = grown_by_new forward moment nibble order shift meter count _ refl
   grown_by_sell forward moment nibble order (Some first) shift meter count = grown_if o _ _ _
 
@@ -250,7 +272,8 @@ module _ (o : Office) (office : IsOffice o) where
 
   grown_by : (forward : ℕ → ℕ → ℕ) (moment nibble : ℕ) (request : Request) → HasGrown o (office_after o (decision_of forward o moment nibble request))
   grown_by forward moment nibble (requests.AddTariff name steps) = grown_by_tariff o name steps (o.tariffs name) refl
-  grown_by forward moment nibble (requests.AddSteps name day steps) = grown_by_steps o name day (day_at moment) steps (is_some (o.tariffs name)) (o.dated_steps name day) refl
+  grown_by forward moment nibble (requests.AddSteps name day steps) =
+      grown_by_steps o name day (day_at moment) steps (is_some (o.tariffs name)) (o.dated_steps name day) refl
   grown_by forward moment nibble (requests.AddMeter number m) = grown_by_meter o number m (o.meters number) (is_some (o.tariffs m.tariff)) refl
   grown_by forward moment nibble (requests.Import rows) = grown_by_import o (day_at moment) rows
   grown_by forward moment nibble (requests.SetTariff number name) = grown_by_set o number name (o.meters number) (is_some (o.tariffs name))
@@ -258,7 +281,8 @@ module _ (o : Office) (office : IsOffice o) where
   grown_by forward moment nibble (requests.OpenShift operator) = grown_by_open moment operator (open_shift o operator) (length o.shifts)
   grown_by forward moment nibble (requests.CloseShift operator) = grown_by_close moment operator (open_shift o operator) refl
   grown_by forward moment nibble (requests.Sell order) =
-      grown_by_sell forward moment nibble order (sale_of_ref o order.operator order.order_ref) (open_shift o order.operator) (account_of o order.meter moment) (length o.sales)
+      grown_by_sell forward moment nibble order (sale_of_ref o order.operator order.order_ref) (open_shift o order.operator)
+      (account_of o order.meter moment) (length o.sales)
   grown_by forward moment nibble (requests.Reprint number) = grown_by_reprint (sale_numbered o number)
   grown_by forward moment nibble (requests.ShiftReport number) = grown_by_report (shift_numbered o number) (sales_of_shift o number)
 
@@ -266,13 +290,16 @@ pub step_grows : (forward : ℕ → ℕ → ℕ) (o : Office) (at : Stamped) →
 step_grows forward o at office = grown_by o office forward at.moment at.nibble at.request
 
 -- along a fold
-pub after_keeps_office : LowerLaws → (forward : ℕ → ℕ → ℕ) (o : Office) (ats : List Stamped) → IsOffice o → All IsStamped ats → KeepsRange forward → IsOffice (after forward o ats)
+pub after_keeps_office : LowerLaws → (forward : ℕ → ℕ → ℕ) (o : Office) (ats : List Stamped) → IsOffice o → All IsStamped ats
+    → KeepsRange forward → IsOffice (after forward o ats)
 unfolding after
 after_keeps_office laws forward o [] office are range = office
 after_keeps_office laws forward o (at ∷ ats) office are range =
-    after_keeps_office laws forward (step forward o at) ats (step_keeps_office laws forward o at office (All-head IsStamped at ats are) range) (All-tail IsStamped at ats are) range
+    after_keeps_office laws forward (step forward o at) ats
+    (step_keeps_office laws forward o at office (All-head IsStamped at ats are) range) (All-tail IsStamped at ats are) range
 
-pub after_grows : LowerLaws → (forward : ℕ → ℕ → ℕ) (o : Office) (ats : List Stamped) → IsOffice o → All IsStamped ats → KeepsRange forward → HasGrown o (after forward o ats)
+pub after_grows : LowerLaws → (forward : ℕ → ℕ → ℕ) (o : Office) (ats : List Stamped) → IsOffice o → All IsStamped ats → KeepsRange forward
+    → HasGrown o (after forward o ats)
 unfolding after
 after_grows laws forward o [] office are range = grown_none o
 after_grows laws forward o (at ∷ ats) office are range =

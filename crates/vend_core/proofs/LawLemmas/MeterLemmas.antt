@@ -36,7 +36,8 @@ pub record MeterLaws : Type 0 where
       → Accepts (reading_of inverse key) (entries_of forward key earlier) (token_of forward key f) f
   pub credit : (forward inverse : ℕ → ℕ → ℕ) (key : ℕ) (fs came : List TokenFields)
       → IsTransform forward inverse → key < 2 ^ 64 → AreSold fs → All (Contains fs) came
-      → credit_of (reading_of inverse key) (entries_of forward key came) ≡ sum_by (λ f. f.tenths) (sold_accepted (reading_of inverse key) (entries_of forward key came) fs)
+      → credit_of (reading_of inverse key) (entries_of forward key came)
+      ≡ sum_by (λ f. f.tenths) (sold_accepted (reading_of inverse key) (entries_of forward key came) fs)
   pub at_most_sold : (forward inverse : ℕ → ℕ → ℕ) (key : ℕ) (fs came : List TokenFields)
       → IsTransform forward inverse → key < 2 ^ 64 → AreSold fs → All (Contains fs) came
       → credit_of (reading_of inverse key) (entries_of forward key came) ≤ sum_by (λ f. f.tenths) fs
@@ -48,7 +49,8 @@ abbrev Earlier : Sale → Sale → Type 0
 Earlier a b = IsBefore a b × Rises a b
 
 -- what an office's sales of one meter under one base share
-module _ (o : Office) (office : IsOffice o) (rise : AllPairs Rises o.sales) (a b : Sale) (a_there : Contains o.sales a) (b_there : Contains o.sales b) (same_meter : a.meter ≡ b.meter) (same_base : a.base ≡ b.base) where
+module _ (o : Office) (office : IsOffice o) (rise : AllPairs Rises o.sales) (a b : Sale) (a_there : Contains o.sales a)
+    (b_there : Contains o.sales b) (same_meter : a.meter ≡ b.meter) (same_base : a.base ≡ b.base) where
   earlier : (a ≡ b) ⊎ (Earlier a b ⊎ Earlier b a)
   earlier = related Earlier o.sales a b (λ i j d before within. (office.before i j d before within, rise i j d before within)) a_there b_there
 
@@ -74,11 +76,16 @@ module _ (o : Office) (office : IsOffice o) (rise : AllPairs Rises o.sales) (a b
       (Decides-ltb a.number b.number)
 
   same_test : nat_eq a.tid b.tid ≡ (b.number == a.number)
-  same_test = same_from_decides {P = a ≡ b} (nat_eq a.tid b.tid) (b.number == a.number)
-      ((λ e. one_of_tid o a b office a_there b_there same_meter same_base ((Decides-eqb a.tid b.tid).0 e)), (λ e. (Decides-eqb a.tid b.tid).1 (ap (λ (s : Sale). s.tid) e)))
-      ((λ e. one_of_number o a b office a_there b_there (sym ((Decides-eqb b.number a.number).0 e))), (λ e. (Decides-eqb b.number a.number).1 (ap (λ (s : Sale). s.number) (sym e))))
+  same_test = same_from_decides {P = a ≡ b} (nat_eq a.tid b.tid) (b.number == a.number) (
+    (λ e. one_of_tid o a b office a_there b_there same_meter same_base ((Decides-eqb a.tid b.tid).0 e)),
+    (λ e. (Decides-eqb a.tid b.tid).1 (ap (λ (s : Sale). s.tid) e)),
+  ) (
+    (λ e. one_of_number o a b office a_there b_there (sym ((Decides-eqb b.number a.number).0 e))),
+    (λ e. (Decides-eqb b.number a.number).1 (ap (λ (s : Sale). s.number) (sym e))),
+  )
 
-module _ (laws : LowerLaws) (meter_laws : MeterLaws) (lives : List Life) (o : Office) (are : AreLives lives o) (m : SimMeter) (sales : List Sale) (to : AreSalesTo lives m sales) where
+module _ (laws : LowerLaws) (meter_laws : MeterLaws) (lives : List Life) (o : Office) (are : AreLives lives o) (m : SimMeter)
+    (sales : List Sale) (to : AreSalesTo lives m sales) where
   office : IsOffice o
   office = lives_office laws lives o are
 
@@ -122,26 +129,32 @@ module _ (laws : LowerLaws) (meter_laws : MeterLaws) (lives : List Life) (o : Of
     entries =
         map_twice (λ (f : TokenFields). entered (token_of m.forward m.key f)) fields_of came
         ∙ map_same (λ (s : Sale). entered (token_of m.forward m.key (fields_of s))) (λ (s : Sale). entered s.digits) came
-        (all_from_contains (λ (s : Sale). entered (token_of m.forward m.key (fields_of s)) ≡ entered s.digits) came (λ s in_came. ap entered (sym (digits_are s (came_from s in_came)))))
+        (all_from_contains (λ (s : Sale). entered (token_of m.forward m.key (fields_of s)) ≡ entered s.digits) came
+        (λ s in_came. ap entered (sym (digits_are s (came_from s in_came)))))
         ∙ sym (map_twice entered digits_of came)
 
     fields_from : All (Contains (map fields_of sales)) (map fields_of came)
-    fields_from = All-map (Contains (map fields_of sales)) fields_of came (all_from_contains (λ s. Contains (map fields_of sales) (fields_of s)) came (λ s in_came. contains_map fields_of sales s (came_from s in_came)))
+    fields_from = All-map (Contains (map fields_of sales)) fields_of came
+        (all_from_contains (λ s. Contains (map fields_of sales) (fields_of s)) came (λ s in_came. contains_map fields_of sales s (came_from s in_came)))
 
     pub credit_is : credit_of (reads_by m) (tokens_of came) ≡ sum_by (λ s. s.tenths) (accepted_of (reads_by m) (tokens_of came) sales)
     credit_is =
         let read = reads_by m in
         let accepted = λ (f : TokenFields). is_member (taken_over read (tokens_of came)).tids f.tid in
-        subst (λ (history : List Entry). credit_of read history ≡ sum_by (λ f. f.tenths) (sold_accepted read history (map fields_of sales))) entries (meter_laws.credit m.forward m.inverse m.key (map fields_of sales) (map fields_of came) to.transform to.key_bits are_sold fields_from)
+        subst (λ (history : List Entry). credit_of read history
+        ≡ sum_by (λ f. f.tenths) (sold_accepted read history (map fields_of sales))) entries
+        (meter_laws.credit m.forward m.inverse m.key (map fields_of sales) (map fields_of came) to.transform to.key_bits are_sold fields_from)
         ∙ ap (λ fs. sum_by (λ (f : TokenFields). f.tenths) fs) (kept_of_map fields_of accepted sales)
         ∙ sum_of_map fields_of (λ f. f.tenths) (accepted_of read (tokens_of came) sales)
 
     pub credit_within : credit_of (reads_by m) (tokens_of came) ≤ sum_by (λ s. s.tenths) sales
     credit_within =
         subst (λ n. credit_of (reads_by m) (tokens_of came) ≤ n) (sum_of_map fields_of (λ f. f.tenths) sales)
-        (subst (λ (history : List Entry). credit_of (reads_by m) history ≤ sum_by (λ f. f.tenths) (map fields_of sales)) entries (meter_laws.at_most_sold m.forward m.inverse m.key (map fields_of sales) (map fields_of came) to.transform to.key_bits are_sold fields_from))
+        (subst (λ (history : List Entry). credit_of (reads_by m) history ≤ sum_by (λ f. f.tenths) (map fields_of sales)) entries
+        (meter_laws.at_most_sold m.forward m.inverse m.key (map fields_of sales) (map fields_of came) to.transform to.key_bits are_sold fields_from))
 
-    pub accepted_is : (s : Sale) → Contains (accepted_of (reads_by m) (tokens_of came) sales) s ↔ (Contains sales s × WasAccepted (reads_by m) (map digits_of came) s.tid)
+    pub accepted_is : (s : Sale) → Contains (accepted_of (reads_by m) (tokens_of came) sales) s ↔
+        (Contains sales s × WasAccepted (reads_by m) (map digits_of came) s.tid)
     accepted_is s =
         let read = reads_by m in
         let accepted = λ (s : Sale). is_member (taken_over read (tokens_of came)).tids s.tid in (
@@ -153,29 +166,39 @@ module _ (laws : LowerLaws) (meter_laws : MeterLaws) (lives : List Life) (o : Of
     came_same : (t : Sale) → Contains sales t → is_member (map tid_of (map fields_of came)) t.tid ≡ has_come came t
     came_same t in_sales =
         ap (λ tids. is_member tids t.tid) (map_twice tid_of fields_of came)
-        ∙ any_same (λ (s : Sale). s.tid) (nat_eq t.tid) (λ (c : Sale). c.number == t.number) came (all_from_contains (λ (c : Sale). nat_eq t.tid c.tid ≡ (c.number == t.number)) came (λ c in_came.
+        ∙ any_same (λ (s : Sale). s.tid) (nat_eq t.tid) (λ (c : Sale). c.number == t.number) came
+        (all_from_contains (λ (c : Sale). nat_eq t.tid c.tid ≡ (c.number == t.number)) came (λ c in_came.
         let in_c = came_from c in_came in
-        same_test o office rise t c (there t in_sales) (there c in_c) (meter_of t in_sales ∙ sym (meter_of c in_c)) (base_of t in_sales ∙ sym (base_of c in_c))))
+        same_test o office rise t c (there t in_sales) (there c in_c) (meter_of t in_sales ∙ sym (meter_of c in_c))
+        (base_of t in_sales ∙ sym (base_of c in_c))))
 
     later_same : (s : Sale) → Contains sales s → sold.later_come (map fields_of sales) (map fields_of came) (fields_of s) ≡ later_sales_come sales came s
     later_same s in_s =
-        count_same fields_of (λ (g : TokenFields). nat_lt s.tid g.tid && is_member (map tid_of (map fields_of came)) g.tid) (λ (t : Sale). nat_lt s.number t.number && has_come came t) sales
-        (all_from_contains (λ (t : Sale). (nat_lt s.tid t.tid && is_member (map tid_of (map fields_of came)) t.tid) ≡ (nat_lt s.number t.number && has_come came t)) sales (λ t in_t.
-        ap (λ b. b && is_member (map tid_of (map fields_of came)) t.tid) (same_order o office rise s t (there s in_s) (there t in_t) (meter_of s in_s ∙ sym (meter_of t in_t)) (base_of s in_s ∙ sym (base_of t in_t)))
+        count_same fields_of (λ (g : TokenFields). nat_lt s.tid g.tid && is_member (map tid_of (map fields_of came)) g.tid)
+        (λ (t : Sale). nat_lt s.number t.number && has_come came t) sales
+        (all_from_contains (λ (t : Sale). (nat_lt s.tid t.tid && is_member (map tid_of (map fields_of came)) t.tid)
+        ≡ (nat_lt s.number t.number && has_come came t)) sales (λ t in_t.
+        ap (λ b. b && is_member (map tid_of (map fields_of came)) t.tid)
+        (same_order o office rise s t (there s in_s) (there t in_t) (meter_of s in_s ∙ sym (meter_of t in_t)) (base_of s in_s ∙ sym (base_of t in_t)))
         ∙ ap (λ b. nat_lt s.number t.number && b) (came_same t in_t)))
 
     not_come : (s : Sale) → Contains sales s → ¬ Contains came s → ¬ Contains (map fields_of came) (fields_of s)
     not_come s in_s not in_fields =
         let c = map_source fields_of came (fields_of s) in_fields in
         let in_c = came_from c.0 c.1 in
-        not (subst (λ t. Contains came t) (one_of_tid o c.0 s office (there c.0 in_c) (there s in_s) (meter_of c.0 in_c ∙ sym (meter_of s in_s)) (base_of c.0 in_c ∙ sym (base_of s in_s)) (ap tid_of c.2)) c.1)
+        not (subst (λ t. Contains came t) (one_of_tid o c.0 s office (there c.0 in_c) (there s in_s)
+        (meter_of c.0 in_c ∙ sym (meter_of s in_s)) (base_of c.0 in_c ∙ sym (base_of s in_s)) (ap tid_of c.2)) c.1)
 
-    pub first_entry_is : (s : Sale) → Contains sales s → ¬ Contains came s → Accepts (reads_by m) (tokens_of came) s.digits (fields_of s) ↔ (later_sales_come sales came s < 50)
+    pub first_entry_is : (s : Sale) → Contains sales s → ¬ Contains came s
+        → Accepts (reads_by m) (tokens_of came) s.digits (fields_of s) ↔ (later_sales_come sales came s < 50)
     first_entry_is s in_s not =
-        let is = meter_laws.first_entry m.forward m.inverse m.key (map fields_of sales) (map fields_of came) (fields_of s) to.transform to.key_bits are_sold fields_from (contains_map fields_of sales s in_s) (not_come s in_s not) in
+        let is = meter_laws.first_entry m.forward m.inverse m.key (map fields_of sales) (map fields_of came) (fields_of s) to.transform
+        to.key_bits are_sold fields_from (contains_map fields_of sales s in_s) (not_come s in_s not) in
         subst (λ n. Accepts (reads_by m) (tokens_of came) s.digits (fields_of s) ↔ (n < 50)) (later_same s in_s)
-        (subst (λ text. Accepts (reads_by m) (tokens_of came) text (fields_of s) ↔ (sold.later_come (map fields_of sales) (map fields_of came) (fields_of s) < 50)) (sym (digits_are s in_s))
-        (subst (λ history. Accepts (reads_by m) history (token_of m.forward m.key (fields_of s)) (fields_of s) ↔ (sold.later_come (map fields_of sales) (map fields_of came) (fields_of s) < 50)) entries is))
+        (subst (λ text. Accepts (reads_by m) (tokens_of came) text (fields_of s) ↔
+        (sold.later_come (map fields_of sales) (map fields_of came) (fields_of s) < 50)) (sym (digits_are s in_s))
+        (subst (λ history. Accepts (reads_by m) history (token_of m.forward m.key (fields_of s)) (fields_of s) ↔
+        (sold.later_come (map fields_of sales) (map fields_of came) (fields_of s) < 50)) entries is))
 
   pub bound_above : sum_by (λ s. s.tenths) sales < 2 ^ 64 - 1
   bound_above = subst (λ n. n < 2 ^ 64 - 1) (sum_of_map fields_of (λ f. f.tenths) sales) (meter_laws.below_bound (map fields_of sales) are_sold)
@@ -191,4 +214,5 @@ in_order_is laws meter_laws lives o m earlier later s are to =
     let rising = subst AreSold (map-append fields_of earlier (s ∷ later)) (are_sold laws meter_laws lives o are m sales to) in
     let is = meter_laws.in_order m.forward m.inverse m.key (map fields_of earlier) (map fields_of later) (fields_of s) to.transform to.key_bits rising in
     subst (λ text. Accepts (reads_by m) (tokens_of earlier) text (fields_of s)) (sym (digits_are laws meter_laws lives o are m sales to s in_s))
-    (subst (λ history. Accepts (reads_by m) history (token_of m.forward m.key (fields_of s)) (fields_of s)) (entries laws meter_laws lives o are m sales to earlier from) is)
+    (subst (λ history. Accepts (reads_by m) history (token_of m.forward m.key (fields_of s)) (fields_of s))
+    (entries laws meter_laws lives o are m sales to earlier from) is)

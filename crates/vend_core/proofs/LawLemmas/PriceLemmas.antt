@@ -40,7 +40,8 @@ module _ (forward : ℕ → ℕ → ℕ) (o : Office) (at : Stamped) (order : Or
 
 module _ (laws : LowerLaws) (forward : ℕ → ℕ → ℕ) (o : Office) (range : KeepsRange forward) (office : IsOffice o) where
   pub keeps_price : (at : Stamped) (order : Order) (s : Sale) (later : List Stamped) → IsStamped at → All IsStamped later → at.request ≡ requests.Sell order
-      → sale_of_ref o order.operator order.order_ref ≡ None → reply forward o at ≡ Ok (answers.Sold s) → All (IsNotBefore (day_at at.moment)) later → KeepsPrice o (after forward (step forward o at) later) s
+      → sale_of_ref o order.operator order.order_ref ≡ None → reply forward o at ≡ Ok (answers.Sold s)
+      → All (IsNotBefore (day_at at.moment)) later → KeepsPrice o (after forward (step forward o at) later) s
   unfolding after
   keeps_price at order s later stamped are asks alone answered past =
       let made = new_sale_is laws forward o at order s office range asks alone answered in
@@ -51,9 +52,11 @@ module _ (laws : LowerLaws) (forward : ℕ → ℕ → ℕ) (o : Office) (range 
       let all = All-cons IsStamped at later stamped are in
       let passed = All-cons (IsNotBefore (day_at at.moment)) at later (omega arith) past in
       let same : steps_on (after forward p later) new.to_meter.tariff (day_at at.moment) ≡ steps_on o new.to_meter.tariff (day_at at.moment) =
-      passed_steps_stay laws forward o (at ∷ later) new.to_meter.tariff (day_at at.moment) office all range (has_tariff forward o at order s new office) passed in
+      passed_steps_stay laws forward o (at ∷ later) new.to_meter.tariff (day_at at.moment) office all range
+      (has_tariff forward o at order s new office) passed in
       let on_day : steps_on (after forward p later) new.to_meter.tariff (day_at s.moment) ≡ steps_on o new.to_meter.tariff (day_at s.moment) =
-      subst (λ (moment : ℕ). steps_on (after forward p later) new.to_meter.tariff (day_at moment) ≡ steps_on o new.to_meter.tariff (day_at moment)) (sym new.moment) same in
+      subst (λ (moment : ℕ). steps_on (after forward p later) new.to_meter.tariff (day_at moment)
+      ≡ steps_on o new.to_meter.tariff (day_at moment)) (sym new.moment) same in
       record {
         stands = stands_on p (after forward p later) s (after_grows laws forward p later next are range) there;
         meter = new.to_meter;

@@ -39,7 +39,8 @@ abbrev IsOwn : Result Change Refusal → Type 0
 IsOwn r = acknowledges (reply_of r) ≡ true
 
 -- so it is through each kind of test
-own_there : {A : Type 0} (o : Option A) (refusal : Refusal) (f : A → Result Change Refusal) → IsOwn (Err refusal) → ((x : A) → IsOwn (f x)) → IsOwn (ok_or o refusal >>= f)
+own_there : {A : Type 0} (o : Option A) (refusal : Refusal) (f : A → Result Change Refusal) → IsOwn (Err refusal) → ((x : A) → IsOwn (f x))
+    → IsOwn (ok_or o refusal >>= f)
 own_there None refusal f own rest = own
 own_there (Some x) refusal f own rest = rest x
 
@@ -50,7 +51,8 @@ own_minute (Err PastEnd) f rest = refl
 own_minute (Err IdentifiersSpent) f rest = refl
 own_minute (Err IdentifierAhead) f rest = refl
 
-own_room : (count : ℕ) (b : Bool) (f : ℕ → Result Change Refusal) → ((x : ℕ) → IsOwn (f x)) → IsOwn ((if b then Ok (count + 1) else Err refusals.OfficeFull) >>= f)
+own_room : (count : ℕ) (b : Bool) (f : ℕ → Result Change Refusal) → ((x : ℕ) → IsOwn (f x))
+    → IsOwn ((if b then Ok (count + 1) else Err refusals.OfficeFull) >>= f)
 own_room count true f rest = rest (count + 1)
 own_room count false f rest = refl
 
@@ -62,7 +64,8 @@ own_tariff : (name : List ℕ) (steps : List Step) (there : Option (List Step)) 
 own_tariff name steps None = refl
 own_tariff name steps (Some there) = own_if (steps_eq there steps) _ refusals.Differs refl
 
-own_day : (name : List ℕ) (day : ℕ) (steps : List Step) (b : Bool) → IsOwn (if b then changed (edits.AddSteps name day steps) answers.Done else Err refusals.DayPast)
+own_day : (name : List ℕ) (day : ℕ) (steps : List Step) (b : Bool)
+    → IsOwn (if b then changed (edits.AddSteps name day steps) answers.Done else Err refusals.DayPast)
 own_day name day steps true = refl
 own_day name day steps false = refl
 
@@ -86,7 +89,8 @@ own_set number name (Some m) false = refl
 own_set number name (Some m) true = own_setting number name (bytes_eq m.tariff name)
 
 own_later : (number : List ℕ) (base : Base) (same earlier before : Bool)
-    → IsOwn (if same then unchanged answers.Done else (if earlier then Err refusals.NotLater else (if before then Err refusals.BeforeBase else changed (edits.MoveBase number base) answers.Done)))
+    → IsOwn (if same then unchanged answers.Done else (if earlier then Err refusals.NotLater else
+    (if before then Err refusals.BeforeBase else changed (edits.MoveBase number base) answers.Done)))
 own_later number base true earlier before = refl
 own_later number base false true before = refl
 own_later number base false false true = refl
@@ -123,8 +127,10 @@ own_refusal r own refusal is = ap (λ q. acknowledges (reply_of q)) (sym is) ∙
 own_new_rows : (o : Office) (today number : ℕ) (rows : List Row) → RefusesOwn (new_rows o today number rows)
 own_new_rows o today number [] = λ refusal is. cc
 own_new_rows o today number (row ∷ rest) =
-    own_after (at_row number (row_decision o today row)) _ (own_refusal (at_row number (row_decision o today row)) (own_at_row number (row_decision o today row) (own_row o today row)))
-    (λ change. own_after (new_rows (office_after o (Ok change)) today (number + 1) rest) _ (own_new_rows (office_after o (Ok change)) today (number + 1) rest) (λ new refusal is. cc))
+    own_after (at_row number (row_decision o today row)) _
+    (own_refusal (at_row number (row_decision o today row)) (own_at_row number (row_decision o today row) (own_row o today row)))
+    (λ change. own_after (new_rows (office_after o (Ok change)) today (number + 1) rest) _
+    (own_new_rows (office_after o (Ok change)) today (number + 1) rest) (λ new refusal is. cc))
 
 own_rows : (new : List Row) → IsOwn (add_rows new)
 own_rows [] = refl
@@ -141,7 +147,8 @@ own_open : (moment : ℕ) (operator : List ℕ) (there : Option Shift) (count : 
 own_open moment operator (Some there) count = refl
 own_open moment operator None count = own_room count (nat_lt count greatest_count) _ (λ number. refl)
 
-own_sell : (forward : ℕ → ℕ → ℕ) (moment nibble : ℕ) (order : Order) (first : Option Sale) (shift : Option Shift) (meter : Option MeterAccount) (count : ℕ) → IsOwn (sell_once forward moment nibble order first shift meter count)
+own_sell : (forward : ℕ → ℕ → ℕ) (moment nibble : ℕ) (order : Order) (first : Option Sale) (shift : Option Shift)
+    (meter : Option MeterAccount) (count : ℕ) → IsOwn (sell_once forward moment nibble order first shift meter count)
 own_sell forward moment nibble order (Some first) shift meter count = own_if _ _ refusals.RefReused refl
 own_sell forward moment nibble order None shift meter count =
     own_there shift refusals.NoShift _ refl (λ s. own_there meter refusals.NoMeter _ refl (λ m.
@@ -150,7 +157,8 @@ own_sell forward moment nibble order None shift meter count =
 
 own_decision : (forward : ℕ → ℕ → ℕ) (o : Office) (moment nibble : ℕ) (request : Request) → IsOwn (decision_of forward o moment nibble request)
 own_decision forward o moment nibble (requests.AddTariff name steps) = own_tariff name steps (o.tariffs name)
-own_decision forward o moment nibble (requests.AddSteps name day steps) = own_steps name day (day_at moment) steps (is_some (o.tariffs name)) (o.dated_steps name day)
+own_decision forward o moment nibble (requests.AddSteps name day steps) =
+    own_steps name day (day_at moment) steps (is_some (o.tariffs name)) (o.dated_steps name day)
 own_decision forward o moment nibble (requests.AddMeter number m) = own_meter number m (o.meters number) (is_some (o.tariffs m.tariff))
 own_decision forward o moment nibble (requests.Import rows) = own_import o (day_at moment) rows
 own_decision forward o moment nibble (requests.SetTariff number name) = own_set number name (o.meters number) (is_some (o.tariffs name))
@@ -158,12 +166,14 @@ own_decision forward o moment nibble (requests.MoveBase number base) = own_move 
 own_decision forward o moment nibble (requests.OpenShift operator) = own_open moment operator (open_shift o operator) (length o.shifts)
 own_decision forward o moment nibble (requests.CloseShift operator) = own_there (open_shift o operator) refusals.NoShift _ refl (λ s. refl)
 own_decision forward o moment nibble (requests.Sell order) =
-    own_sell forward moment nibble order (sale_of_ref o order.operator order.order_ref) (open_shift o order.operator) (account_of o order.meter moment) (length o.sales)
+    own_sell forward moment nibble order (sale_of_ref o order.operator order.order_ref) (open_shift o order.operator)
+    (account_of o order.meter moment) (length o.sales)
 own_decision forward o moment nibble (requests.Reprint number) = own_there (sale_numbered o number) refusals.NoSale _ refl (λ s. refl)
 own_decision forward o moment nibble (requests.ShiftReport number) = own_there (shift_numbered o number) refusals.NoSuchShift _ refl (λ s. refl)
 
 pub own_reply : (forward : ℕ → ℕ → ℕ) (o : Office) (at : Stamped) → acknowledges (reply forward o at) ≡ true
 own_reply forward o at = own_decision forward o at.moment at.nibble at.request
 
-pub never_answers : (forward : ℕ → ℕ → ℕ) (o : Office) (at : Stamped) (refusal : Refusal) → acknowledges (Err refusal) ≡ false → reply forward o at ≢ Err refusal
+pub never_answers : (forward : ℕ → ℕ → ℕ) (o : Office) (at : Stamped) (refusal : Refusal) → acknowledges (Err refusal) ≡ false
+    → reply forward o at ≢ Err refusal
 never_answers forward o at refusal own e = false≢true (sym own ∙ ap acknowledges (sym e) ∙ own_reply forward o at)

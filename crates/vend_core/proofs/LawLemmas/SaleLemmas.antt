@@ -24,35 +24,42 @@ module _ (laws : LowerLaws) (P : Sale → Type 0) where
   abbrev pub KeepsNew : (ℕ → ℕ → ℕ) → Type 0
   KeepsNew forward = (o : Office) (at : Stamped) (order : Order) (s : Sale) → IsOffice o → IsNewSale forward o at order s → P s
 
-  step_all : (forward : ℕ → ℕ → ℕ) (o : Office) (at : Stamped) → IsOffice o → KeepsRange forward → KeepsNew forward → All P o.sales → All P (step forward o at).sales
+  step_all : (forward : ℕ → ℕ → ℕ) (o : Office) (at : Stamped) → IsOffice o → KeepsRange forward → KeepsNew forward → All P o.sales
+      → All P (step forward o at).sales
   step_all forward o at office range keeps all =
       elim (sells_one laws forward o at office range) [
         | inl same ↦ subst (λ sales. All P sales) (sym same) all
         | inr (s, (order, asks, new), pushed, answered) ↦ subst (λ sales. All P sales) (sym pushed) (All-push P o.sales s all (keeps o at order s office new))
       ]
 
-  after_all : (forward : ℕ → ℕ → ℕ) (o : Office) (ats : List Stamped) → IsOffice o → All IsStamped ats → KeepsRange forward → KeepsNew forward → All P o.sales → All P (after forward o ats).sales
+  after_all : (forward : ℕ → ℕ → ℕ) (o : Office) (ats : List Stamped) → IsOffice o → All IsStamped ats → KeepsRange forward
+      → KeepsNew forward → All P o.sales → All P (after forward o ats).sales
   unfolding after
   after_all forward o [] office are range keeps all = all
   after_all forward o (at ∷ ats) office are range keeps all =
-      after_all forward (step forward o at) ats (step_keeps_office laws forward o at office (All-head IsStamped at ats are) range) (All-tail IsStamped at ats are) range keeps
+      after_all forward (step forward o at) ats (step_keeps_office laws forward o at office (All-head IsStamped at ats are) range)
+      (All-tail IsStamped at ats are) range keeps
       (step_all forward o at office range keeps all)
 
-  left_all : (life : Life) → IsLife life → IsOffice life.opening → KeepsNew life.forward → All P life.opening.sales → (o : Office) → MayLeave life o → All P o.sales
+  left_all : (life : Life) → IsLife life → IsOffice life.opening → KeepsNew life.forward → All P life.opening.sales → (o : Office)
+      → MayLeave life o → All P o.sales
   left_all life is office keeps all o (inl e) =
-      subst (λ (p : Office). All P p.sales) (sym e) (after_all life.forward life.opening (acknowledged life) office (acknowledged_stamped laws life is) is.range keeps all)
+      subst (λ (p : Office). All P p.sales) (sym e) (after_all life.forward life.opening (acknowledged life) office
+      (acknowledged_stamped laws life is) is.range keeps all)
   left_all life is office keeps all o (inr (at, there, e)) =
       subst (λ (p : Office). All P p.sales) (sym e) (step_all life.forward (present life) at (present_office laws life is office) is.range keeps
       (after_all life.forward life.opening (acknowledged life) office (acknowledged_stamped laws life is) is.range keeps all))
 
-  led_all : (start : Office) (lives : List Life) (o : Office) → IsOffice start → LeadTo start lives o → ((life : Life) → Contains lives life → KeepsNew life.forward) → All P start.sales → All P o.sales
+  led_all : (start : Office) (lives : List Life) (o : Office) → IsOffice start → LeadTo start lives o
+      → ((life : Life) → Contains lives life → KeepsNew life.forward) → All P start.sales → All P o.sales
   led_all start [] o office e keeps all = subst (λ (p : Office). All P p.sales) (sym e) all
   led_all start (life ∷ lives) o office (is, opens, (left, may, leads)) keeps all =
       let opening = subst IsOffice (sym opens) office in
       led_all left lives o (left_office laws life is opening left may) leads (λ later there. keeps later (contains_further life later lives there))
       (left_all life is opening (keeps life (contains_first life lives)) (subst (λ (p : Office). All P p.sales) (sym opens) all) left may)
 
-  pub handed_keeps : (lives : List Life) (o : Office) (s : Sale) → AreLives lives o → ((life : Life) → Contains lives life → KeepsNew life.forward) → IsHanded lives s → P s
+  pub handed_keeps : (lives : List Life) (o : Office) (s : Sale) → AreLives lives o
+      → ((life : Life) → Contains lives life → KeepsNew life.forward) → IsHanded lives s → P s
   handed_keeps lives o s are keeps handed =
       All-contains P o.sales s (led_all empty_office lives o empty_is_office are keeps (All-nil P)) (handed_stands laws lives o s are handed)
 
@@ -67,4 +74,10 @@ pub handed_token : LowerLaws → (lives : List Life) (o : Office) (s : Sale) →
 handed_token laws lives o s are handed =
     handed_keeps laws (WasWritten lives) lives o s are
     (λ life there o at order s office new.
-    record { life = life; key = new.to_meter.key; one_of = there; key_bits = (office.meters order.meter new.to_meter new.meter_is).key; token = new.digits }) handed
+    record {
+      life = life;
+      key = new.to_meter.key;
+      one_of = there;
+      key_bits = (office.meters order.meter new.to_meter new.meter_is).key;
+      token = new.digits;
+    }) handed

@@ -32,7 +32,8 @@ abbrev is_doubted : Exchange → Bool
 is_doubted e = doubts e.reply
 
 -- the reply to the first request after some is the office's after them
-middle_reply : (forward : ℕ → ℕ → ℕ) (o : Office) (es : List Exchange) (e : Exchange) (rest : List Exchange) → map reply_in (es ++ e ∷ rest) ≡ replies_to forward o (map request_of (es ++ e ∷ rest))
+middle_reply : (forward : ℕ → ℕ → ℕ) (o : Office) (es : List Exchange) (e : Exchange) (rest : List Exchange)
+    → map reply_in (es ++ e ∷ rest) ≡ replies_to forward o (map request_of (es ++ e ∷ rest))
     → e.reply ≡ reply forward (after forward o (map request_of es)) e.request
 unfolding after replies_to
 middle_reply forward o [] e rest same = cc
@@ -47,32 +48,41 @@ after_middle forward o [] e rest = refl
 after_middle forward o (x ∷ es) e rest = after_middle forward (step forward o x.request) es e rest
 
 -- before a granted request none is in doubt
-stops_before : (r : Result Answer Refusal) (rs : List (Result Answer Refusal)) (answer : Answer) → Contains rs (Ok answer) → StopsAtDoubt (r ∷ rs) → (doubts r ≡ false) × StopsAtDoubt rs
+stops_before : (r : Result Answer Refusal) (rs : List (Result Answer Refusal)) (answer : Answer) → Contains rs (Ok answer)
+    → StopsAtDoubt (r ∷ rs) → (doubts r ≡ false) × StopsAtDoubt rs
 stops_before (Ok granted) rs answer there stops = (refl, stops)
-stops_before (Err Store) rs answer there stops = let e : ◌≡◌ {A = Result Answer Refusal} (Ok answer) (Err Stopped) = All-contains (λ (q : Result Answer Refusal). q ≡ Err Stopped) rs (Ok answer) stops there in cc
-stops_before (Err Stopped) rs answer there stops = let e : ◌≡◌ {A = Result Answer Refusal} (Ok answer) (Err Stopped) = All-contains (λ (q : Result Answer Refusal). q ≡ Err Stopped) rs (Ok answer) stops there in cc
+stops_before (Err Store) rs answer there stops = let e : ◌≡◌ {A = Result Answer Refusal} (Ok answer) (Err Stopped) =
+    All-contains (λ (q : Result Answer Refusal). q ≡ Err Stopped) rs (Ok answer) stops there in cc
+stops_before (Err Stopped) rs answer there stops = let e : ◌≡◌ {A = Result Answer Refusal} (Ok answer) (Err Stopped) =
+    All-contains (λ (q : Result Answer Refusal). q ≡ Err Stopped) rs (Ok answer) stops there in cc
 stops_before (Err refusal) rs answer there stops = (refl, stops)
 
-granted_there : (before : List Exchange) (e : Exchange) (between : List Exchange) (answer : Answer) → e.reply ≡ Ok answer → Contains (map reply_in (before ++ e ∷ between)) (Ok answer)
-granted_there [] e between answer granted = subst (λ (r : Result Answer Refusal). Contains (e.reply ∷ map reply_in between) r) granted (contains_first e.reply (map reply_in between))
-granted_there (x ∷ before) e between answer granted = contains_further x.reply (Ok answer) (map reply_in (before ++ e ∷ between)) (granted_there before e between answer granted)
+granted_there : (before : List Exchange) (e : Exchange) (between : List Exchange) (answer : Answer) → e.reply ≡ Ok answer
+    → Contains (map reply_in (before ++ e ∷ between)) (Ok answer)
+granted_there [] e between answer granted = subst (λ (r : Result Answer Refusal). Contains (e.reply ∷ map reply_in between) r) granted
+    (contains_first e.reply (map reply_in between))
+granted_there (x ∷ before) e between answer granted =
+    contains_further x.reply (Ok answer) (map reply_in (before ++ e ∷ between)) (granted_there before e between answer granted)
 
 dropped : {X : Type 0} (p : X → Bool) (x : X) (xs : List X) → p x ≡ false → filter p xs ≡ [] → filter p (x ∷ xs) ≡ []
 dropped p x xs fails none = ap (λ (b : Bool). cond b (x ∷ filter p xs) (filter p xs)) fails ∙ none
 
-none_doubted_before : (before : List Exchange) (e : Exchange) (between : List Exchange) (answer : Answer) → e.reply ≡ Ok answer → StopsAtDoubt (map reply_in (before ++ e ∷ between)) → filter is_doubted before ≡ []
+none_doubted_before : (before : List Exchange) (e : Exchange) (between : List Exchange) (answer : Answer) → e.reply ≡ Ok answer
+    → StopsAtDoubt (map reply_in (before ++ e ∷ between)) → filter is_doubted before ≡ []
 none_doubted_before [] e between answer granted stops = refl
 none_doubted_before (x ∷ before) e between answer granted stops =
     let parts = stops_before x.reply (map reply_in (before ++ e ∷ between)) answer (granted_there before e between answer granted) stops in
     dropped is_doubted x before parts.0 (none_doubted_before before e between answer granted parts.1)
 
 -- those acknowledged and those in doubt, taken apart at a granted request
-passed_at : (before : List Exchange) (e : Exchange) (between : List Exchange) (answer : Answer) → e.reply ≡ Ok answer → filter is_passed (before ++ e ∷ between) ≡ filter is_passed before ++ e ∷ filter is_passed between
+passed_at : (before : List Exchange) (e : Exchange) (between : List Exchange) (answer : Answer) → e.reply ≡ Ok answer
+    → filter is_passed (before ++ e ∷ between) ≡ filter is_passed before ++ e ∷ filter is_passed between
 passed_at before e between answer granted =
     filter-append is_passed before (e ∷ between)
     ∙ ap (λ (r : Result Answer Refusal). filter is_passed before ++ cond (acknowledges r) (e ∷ filter is_passed between) (filter is_passed between)) granted
 
-doubted_at : (before : List Exchange) (e : Exchange) (between : List Exchange) (answer : Answer) → e.reply ≡ Ok answer → StopsAtDoubt (map reply_in (before ++ e ∷ between)) → filter is_doubted (before ++ e ∷ between) ≡ filter is_doubted between
+doubted_at : (before : List Exchange) (e : Exchange) (between : List Exchange) (answer : Answer) → e.reply ≡ Ok answer
+    → StopsAtDoubt (map reply_in (before ++ e ∷ between)) → filter is_doubted (before ++ e ∷ between) ≡ filter is_doubted between
 doubted_at before e between answer granted stops =
     filter-append is_doubted before (e ∷ between)
     ∙ ap (λ (es : List Exchange). es ++ filter is_doubted (e ∷ between)) (none_doubted_before before e between answer granted stops)
@@ -88,17 +98,21 @@ left_stays life left others (inl e) =
     subst (HaveStayed life.opening) (sym e) (after_stays life.forward life.opening (acknowledged life) (others_among is_passed life.exchanges others))
 left_stays life left others (inr (at, there, e)) =
     subst (HaveStayed life.opening) (sym e)
-    (stayed_twice life.opening (present life) (step life.forward (present life) at) (after_stays life.forward life.opening (acknowledged life) (others_among is_passed life.exchanges others))
+    (stayed_twice life.opening (present life) (step life.forward (present life) at)
+    (after_stays life.forward life.opening (acknowledged life) (others_among is_passed life.exchanges others))
     (step_stays life.forward (present life) at (All-contains ChangesNoMeter (in_doubt life) at (others_among is_doubted life.exchanges others) there)))
 
-led_stays : (start : Office) (lives : List Life) (o : Office) → LeadTo start lives o → All (λ (l : Life). All AsksNoMeterChange l.exchanges) lives → HaveStayed start o
+led_stays : (start : Office) (lives : List Life) (o : Office) → LeadTo start lives o
+    → All (λ (l : Life). All AsksNoMeterChange l.exchanges) lives → HaveStayed start o
 led_stays start [] o e others = subst (HaveStayed start) (sym e) (stayed_none start)
 led_stays start (life ∷ lives) o (is, opens, (left, may, leads)) others =
-    stayed_twice start left o (subst (λ (p : Office). HaveStayed p left) opens (left_stays life left (All-head (λ (l : Life). All AsksNoMeterChange l.exchanges) life lives others) may))
+    stayed_twice start left o (subst (λ (p : Office). HaveStayed p left) opens
+    (left_stays life left (All-head (λ (l : Life). All AsksNoMeterChange l.exchanges) life lives others) may))
     (led_stays left lives o leads (All-tail (λ (l : Life). All AsksNoMeterChange l.exchanges) life lives others))
 
 -- the rows of an import that a life granted stand in what it leaves
-module _ (life : Life) (before : List Exchange) (e : Exchange) (between : List Exchange) (rows : List Row) (new : ℕ) (is : IsLife life) (exchanges : life.exchanges ≡ before ++ e ∷ between)
+module _ (life : Life) (before : List Exchange) (e : Exchange) (between : List Exchange) (rows : List Row) (new : ℕ) (is : IsLife life)
+    (exchanges : life.exchanges ≡ before ++ e ∷ between)
     (asks : e.request.request ≡ requests.Import rows) (granted : e.reply ≡ Ok (answers.Imported new)) (others : All AsksNoMeterChange between) where
   passed : filter is_passed life.exchanges ≡ filter is_passed before ++ e ∷ filter is_passed between
   passed = ap (λ (es : List Exchange). filter is_passed es) exchanges ∙ passed_at before e between (answers.Imported new) granted
@@ -120,16 +134,19 @@ module _ (life : Life) (before : List Exchange) (e : Exchange) (between : List E
       let p = step life.forward office_before e.request in
       let ats = map request_of (filter is_passed between) in
       subst (λ (q : Office). All (Stands q) rows) (sym present_is)
-      (all_stand_still p (after life.forward p ats) rows (after_stays life.forward p ats (others_among is_passed between others)) (rows_stand life.forward office_before e.request rows new asks answered))
+      (all_stand_still p (after life.forward p ats) rows (after_stays life.forward p ats (others_among is_passed between others))
+      (rows_stand life.forward office_before e.request rows new asks answered))
 
   doubted : in_doubt life ≡ map request_of (filter is_doubted between)
   doubted = ap (λ (es : List Exchange). map request_of (filter is_doubted es)) exchanges
-      ∙ ap (λ (es : List Exchange). map request_of es) (doubted_at before e between (answers.Imported new) granted (subst (λ (es : List Exchange). StopsAtDoubt (map reply_in es)) exchanges is.stops))
+      ∙ ap (λ (es : List Exchange). map request_of es) (doubted_at before e between (answers.Imported new) granted
+      (subst (λ (es : List Exchange). StopsAtDoubt (map reply_in es)) exchanges is.stops))
 
   stand_left : (left : Office) → MayLeave life left → All (Stands left) rows
   stand_left left (inl same) = subst (λ (q : Office). All (Stands q) rows) (sym same) stand_present
   stand_left left (inr (at, there, same)) =
-      let other = All-contains ChangesNoMeter (map request_of (filter is_doubted between)) at (others_among is_doubted between others) (subst (λ (ats : List Stamped). Contains ats at) doubted there) in
+      let other = All-contains ChangesNoMeter (map request_of (filter is_doubted between)) at (others_among is_doubted between others)
+      (subst (λ (ats : List Stamped). Contains ats at) doubted there) in
       subst (λ (q : Office). All (Stands q) rows) (sym same)
       (all_stand_still (present life) (step life.forward (present life) at) rows (step_stays life.forward (present life) at other) stand_present)
 
@@ -139,14 +156,17 @@ led_stand : (start : Office) (earlier later : List Life) (life : Life) (o : Offi
     → e.request.request ≡ requests.Import rows → e.reply ≡ Ok (answers.Imported new)
     → All AsksNoMeterChange between → All (λ (l : Life). All AsksNoMeterChange l.exchanges) later → All (Stands o) rows
 led_stand start [] later life o before between e rows new (is, opens, (left, may, leads)) exchanges asks granted others later_others =
-    all_stand_still left o rows (led_stays left later o leads later_others) (stand_left life before e between rows new is exchanges asks granted others left may)
+    all_stand_still left o rows (led_stays left later o leads later_others)
+    (stand_left life before e between rows new is exchanges asks granted others left may)
 led_stand start (first ∷ earlier) later life o before between e rows new (is, opens, (left, may, leads)) exchanges asks granted others later_others =
     led_stand left earlier later life o before between e rows new leads exchanges asks granted others later_others
 
-pub imported_again_in_lives : (earlier later : List Life) (life : Life) (o : Office) (before between : List Exchange) (e : Exchange) (rows : List Row) (new : ℕ) (forward : ℕ → ℕ → ℕ) (again : Stamped)
+pub imported_again_in_lives : (earlier later : List Life) (life : Life) (o : Office) (before between : List Exchange) (e : Exchange)
+    (rows : List Row) (new : ℕ) (forward : ℕ → ℕ → ℕ) (again : Stamped)
     → AreLives (earlier ++ life ∷ later) o → life.exchanges ≡ before ++ e ∷ between
     → e.request.request ≡ requests.Import rows → e.reply ≡ Ok (answers.Imported new)
     → All AsksNoMeterChange between → All (λ (l : Life). All AsksNoMeterChange l.exchanges) later
     → again.request ≡ requests.Import rows → ImportsNothing forward o again
 imported_again_in_lives earlier later life o before between e rows new forward again are exchanges asks granted others later_others asks_again =
-    imports_nothing forward o again rows asks_again (led_stand empty_office earlier later life o before between e rows new are exchanges asks granted others later_others)
+    imports_nothing forward o again rows asks_again (led_stand empty_office earlier later life o before between e rows new are exchanges
+    asks granted others later_others)

@@ -18,7 +18,8 @@ module _ (laws : LowerLaws) (lives : List Life) (o : Office) where
   pub one_handed_ref : (a b : Sale) → AreLives lives o → IsHanded lives a → IsHanded lives b → a.operator ≡ b.operator → a.order_ref ≡ b.order_ref → a ≡ b
   one_handed_ref a b are x y = one_of_ref o a b (lives_office laws lives o are) (handed_stands laws lives o a are x) (handed_stands laws lives o b are y)
 
-  pub same_digits : (first again : Sale) → AreLives lives o → Answered lives (answers.Sold first) → Answered lives (answers.Reprinted again) → again.number ≡ first.number → again.digits ≡ first.digits
+  pub same_digits : (first again : Sale) → AreLives lives o → Answered lives (answers.Sold first)
+      → Answered lives (answers.Reprinted again) → again.number ≡ first.number → again.digits ≡ first.digits
   same_digits first again are sold reprinted number =
       ap (λ (s : Sale). s.digits) (one_handed_number again first are
       (answered_handed lives (answers.Reprinted again) again reprinted (contains_first again []))

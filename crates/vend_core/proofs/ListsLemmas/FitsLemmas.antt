@@ -57,11 +57,13 @@ if_add_tariff : (o : Office) (name : List ℕ) (steps : List Step) (there : Opti
 if_add_tariff o name steps None = if_changed o _ tt
 if_add_tariff o name steps (Some there) = if_tested o (steps_eq there steps) _ _
 
-if_day : (o : Office) (name : List ℕ) (day : ℕ) (steps : List Step) (b : Bool) → EditFits o (if b then changed (edits.AddSteps name day steps) answers.Done else Err refusals.DayPast)
+if_day : (o : Office) (name : List ℕ) (day : ℕ) (steps : List Step) (b : Bool)
+    → EditFits o (if b then changed (edits.AddSteps name day steps) answers.Done else Err refusals.DayPast)
 if_day o name day steps true = if_changed o _ tt
 if_day o name day steps false = tt
 
-if_add_steps : (o : Office) (name : List ℕ) (day today : ℕ) (steps : List Step) (has : Bool) (there : Option (List Step)) → EditFits o (add_steps name day steps today has there)
+if_add_steps : (o : Office) (name : List ℕ) (day today : ℕ) (steps : List Step) (has : Bool) (there : Option (List Step))
+    → EditFits o (add_steps name day steps today has there)
 if_add_steps o name day today steps false there = tt
 if_add_steps o name day today steps true (Some there) = if_tested o (steps_eq there steps) _ _
 if_add_steps o name day today steps true None = if_day o name day steps (nat_lt today day)
@@ -79,7 +81,8 @@ if_rows o (row ∷ rest) fits = if_changed o _ fits
 if_import : (o : Office) (today : ℕ) (rows : List Row) → EditFits o (import o today rows)
 if_import o today rows = if_bound o (new_rows o today 1 rows) add_rows (λ new is. if_rows o new (new_rows_fit o today 1 rows new is))
 
-if_set : (o : Office) (number name : List ℕ) (b : Bool) → IsSome (o.tariffs name) → EditFits o (if b then unchanged answers.Done else changed (edits.SetTariff number name) answers.Done)
+if_set : (o : Office) (number name : List ℕ) (b : Bool) → IsSome (o.tariffs name)
+    → EditFits o (if b then unchanged answers.Done else changed (edits.SetTariff number name) answers.Done)
 if_set o number name true is = if_unchanged o
 if_set o number name false is = if_changed o _ is
 
@@ -89,7 +92,9 @@ if_set_tariff o number name None has is = tt
 if_set_tariff o number name (Some m) false is = tt
 if_set_tariff o number name (Some m) true is = if_set o number name (bytes_eq m.tariff name) is
 
-if_later : (o : Office) (number : List ℕ) (base : Base) (same earlier before : Bool) → EditFits o (if same then unchanged answers.Done else (if earlier then Err refusals.NotLater else (if before then Err refusals.BeforeBase else changed (edits.MoveBase number base) answers.Done)))
+if_later : (o : Office) (number : List ℕ) (base : Base) (same earlier before : Bool)
+    → EditFits o (if same then unchanged answers.Done else
+    (if earlier then Err refusals.NotLater else (if before then Err refusals.BeforeBase else changed (edits.MoveBase number base) answers.Done)))
 if_later o number base true earlier before = if_unchanged o
 if_later o number base false true before = tt
 if_later o number base false false true = tt
@@ -143,7 +148,8 @@ if_sell_once o forward moment nibble order None shift meter = if_sell o forward 
 
 pub decision_fits : (forward : ℕ → ℕ → ℕ) (o : Office) (moment nibble : ℕ) (request : Request) → EditFits o (decision_of forward o moment nibble request)
 decision_fits forward o moment nibble (AddTariff name steps) = if_add_tariff o name steps (o.tariffs name)
-decision_fits forward o moment nibble (AddSteps name day steps) = if_add_steps o name day (day_at moment) steps (is_some (o.tariffs name)) (o.dated_steps name day)
+decision_fits forward o moment nibble (AddSteps name day steps) =
+    if_add_steps o name day (day_at moment) steps (is_some (o.tariffs name)) (o.dated_steps name day)
 decision_fits forward o moment nibble (AddMeter number m) = if_add_meter o number m (o.meters number) (is_some (o.tariffs m.tariff)) refl
 decision_fits forward o moment nibble (Import rows) = if_import o (day_at moment) rows
 decision_fits forward o moment nibble (SetTariff number name) = if_set_tariff o number name (o.meters number) (is_some (o.tariffs name)) refl

@@ -79,7 +79,8 @@ set_unknown number f q ms is = unset_at (bytes_eq q number) f (row_of ms q) (λ 
 
 -- a meter that is looked up then is the one that was set, or the one that was there
 found_set : (b : Bool) (f : Meter → Meter) (found : Option Meter) (m : Meter)
-    → (if b then option_map f found else found) ≡ Some m → (P : List ℕ → Type 0) → (b ≡ true → (k : Meter) → found ≡ Some k → P (f k).tariff) → ((k : Meter) → found ≡ Some k → P k.tariff) → P m.tariff
+    → (if b then option_map f found else found) ≡ Some m → (P : List ℕ → Type 0)
+    → (b ≡ true → (k : Meter) → found ≡ Some k → P (f k).tariff) → ((k : Meter) → found ≡ Some k → P k.tariff) → P m.tariff
 found_set true f None m is P given kept = absurd (none-some m is)
 found_set true f (Some k) m is P given kept = subst (λ (n : Meter). P n.tariff) (same_Some (f k) m is) (given refl k refl)
 found_set false f found m is P given kept = kept m is
@@ -102,7 +103,8 @@ pub dated_steps_of-push : (rows : List Row) (row : Row) → dated_steps_of (rows
 dated_steps_of-push [] row = sym (append-nil (dated_steps_of (row ∷ [])))
 dated_steps_of-push (kinds.Tariff n s ∷ rest) row = dated_steps_of-push rest row
 dated_steps_of-push (kinds.Steps n d s ∷ rest) row =
-    ap (λ (l : List ((List ℕ × ℕ) × List Step)). l ++ ((n, d), s) ∷ []) (dated_steps_of-push rest row) ∙ append_assoc (dated_steps_of (row ∷ [])) (dated_steps_of rest) (((n, d), s) ∷ [])
+    ap (λ (l : List ((List ℕ × ℕ) × List Step)). l ++ ((n, d), s) ∷ []) (dated_steps_of-push rest row)
+    ∙ append_assoc (dated_steps_of (row ∷ [])) (dated_steps_of rest) (((n, d), s) ∷ [])
 dated_steps_of-push (kinds.Meter n m ∷ rest) row = dated_steps_of-push rest row
 
 pub meters_of-push : (rows : List Row) (row : Row) → meters_of (rows ++ row ∷ []) ≡ meters_of (row ∷ []) ++ meters_of rows
@@ -121,29 +123,37 @@ moved {X} of push all before after front next row popped pushed split =
     ∙ ap (λ (l : List X). front ++ l) (sym (push after row) ∙ ap of (sym popped)) ∙ split
 
 -- the bases of meters in front of others
-base_in_front : (rest : List Row) (n : List ℕ) (m : Meter) (bs : List (List ℕ × Base)) → bases_of (kinds.Meter n m ∷ rest) ++ bs ≡ bases_of rest ++ (n, m.base) ∷ bs
+base_in_front : (rest : List Row) (n : List ℕ) (m : Meter) (bs : List (List ℕ × Base)) → bases_of (kinds.Meter n m ∷ rest) ++ bs
+    ≡ bases_of rest ++ (n, m.base) ∷ bs
 base_in_front rest n m bs =
     ap (λ (l : List (List ℕ × Base)). l ++ bs) (map-append base_row (meters_of rest) ((n, m) ∷ [])) ∙ append_assoc (bases_of rest) ((n, m.base) ∷ []) bs
 
 -- rows in front of others stand for the office with them
-pub office_with_rows : (rows : List Row) (ts : List (List ℕ × List Step)) (ms : List (List ℕ × Meter)) (bs : List (List ℕ × Base)) (ds : List ((List ℕ × ℕ) × List Step)) (shifts : List Shift) (sales : List Sale)
-    → office_of_rows (tariffs_of rows ++ ts) (meters_of rows ++ ms) (bases_of rows ++ bs) (dated_steps_of rows ++ ds) shifts sales ≡ with_rows rows (office_of_rows ts ms bs ds shifts sales)
+pub office_with_rows : (rows : List Row) (ts : List (List ℕ × List Step)) (ms : List (List ℕ × Meter)) (bs : List (List ℕ × Base))
+    (ds : List ((List ℕ × ℕ) × List Step)) (shifts : List Shift) (sales : List Sale)
+    → office_of_rows (tariffs_of rows ++ ts) (meters_of rows ++ ms) (bases_of rows ++ bs) (dated_steps_of rows ++ ds) shifts sales
+    ≡ with_rows rows (office_of_rows ts ms bs ds shifts sales)
 office_with_rows [] ts ms bs ds shifts sales = refl
 office_with_rows (kinds.Tariff n s ∷ rest) ts ms bs ds shifts sales =
-    ap (λ (l : List (List ℕ × List Step)). office_of_rows l (meters_of rest ++ ms) (bases_of rest ++ bs) (dated_steps_of rest ++ ds) shifts sales) (append_assoc (tariffs_of rest) ((n, s) ∷ []) ts)
+    ap (λ (l : List (List ℕ × List Step)). office_of_rows l (meters_of rest ++ ms) (bases_of rest ++ bs) (dated_steps_of rest ++ ds) shifts
+    sales) (append_assoc (tariffs_of rest) ((n, s) ∷ []) ts)
     ∙ office_with_rows rest ((n, s) ∷ ts) ms bs ds shifts sales
 office_with_rows (kinds.Steps n d s ∷ rest) ts ms bs ds shifts sales =
-    ap (λ (l : List ((List ℕ × ℕ) × List Step)). office_of_rows (tariffs_of rest ++ ts) (meters_of rest ++ ms) (bases_of rest ++ bs) l shifts sales) (append_assoc (dated_steps_of rest) (((n, d), s) ∷ []) ds)
+    ap (λ (l : List ((List ℕ × ℕ) × List Step)). office_of_rows (tariffs_of rest ++ ts) (meters_of rest ++ ms) (bases_of rest ++ bs) l
+    shifts sales) (append_assoc (dated_steps_of rest) (((n, d), s) ∷ []) ds)
     ∙ office_with_rows rest ts ms bs (((n, d), s) ∷ ds) shifts sales
 office_with_rows (kinds.Meter n m ∷ rest) ts ms bs ds shifts sales =
-    ap (λ (l : List (List ℕ × Meter)). office_of_rows (tariffs_of rest ++ ts) l (bases_of (kinds.Meter n m ∷ rest) ++ bs) (dated_steps_of rest ++ ds) shifts sales) (append_assoc (meters_of rest) ((n, m) ∷ []) ms)
-    ∙ ap (λ (l : List (List ℕ × Base)). office_of_rows (tariffs_of rest ++ ts) (meters_of rest ++ (n, m) ∷ ms) l (dated_steps_of rest ++ ds) shifts sales) (base_in_front rest n m bs)
+    ap (λ (l : List (List ℕ × Meter)). office_of_rows (tariffs_of rest ++ ts) l (bases_of (kinds.Meter n m ∷ rest) ++ bs)
+    (dated_steps_of rest ++ ds) shifts sales) (append_assoc (meters_of rest) ((n, m) ∷ []) ms)
+    ∙ ap (λ (l : List (List ℕ × Base)). office_of_rows (tariffs_of rest ++ ts) (meters_of rest ++ (n, m) ∷ ms) l
+    (dated_steps_of rest ++ ds) shifts sales) (base_in_front rest n m bs)
     ∙ office_with_rows rest ts ((n, m) ∷ ms) ((n, m.base) ∷ bs) ds shifts sales
 
 have_one_more : (n : List ℕ) (s : List Step) (ts : List (List ℕ × List Step)) (ms : List (List ℕ × Meter)) → HaveTariffs ts ms → HaveTariffs ((n, s) ∷ ts) ms
 have_one_more n s ts ms have number m is = some_put (bytes_eq m.tariff n) s (row_of ts m.tariff) (have number m is)
 
-have_for_one_more : (n : List ℕ) (k : Meter) (ts : List (List ℕ × List Step)) (ms : List (List ℕ × Meter)) → IsSome (row_of ts k.tariff) → HaveTariffs ts ms → HaveTariffs ts ((n, k) ∷ ms)
+have_for_one_more : (n : List ℕ) (k : Meter) (ts : List (List ℕ × List Step)) (ms : List (List ℕ × Meter)) → IsSome (row_of ts k.tariff)
+    → HaveTariffs ts ms → HaveTariffs ts ((n, k) ∷ ms)
 have_for_one_more n k ts ms there have number m is =
     elim (put_cases (bytes_eq number n) number n k m (row_of ms number) refl is) [
       | inl here ↦ subst (λ (j : Meter). IsSome (row_of ts j.tariff)) here.1 there
@@ -151,7 +161,8 @@ have_for_one_more n k ts ms there have number m is =
     ]
 
 -- rows that fit leave each meter with a tariff
-pub have_tariffs-rows : (rows : List Row) (ts : List (List ℕ × List Step)) (ms : List (List ℕ × Meter)) (bs : List (List ℕ × Base)) (ds : List ((List ℕ × ℕ) × List Step)) (shifts : List Shift) (sales : List Sale)
+pub have_tariffs-rows : (rows : List Row) (ts : List (List ℕ × List Step)) (ms : List (List ℕ × Meter)) (bs : List (List ℕ × Base))
+    (ds : List ((List ℕ × ℕ) × List Step)) (shifts : List Shift) (sales : List Sale)
     → RowsFit rows (office_of_rows ts ms bs ds shifts sales) → HaveTariffs ts ms → HaveTariffs (tariffs_of rows ++ ts) (meters_of rows ++ ms)
 have_tariffs-rows [] ts ms bs ds shifts sales fit have = have
 have_tariffs-rows (kinds.Tariff n s ∷ rest) ts ms bs ds shifts sales fit have =

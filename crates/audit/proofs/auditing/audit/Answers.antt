@@ -13,7 +13,8 @@ returns-in-Ok-eq0 g c =
     let it = c.in-Ok-eq0 in
     let has = subst (λ (schema : Schema). HasOfficeOf 0 schema) c.schema.ensures.value
     (subst (λ (n : ℕ). HasOfficeOf n c.schema.result.now) it.field-0-test it.ensures.has) in
-    audit_none given s c.no_tables.result (sound_none given s.now c.no_tables.result has c.reached_law.ensures.empty c.no_tables.ensures) c.connection_order_law.ensures.now
+    audit_none given s c.no_tables.result (sound_none given s.now c.no_tables.result has c.reached_law.ensures.empty c.no_tables.ensures)
+    c.connection_order_law.ensures.now
 
 pub returns-in-Ok : goal.returns-in-Ok
 returns-in-Ok g c =
@@ -24,5 +25,6 @@ returns-in-Ok g c =
     c.connection_order_law.ensures.now
 
 pub returns-in-Err : goal.returns-in-Err
-returns-in-Err g c = audit_unknown (given_by g.T.BlockTransform.forwards c.args.transform) (state g.S.Store c.args.conn.now) c.schema.result.now c.schema.ensures.value c.in-Err.fault c.in-Err.ensures.fails
+returns-in-Err g c = audit_unknown (given_by g.T.BlockTransform.forwards c.args.transform) (state g.S.Store c.args.conn.now)
+    c.schema.result.now c.schema.ensures.value c.in-Err.fault c.in-Err.ensures.fails
     c.connection_order_law.ensures.now

@@ -8,7 +8,8 @@ use Rattle.audit.proofs.auditing.audit_format.Goals as goal
 
 pub returns-in-Err-clause-reads : goal.returns-in-Err-clause-reads
 returns-in-Err-clause-reads g c = fail_as c.in-Err.fault (Err c.in-Err.fault) refl c.in-Err.ensures.reads
-    (stops_more IsNoOffices (Denies (given_by g.T.BlockTransform.forwards c.args.transform)) (state g.S.Store c.args.conn.now) (state g.S.Store c.followed_rows.new.conn) c.in-Err.fault (λ f. by_rows))
+    (stops_more IsNoOffices (Denies (given_by g.T.BlockTransform.forwards c.args.transform)) (state g.S.Store c.args.conn.now)
+    (state g.S.Store c.followed_rows.new.conn) c.in-Err.fault (λ f. by_rows))
 
 pub returns-in-Ok-test_forged-clause-given : goal.returns-in-Ok-test_forged-clause-given
 returns-in-Ok-test_forged-clause-given g c clean has =

@@ -7,16 +7,19 @@ use Rattle.audit.proofs.auditing.test_forged.Goals as goal
 pub returns-in_err-test_reached-clause-found : goal.returns-in_err-test_reached-clause-found
 returns-in_err-test_reached-clause-found g c =
     let given = given_by g.T.BlockTransform.forwards c.args.transform in
-    told_as (TellsForged given c.args.rows.now) c.from_residual.result c.in_err-test_reached.field-0.0 c.from_residual.ensures.1 (inl c.in_err-test_reached.ensures.found)
+    told_as (TellsForged given c.args.rows.now) c.from_residual.result c.in_err-test_reached.field-0.0 c.from_residual.ensures.1
+    (inl c.in_err-test_reached.ensures.found)
 
 pub returns-in-Some-clause-passes : goal.returns-in-Some-clause-passes
 returns-in-Some-clause-passes g c =
-    passed_by g.T.BlockTransform.forwards c.args.transform c.args.rows.now c.in_ok-test_reached.ensures.passes c.in-Some.transform c.in-Some.is c.test_tokens.result
+    passed_by g.T.BlockTransform.forwards c.args.transform c.args.rows.now c.in_ok-test_reached.ensures.passes c.in-Some.transform
+    c.in-Some.is c.test_tokens.result
     c.test_tokens.ensures.passes
 
 pub returns-in-Some-clause-found : goal.returns-in-Some-clause-found
 returns-in-Some-clause-found g c =
-    told_by g.T.BlockTransform.forwards c.args.transform c.args.rows.now c.in_ok-test_reached.ensures.passes c.in-Some.transform c.in-Some.is c.test_tokens.result
+    told_by g.T.BlockTransform.forwards c.args.transform c.args.rows.now c.in_ok-test_reached.ensures.passes c.in-Some.transform
+    c.in-Some.is c.test_tokens.result
     c.test_tokens.ensures.found
 
 pub returns-in-None-clause-passes : goal.returns-in-None-clause-passes

@@ -12,7 +12,8 @@ use Rattle.audit_lists.proofs.office.test_office.Goals as goal
 pub returns-in_err-test_rules-clause-found : goal.returns-in_err-test_rules-clause-found
 returns-in_err-test_rules-clause-found c =
     let fault = c.in_err-test_rules.field-0.0 in
-    told_as (Says (BreaksOffice c.args.format c.args.rows.now)) c.from_residual.result fault c.from_residual.ensures.1 (told_ties c.args.format c.args.rows.now fault c.in_err-test_rules.ensures.found)
+    told_as (Says (BreaksOffice c.args.format c.args.rows.now)) c.from_residual.result fault c.from_residual.ensures.1
+    (told_ties c.args.format c.args.rows.now fault c.in_err-test_rules.ensures.found)
 
 pub returns-then-format-lt2-clause-passes : goal.returns-then-format-lt2-clause-passes
 returns-then-format-lt2-clause-passes c db read =

@@ -11,7 +11,12 @@ returns-in-Ok-Some-clause-found g c =
     let there = row_at c.args.rows.now c.rows.at c.index-rows-at.result low c.index-rows-at.is in (
       c.rows.at,
       c.index-rows-at.result,
-      record { there = there; before = c.rows.invariant.apart; breaks = is_twice g.K.KeyOf.key c.args.rows.now c.rows.places c.rows.at c.index-rows-at.result there c.of.result c.of.ensures c.rows.invariant.places c.in-Ok-Some._earlier (sym c.in-Ok-Some.ensures.old ∙ c.in-Ok-Some.field-0-is) },
+      record {
+        there = there;
+        before = c.rows.invariant.apart;
+        breaks = is_twice g.K.KeyOf.key c.args.rows.now c.rows.places c.rows.at c.index-rows-at.result there c.of.result c.of.ensures
+            c.rows.invariant.places c.in-Ok-Some._earlier (sym c.in-Ok-Some.ensures.old ∙ c.in-Ok-Some.field-0-is);
+      },
       c.found.ensures,
     )
 
@@ -22,8 +27,10 @@ rows-preserved g c =
     let there = row_at c.args.rows.now c.rows.at row low c.index-rows-at.is in
     let new = sym c.in-Ok-None.ensures.old ∙ c.in-Ok-None.field-0-is in
     record {
-      apart = each_more (IsNew g.K.KeyOf.key c.args.rows.now) c.args.rows.now c.rows.at row there (is_new g.K.KeyOf.key c.args.rows.now c.rows.places c.rows.at row there c.of.result c.of.ensures c.rows.invariant.places new) c.rows.invariant.apart;
-      places = λ q. places_more g.K.KeyOf.key c.args.rows.now c.rows.places c.rows.at row there c.of.result c.of.ensures c.rows.invariant.places new c.insert.new.self c.in-Ok-None.ensures.updates q;
+      apart = each_more (IsNew g.K.KeyOf.key c.args.rows.now) c.args.rows.now c.rows.at row there
+          (is_new g.K.KeyOf.key c.args.rows.now c.rows.places c.rows.at row there c.of.result c.of.ensures c.rows.invariant.places new) c.rows.invariant.apart;
+      places = λ q. places_more g.K.KeyOf.key c.args.rows.now c.rows.places c.rows.at row there c.of.result c.of.ensures
+          c.rows.invariant.places new c.insert.new.self c.in-Ok-None.ensures.updates q;
     }
 
 pub returns-clause-apart : goal.returns-clause-apart

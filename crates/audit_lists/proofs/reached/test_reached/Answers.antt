@@ -19,6 +19,7 @@ returns c =
     let r = c.args.rows.now in
     let kept = subst (λ (l : List Shift). IsTieKept (closed_first l)) c.deref.ensures.value c.in_ok-test_shifts.ensures.passes in
     record {
-      passes = on_ok_weaker c.test_sales.result (λ sales o are. record { shifts = pairs_kept o.shifts (shifts_kept r o are kept); sales = sales o are }) c.test_sales.ensures.passes;
+      passes = on_ok_weaker c.test_sales.result (λ sales o are. record
+          { shifts = pairs_kept o.shifts (shifts_kept r o are kept); sales = sales o are }) c.test_sales.ensures.passes;
       found = IfErr-weaker c.test_sales.result (TellsSale r) (TellsUnreached r) (tells_sales r kept) c.test_sales.ensures.found;
     }

@@ -34,7 +34,8 @@ returns-in_err-names-clause-found c =
     let shifts = shift_rules shift_rows in
     let sales = sale_rules (length shift_rows) base_rows r.sales.items in
     told_as (Says (FindsFirst (tie_rules r))) c.from_residual.result fault c.from_residual.ensures.1
-    (subst (λ ties. Says (FindsFirst ties) fault) (alike r names c.deref.result.now r.dated_steps.items r.meters.items base_rows shift_rows r.sales.items c.as_slice-tariffs.ensures.value c.deref.ensures.value refl refl c.as_slice-bases.ensures.value c.as_slice-shifts.ensures.value refl)
+    (subst (λ ties. Says (FindsFirst ties) fault) (alike r names c.deref.result.now r.dated_steps.items r.meters.items base_rows shift_rows
+    r.sales.items c.as_slice-tariffs.ensures.value c.deref.ensures.value refl refl c.as_slice-bases.ensures.value c.as_slice-shifts.ensures.value refl)
     (says_left tariffs (dated ++ meters ++ shifts ++ sales) fault c.in_err-names.ensures.found))
 
 pub returns-in_err-test_dated-clause-found : goal.returns-in_err-test_dated-clause-found
@@ -50,8 +51,11 @@ returns-in_err-test_dated-clause-found c =
     let shifts = shift_rules shift_rows in
     let sales = sale_rules (length shift_rows) base_rows r.sales.items in
     told_as (Says (FindsFirst (tie_rules r))) c.from_residual-in_err-test_dated.result fault c.from_residual-in_err-test_dated.ensures.1
-    (subst (λ ties. Says (FindsFirst ties) fault) (alike r names c.deref.result.now c.deref-2.result.now r.meters.items base_rows shift_rows r.sales.items c.as_slice-tariffs.ensures.value c.deref.ensures.value c.deref-2.ensures.value refl c.as_slice-bases.ensures.value c.as_slice-shifts.ensures.value refl)
-    (says_right tariffs (dated ++ meters ++ shifts ++ sales) fault c.in_ok-names.ensures.passes (says_left dated (meters ++ shifts ++ sales) fault c.in_err-test_dated.ensures.found)))
+    (subst (λ ties. Says (FindsFirst ties) fault) (alike r names c.deref.result.now c.deref-2.result.now r.meters.items base_rows
+    shift_rows r.sales.items c.as_slice-tariffs.ensures.value c.deref.ensures.value c.deref-2.ensures.value refl
+    c.as_slice-bases.ensures.value c.as_slice-shifts.ensures.value refl)
+    (says_right tariffs (dated ++ meters ++ shifts ++ sales) fault c.in_ok-names.ensures.passes
+    (says_left dated (meters ++ shifts ++ sales) fault c.in_err-test_dated.ensures.found)))
 
 pub returns-in_err-places-clause-found : goal.returns-in_err-places-clause-found
 returns-in_err-places-clause-found c =
@@ -66,8 +70,12 @@ returns-in_err-places-clause-found c =
     let shifts = shift_rules shift_rows in
     let sales = sale_rules (length shift_rows) base_rows r.sales.items in
     told_as (Says (FindsFirst (tie_rules r))) c.from_residual-in_err-places.result fault c.from_residual-in_err-places.ensures.1
-    (subst (λ ties. Says (FindsFirst ties) fault) (alike r names c.deref.result.now c.deref-2.result.now c.deref-3.result.now base_rows shift_rows r.sales.items c.as_slice-tariffs.ensures.value c.deref.ensures.value c.deref-2.ensures.value c.deref-3.ensures.value c.as_slice-bases.ensures.value c.as_slice-shifts.ensures.value refl)
-    (says_right tariffs (dated ++ meters ++ shifts ++ sales) fault c.in_ok-names.ensures.passes (says_right dated (meters ++ shifts ++ sales) fault c.in_ok-test_dated.ensures.passes (says_left meters (shifts ++ sales) fault c.in_err-places.ensures.found))))
+    (subst (λ ties. Says (FindsFirst ties) fault) (alike r names c.deref.result.now c.deref-2.result.now c.deref-3.result.now base_rows
+    shift_rows r.sales.items c.as_slice-tariffs.ensures.value c.deref.ensures.value c.deref-2.ensures.value c.deref-3.ensures.value
+    c.as_slice-bases.ensures.value c.as_slice-shifts.ensures.value refl)
+    (says_right tariffs (dated ++ meters ++ shifts ++ sales) fault c.in_ok-names.ensures.passes
+    (says_right dated (meters ++ shifts ++ sales) fault c.in_ok-test_dated.ensures.passes
+    (says_left meters (shifts ++ sales) fault c.in_err-places.ensures.found))))
 
 pub returns-in_err-test_shifts-clause-found : goal.returns-in_err-test_shifts-clause-found
 returns-in_err-test_shifts-clause-found c =
@@ -82,8 +90,12 @@ returns-in_err-test_shifts-clause-found c =
     let shifts = shift_rules shift_rows in
     let sales = sale_rules (length shift_rows) base_rows r.sales.items in
     told_as (Says (FindsFirst (tie_rules r))) c.from_residual-in_err-test_shifts.result fault c.from_residual-in_err-test_shifts.ensures.1
-    (subst (λ ties. Says (FindsFirst ties) fault) (alike r names c.deref.result.now c.deref-2.result.now c.deref-3.result.now base_rows shift_rows r.sales.items c.as_slice-tariffs.ensures.value c.deref.ensures.value c.deref-2.ensures.value c.deref-3.ensures.value c.as_slice-bases.ensures.value c.as_slice-shifts.ensures.value refl)
-    (says_right tariffs (dated ++ meters ++ shifts ++ sales) fault c.in_ok-names.ensures.passes (says_right dated (meters ++ shifts ++ sales) fault c.in_ok-test_dated.ensures.passes (says_right meters (shifts ++ sales) fault c.in_ok-places.ensures.passes (says_left shifts sales fault c.in_err-test_shifts.ensures.found)))))
+    (subst (λ ties. Says (FindsFirst ties) fault) (alike r names c.deref.result.now c.deref-2.result.now c.deref-3.result.now base_rows
+    shift_rows r.sales.items c.as_slice-tariffs.ensures.value c.deref.ensures.value c.deref-2.ensures.value c.deref-3.ensures.value
+    c.as_slice-bases.ensures.value c.as_slice-shifts.ensures.value refl)
+    (says_right tariffs (dated ++ meters ++ shifts ++ sales) fault c.in_ok-names.ensures.passes
+    (says_right dated (meters ++ shifts ++ sales) fault c.in_ok-test_dated.ensures.passes
+    (says_right meters (shifts ++ sales) fault c.in_ok-places.ensures.passes (says_left shifts sales fault c.in_err-test_shifts.ensures.found)))))
 
 pub returns-clause-found : goal.returns-clause-found
 returns-clause-found c =
@@ -97,8 +109,12 @@ returns-clause-found c =
     let shifts = shift_rules shift_rows in
     let sales = sale_rules (length shift_rows) base_rows c.deref-4.result.now in
     if_err c.test_sales.result (λ fault found.
-    subst (λ ties. Says (FindsFirst ties) fault) (alike r names c.deref.result.now c.deref-2.result.now c.deref-3.result.now base_rows shift_rows c.deref-4.result.now c.as_slice-tariffs.ensures.value c.deref.ensures.value c.deref-2.ensures.value c.deref-3.ensures.value c.as_slice-bases.ensures.value c.as_slice-shifts.ensures.value c.deref-4.ensures.value)
-    (says_right tariffs (dated ++ meters ++ shifts ++ sales) fault c.in_ok-names.ensures.passes (says_right dated (meters ++ shifts ++ sales) fault c.in_ok-test_dated.ensures.passes (says_right meters (shifts ++ sales) fault c.in_ok-places.ensures.passes (says_right shifts sales fault c.in_ok-test_shifts.ensures.passes found)))))
+    subst (λ ties. Says (FindsFirst ties) fault) (alike r names c.deref.result.now c.deref-2.result.now c.deref-3.result.now base_rows
+    shift_rows c.deref-4.result.now c.as_slice-tariffs.ensures.value c.deref.ensures.value c.deref-2.ensures.value
+    c.deref-3.ensures.value c.as_slice-bases.ensures.value c.as_slice-shifts.ensures.value c.deref-4.ensures.value)
+    (says_right tariffs (dated ++ meters ++ shifts ++ sales) fault c.in_ok-names.ensures.passes
+    (says_right dated (meters ++ shifts ++ sales) fault c.in_ok-test_dated.ensures.passes
+    (says_right meters (shifts ++ sales) fault c.in_ok-places.ensures.passes (says_right shifts sales fault c.in_ok-test_shifts.ensures.passes found)))))
     c.test_sales.ensures.found
 
 pub returns-clause-passes : goal.returns-clause-passes
@@ -113,6 +129,10 @@ returns-clause-passes c =
     let shifts = shift_rules shift_rows in
     let sales = sale_rules (length shift_rows) base_rows c.deref-4.result.now in
     on_ok c.test_sales.result (λ kept.
-    subst AreKept (alike r names c.deref.result.now c.deref-2.result.now c.deref-3.result.now base_rows shift_rows c.deref-4.result.now c.as_slice-tariffs.ensures.value c.deref.ensures.value c.deref-2.ensures.value c.deref-3.ensures.value c.as_slice-bases.ensures.value c.as_slice-shifts.ensures.value c.deref-4.ensures.value)
-    (kept_both tariffs (dated ++ meters ++ shifts ++ sales) c.in_ok-names.ensures.passes (kept_both dated (meters ++ shifts ++ sales) c.in_ok-test_dated.ensures.passes (kept_both meters (shifts ++ sales) c.in_ok-places.ensures.passes (kept_both shifts sales c.in_ok-test_shifts.ensures.passes kept)))))
+    subst AreKept (alike r names c.deref.result.now c.deref-2.result.now c.deref-3.result.now base_rows shift_rows c.deref-4.result.now
+    c.as_slice-tariffs.ensures.value c.deref.ensures.value c.deref-2.ensures.value c.deref-3.ensures.value
+    c.as_slice-bases.ensures.value c.as_slice-shifts.ensures.value c.deref-4.ensures.value)
+    (kept_both tariffs (dated ++ meters ++ shifts ++ sales) c.in_ok-names.ensures.passes
+    (kept_both dated (meters ++ shifts ++ sales) c.in_ok-test_dated.ensures.passes
+    (kept_both meters (shifts ++ sales) c.in_ok-places.ensures.passes (kept_both shifts sales c.in_ok-test_shifts.ensures.passes kept)))))
     c.test_sales.ensures.passes

@@ -12,5 +12,7 @@ returns g c =
     let none : IsSteps c.deref.result.now → ⊥ = search rules in (
       λ yes. absurd (false≢true yes),
       λ are.
-          absurd (none (subst IsSteps (sym c.deref.ensures.value) (subst IsSteps (sym (same_first g.T.HasStep.step g.K.KeyOf.key c.args.rows.now c.requires.apart (owned_key c.args.key) steps are.steps c.in_ok-steps.ensures are.first are.priced)) are.priced))),
+          absurd (none (subst IsSteps (sym c.deref.ensures.value)
+          (subst IsSteps (sym (same_first g.T.HasStep.step g.K.KeyOf.key c.args.rows.now c.requires.apart (owned_key c.args.key) steps
+          are.steps c.in_ok-steps.ensures are.first are.priced)) are.priced))),
     )

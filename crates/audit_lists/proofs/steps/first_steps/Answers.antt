@@ -11,7 +11,8 @@ pub returns-in_default : goal.returns-in_default
 returns-in_default g c = record {
   there = c.places.invariant.there;
   ended = inr (λ has.
-      none_under g.K.KeyOf.key c.args.places.now c.args.rows.now (length c.args.rows.now) c.requires (at_place (owned_key c.args.key) c.places.place) (sym c.place_of.ensures ∙ c.in_default.is) has.0 has.1.0
+      none_under g.K.KeyOf.key c.args.places.now c.args.rows.now (length c.args.rows.now) c.requires
+      (at_place (owned_key c.args.key) c.places.place) (sym c.place_of.ensures ∙ c.in_default.is) has.0 has.1.0
       (slice_get_within c.args.rows.now has.0 has.1.0 has.1.1) has.1.1 (has.1.2 ∙ ap (at_place (owned_key c.args.key)) c.places.invariant.long));
 }
 
@@ -19,7 +20,8 @@ pub places-preserved : goal.places-preserved
 places-preserved g c =
     let items = c.places.steps.items in
     let pushed : c.push.new.self.items ≡ items ++ c.step.result ∷ [] = c.in_ok-push.ensures.items in
-    let found = some_under g.K.KeyOf.key c.args.places.now c.args.rows.now (length c.args.rows.now) c.requires (at_place (owned_key c.args.key) c.places.place) c.in-Some.at (sym c.place_of.ensures ∙ c.in-Some.is) in
+    let found = some_under g.K.KeyOf.key c.args.places.now c.args.rows.now (length c.args.rows.now) c.requires
+    (at_place (owned_key c.args.key) c.places.place) c.in-Some.at (sym c.place_of.ensures ∙ c.in-Some.is) in
     let row = c.index-rows-at.result in
     let there = row_at c.args.rows.now c.in-Some.at row found.0 c.index-rows-at.is in
     let same = same_Some found.1.0 row (sym found.1.1 ∙ there) in

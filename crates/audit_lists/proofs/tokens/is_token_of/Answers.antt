@@ -18,7 +18,8 @@ returns-then-read-sale-2 g c fields =
       | then-read-sale w ↦
           let value = w.value-is in
           let tid : here.tid ≡ f.tid = grind (arith, nat_tests, value, c.if-read-sale-2.true) in (
-            λ t. token.0 (ap Ok (same_fields here.rnd here.tid here.amount c.in-Ok.read f c.read-in-Ok.view_is w.if-read-sale.true tid (grind (arith, nat_tests, t, amount, tenths)))),
+            λ t. token.0 (ap Ok (same_fields here.rnd here.tid here.amount c.in-Ok.read f c.read-in-Ok.view_is w.if-read-sale.true tid
+                (grind (arith, nat_tests, t, amount, tenths)))),
             λ is.
                 let e = token.1 is in
                 let same : c.in-Ok.read ≡ f = cc in

@@ -18,10 +18,12 @@ returns-in-Some g c o are row =
     let s = c.args.sale.now in
     let m = c.index-meters-place.result in
     let forward = g.T.BlockTransform.forwards c.args.transform.now in
-    let f = some_under meter_key c.args.places.now r.meters.items (length r.meters.items) c.requires (name_key c.as_bytes.result.now) c.in-Some.place (sym c.place_of.ensures ∙ c.in-Some.is) in
+    let f = some_under meter_key c.args.places.now r.meters.items (length r.meters.items) c.requires (name_key c.as_bytes.result.now)
+    c.in-Some.place (sym c.place_of.ensures ∙ c.in-Some.is) in
     let low = subst (λ (l : List MeterRow). c.in-Some.place < length l) (sym c.as_slice-meters.ensures.value) f.0 in
     let there : slice_get r.meters.items c.in-Some.place ≡ Some m =
-    subst (λ (l : List MeterRow). slice_get l c.in-Some.place ≡ Some m) c.as_slice-meters.ensures.value (row_at c.as_slice-meters.result.now c.in-Some.place m low c.index-meters-place.is) in
+    subst (λ (l : List MeterRow). slice_get l c.in-Some.place ≡ Some m) c.as_slice-meters.ensures.value
+    (row_at c.as_slice-meters.result.now c.in-Some.place m low c.index-meters-place.is) in
     let is : f.1.0 ≡ m = same_Some f.1.0 m (sym f.1.1 ∙ there) in
     let number : m.number ≡ s.meter = ap (λ (x : MeterRow). x.number) (sym is) ∙ ap (λ (q : Key). q.0) f.1.2 ∙ c.as_bytes.ensures.view in
     let named = by_key r o are forward s m.meter (meter_is r o are s c.in-Some.place m there number) in
@@ -38,6 +40,7 @@ returns-in-None g c o are row = (
       let r = c.args.rows.now in
       absurd (no_meter r o are (g.T.BlockTransform.forwards c.args.transform.now) c.args.sale.now
       (λ i m low there same.
-      none_under meter_key c.args.places.now r.meters.items (length r.meters.items) c.requires (name_key c.as_bytes.result.now) (sym c.place_of.ensures ∙ c.in-None.is) i m low there (same ∙ ap name_key (sym c.as_bytes.ensures.view)))
+      none_under meter_key c.args.places.now r.meters.items (length r.meters.items) c.requires (name_key c.as_bytes.result.now)
+      (sym c.place_of.ensures ∙ c.in-None.is) i m low there (same ∙ ap name_key (sym c.as_bytes.ensures.view)))
       is),
 )

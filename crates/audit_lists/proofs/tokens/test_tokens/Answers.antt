@@ -22,7 +22,8 @@ returns-in_err-places-clause-found g c =
     let r = c.args.rows.now in
     let forward = g.T.BlockTransform.forwards c.args.transform.now in
     let e = c.in_err-places.field-0.0 in
-    let found = subst (λ (l : List MeterRow). Says (IsFirst (once (listed_meters l) rule.Twice meter_key)) e) c.deref.ensures.value c.in_err-places.ensures.found in
+    let found = subst (λ (l : List MeterRow). Says (IsFirst (once (listed_meters l) rule.Twice meter_key)) e) c.deref.ensures.value
+    c.in_err-places.ensures.found in
     told_on (TellsUnwritten forward r) c.from_residual.result e c.from_residual.ensures.1 (tells_twice forward r rule.Twice e (search rules) found)
 
 pub returns-then-not-is_written-clause-found : goal.returns-then-not-is_written-clause-found
@@ -30,9 +31,18 @@ returns-then-not-is_written-clause-found g c o are =
     let at = c.sales.at in
     let s = c.index-sales-at.result in
     let there : slice_get o.sales at ≡ Some s =
-    subst (λ (l : List Sale). slice_get l at ≡ Some s) (c.as_slice-sales.ensures.value ∙ are.members.sales) (row_at c.as_slice-sales.result.now at s c.sales-test.true c.index-sales-at.is) in
-    let is = c.is_written.ensures o are (all_at (IsSaleRow o) o.sales are.is.sales at s there) in
-    (at, s, record { there = there; before = c.sales.invariant o are; breaks = λ written. false≢true (sym c.if-not-is_written.true ∙ is.1 written) }, c.found.ensures)
+    subst (λ (l : List Sale). slice_get l at ≡ Some s) (c.as_slice-sales.ensures.value ∙ are.members.sales)
+    (row_at c.as_slice-sales.result.now at s c.sales-test.true c.index-sales-at.is) in
+    let is = c.is_written.ensures o are (all_at (IsSaleRow o) o.sales are.is.sales at s there) in (
+      at,
+      s,
+      record {
+        there = there;
+        before = c.sales.invariant o are;
+        breaks = λ written. false≢true (sym c.if-not-is_written.true ∙ is.1 written);
+      },
+      c.found.ensures,
+    )
 
 pub sales-preserved : goal.sales-preserved
 sales-preserved g c o are =
@@ -40,7 +50,8 @@ sales-preserved g c o are =
     let s = c.index-sales-at.result in
     let forward = g.T.BlockTransform.forwards c.args.transform.now in
     let there : slice_get o.sales at ≡ Some s =
-    subst (λ (l : List Sale). slice_get l at ≡ Some s) (c.as_slice-sales.ensures.value ∙ are.members.sales) (row_at c.as_slice-sales.result.now at s c.sales-test.true c.index-sales-at.is) in
+    subst (λ (l : List Sale). slice_get l at ≡ Some s) (c.as_slice-sales.ensures.value ∙ are.members.sales)
+    (row_at c.as_slice-sales.result.now at s c.sales-test.true c.index-sales-at.is) in
     let is = c.is_written.ensures o are (all_at (IsSaleRow o) o.sales are.is.sales at s there) in
     each_more (λ _ x. IsWrittenBy forward o x) o.sales at s there (is.0 c.if-not-is_written.false) (c.sales.invariant o are)
 

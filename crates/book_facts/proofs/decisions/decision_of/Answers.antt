@@ -30,10 +30,12 @@ returns-in-Err-clause-nothing g c clean tables =
     }
 
 pub returns-in-Ok-clause-clean : goal.returns-in-Ok-clause-clean
-returns-in-Ok-clause-clean g c = clean_before (state g.S.Store c.args.conn.now) (state g.S.Store c.facts_of.new.conn) _ (g.met.S.Store.shut_if_dirty c.args.conn.now.store) c.facts_of.ensures.reads.survives
+returns-in-Ok-clause-clean g c = clean_before (state g.S.Store c.args.conn.now) (state g.S.Store c.facts_of.new.conn) _
+    (g.met.S.Store.shut_if_dirty c.args.conn.now.store) c.facts_of.ensures.reads.survives
 
 pub returns-in-Err-clause-clean : goal.returns-in-Err-clause-clean
-returns-in-Err-clause-clean g c = clean_before (state g.S.Store c.args.conn.now) (state g.S.Store c.facts_of.new.conn) _ (g.met.S.Store.shut_if_dirty c.args.conn.now.store) c.facts_of.ensures.reads.survives
+returns-in-Err-clause-clean g c = clean_before (state g.S.Store c.args.conn.now) (state g.S.Store c.facts_of.new.conn) _
+    (g.met.S.Store.shut_if_dirty c.args.conn.now.store) c.facts_of.ensures.reads.survives
 
 pub returns-in-Ok-clause-failures : goal.returns-in-Ok-clause-failures
 returns-in-Ok-clause-failures g c clean tables =
@@ -46,11 +48,13 @@ returns-in-Ok-clause-failures g c clean tables =
           let is : c.saturating_sub.result ≡ count = omega (arith, c.saturating_sub.ensures, next) in
           subst (λ n. AreFactsSeen n at old.now c.in-Ok.facts) is (c.in-Ok.ensures.shown clean has);
     } in
-    refused_by_facts forward at c.args.next_number old (state g.S.Store c.facts_of.new.conn) c.in-Ok.facts read c.decided_by.result c.decided_by.ensures.decided c.decided_by.ensures.no_store.0
+    refused_by_facts forward at c.args.next_number old (state g.S.Store c.facts_of.new.conn) c.in-Ok.facts read c.decided_by.result
+    c.decided_by.ensures.decided c.decided_by.ensures.no_store.0
 
 pub returns-in-Err-clause-failures : goal.returns-in-Err-clause-failures
 returns-in-Err-clause-failures g c clean tables =
-    inl (told_of_read (state g.S.Store c.args.conn.now) (state g.S.Store c.facts_of.new.conn) c.in-Err.error c.refusal_of.result c.refusal_of.ensures.value (c.in-Err.ensures.reads.faults clean tables) clean
+    inl (told_of_read (state g.S.Store c.args.conn.now) (state g.S.Store c.facts_of.new.conn) c.in-Err.error c.refusal_of.result
+    c.refusal_of.ensures.value (c.in-Err.ensures.reads.faults clean tables) clean
     (c.facts_of.ensures.reads.survives tables))
 
 pub returns-in-Ok-clause-read : goal.returns-in-Ok-clause-read
@@ -64,4 +68,5 @@ returns-in-Ok-clause-read g c clean =
           let is : c.saturating_sub.result ≡ count = omega (arith, c.saturating_sub.ensures, next) in
           subst (λ n. AreFactsSeen n at old.now c.in-Ok.facts) is (c.in-Ok.ensures.shown clean has);
     } in
-    granted_by_facts forward at c.args.next_number old (state g.S.Store c.facts_of.new.conn) c.in-Ok.facts read c.decided_by.result c.decided_by.ensures.decided c.decided_by.ensures.prior
+    granted_by_facts forward at c.args.next_number old (state g.S.Store c.facts_of.new.conn) c.in-Ok.facts read c.decided_by.result
+    c.decided_by.ensures.decided c.decided_by.ensures.prior

@@ -17,7 +17,8 @@ returns-in-Ok-clause-seen g c clean has = inl (λ count next.
     subst (λ n. FindsSeen n c.args.moment c.args.lookup.now (state g.S.Store c.args.conn.now).now c.in-Ok.found) is (c.in-Ok.ensures.looks.shown clean has))
 
 pub returns-in-Ok-clause-nothing : goal.returns-in-Ok-clause-nothing
-returns-in-Ok-clause-nothing g c clean tables = record { same = c.in-Ok.ensures.looks.reads.same clean tables; survives = c.found_of.ensures.looks.reads.survives tables }
+returns-in-Ok-clause-nothing g c clean tables = record
+    { same = c.in-Ok.ensures.looks.reads.same clean tables; survives = c.found_of.ensures.looks.reads.survives tables }
 
 pub returns-in-Err-clause-found : goal.returns-in-Err-clause-found
 returns-in-Err-clause-found g c clean o at next =
@@ -37,10 +38,12 @@ returns-in-Err-clause-nothing g c clean tables =
     }
 
 pub returns-in-Ok-clause-clean : goal.returns-in-Ok-clause-clean
-returns-in-Ok-clause-clean g c = clean_before (state g.S.Store c.args.conn.now) (state g.S.Store c.found_of.new.conn) _ (g.met.S.Store.shut_if_dirty c.args.conn.now.store) c.found_of.ensures.looks.reads.survives
+returns-in-Ok-clause-clean g c = clean_before (state g.S.Store c.args.conn.now) (state g.S.Store c.found_of.new.conn) _
+    (g.met.S.Store.shut_if_dirty c.args.conn.now.store) c.found_of.ensures.looks.reads.survives
 
 pub returns-in-Err-clause-clean : goal.returns-in-Err-clause-clean
-returns-in-Err-clause-clean g c = clean_before (state g.S.Store c.args.conn.now) (state g.S.Store c.found_of.new.conn) _ (g.met.S.Store.shut_if_dirty c.args.conn.now.store) c.found_of.ensures.looks.reads.survives
+returns-in-Err-clause-clean g c = clean_before (state g.S.Store c.args.conn.now) (state g.S.Store c.found_of.new.conn) _
+    (g.met.S.Store.shut_if_dirty c.args.conn.now.store) c.found_of.ensures.looks.reads.survives
 
 pub returns-in-Ok-clause-failures : goal.returns-in-Ok-clause-failures
 returns-in-Ok-clause-failures g c clean tables = or_told c.in-Ok.found _ c.in-Ok.ensures.rules
@@ -50,7 +53,8 @@ returns-in-Ok-clause-never_stopped g c = never_stopped c.in-Ok.found c.in-Ok.ens
 
 pub returns-in-Err-clause-failures : goal.returns-in-Err-clause-failures
 returns-in-Err-clause-failures g c clean tables =
-    inr (told_of_read (state g.S.Store c.args.conn.now) (state g.S.Store c.found_of.new.conn) c.in-Err.error c.refusal_of.result c.refusal_of.ensures.value (c.in-Err.ensures.looks.reads.faults clean tables) clean
+    inr (told_of_read (state g.S.Store c.args.conn.now) (state g.S.Store c.found_of.new.conn) c.in-Err.error c.refusal_of.result
+    c.refusal_of.ensures.value (c.in-Err.ensures.looks.reads.faults clean tables) clean
     (c.found_of.ensures.looks.reads.survives tables))
 
 pub returns-in-Ok-clause-refusals : goal.returns-in-Ok-clause-refusals

@@ -16,10 +16,12 @@ returns-clause-given g c clean rows o has office are =
 
 pub returns-clause-reads : goal.returns-clause-reads
 returns-clause-reads g c =
-    reads (next_day c.args.name.now c.args.day) (state g.S.Store c.args.conn.now) (state g.S.Store c.first_record.new.conn) c.first_record.result (bound c.day_values.result) c.day_values.ensures
+    reads (next_day c.args.name.now c.args.day) (state g.S.Store c.args.conn.now) (state g.S.Store c.first_record.new.conn)
+    c.first_record.result (bound c.day_values.result) c.day_values.ensures
     c.first_record.ensures.reads
 
 pub returns-clause-sees : goal.returns-clause-sees
 returns-clause-sees g c =
-    sees (next_day c.args.name.now c.args.day) (state g.S.Store c.args.conn.now) (state g.S.Store c.first_record.new.conn) c.first_record.result (bound c.day_values.result) c.day_values.ensures
+    sees (next_day c.args.name.now c.args.day) (state g.S.Store c.args.conn.now) (state g.S.Store c.first_record.new.conn)
+    c.first_record.result (bound c.day_values.result) c.day_values.ensures
     c.first_record.ensures.reads c.first_record.ensures.given

@@ -17,10 +17,12 @@ returns-clause-given g c clean rows o has office are =
 
 pub returns-clause-reads : goal.returns-clause-reads
 returns-clause-reads g c =
-    reads (meters_after c.args.after.now) (state g.S.Store c.args.conn.now) (state g.S.Store c.all_records.new.conn) c.all_records.result (bound c.text_values.result) c.text_values.ensures
+    reads (meters_after c.args.after.now) (state g.S.Store c.args.conn.now) (state g.S.Store c.all_records.new.conn) c.all_records.result
+    (bound c.text_values.result) c.text_values.ensures
     c.all_records.ensures.reads
 
 pub returns-clause-sees : goal.returns-clause-sees
 returns-clause-sees g c =
-    sees (meters_after c.args.after.now) (λ found. found.items) (state g.S.Store c.args.conn.now) (state g.S.Store c.all_records.new.conn) c.all_records.result (bound c.text_values.result) c.text_values.ensures
+    sees (meters_after c.args.after.now) (λ found. found.items) (state g.S.Store c.args.conn.now) (state g.S.Store c.all_records.new.conn)
+    c.all_records.result (bound c.text_values.result) c.text_values.ensures
     c.all_records.ensures.reads c.all_records.ensures.given

@@ -15,10 +15,12 @@ returns-clause-given g c clean rows has of_office =
 
 pub returns-clause-reads : goal.returns-clause-reads
 returns-clause-reads g c =
-    reads (shifts_after c.args.number page_size) (state g.S.Store c.args.conn.now) (state g.S.Store c.all_records.new.conn) c.all_records.result (bound c.number_values.result) c.number_values.ensures
+    reads (shifts_after c.args.number page_size) (state g.S.Store c.args.conn.now) (state g.S.Store c.all_records.new.conn)
+    c.all_records.result (bound c.number_values.result) c.number_values.ensures
     c.all_records.ensures.reads
 
 pub returns-clause-sees : goal.returns-clause-sees
 returns-clause-sees g c =
-    sees (shifts_after c.args.number page_size) (λ found. found.items) (state g.S.Store c.args.conn.now) (state g.S.Store c.all_records.new.conn) c.all_records.result (bound c.number_values.result) c.number_values.ensures
+    sees (shifts_after c.args.number page_size) (λ found. found.items) (state g.S.Store c.args.conn.now)
+    (state g.S.Store c.all_records.new.conn) c.all_records.result (bound c.number_values.result) c.number_values.ensures
     c.all_records.ensures.reads c.all_records.ensures.given

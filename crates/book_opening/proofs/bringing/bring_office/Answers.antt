@@ -20,7 +20,8 @@ returns-in-Err-InDoubt-clause-risks g c opens has =
 
 pub returns-in-Err-Unmade-clause-fails : goal.returns-in-Err-Unmade-clause-fails
 returns-in-Err-Unmade-clause-fails g c clean with =
-    fails_unmade g.S.Store c.args.from c.args.conn.now (state g.S.Store c.change_once.new.conn) c.args.meters.now c.args.sales.now with c.in-Err-Unmade.error c.fault_of_table.result
+    fails_unmade g.S.Store c.args.from c.args.conn.now (state g.S.Store c.change_once.new.conn) c.args.meters.now c.args.sales.now with
+    c.in-Err-Unmade.error c.fault_of_table.result
     c.fault_of_table.ensures.value (rw c.in-Err-Unmade.field-0-is at (c.in-Err-Unmade.ensures.refused clean))
 
 pub returns-in-Err-InDoubt-clause-fails : goal.returns-in-Err-InDoubt-clause-fails

@@ -20,7 +20,8 @@ returns-in-Err-clause-looks g c = look_fails c.in-Err.error c.fault_of_table.res
 pub returns-in-Err-clause-fails : goal.returns-in-Err-clause-fails
 returns-in-Err-clause-fails g c clean runs has =
     let old = state g.S.Store c.args.conn.now in
-    fails_table g.S.Store old (state g.S.Store c.last_sale_number.new.conn) (TableHolds sales_kept) c.in-Err.error c.fault_of_table.result c.fault_of_table.ensures.value runs
+    fails_table g.S.Store old (state g.S.Store c.last_sale_number.new.conn) (TableHolds sales_kept) c.in-Err.error c.fault_of_table.result
+    c.fault_of_table.ensures.value runs
     (c.in-Err.ensures.reads.faults clean (has_table sales_in old (tables old has)))
 
 -- ---- its row
@@ -33,7 +34,8 @@ returns-in-Ok-Some-sale_numbered-clause-given g c clean has o at =
     let shut = g.met.S.Store.shut_if_dirty c.last_sale_number.new.conn.store in
     let before = was_clean sales_kept it.ensures.reads shut c.sale_numbered.result c.sale_numbered.ensures.reads there clean in
     let runs = (it.ensures.reads.same before there).0.was_open in
-    ap (λ n. n + 1) (c.from.ensures ∙ sym (ap (λ (x : Option ℕ). unwrap_or x 0) it.field-0-is)) ∙ next_counted old has runs o at it.field-0 (it.ensures.counted before)
+    ap (λ n. n + 1) (c.from.ensures ∙ sym (ap (λ (x : Option ℕ). unwrap_or x 0) it.field-0-is))
+    ∙ next_counted old has runs o at it.field-0 (it.ensures.counted before)
 
 pub returns-in-Ok-Some-sale_numbered-clause-follows : goal.returns-in-Ok-Some-sale_numbered-clause-follows
 returns-in-Ok-Some-sale_numbered-clause-follows g c clean has =
@@ -77,7 +79,8 @@ returns-in-Err-sale_numbered-clause-looks g c =
     let row = c.in-Err-sale_numbered in
     let told = c.fault_of_table-in-Err-sale_numbered in
     let shut = g.met.S.Store.shut_if_dirty c.last_sale_number.new.conn.store in
-    look_fails row.error told.result told.ensures.kind told.ensures.value (read_in_office sales_in (read_after sales_kept c.in-Ok-Some.ensures.reads shut (Err row.error) row.ensures.reads))
+    look_fails row.error told.result told.ensures.kind told.ensures.value
+    (read_in_office sales_in (read_after sales_kept c.in-Ok-Some.ensures.reads shut (Err row.error) row.ensures.reads))
 
 pub returns-in-Err-sale_numbered-clause-fails : goal.returns-in-Err-sale_numbered-clause-fails
 returns-in-Err-sale_numbered-clause-fails g c clean runs has =

@@ -13,28 +13,32 @@ returns-in-Ok-Some-eq0-clause-ends g c opens =
     let old = state g.S.Store c.args.conn.now in
     let it = c.in-Ok-Some-eq0 in
     let none = it.field-0-is ∙ ap Some it.field-0-0-test in
-    c.next_of_none.ensures.ends opens (has_found 0 old (λ k. (c.schema.ensures.live k).0) (subst (HasOfficeOf 0) c.schema.ensures.value ((it.ensures.found 0 (omega arith)).0 none)))
+    c.next_of_none.ensures.ends opens (has_found 0 old (λ k. (c.schema.ensures.live k).0)
+    (subst (HasOfficeOf 0) c.schema.ensures.value ((it.ensures.found 0 (omega arith)).0 none)))
 
 pub returns-in-Ok-Some-eq0-clause-fails : goal.returns-in-Ok-Some-eq0-clause-fails
 returns-in-Ok-Some-eq0-clause-fails g c opens =
     let old = state g.S.Store c.args.conn.now in
     let it = c.in-Ok-Some-eq0 in
     let none = it.field-0-is ∙ ap Some it.field-0-0-test in
-    c.next_of_none.ensures.fails opens (has_found 0 old (λ k. (c.schema.ensures.live k).0) (subst (HasOfficeOf 0) c.schema.ensures.value ((it.ensures.found 0 (omega arith)).0 none)))
+    c.next_of_none.ensures.fails opens (has_found 0 old (λ k. (c.schema.ensures.live k).0)
+    (subst (HasOfficeOf 0) c.schema.ensures.value ((it.ensures.found 0 (omega arith)).0 none)))
 
 pub returns-in-Ok-Some-clause-ends : goal.returns-in-Ok-Some-clause-ends
 returns-in-Ok-Some-clause-ends g c opens =
     let old = state g.S.Store c.args.conn.now in
     let it = c.in-Ok-Some in
     let found = it.ensures.found it.format (omega (arith, c.if-format-lt-PRESENT_FORMAT.true)) in
-    c.next_of_older.ensures.ends (has_found it.format old (λ k. (c.schema.ensures.live k).0) (subst (HasOfficeOf it.format) c.schema.ensures.value (found.0 it.field-0-is)))
+    c.next_of_older.ensures.ends (has_found it.format old (λ k. (c.schema.ensures.live k).0)
+    (subst (HasOfficeOf it.format) c.schema.ensures.value (found.0 it.field-0-is)))
 
 pub returns-in-Ok-Some-clause-fails : goal.returns-in-Ok-Some-clause-fails
 returns-in-Ok-Some-clause-fails g c opens =
     let old = state g.S.Store c.args.conn.now in
     let it = c.in-Ok-Some in
     let found = it.ensures.found it.format (omega (arith, c.if-format-lt-PRESENT_FORMAT.true)) in
-    c.next_of_older.ensures.fails opens (has_found it.format old (λ k. (c.schema.ensures.live k).0) (subst (HasOfficeOf it.format) c.schema.ensures.value (found.0 it.field-0-is)))
+    c.next_of_older.ensures.fails opens (has_found it.format old (λ k. (c.schema.ensures.live k).0)
+    (subst (HasOfficeOf it.format) c.schema.ensures.value (found.0 it.field-0-is)))
 
 pub returns-in-Ok-Some-2-clause-ends : goal.returns-in-Ok-Some-2-clause-ends
 returns-in-Ok-Some-2-clause-ends g c opens =

@@ -30,5 +30,6 @@ returns-in_err-bring_office-clause-fails g c opens has clean =
     let new = state g.S.Store c.bring_office.new.conn in
     let with : IsSoundWith 0 [] [] old = λ runs. ((has runs).0, (has runs).1, hands_none old.now (has runs).1) in
     let runs = opens (omega (arith, (c.bring_office.ensures.survives opens with).clean, clean)) in
-    fails_bringing g.S.Store 0 c.args.conn.now new c.in_err-bring_office.field-0.0 c.from_residual.result c.from_residual.ensures.1 (omega arith) runs (has runs).1
+    fails_bringing g.S.Store 0 c.args.conn.now new c.in_err-bring_office.field-0.0 c.from_residual.result c.from_residual.ensures.1
+    (omega arith) runs (has runs).1
     (c.in_err-bring_office.ensures.fails clean with)

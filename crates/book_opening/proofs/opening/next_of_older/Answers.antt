@@ -18,7 +18,8 @@ returns-in-Err-clause-ends g c has =
     let outside : IsTrue c.is_autocommit-outside.result = search rules in
     let fault = c.fault_of_audit.result in
     ends_looked old new {T = Unit {0}} fault (Err fault) refl has (c.is_autocommit-outside.ensures.settled outside)
-    (fail_as fault (Err fault) refl c.in-Err.ensures.reads (audit_tells IsNoOffices old new (λ f. none_of f old.now) c.in-Err.fault fault c.fault_of_audit.ensures.kind
+    (fail_as fault (Err fault) refl c.in-Err.ensures.reads
+    (audit_tells IsNoOffices old new (λ f. none_of f old.now) c.in-Err.fault fault c.fault_of_audit.ensures.kind
     c.fault_of_audit.ensures.value))
 
 pub returns-clause-ends : goal.returns-clause-ends
@@ -36,7 +37,8 @@ returns-clause-ends g c has =
     let with = sound_with c.args.from rows old mid shut same has given c.deref.result.now c.deref-2.result.now c.deref.ensures.value c.deref-2.ensures.value in
     ends_after old mid new _ same (reads.survives has)
     (ends_brought c.args.from mid new c.requires.older opens (λ clean. rows_there c.args.from mid.now rows (after clean))
-    (c.bring_office.ensures.survives opens with) _ (λ clean. next_of_rows c.args.from rows mid _ (omega (arith, c.len.ensures, c.deref-2.ensures.len, ap length c.deref-2.ensures.value)) (opens clean) (after clean))
+    (c.bring_office.ensures.survives opens with) _ (λ clean. next_of_rows c.args.from rows mid _
+    (omega (arith, c.len.ensures, c.deref-2.ensures.len, ap length c.deref-2.ensures.value)) (opens clean) (after clean))
     (λ clean. c.in_ok-bring_office.ensures.brought clean with))
 
 pub returns-in_err-bring_office-clause-ends : goal.returns-in_err-bring_office-clause-ends
@@ -65,7 +67,8 @@ returns-in-Err-clause-fails g c opens has clean =
     let old = state g.S.Store c.args.conn.now in
     let new = state g.S.Store c.office_rows.new.conn in
     let reads = c.in-Err.ensures.reads in
-    fails_audit g.S.Store old new IsNoOffices c.in-Err.fault c.fault_of_audit.result c.fault_of_audit.ensures.value (opens (omega (arith, (reads.survives has).clean, clean))) (reads.faults clean has)
+    fails_audit g.S.Store old new IsNoOffices c.in-Err.fault c.fault_of_audit.result c.fault_of_audit.ensures.value
+    (opens (omega (arith, (reads.survives has).clean, clean))) (reads.faults clean has)
 
 pub returns-in_err-bring_office-clause-fails : goal.returns-in_err-bring_office-clause-fails
 returns-in_err-bring_office-clause-fails g c _ has clean =
@@ -83,5 +86,6 @@ returns-in_err-bring_office-clause-fails g c _ has clean =
     let early : HasCleanDisk mid = omega (arith, (c.bring_office.ensures.survives opens with).clean, clean) in
     let runs = opens early in
     fails_after g.S.Store old mid new (same early) (reads.survives has) c.from_residual.result
-    (fails_bringing g.S.Store c.args.from c.office_rows.new.conn new c.in_err-bring_office.field-0.0 c.from_residual.result c.from_residual.ensures.1 c.requires.older runs (there runs).1
+    (fails_bringing g.S.Store c.args.from c.office_rows.new.conn new c.in_err-bring_office.field-0.0 c.from_residual.result
+    c.from_residual.ensures.1 c.requires.older runs (there runs).1
     (c.in_err-bring_office.ensures.fails clean with))

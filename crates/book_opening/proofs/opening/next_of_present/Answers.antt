@@ -52,4 +52,5 @@ returns-in-Err-clause-fails g c opens has clean =
     let old = state g.S.Store c.args.conn.now in
     let new = state g.S.Store c.test_told.new.conn in
     let reads = c.in-Err.ensures.reads in
-    fails_audit g.S.Store old new (λ _ _. ⊥) c.in-Err.fault c.fault_of_audit.result c.fault_of_audit.ensures.value (opens (omega (arith, (reads.survives has).clean, clean))) (reads.faults clean has)
+    fails_audit g.S.Store old new (λ _ _. ⊥) c.in-Err.fault c.fault_of_audit.result c.fault_of_audit.ensures.value
+    (opens (omega (arith, (reads.survives has).clean, clean))) (reads.faults clean has)

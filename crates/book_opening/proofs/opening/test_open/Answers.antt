@@ -5,7 +5,13 @@ use Rattle.book_opening.proofs.opening.test_open.Goals as goal
 
 pub returns-in-Ok : goal.returns-in-Ok
 returns-in-Ok g c = record {
-  looks = record { same = λ clean _. c.in-Ok.ensures.same clean; kept = λ _ _. tt; mode = c.test_open.ensures.mode; faults = λ _ _. tt; survives = λ _. c.test_open.ensures.survives };
+  looks = record {
+    same = λ clean _. c.in-Ok.ensures.same clean;
+    kept = λ _ _. tt;
+    mode = c.test_open.ensures.mode;
+    faults = λ _ _. tt;
+    survives = λ _. c.test_open.ensures.survives;
+  };
   fails = λ _. tt;
 }
 
@@ -18,5 +24,6 @@ returns-in-Err g c = record {
     faults = λ _ _. of_failure (state g.S.Store c.args.conn.now) c.fault_of.result c.fault_of.ensures.kind;
     survives = λ _. c.test_open.ensures.survives;
   };
-  fails = λ clean. fails_open g.S.Store (state g.S.Store c.args.conn.now) (state g.S.Store c.test_open.new.conn) c.in-Err.error c.fault_of.result c.fault_of.ensures.value (c.in-Err.ensures.faults clean);
+  fails = λ clean. fails_open g.S.Store (state g.S.Store c.args.conn.now) (state g.S.Store c.test_open.new.conn) c.in-Err.error
+      c.fault_of.result c.fault_of.ensures.value (c.in-Err.ensures.faults clean);
 }

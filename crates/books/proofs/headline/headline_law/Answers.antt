@@ -55,7 +55,8 @@ returns-clause-below_bound g c = λ lives life books h m sales.
 
 pub returns-clause-cash : goal.returns-clause-cash
 returns-clause-cash g c = λ lives life books h ats.
-    c.history_law.ensures.cash (with_last lives life) (g.T.BlockTransform.forwards books.transform) (present life) ats (lead_on c.history_law.ensures.goes_on lives life (seen books) h)
+    c.history_law.ensures.cash (with_last lives life) (g.T.BlockTransform.forwards books.transform) (present life) ats
+    (lead_on c.history_law.ensures.goes_on lives life (seen books) h)
 
 pub returns-clause-credit : goal.returns-clause-credit
 returns-clause-credit g c = λ lives life books h m sales came.

@@ -13,4 +13,5 @@ pub returns-clause-held : goal.returns-clause-held
 returns-clause-held g c = held_stands
 
 pub returns-clause-new : goal.returns-clause-new
-returns-clause-new g c = λ image nothing trees may. finds_if_left trees _ (empty_stands c.stands_law.ensures.untaken trees (found_nothing image trees nothing may.reads))
+returns-clause-new g c = λ image nothing trees may. finds_if_left trees _
+    (empty_stands c.stands_law.ensures.untaken trees (found_nothing image trees nothing may.reads))

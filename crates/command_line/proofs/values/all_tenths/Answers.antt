@@ -12,7 +12,9 @@ returns-in_default-tenths c = λ v each.
 pub loop-word-preserved : goal.loop-word-preserved
 loop-word-preserved c =
     record {
-      so_far = rw (c.push_reserved.ensures.items, add-one) (SayEach-more SaysAmount c.args.words.now c.loop-word.amounts.items c.loop-word.word-index _ c.in-Some.tenths c.loop-word-test.true c.loop-word.invariant.so_far c.in-Some.ensures);
+      so_far = rw (c.push_reserved.ensures.items, add-one)
+          (SayEach-more SaysAmount c.args.words.now c.loop-word.amounts.items c.loop-word.word-index _ c.in-Some.tenths
+          c.loop-word-test.true c.loop-word.invariant.so_far c.in-Some.ensures);
       count = grind (arith, common_steps);
       room = grind (arith, common_steps);
     }

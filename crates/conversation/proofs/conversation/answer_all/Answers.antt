@@ -43,8 +43,11 @@ returns-then-message g c =
     let inv = c.messages.invariant in
     let whole = rw (take_rest input len) at c.in-Whole.ensures.next in
     let x = c.in_default.ensures in
-    end_after step refusal _ _ _ _ _ _ input (drop len input) inv.text Closed inv.wrote inv.progress
-    (x.0.reply, record { writes = x.3.writes; ends = x.3.open_still }, closed_end step refusal _ _ (drop len input) (message_of c.in-Whole.message) _ x.0 whole.begins c.if-message.true x.1 x.2)
+    end_after step refusal _ _ _ _ _ _ input (drop len input) inv.text Closed inv.wrote inv.progress (
+      x.0.reply,
+      record { writes = x.3.writes; ends = x.3.open_still },
+      closed_end step refusal _ _ (drop len input) (message_of c.in-Whole.message) _ x.0 whole.begins c.if-message.true x.1 x.2,
+    )
 
 pub messages-smaller : goal.messages-smaller
 messages-smaller g c =

@@ -87,7 +87,8 @@ reads-preserved g c =
     let more = rw c.as_slice-in-reads.ensures at c.in-Ok.ensures in
     let rest = sym c.drop_front.ensures in
     let on = went_on step _ _ _ _ _ _ _ _ _ _ inv.uses c.reads.unanswered.bytes.items _ c.reads.wants _ c.in-Ok-Some.count c.count.ensures
-    inv.used inv.still_open inv.progress inv.awaited (rw c.in-Ok-Some.field-0-is at c.in-Ok-Some.ensures) _ _ more.0 _ _ c.in-Ok-Some.count-test.1 more.1 more.3 in
+    inv.used inv.still_open inv.progress inv.awaited (rw c.in-Ok-Some.field-0-is at c.in-Ok-Some.ensures) _ _ more.0 _ _
+    c.in-Ok-Some.count-test.1 more.1 more.3 in
     record {
       uses = on.0;
       used = on.1;
@@ -103,7 +104,8 @@ reads-preserved-in-Some g c =
     let inv = c.reads.invariant in
     let read = rw c.in-Ok-Some.field-0-is at c.in-Ok-Some.ensures in
     let on = went_on step _ _ _ _ _ _ _ _ _ _ inv.uses c.reads.unanswered.bytes.items _ c.reads.wants _ c.in-Ok-Some.count c.count.ensures
-    inv.used inv.still_open inv.progress inv.awaited read _ _ [] _ _ c.in-Ok-Some.count-test.1 (whole_none _) (progress_none (timed step) c.read_more.new.self.bytes.items _) in
+    inv.used inv.still_open inv.progress inv.awaited read _ _ [] _ _ c.in-Ok-Some.count-test.1 (whole_none _)
+    (progress_none (timed step) c.read_more.new.self.bytes.items _) in
     let stays = c.in-Some.ensures c.reads.unanswered.bytes.items read.0 inv.awaited read.1 in
     record {
       uses = on.0;
@@ -117,7 +119,8 @@ reads-preserved-in-Some g c =
 pub returns-clause-run : goal.returns-clause-run
 returns-clause-run g c =
     let inv = c.reads.invariant in
-    failed_run g.S.Service.step g.S.Service.refusal _ _ _ _ _ _ _ c.reads.unanswered.bytes.items _ c.reads.wants inv.used.paced.reads inv.used.paced.writes inv.progress inv.awaited
+    failed_run g.S.Service.step g.S.Service.refusal _ _ _ _ _ _ _ c.reads.unanswered.bytes.items _ c.reads.wants inv.used.paced.reads
+    inv.used.paced.writes inv.progress inv.awaited
 
 pub returns-clause-paced : goal.returns-clause-paced
 returns-clause-paced g c =

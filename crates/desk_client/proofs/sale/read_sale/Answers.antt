@@ -5,7 +5,8 @@ use Rattle.desk_client.proofs.sale.read_sale.Goals as goal
 
 pub returns-in-Some : goal.returns-in-Some
 returns-in-Some c =
-    read_of_values c.amount_law.ensures.greatest c.args.text.now c.in-Some.values.of c.sale_of.result c.in-Some.ensures.2 c.in-Some.ensures.0 c.in-Some.ensures.1 c.sale_of.ensures
+    read_of_values c.amount_law.ensures.greatest c.args.text.now c.in-Some.values.of c.sale_of.result c.in-Some.ensures.2
+    c.in-Some.ensures.0 c.in-Some.ensures.1 c.sale_of.ensures
 
 pub returns-in-None : goal.returns-in-None
 returns-in-None c = λ sale h.

@@ -16,51 +16,61 @@ returns-in_err-tender c =
 
 pub returns-in_err-moment : goal.returns-in_err-moment
 returns-in_err-moment c =
-    refused (λ (s : Sale). IsSaleTold s × (map now c.args.values.now.of ≡ sale_values s)) c.from_residual-in_err-moment.result c.from_residual-in_err-moment.ensures (λ s found.
+    refused (λ (s : Sale). IsSaleTold s × (map now c.args.values.now.of ≡ sale_values s)) c.from_residual-in_err-moment.result
+    c.from_residual-in_err-moment.ensures (λ s found.
     c.in_err-moment.ensures s.moment (found.0.moment, value_at c.args.values.now.of (sale_values s) 3 _ (omega (arith, c.type_inv.values)) found.1))
 
 pub returns-in_err-number : goal.returns-in_err-number
 returns-in_err-number c =
-    refused (λ (s : Sale). IsSaleTold s × (map now c.args.values.now.of ≡ sale_values s)) c.from_residual-in_err-number.result c.from_residual-in_err-number.ensures (λ s found.
+    refused (λ (s : Sale). IsSaleTold s × (map now c.args.values.now.of ≡ sale_values s)) c.from_residual-in_err-number.result
+    c.from_residual-in_err-number.ensures (λ s found.
     c.in_err-number.ensures s.number (found.0.number, value_at c.args.values.now.of (sale_values s) 4 _ (omega (arith, c.type_inv.values)) found.1))
 
 pub returns-in_err-operator : goal.returns-in_err-operator
 returns-in_err-operator c =
-    refused (λ (s : Sale). IsSaleTold s × (map now c.args.values.now.of ≡ sale_values s)) c.from_residual-in_err-operator.result c.from_residual-in_err-operator.ensures (λ s found.
+    refused (λ (s : Sale). IsSaleTold s × (map now c.args.values.now.of ≡ sale_values s)) c.from_residual-in_err-operator.result
+    c.from_residual-in_err-operator.ensures (λ s found.
     c.in_err-operator.ensures s.operator (found.0.operator, value_at c.args.values.now.of (sale_values s) 5 _ (omega (arith, c.type_inv.values)) found.1))
 
 pub returns-in_err-order_ref : goal.returns-in_err-order_ref
 returns-in_err-order_ref c =
-    refused (λ (s : Sale). IsSaleTold s × (map now c.args.values.now.of ≡ sale_values s)) c.from_residual-in_err-order_ref.result c.from_residual-in_err-order_ref.ensures (λ s found.
+    refused (λ (s : Sale). IsSaleTold s × (map now c.args.values.now.of ≡ sale_values s)) c.from_residual-in_err-order_ref.result
+    c.from_residual-in_err-order_ref.ensures (λ s found.
     c.in_err-order_ref.ensures s.order_ref (found.0.order_ref, value_at c.args.values.now.of (sale_values s) 7 _ (omega (arith, c.type_inv.values)) found.1))
 
 pub returns-in_err-shift : goal.returns-in_err-shift
 returns-in_err-shift c =
-    refused (λ (s : Sale). IsSaleTold s × (map now c.args.values.now.of ≡ sale_values s)) c.from_residual-in_err-shift.result c.from_residual-in_err-shift.ensures (λ s found.
+    refused (λ (s : Sale). IsSaleTold s × (map now c.args.values.now.of ≡ sale_values s)) c.from_residual-in_err-shift.result
+    c.from_residual-in_err-shift.ensures (λ s found.
     c.in_err-shift.ensures s.shift (found.0.shift, value_at c.args.values.now.of (sale_values s) 8 _ (omega (arith, c.type_inv.values)) found.1))
 
 pub returns-in_err-tenths : goal.returns-in_err-tenths
 returns-in_err-tenths c =
-    refused (λ (s : Sale). IsSaleTold s × (map now c.args.values.now.of ≡ sale_values s)) c.from_residual-in_err-tenths.result c.from_residual-in_err-tenths.ensures (λ s found.
+    refused (λ (s : Sale). IsSaleTold s × (map now c.args.values.now.of ≡ sale_values s)) c.from_residual-in_err-tenths.result
+    c.from_residual-in_err-tenths.ensures (λ s found.
     c.in_err-tenths.ensures s.tenths (found.0.tenths, value_at c.args.values.now.of (sale_values s) 10 _ (omega (arith, c.type_inv.values)) found.1))
 
 pub returns-in_err-tid : goal.returns-in_err-tid
 returns-in_err-tid c =
-    refused (λ (s : Sale). IsSaleTold s × (map now c.args.values.now.of ≡ sale_values s)) c.from_residual-in_err-tid.result c.from_residual-in_err-tid.ensures (λ s found.
+    refused (λ (s : Sale). IsSaleTold s × (map now c.args.values.now.of ≡ sale_values s)) c.from_residual-in_err-tid.result
+    c.from_residual-in_err-tid.ensures (λ s found.
     c.in_err-tid.ensures s.tid (found.0.tid, value_at c.args.values.now.of (sale_values s) 11 _ (omega (arith, c.type_inv.values)) found.1))
 
 pub returns-in_err-digits : goal.returns-in_err-digits
 returns-in_err-digits c =
-    refused (λ (s : Sale). IsSaleTold s × (map now c.args.values.now.of ≡ sale_values s)) c.from_residual-in_err-digits.result c.from_residual-in_err-digits.ensures (λ s found.
+    refused (λ (s : Sale). IsSaleTold s × (map now c.args.values.now.of ≡ sale_values s)) c.from_residual-in_err-digits.result
+    c.from_residual-in_err-digits.ensures (λ s found.
     c.in_err-digits.ensures s.digits (found.0.digits, value_at c.args.values.now.of (sale_values s) 12 _ (omega (arith, c.type_inv.values)) found.1))
 
 pub returns-then-price-cents : goal.returns-then-price-cents
 returns-then-price-cents c = λ s found.
     let of = c.args.values.now.of in
     let len = c.type_inv.values in
-    let tender : c.in_ok-tender.tender ≡ s.tender = same_number _ c.in_ok-tender.tender s.tender (omega (arith, c.in_ok-tender.ensures.0)) (omega (arith, found.0.tender))
+    let tender : c.in_ok-tender.tender ≡ s.tender = same_number _ c.in_ok-tender.tender s.tender (omega (arith, c.in_ok-tender.ensures.0))
+    (omega (arith, found.0.tender))
     c.in_ok-tender.ensures.1 (value_at of (sale_values s) 9 _ (omega (arith, len)) found.1) in
-    let price : c.in_ok-price.price ≡ s.price = same_number _ c.in_ok-price.price s.price (omega (arith, c.in_ok-price.ensures.0)) (omega (arith, found.0.price, found.0.tender))
+    let price : c.in_ok-price.price ≡ s.price = same_number _ c.in_ok-price.price s.price (omega (arith, c.in_ok-price.ensures.0))
+    (omega (arith, found.0.price, found.0.tender))
     c.in_ok-price.ensures.1 (value_at of (sale_values s) 6 _ (omega (arith, len)) found.1) in
     omega (arith, tender, price, found.0.price, c.if-price-cents.true, c.cents-cents.ensures.value)
 
@@ -68,11 +78,14 @@ pub returns-then-change-cents : goal.returns-then-change-cents
 returns-then-change-cents c = λ s found.
     let of = c.args.values.now.of in
     let len = c.type_inv.values in
-    let tender : c.in_ok-tender.tender ≡ s.tender = same_number _ c.in_ok-tender.tender s.tender (omega (arith, c.in_ok-tender.ensures.0)) (omega (arith, found.0.tender))
+    let tender : c.in_ok-tender.tender ≡ s.tender = same_number _ c.in_ok-tender.tender s.tender (omega (arith, c.in_ok-tender.ensures.0))
+    (omega (arith, found.0.tender))
     c.in_ok-tender.ensures.1 (value_at of (sale_values s) 9 _ (omega (arith, len)) found.1) in
-    let price : c.in_ok-price.price ≡ s.price = same_number _ c.in_ok-price.price s.price (omega (arith, c.in_ok-price.ensures.0)) (omega (arith, found.0.price, found.0.tender))
+    let price : c.in_ok-price.price ≡ s.price = same_number _ c.in_ok-price.price s.price (omega (arith, c.in_ok-price.ensures.0))
+    (omega (arith, found.0.price, found.0.tender))
     c.in_ok-price.ensures.1 (value_at of (sale_values s) 6 _ (omega (arith, len)) found.1) in
-    let change : c.in_ok-change.change ≡ change_of s = same_number _ c.in_ok-change.change (change_of s) (omega (arith, c.in_ok-change.ensures.0)) (omega (arith, found.0.tender))
+    let change : c.in_ok-change.change ≡ change_of s =
+    same_number _ c.in_ok-change.change (change_of s) (omega (arith, c.in_ok-change.ensures.0)) (omega (arith, found.0.tender))
     c.in_ok-change.ensures.1 (value_at of (sale_values s) 1 _ (omega (arith, len)) found.1) in
     c.if-change-cents.true (omega (arith, tender, price, change, c.cents-cents.ensures.value))
 

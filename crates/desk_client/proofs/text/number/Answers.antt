@@ -11,6 +11,7 @@ returns-in_default-parse c = λ n is.
 
 pub returns-else-eq : goal.returns-else-eq
 returns-else-eq c = λ n is.
-    let written = is_parsed c.in-Ok.text.now c.parse.result c.in-Ok-parse.number n c.in-Ok-parse.is c.parse.ensures.value.0 is.0 (c.in-Ok.ensures.cases.0 ∙ is.1) in
+    let written = is_parsed c.in-Ok.text.now c.parse.result c.in-Ok-parse.number n c.in-Ok-parse.is c.parse.ensures.value.0 is.0
+    (c.in-Ok.ensures.cases.0 ∙ is.1) in
     unlike c.as_bytes.result.now c.args.digits.now c.if-eq.ensures
     (c.as_bytes.ensures.value ∙ c.format.ensures.text ∙ written ∙ c.in-Ok.ensures.cases.0)

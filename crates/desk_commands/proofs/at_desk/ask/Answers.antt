@@ -7,13 +7,15 @@ use Rattle.desk_commands.proofs.at_desk.ask.Goals as goal
 pub returns-in-Some : goal.returns-in-Some
 returns-in-Some g c =
     let sent = rw (c.deref.ensures.value ∙ c.in-Ok.ensures) at c.in-Ok-exchange.ensures in
-    replied c.in-Ok-exchange.came.items sent c.in-Some.told (rw c.wanted-in-Ok-exchange.ensures at (rw c.deref-in-Ok-exchange.ensures.value at c.in-Some.ensures)) c.tell.ensures
+    replied c.in-Ok-exchange.came.items sent c.in-Some.told
+    (rw c.wanted-in-Ok-exchange.ensures at (rw c.deref-in-Ok-exchange.ensures.value at c.in-Some.ensures)) c.tell.ensures
 
 pub returns-in-Ok-exchange : goal.returns-in-Ok-exchange
 returns-in-Ok-exchange g c =
     let sent = rw (c.deref.ensures.value ∙ c.in-Ok.ensures) at c.in-Ok-exchange.ensures in
     let out = sink g.O.Write.contents c.args.out.now in
-    broken c.in-Ok-exchange.came.items sent (rw c.wanted-in-Ok-exchange.ensures at (rw c.deref-in-Ok-exchange.ensures.value at c.in-None.ensures)) (takes_none out, c.put_line.ensures, refl)
+    broken c.in-Ok-exchange.came.items sent (rw c.wanted-in-Ok-exchange.ensures at
+    (rw c.deref-in-Ok-exchange.ensures.value at c.in-None.ensures)) (takes_none out, c.put_line.ensures, refl)
 
 pub returns : goal.returns
 returns g c =

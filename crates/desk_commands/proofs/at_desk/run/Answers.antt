@@ -11,7 +11,8 @@ use Rattle.vend_ports.specs.declared.command_end.CommandEnd.{CommandEnd}
 use Rattle.desk_commands.proofs.at_desk.run.Goals as goal
 
 answered_once : (texts : Texts) (calls : Calls) (uncalled : Type 0) (desk : Address) (question : DeskQuestion) (o : Outputs) (end : CommandEnd)
-    → ((list : Listed) (json : Bool) → question ≢ asks.List list json) → IsAskedOnce texts calls uncalled desk question o end → IsAnswered texts calls uncalled desk question o end
+    → ((list : Listed) (json : Bool) → question ≢ asks.List list json) → IsAskedOnce texts calls uncalled desk question o end
+    → IsAnswered texts calls uncalled desk question o end
 answered_once texts calls uncalled desk (asks.Import kind csv) o end none it = it
 answered_once texts calls uncalled desk (asks.MoveBase meter base) o end none it = it
 answered_once texts calls uncalled desk (asks.OpenShift operator) o end none it = it
@@ -27,8 +28,10 @@ answered_once texts calls uncalled desk (asks.List list json) o end none it = ab
 pub returns-in-List : goal.returns-in-List
 returns-in-List g c =
     let calls = calls_of g.L.Loopback g.L.Stream.Read.remaining g.L.Stream.Write.contents c.args.loopback in
-    let o = outputs (sink g.O.Write.contents c.args.out.now) (sink g.O.Write.contents c.list.new.out) (sink g.E.Write.contents c.args.err.now) (sink g.E.Write.contents c.list.new.err) in
-    subst (λ (q : DeskQuestion). IsAnswered (texts_of g.F.TextFiles c.args.texts) calls (g.L.Loopback.leaves _ c.args.loopback) c.args.words.now.desk q o c.list.result) (sym c.in-List.is) (c.leave.ensures, c.list.ensures)
+    let o = outputs (sink g.O.Write.contents c.args.out.now) (sink g.O.Write.contents c.list.new.out)
+    (sink g.E.Write.contents c.args.err.now) (sink g.E.Write.contents c.list.new.err) in
+    subst (λ (q : DeskQuestion). IsAnswered (texts_of g.F.TextFiles c.args.texts) calls (g.L.Loopback.leaves _ c.args.loopback)
+    c.args.words.now.desk q o c.list.result) (sym c.in-List.is) (c.leave.ensures, c.list.ensures)
 
 pub returns-in_default : goal.returns-in_default
 returns-in_default g c = answered_once _ _ _ _ _ _ _ c.in_default.not-List c.ask_once.ensures

@@ -8,7 +8,8 @@ use Rattle.desk_client.specs.declared.told.Wanted.{Wanted}
 use Rattle.desk_commands.proofs.exchange.told_in.Goals as goal
 
 -- what lacks bytes, or is out of form, is no reply
-no_reply : (asked : Wanted) (came : List ℕ) (reading : Reading) → (reading ≡ readings.NeedHead) ⊎ (((missing : ℕ) × (reading ≡ readings.NeedBody missing)) ⊎ (reading ≡ readings.OutOfForm)) → IsReplyReading asked came reading
+no_reply : (asked : Wanted) (came : List ℕ) (reading : Reading) → (reading ≡ readings.NeedHead)
+    ⊎ (((missing : ℕ) × (reading ≡ readings.NeedBody missing)) ⊎ (reading ≡ readings.OutOfForm)) → IsReplyReading asked came reading
     → (told : Told) → IsReply asked came told → ⊥
 no_reply asked came reading (inl is) reads told reply = (subst (λ (r : Reading). IsReplyReading asked came r) is reads).1 told reply
 no_reply asked came reading (inr (inl (missing, is))) reads told reply =

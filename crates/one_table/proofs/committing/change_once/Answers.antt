@@ -21,11 +21,14 @@ returns-in-Err-clause-refused g c =
     let begun = c.transaction-tx.ensures.begun in
     let way = subst (λ (h : Held _). h.in_transaction ≡ true) (sym begun) refl in
     undone_after g.S.Store (g.C.Change.fails c.args.change.now) _ left _ c.in-Err.fault
-    (λ early. subst (λ (h : Held _). g.C.Change.fails c.args.change.now (state g.S.Store h) (state g.S.Store left) c.in-Err.fault) begun (c.in-Err.ensures.refused early way)) (search rules)
+    (λ early. subst (λ (h : Held _). g.C.Change.fails c.args.change.now (state g.S.Store h) (state g.S.Store left) c.in-Err.fault) begun
+    (c.in-Err.ensures.refused early way)) (search rules)
 
 -- what was made in the transaction that was begun, and then how its commit failed
-failed_after : {S : Type 0} (g : Ghosts S) (Makes : Database → Database → Type 0) (old held : Held S) (new : State) (e : Error) → StaysInside (state g (record old { in_transaction = true })) (state g held)
-    → Survives (state g (record old { in_transaction = true })) (state g held) (λ _. ⊥) → Makes (state g old).now (state g held).now → FailsToCommit (state g held) new e
+failed_after : {S : Type 0} (g : Ghosts S) (Makes : Database → Database → Type 0) (old held : Held S) (new : State) (e : Error)
+    → StaysInside (state g (record old { in_transaction = true })) (state g held)
+    → Survives (state g (record old { in_transaction = true })) (state g held) (λ _. ⊥) → Makes (state g old).now (state g held).now
+    → FailsToCommit (state g held) new e
     → HasBeen g (λ was. FailsAtCommit Makes (state g old) was new e)
 failed_after g Makes old held new e stays survives makes fails = (
   held,
@@ -34,7 +37,14 @@ failed_after g Makes old held new e stays survives makes fails = (
     makes = makes;
     is_open = stays.is_open;
     inside = stays.mode;
-    survives = record { clean = survives.clean; shield = survives.shield; counts = survives.counts; limit = survives.limit; closes = survives.closes; crash = survives.crash };
+    survives = record {
+      clean = survives.clean;
+      shield = survives.shield;
+      counts = survives.counts;
+      limit = survives.limit;
+      closes = survives.closes;
+      crash = survives.crash;
+    };
     fails = fails;
   },
 )

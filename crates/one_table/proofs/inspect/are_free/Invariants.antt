@@ -5,4 +5,5 @@ use Rattle.one_table.proofs.inspect.are_free.Given as goal
 
 abbrev pub invariant-loop-name : goal.invariant-loop-name
 invariant-loop-name l =
-    list_all (λ name. not (is_used l.schema name)) (map (λ n. n.now) (drop l.name-index l.names)) ≡ list_all (λ name. not (is_used l.schema name)) (map (λ n. n.now) l.names)
+    list_all (λ name. not (is_used l.schema name)) (map (λ n. n.now) (drop l.name-index l.names))
+    ≡ list_all (λ name. not (is_used l.schema name)) (map (λ n. n.now) l.names)

@@ -4,7 +4,8 @@ use Rattle.one_table.proofs.inspect.has_own_keys.Given as goal
 
 abbrev pub invariant-loop-index : goal.invariant-loop-index
 invariant-loop-index l = record {
-  left : (map key_of (filter (λ i. i.table == l.tree) (drop l.index-index l.index-items)) ≡ drop l.next (own_keys l.table)) ↔ (keys_on l.schema l.tree ≡ own_keys l.table);
+  left : (map key_of (filter (λ i. i.table == l.tree) (drop l.index-index l.index-items)) ≡ drop l.next (own_keys l.table)) ↔
+      (keys_on l.schema l.tree ≡ own_keys l.table);
   low : l.next ≤ l.index-index;
   within : l.next ≤ length (own_keys l.table);
 }

@@ -7,11 +7,13 @@ use Rattle.one_table.proofs.ChangeLemmas.{told_as}
 use Rattle.one_table.proofs.TurnLemmas.{HasMade, all_made, made_before, makes_next, next_failed}
 use Rattle.one_table.proofs.make.create_tables.Goals as goal
 
-texts_more : (texts : List (Bor (List ℕ))) (i : ℕ) (d : Bor (List ℕ)) → i < length texts → map (λ t. t.now) (take (i + 1) texts) ≡ map (λ t. t.now) (take i texts) ++ (get_or texts i d).now ∷ []
+texts_more : (texts : List (Bor (List ℕ))) (i : ℕ) (d : Bor (List ℕ)) → i < length texts → map (λ t. t.now) (take (i + 1) texts)
+    ≡ map (λ t. t.now) (take i texts) ++ (get_or texts i d).now ∷ []
 texts_more texts i d low = ap (map (λ t. t.now)) (take_more texts i d low) ∙ map-append (λ t. t.now) (take i texts) (get_or texts i d ∷ [])
 
 -- the texts before one, it and those after it
-split_at : (texts : List (Bor (List ℕ))) (i : ℕ) (d : Bor (List ℕ)) → i < length texts → (after : List (List ℕ)) × (map (λ t. t.now) (take i texts) ++ (get_or texts i d).now ∷ after ≡ map (λ t. t.now) texts)
+split_at : (texts : List (Bor (List ℕ))) (i : ℕ) (d : Bor (List ℕ)) → i < length texts → (after : List (List ℕ))
+    × (map (λ t. t.now) (take i texts) ++ (get_or texts i d).now ∷ after ≡ map (λ t. t.now) texts)
 split_at [] i d low = absurd (omega (arith, low))
 split_at (t ∷ texts) zero d low = (map (λ t. t.now) texts, refl)
 split_at (t ∷ texts) (suc i) d low = let rest = split_at texts i d (omega (arith, low)) in (rest.0, ap (λ l. t.now ∷ l) rest.1)
@@ -35,11 +37,13 @@ texts-preserved g c = record {
 
 pub returns-in_err-create_table-clause-transaction : goal.returns-in_err-create_table-clause-transaction
 returns-in_err-create_table-clause-transaction g c =
-    next_failed _ (state g.S.Store c.args.tx.now.conn.now) (state g.S.Store c.texts.tx.conn.now) (state g.S.Store c.create_table.new.tx.conn.now) _ c.from_residual.result c.from_residual.ensures.1 c.texts.invariant.made c.texts.invariant.survives
+    next_failed _ (state g.S.Store c.args.tx.now.conn.now) (state g.S.Store c.texts.tx.conn.now)
+    (state g.S.Store c.create_table.new.tx.conn.now) _ c.from_residual.result c.from_residual.ensures.1 c.texts.invariant.made c.texts.invariant.survives
     c.in_err-create_table.ensures.transaction
 
 pub returns-clause-transaction : goal.returns-clause-transaction
-returns-clause-transaction g c = all_made _ (state g.S.Store c.args.tx.now.conn.now) (state g.S.Store c.texts.tx.conn.now) (search rules) c.texts.invariant.made c.texts.invariant.survives
+returns-clause-transaction g c = all_made _ (state g.S.Store c.args.tx.now.conn.now) (state g.S.Store c.texts.tx.conn.now) (search rules)
+    c.texts.invariant.made c.texts.invariant.survives
 
 pub returns-in_err-create_table-clause-refused : goal.returns-in_err-create_table-clause-refused
 returns-in_err-create_table-clause-refused g c clean =

@@ -6,4 +6,5 @@ use Rattle.one_table.proofs.recognise.are_left_alone.Given as goal
 
 abbrev pub invariant-loop-name : goal.invariant-loop-name
 invariant-loop-name l =
-    list_all (λ name. is_left_alone l.schema (tree_in l.schema name.now)) (drop l.name-index l.names) ≡ list_all (λ name. is_left_alone l.schema (tree_in l.schema name.now)) l.names
+    list_all (λ name. is_left_alone l.schema (tree_in l.schema name.now)) (drop l.name-index l.names)
+    ≡ list_all (λ name. is_left_alone l.schema (tree_in l.schema name.now)) l.names

@@ -10,13 +10,15 @@ use Rattle.one_table.proofs.updating.update.Goals as goal
 
 pub returns-clause-changed : goal.returns-clause-changed
 returns-clause-changed g c clean t at q is has =
-    on_ok c.run.result (λ ran. sets_rows c.args.sql.now (bound c.args.params.now) (state g.S.Store c.args.tx.now.conn.now) (state g.S.Store c.run.new.tx.conn.now) t at q is has ran.0 ran.1) (c.run.ensures.ran clean)
+    on_ok c.run.result (λ ran. sets_rows c.args.sql.now (bound c.args.params.now) (state g.S.Store c.args.tx.now.conn.now)
+    (state g.S.Store c.run.new.tx.conn.now) t at q is has ran.0 ran.1) (c.run.ensures.ran clean)
 
 pub returns-clause-refused : goal.returns-clause-refused
 returns-clause-refused g c clean t at q is whole has =
     let old = state g.S.Store c.args.tx.now.conn.now in
     if_err c.run.result
-    (fails_to_write c.args.sql.now (bound c.args.params.now) old (state g.S.Store c.run.new.tx.conn.now) (update_as at q) (update_changes at (record { lets = []; body = q })) (λ runs. updates old.now.schema at t (has runs) q c.args.sql.now is)
+    (fails_to_write c.args.sql.now (bound c.args.params.now) old (state g.S.Store c.run.new.tx.conn.now) (update_as at q)
+    (update_changes at (record { lets = []; body = q })) (λ runs. updates old.now.schema at t (has runs) q c.args.sql.now is)
     whole)
     (c.run.ensures.refused clean)
 
@@ -24,5 +26,7 @@ pub returns-clause-ran : goal.returns-clause-ran
 returns-clause-ran g c clean t at q is has =
     let old = state g.S.Store c.args.tx.now.conn.now in
     let new = state g.S.Store c.run.new.tx.conn.now in
-    on_ok c.run.result (λ ran. let it = ran_inside c.args.sql.now (bound c.args.params.now) old new (update_as at q) (λ runs. updates old.now.schema at t (has runs) q c.args.sql.now is) ran.0 ran.1 in record { command = update_as at q; shows = None; means = it.0; tally = it.1.tally; does = it.1.changed })
+    on_ok c.run.result (λ ran. let it = ran_inside c.args.sql.now (bound c.args.params.now) old new (update_as at q)
+    (λ runs. updates old.now.schema at t (has runs) q c.args.sql.now is) ran.0 ran.1 in
+    record { command = update_as at q; shows = None; means = it.0; tally = it.1.tally; does = it.1.changed })
     (c.run.ensures.ran clean)

@@ -10,12 +10,14 @@ use Rattle.one_table.proofs.upserting.upsert.Goals as goal
 
 pub returns-in_err-rows-clause-transaction : goal.returns-in_err-rows-clause-transaction
 returns-in_err-rows-clause-transaction g c =
-    transaction_off (Database c.in_err-rows.field-0.0) c.from_residual.result c.from_residual.ensures.1 c.in_err-rows.ensures.transaction.kept c.in_err-rows.ensures.transaction.survives
+    transaction_off (Database c.in_err-rows.field-0.0) c.from_residual.result c.from_residual.ensures.1
+    c.in_err-rows.ensures.transaction.kept c.in_err-rows.ensures.transaction.survives
 
 pub returns-in_err-rows-clause-refused : goal.returns-in_err-rows-clause-refused
 returns-in_err-rows-clause-refused g c clean way t at m is whole takes =
     told_as _ c.from_residual.result (Database c.in_err-rows.field-0.0) c.from_residual.ensures.1
-    (fails_to_upsert c.args.sql.now (bound c.args.params.now) (state g.S.Store c.args.tx.now.conn.now) (state g.S.Store c.show.new.tx.conn.now) t at m is takes g.X.FromRow.is_readable whole c.in_err-rows.field-0.0
+    (fails_to_upsert c.args.sql.now (bound c.args.params.now) (state g.S.Store c.args.tx.now.conn.now)
+    (state g.S.Store c.show.new.tx.conn.now) t at m is takes g.X.FromRow.is_readable whole c.in_err-rows.field-0.0
     (c.in_err-rows.ensures.refused clean))
 
 pub returns-in-Some-clause-merged : goal.returns-in-Some-clause-merged
@@ -38,12 +40,14 @@ returns-in-Some-clause-refused g c clean way t at m is whole takes =
     let item = c.in-Some.ensures.item in
     let shown = subst (Shown c.args.sql.now (bound c.args.params.now) old new) (sym c.deref.ensures.value) (c.in_ok-rows.ensures.shown clean) in
     let done = upserted c.args.sql.now (bound c.args.params.now) old new t at m is takes _ shown way in
-    if_err c.from_row.result (fails_unread c.args.sql.now (bound c.args.params.now) old new t at m is takes g.X.FromRow.is_readable _ c.in-Some.row.now done item.1) c.from_row.ensures.err
+    if_err c.from_row.result (fails_unread c.args.sql.now (bound c.args.params.now) old new t at m is takes g.X.FromRow.is_readable _
+    c.in-Some.row.now done item.1) c.from_row.ensures.err
 
 pub returns-in_err-rows-clause-failed : goal.returns-in_err-rows-clause-failed
 returns-in_err-rows-clause-failed g c clean way t at m is whole stands =
     told_as _ c.from_residual.result (Database c.in_err-rows.field-0.0) c.from_residual.ensures.1
-    (fails_to_touch c.args.sql.now (bound c.args.params.now) (state g.S.Store c.args.tx.now.conn.now) (state g.S.Store c.show.new.tx.conn.now) t at m is stands whole c.in_err-rows.field-0.0
+    (fails_to_touch c.args.sql.now (bound c.args.params.now) (state g.S.Store c.args.tx.now.conn.now)
+    (state g.S.Store c.show.new.tx.conn.now) t at m is stands whole c.in_err-rows.field-0.0
     (c.in_err-rows.ensures.refused clean))
 
 pub returns-in-Some-clause-touched : goal.returns-in-Some-clause-touched
@@ -61,7 +65,8 @@ returns-in-Some-clause-failed g c clean way t at m is whole stands =
 
 pub returns-clause-failed : goal.returns-clause-failed
 returns-clause-failed g c clean way t at m is whole stands =
-    touched c.args.sql.now (bound c.args.params.now) (state g.S.Store c.args.tx.now.conn.now) (state g.S.Store c.show.new.tx.conn.now) t at m is stands _ (c.in_ok-rows.ensures.shown clean) way
+    touched c.args.sql.now (bound c.args.params.now) (state g.S.Store c.args.tx.now.conn.now) (state g.S.Store c.show.new.tx.conn.now) t at
+    m is stands _ (c.in_ok-rows.ensures.shown clean) way
 
 pub returns-clause-refused : goal.returns-clause-refused
 returns-clause-refused g c clean way t at m is whole takes =

@@ -10,12 +10,14 @@ returns-in_err-execute-clause-transaction g c =
     let new = state g.S.Store c.execute.new.self.conn.now in
     transaction_off _ c.from_residual.result c.from_residual.ensures.1
     (λ clean way. keeps_failed c.args.sql.now (bound c.args.params.now) old new c.in_err-execute.field-0.0
-    (fails_to_run g.S.Store c.args.sql.now (bound c.args.params.now) c.args.tx.now.conn.now c.execute.new.self.conn.now c.in_err-execute.field-0.0 c.in_err-execute.ensures.ended (c.in_err-execute.ensures.runs clean)))
+    (fails_to_run g.S.Store c.args.sql.now (bound c.args.params.now) c.args.tx.now.conn.now c.execute.new.self.conn.now
+    c.in_err-execute.field-0.0 c.in_err-execute.ensures.ended (c.in_err-execute.ensures.runs clean)))
     c.execute.ensures.survives
 
 pub returns-in_err-execute-clause-refused : goal.returns-in_err-execute-clause-refused
 returns-in_err-execute-clause-refused g c clean =
-    let fails = fails_to_run g.S.Store c.args.sql.now (bound c.args.params.now) c.args.tx.now.conn.now c.execute.new.self.conn.now c.in_err-execute.field-0.0 c.in_err-execute.ensures.ended (c.in_err-execute.ensures.runs clean) in
+    let fails = fails_to_run g.S.Store c.args.sql.now (bound c.args.params.now) c.args.tx.now.conn.now c.execute.new.self.conn.now
+    c.in_err-execute.field-0.0 c.in_err-execute.ensures.ended (c.in_err-execute.ensures.runs clean) in
     search (rules, fails)
 
 pub returns-clause-transaction : goal.returns-clause-transaction

@@ -5,5 +5,6 @@ use Rattle.one_table.proofs.writing.show.Goals as goal
 
 pub returns-clause-transaction : goal.returns-clause-transaction
 returns-clause-transaction g c =
-    showing c.args.sql.now (bound c.args.params.now) (state g.S.Store c.args.tx.now.conn.now) (state g.S.Store c.query_all.new.self.conn.now) (λ v. v.items) c.query_all.result c.query_all.ensures.ok c.query_all.ensures.err
+    showing c.args.sql.now (bound c.args.params.now) (state g.S.Store c.args.tx.now.conn.now)
+    (state g.S.Store c.query_all.new.self.conn.now) (λ v. v.items) c.query_all.result c.query_all.ensures.ok c.query_all.ensures.err
     c.query_all.ensures.survives

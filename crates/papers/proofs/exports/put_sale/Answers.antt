@@ -27,4 +27,5 @@ returns c = λ text held.
     (c.as_bytes-11.ensures.value ∙ c.in_ok-tender.ensures ∙ ap decimal c.from-7.ensures ∙ ap decimal c.cents.ensures.value)
     (c.as_bytes-12.ensures.value ∙ c.in_ok-change.ensures ∙ ap decimal c.from-8.ensures ∙ ap decimal c.change.ensures)
     c.as_slice.ensures in
-    subst (λ (fs : List (List ℕ)). OnOk c.put_record.result (HasRecords c.put_record.new.writer (text ++ record_text fs))) fields (c.put_record.ensures text held)
+    subst (λ (fs : List (List ℕ)). OnOk c.put_record.result (HasRecords c.put_record.new.writer (text ++ record_text fs))) fields
+    (c.put_record.ensures text held)

@@ -7,7 +7,8 @@ use Rattle.papers.proofs.record.has_fields.Goals as goal
 pub returns-then-ne : goal.returns-then-ne
 returns-then-ne c =
     let apart = told-apart c.ne.result _ _ c.ne.ensures c.if-ne.true in
-    let differ = fields-differ (fields_of c.args.raw.now) c.args.fields.now c.loop-place.place _ c.loop-place-test.true (λ same. apart (c.field.ensures ∙ same)) in
+    let differ = fields-differ (fields_of c.args.raw.now) c.args.fields.now c.loop-place.place _ c.loop-place-test.true
+    (λ same. apart (c.field.ensures ∙ same)) in
     (λ never. cc, λ same. absurd (differ same))
 
 pub loop-place-preserved : goal.loop-place-preserved

@@ -25,14 +25,16 @@ returns c =
       alike = c.told_law.ensures.alike;
     } in
     record {
-      one = λ q json moment old new came told o end one askable is_moment opening life at is says. one_prints laws json q moment old new came told o end one askable is_moment opening life at is says;
+      one = λ q json moment old new came told o end one askable is_moment opening life at is says. one_prints laws json q moment old new
+          came told o end one askable is_moment opening life at is says;
       pages = list_prints laws c.page_law.ensures.one;
       read = question_read laws;
       page_read = page_read laws;
       askable = says_askable;
       by_one = says_by_one;
       line = λ q old new came ending askable held. line_answers laws q askable old new came ending held;
-      lines = λ list day old new rounds pages left ending askable opening life tells few held given. lines_answer laws c.page_law.ensures.one list day old new rounds pages left ending askable opening life tells few held given;
+      lines = λ list day old new rounds pages left ending askable opening life tells few held given. lines_answer laws
+          c.page_law.ensures.one list day old new rounds pages left ending askable opening life tells few held given;
       same_reply = same_reply;
       same_found = same_found;
       clock = λ q json second old new came told o end askable none at is says. clock_prints laws json q second old new came told o end askable none at is says;

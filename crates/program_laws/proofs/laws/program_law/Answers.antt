@@ -9,14 +9,30 @@ use Rattle.program_laws.proofs.laws.program_law.Goals as goal
 
 pub returns : goal.returns
 returns g c =
-    let here = here_of g.H.Medium.Disk g.H.Salts.SaltSource g.H.OfficeFile g.F.TextFiles g.C.Clock (way g.D.Door g.D.Reader.Read.remaining g.D.Writer.Write.contents) (loop_of g.L.Loopback g.L.Stream.Read.remaining g.L.Stream.Write.contents) in
+    let here = here_of g.H.Medium.Disk g.H.Salts.SaltSource g.H.OfficeFile g.F.TextFiles g.C.Clock
+    (way g.D.Door g.D.Reader.Read.remaining g.D.Writer.Write.contents) (loop_of g.L.Loopback g.L.Stream.Read.remaining g.L.Stream.Write.contents) in
     let h = c.history_law.ensures in
     let history : HistoryLaws = record { offices = h.offices; stands = h.stands } in
     let handing : HandingLaws = record { replied = c.life_law.ensures.replied; for_good = c.life_law.ensures.for_good } in
-    let orders : OrderLaws = record { new_sale = c.office_law.ensures.new_sale; again = c.office_law.ensures.again; reprinted = c.office_law.ensures.reprinted; under = c.store_law.ensures.sale_of_ref } in
-    let selling : SellingLaws = record { orders = orders; begins = c.office_law.ensures.empty; keeps = c.office_law.ensures.keeps_office; left = c.life_law.ensures.left } in
+    let orders : OrderLaws = record {
+      new_sale = c.office_law.ensures.new_sale;
+      again = c.office_law.ensures.again;
+      reprinted = c.office_law.ensures.reprinted;
+      under = c.store_law.ensures.sale_of_ref;
+    } in
+    let selling : SellingLaws = record {
+      orders = orders;
+      begins = c.office_law.ensures.empty;
+      keeps = c.office_law.ensures.keeps_office;
+      left = c.life_law.ensures.left;
+    } in
     record {
-      lives = one_office here (record { new = c.opening_law.ensures.new; goes_on = h.goes_on; held = c.opening_law.ensures.held; shows = c.found_law.ensures.shows }) c.found_law.ensures.opens;
+      lives = one_office here (record {
+        new = c.opening_law.ensures.new;
+        goes_on = h.goes_on;
+        held = c.opening_law.ensures.held;
+        shows = c.found_law.ensures.shows;
+      }) c.found_law.ensures.opens;
       told = tells here;
       stands = λ runs lives one s image told may.
           let left = one.left image may in

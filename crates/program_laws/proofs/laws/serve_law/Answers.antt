@@ -7,4 +7,5 @@ pub returns : goal.returns
 returns g c = λ forward count old new printed start held clean last.
     let D = g.D.Door in
     let H = g.H.OfficeFile in
-    live_on (way D g.D.Reader.Read.remaining g.D.Writer.Write.contents) forward seen_in c.history_law.ensures.goes_on count old new printed held clean start last
+    live_on (way D g.D.Reader.Read.remaining g.D.Writer.Write.contents) forward seen_in c.history_law.ensures.goes_on count old new printed
+    held clean start last

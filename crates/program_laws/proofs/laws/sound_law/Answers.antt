@@ -4,4 +4,5 @@ use Rattle.program_laws.proofs.laws.sound_law.Goals as goal
 
 pub returns : goal.returns
 returns g c = λ file path wait given o done.
-    ends_sound g.H.Medium.Disk (g.H.OfficeFile.image file path) (g.H.OfficeFile.lets_go _) given (places_of g.H.Medium.Disk g.H.Salts.SaltSource g.H.OfficeFile file path wait) o (λ answer audits. audits) done
+    ends_sound g.H.Medium.Disk (g.H.OfficeFile.image file path) (g.H.OfficeFile.lets_go _) given
+    (places_of g.H.Medium.Disk g.H.Salts.SaltSource g.H.OfficeFile file path wait) o (λ answer audits. audits) done

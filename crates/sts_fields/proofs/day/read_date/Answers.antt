@@ -22,15 +22,18 @@ returns-then-left-ne45 c = λ year month date there e.
 
 pub returns-in_err-century : goal.returns-in_err-century
 returns-in_err-century c = rw c.from_residual.ensures
-    (λ year month date there e. c.in_err-century.ensures (year / 100) (bounds year month date there).few_centuries (digits-of c.args.text.now year month date e).century)
+    (λ year month date there e. c.in_err-century.ensures (year / 100) (bounds year month date there).few_centuries
+    (digits-of c.args.text.now year month date e).century)
 
 pub returns-in_err-year : goal.returns-in_err-year
 returns-in_err-year c = rw c.from_residual-in_err-year.ensures
-    (λ year month date there e. c.in_err-year.ensures (year % 100) (bounds year month date there).few_years (digits-of c.args.text.now year month date e).year_in_century)
+    (λ year month date there e. c.in_err-year.ensures (year % 100) (bounds year month date there).few_years
+    (digits-of c.args.text.now year month date e).year_in_century)
 
 pub returns-in_err-month : goal.returns-in_err-month
 returns-in_err-month c = rw c.from_residual-in_err-month.ensures
-    (λ year month date there e. c.in_err-month.ensures month (bounds year month date there).few_months (digits-of c.args.text.now year month date e).month_digits)
+    (λ year month date there e. c.in_err-month.ensures month (bounds year month date there).few_months
+    (digits-of c.args.text.now year month date e).month_digits)
 
 pub returns-in_err-date : goal.returns-in_err-date
 returns-in_err-date c = rw c.from_residual-in_err-date.ensures
@@ -58,5 +61,7 @@ returns-in-Err c = λ y m d there e.
     let month = c.in_ok-month.ensures in
     let date = c.in_ok-date.ensures in
     let has = calendar-has c.args.text.now century.0 year.0 month.0 date.0 y m d there e century.2 year.2 month.2 date.2 century.3 year.3 month.3 date.3 in
-    let ok = c.in-Err.ensures.succeeds.1 (is_date-as _ _ _ (century.0 * 100 + year.0) month.0 date.0 (omega (arith, signed_arith, c.from.ensures, c.from-2.ensures, century.1, year.1, century.2, year.2)) (omega (arith, signed_arith, month.1, month.2)) (omega (arith, signed_arith, date.1, date.2)) has) in
+    let ok = c.in-Err.ensures.succeeds.1 (is_date-as _ _ _ (century.0 * 100 + year.0) month.0 date.0
+    (omega (arith, signed_arith, c.from.ensures, c.from-2.ensures, century.1, year.1, century.2, year.2))
+    (omega (arith, signed_arith, month.1, month.2)) (omega (arith, signed_arith, date.1, date.2)) has) in
     cc

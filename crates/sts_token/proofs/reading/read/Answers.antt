@@ -12,7 +12,8 @@ use Rattle.sts_token.proofs.reading.read.Goals as goal
 computed : (g : Over) (c : goal.After-and_then-2 g) → c.and_then-2.result
     ≡ reading_of (g.T.BlockTransform.inverses c.args.transform.now) c.args.key c.args.text.now
 computed g c =
-    read_chain (g.T.BlockTransform.inverses c.args.transform.now) c.args.key c.args.text.now c.decimal.result c.ok_or.result c.and_then.result c.and_then-2.result
+    read_chain (g.T.BlockTransform.inverses c.args.transform.now) c.args.key c.args.text.now c.decimal.result c.ok_or.result
+    c.and_then.result c.and_then-2.result
     c.decimal.ensures c.ok_or.ensures.value c.and_then.ensures c.and_then-2.ensures
 
 -- it is one reading exactly if the text reads so
@@ -24,7 +25,12 @@ means g c r =
     let laws = g.met.T.BlockTransform in
     let t = c.args.transform.now in
     let transform : IsTransform (g.T.BlockTransform.forwards t) (g.T.BlockTransform.inverses t) =
-    record { forward_range = laws.forward_range t; inverse_range = laws.inverse_range t; inverse_undoes = laws.inverse_undoes t; forward_undoes = laws.forward_undoes t } in
+    record {
+      forward_range = laws.forward_range t;
+      inverse_range = laws.inverse_range t;
+      inverse_undoes = laws.inverse_undoes t;
+      forward_undoes = laws.forward_undoes t;
+    } in
     let law = c.read_law.ensures in
     let reads = law.computed (g.T.BlockTransform.forwards t) (g.T.BlockTransform.inverses t) c.args.key c.args.text.now transform (omega arith) in (
       λ same. subst (Reads (g.T.BlockTransform.forwards t)

@@ -13,17 +13,32 @@ returns-then-most-eq0-clause-value c =
     let dear : c.args.tender < cost_of c.args.steps.now c.args.prior 1 =
     most.greatest 1 (omega arith) (omega arith) in
     let told = c.amount_law.ensures in
-    let law : AmountLaw = record { each_code = told.each_code; each_amount = told.each_amount; one_amount = told.one_amount; sixteen_bits = told.sixteen_bits; greatest = told.greatest; rises = told.rises } in
+    let law : AmountLaw = record {
+      each_code = told.each_code;
+      each_amount = told.each_amount;
+      one_amount = told.one_amount;
+      sixteen_bits = told.sixteen_bits;
+      greatest = told.greatest;
+      rises = told.rises;
+    } in
     same_outcome c.args.steps.now c.args.prior c.args.tender _ _ dear (purchase_of-is law _ _ _)
 
 -- what the body's call of `amount_law` tells
 law : goal.After-price-price → AmountLaw
 law c =
     let told = c.amount_law.ensures in
-    record { each_code = told.each_code; each_amount = told.each_amount; one_amount = told.one_amount; sixteen_bits = told.sixteen_bits; greatest = told.greatest; rises = told.rises }
+    record {
+      each_code = told.each_code;
+      each_amount = told.each_amount;
+      one_amount = told.one_amount;
+      sixteen_bits = told.sixteen_bits;
+      greatest = told.greatest;
+      rises = told.rises;
+    }
 
 -- the floor of the most tenths gives the purchase
-purchased : (c : goal.After-price-price) → IsPurchase c.args.steps.now c.args.prior c.args.tender (record { tenths = c.floor-tenths.result; price = c.price-price.result; change = c.cents-cents.result - c.price-price.result })
+purchased : (c : goal.After-price-price) → IsPurchase c.args.steps.now c.args.prior c.args.tender
+    (record { tenths = c.floor-tenths.result; price = c.price-price.result; change = c.cents-cents.result - c.price-price.result })
 purchased c =
     let most : AreMost c.args.steps.now c.args.prior c.args.tender c.most_tenths-most.result =
     rw c.cents-cents.ensures.value at c.most_tenths-most.ensures in

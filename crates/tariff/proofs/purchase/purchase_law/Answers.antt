@@ -7,7 +7,14 @@ use Rattle.tariff.proofs.purchase.purchase_law.Goals as goal
 law : goal.After-amount_law → AmountLaw
 law c =
     let told = c.amount_law.ensures in
-    record { each_code = told.each_code; each_amount = told.each_amount; one_amount = told.one_amount; sixteen_bits = told.sixteen_bits; greatest = told.greatest; rises = told.rises }
+    record {
+      each_code = told.each_code;
+      each_amount = told.each_amount;
+      one_amount = told.one_amount;
+      sixteen_bits = told.sixteen_bits;
+      greatest = told.greatest;
+      rises = told.rises;
+    }
 
 pub returns-clause-parts : goal.returns-clause-parts
 returns-clause-parts c = cost_of-parts

@@ -8,8 +8,10 @@ use Rattle.tariff.proofs.text.cut_pieces.Goals.{then-count-lt-MAX_STEPS, else-co
 
 pub returns-in_err-step : goal.returns-in_err-step
 returns-in_err-step c =
-    let split = YieldsList-from_str_split 59 c.args.text.now (lit< tt) c.split-piece-items.ensures.text c.split-piece-items.ensures.has_more c.split-piece-items.ensures.pattern in
-    let turn = YieldsList-turn (YieldsList-at c.into_iter-piece-iterator.ensures.into_iter_gives split) c.loop-piece.yielded _ c.loop-piece.yielded_by _ _ c.in-Some.piece c.in-Some.is c.next.ensures.steps in
+    let split = YieldsList-from_str_split 59 c.args.text.now (lit< tt) c.split-piece-items.ensures.text
+    c.split-piece-items.ensures.has_more c.split-piece-items.ensures.pattern in
+    let turn = YieldsList-turn (YieldsList-at c.into_iter-piece-iterator.ensures.into_iter_gives split) c.loop-piece.yielded _
+    c.loop-piece.yielded_by _ _ c.in-Some.piece c.in-Some.is c.next.ensures.steps in
     rw c.from_residual.ensures
     (no_piece c.args.text.now c.in-Some.piece.now
     (length c.loop-piece.yielded) turn c.in_err-step.ensures)
@@ -30,6 +32,8 @@ loop-piece-preserved c =
 
 pub returns : goal.returns
 returns c =
-    let split = YieldsList-from_str_split 59 c.args.text.now (lit< tt) c.split-piece-items.ensures.text c.split-piece-items.ensures.has_more c.split-piece-items.ensures.pattern in
-    let all = YieldsList-end (YieldsList-at c.into_iter-piece-iterator.ensures.into_iter_gives split) c.loop-piece.yielded _ c.loop-piece.yielded_by _ _ c.in-None.is c.next.ensures.steps in
+    let split = YieldsList-from_str_split 59 c.args.text.now (lit< tt) c.split-piece-items.ensures.text
+    c.split-piece-items.ensures.has_more c.split-piece-items.ensures.pattern in
+    let all = YieldsList-end (YieldsList-at c.into_iter-piece-iterator.ensures.into_iter_gives split) c.loop-piece.yielded _
+    c.loop-piece.yielded_by _ _ c.in-None.is c.next.ensures.steps in
     text_from_read c.args.text.now _ c.loop-piece.first c.loop-piece.count all.0 c.loop-piece.invariant.read

@@ -17,10 +17,12 @@ returns-in-Serve g c =
     let at = places_of g.H.Medium.Disk g.H.Salts.SaltSource H c.args.ports.office in
     let store = over_files {g = g.H.Medium.Disk} in
     let m = machine at (H.leaves _ c.args.ports.office) (texts_of g.F.TextFiles c.args.ports.texts) (dial_of g.C.Clock c.args.ports.clock)
-    (way D g.D.Reader.Read.remaining g.D.Writer.Write.contents) c.args.ports.door (loop_of g.L.Loopback g.L.Stream.Read.remaining g.L.Stream.Write.contents c.args.ports.loopback) in
+    (way D g.D.Reader.Read.remaining g.D.Writer.Write.contents) c.args.ports.door
+    (loop_of g.L.Loopback g.L.Stream.Read.remaining g.L.Stream.Write.contents c.args.ports.loopback) in
     let out = sink g.O.Write.contents c.args.out.now in
     let o = outputs out out (sink g.E.Write.contents c.args.err.now) (sink g.E.Write.contents c.run-in-Serve.new.err) in
-    done_so store m c.args.asked (asks.Serve c.in-Serve.words) o c.run-in-Serve.result c.in-Serve.is ((c.leave-in-Serve.ensures, c.leave.ensures), (refl, c.run-in-Serve.ensures))
+    done_so store m c.args.asked (asks.Serve c.in-Serve.words) o c.run-in-Serve.result c.in-Serve.is
+    ((c.leave-in-Serve.ensures, c.leave.ensures), (refl, c.run-in-Serve.ensures))
 
 pub returns-in-Report : goal.returns-in-Report
 returns-in-Report g c =
@@ -29,9 +31,12 @@ returns-in-Report g c =
     let at = places_of g.H.Medium.Disk g.H.Salts.SaltSource H c.args.ports.office in
     let store = over_files {g = g.H.Medium.Disk} in
     let m = machine at (H.leaves _ c.args.ports.office) (texts_of g.F.TextFiles c.args.ports.texts) (dial_of g.C.Clock c.args.ports.clock)
-    (way D g.D.Reader.Read.remaining g.D.Writer.Write.contents) c.args.ports.door (loop_of g.L.Loopback g.L.Stream.Read.remaining g.L.Stream.Write.contents c.args.ports.loopback) in
-    let o = outputs (sink g.O.Write.contents c.args.out.now) (sink g.O.Write.contents c.run-in-Report.new.out) (sink g.E.Write.contents c.args.err.now) (sink g.E.Write.contents c.run-in-Report.new.err) in
-    done_so store m c.args.asked (asks.Report c.in-Report.words) o c.run-in-Report.result c.in-Report.is (((c.be_alone-in-Report.ensures.door, c.be_alone-in-Report.ensures.loopback), c.be_alone-in-Report.ensures.texts), c.run-in-Report.ensures)
+    (way D g.D.Reader.Read.remaining g.D.Writer.Write.contents) c.args.ports.door
+    (loop_of g.L.Loopback g.L.Stream.Read.remaining g.L.Stream.Write.contents c.args.ports.loopback) in
+    let o = outputs (sink g.O.Write.contents c.args.out.now) (sink g.O.Write.contents c.run-in-Report.new.out)
+    (sink g.E.Write.contents c.args.err.now) (sink g.E.Write.contents c.run-in-Report.new.err) in
+    done_so store m c.args.asked (asks.Report c.in-Report.words) o c.run-in-Report.result c.in-Report.is
+    (((c.be_alone-in-Report.ensures.door, c.be_alone-in-Report.ensures.loopback), c.be_alone-in-Report.ensures.texts), c.run-in-Report.ensures)
 
 pub returns-in-Meter : goal.returns-in-Meter
 returns-in-Meter g c =
@@ -40,11 +45,20 @@ returns-in-Meter g c =
     let at = places_of g.H.Medium.Disk g.H.Salts.SaltSource H c.args.ports.office in
     let store = over_files {g = g.H.Medium.Disk} in
     let m = machine at (H.leaves _ c.args.ports.office) (texts_of g.F.TextFiles c.args.ports.texts) (dial_of g.C.Clock c.args.ports.clock)
-    (way D g.D.Reader.Read.remaining g.D.Writer.Write.contents) c.args.ports.door (loop_of g.L.Loopback g.L.Stream.Read.remaining g.L.Stream.Write.contents c.args.ports.loopback) in
+    (way D g.D.Reader.Read.remaining g.D.Writer.Write.contents) c.args.ports.door
+    (loop_of g.L.Loopback g.L.Stream.Read.remaining g.L.Stream.Write.contents c.args.ports.loopback) in
     let err = sink g.E.Write.contents c.args.err.now in
     let o = outputs (sink g.O.Write.contents c.args.out.now) (sink g.O.Write.contents c.run-in-Meter.new.out) err err in
-    done_so store m c.args.asked (asks.Meter c.in-Meter.words) o c.run-in-Meter.result c.in-Meter.is
-    ((c.leave_all-in-Meter.ensures.office, ((c.leave_all-in-Meter.ensures.door, c.leave_all-in-Meter.ensures.loopback), c.leave_all-in-Meter.ensures.texts)), (c.run-in-Meter.ensures.told, takes_none err, c.run-in-Meter.ensures.end))
+    done_so store m c.args.asked (asks.Meter c.in-Meter.words) o c.run-in-Meter.result c.in-Meter.is (
+      (
+        c.leave_all-in-Meter.ensures.office,
+        (
+          (c.leave_all-in-Meter.ensures.door, c.leave_all-in-Meter.ensures.loopback),
+          c.leave_all-in-Meter.ensures.texts,
+        ),
+      ),
+      (c.run-in-Meter.ensures.told, takes_none err, c.run-in-Meter.ensures.end),
+    )
 
 pub returns-in-Selfcheck : goal.returns-in-Selfcheck
 returns-in-Selfcheck g c =
@@ -53,8 +67,10 @@ returns-in-Selfcheck g c =
     let at = places_of g.H.Medium.Disk g.H.Salts.SaltSource H c.args.ports.office in
     let store = over_files {g = g.H.Medium.Disk} in
     let m = machine at (H.leaves _ c.args.ports.office) (texts_of g.F.TextFiles c.args.ports.texts) (dial_of g.C.Clock c.args.ports.clock)
-    (way D g.D.Reader.Read.remaining g.D.Writer.Write.contents) c.args.ports.door (loop_of g.L.Loopback g.L.Stream.Read.remaining g.L.Stream.Write.contents c.args.ports.loopback) in
-    let o = outputs (sink g.O.Write.contents c.args.out.now) (sink g.O.Write.contents c.run_selfcheck.new.out) (sink g.E.Write.contents c.args.err.now) (sink g.E.Write.contents c.run_selfcheck.new.err) in
+    (way D g.D.Reader.Read.remaining g.D.Writer.Write.contents) c.args.ports.door
+    (loop_of g.L.Loopback g.L.Stream.Read.remaining g.L.Stream.Write.contents c.args.ports.loopback) in
+    let o = outputs (sink g.O.Write.contents c.args.out.now) (sink g.O.Write.contents c.run_selfcheck.new.out)
+    (sink g.E.Write.contents c.args.err.now) (sink g.E.Write.contents c.run_selfcheck.new.err) in
     done_so store m c.args.asked (asks.Selfcheck c.in-Selfcheck.words) o c.run_selfcheck.result c.in-Selfcheck.is
     (c.leave-in-Selfcheck.ensures, (c.leave-in-Selfcheck-3.ensures, c.leave-in-Selfcheck-2.ensures), c.run_selfcheck.ensures)
 
@@ -65,9 +81,12 @@ returns-in-Audit g c =
     let at = places_of g.H.Medium.Disk g.H.Salts.SaltSource H c.args.ports.office in
     let store = over_files {g = g.H.Medium.Disk} in
     let m = machine at (H.leaves _ c.args.ports.office) (texts_of g.F.TextFiles c.args.ports.texts) (dial_of g.C.Clock c.args.ports.clock)
-    (way D g.D.Reader.Read.remaining g.D.Writer.Write.contents) c.args.ports.door (loop_of g.L.Loopback g.L.Stream.Read.remaining g.L.Stream.Write.contents c.args.ports.loopback) in
-    let o = outputs (sink g.O.Write.contents c.args.out.now) (sink g.O.Write.contents c.run-in-Audit.new.out) (sink g.E.Write.contents c.args.err.now) (sink g.E.Write.contents c.run-in-Audit.new.err) in
-    done_so store m c.args.asked (asks.Audit c.in-Audit.words) o c.run-in-Audit.result c.in-Audit.is (((c.be_alone-in-Audit.ensures.door, c.be_alone-in-Audit.ensures.loopback), c.be_alone-in-Audit.ensures.texts), c.run-in-Audit.ensures)
+    (way D g.D.Reader.Read.remaining g.D.Writer.Write.contents) c.args.ports.door
+    (loop_of g.L.Loopback g.L.Stream.Read.remaining g.L.Stream.Write.contents c.args.ports.loopback) in
+    let o = outputs (sink g.O.Write.contents c.args.out.now) (sink g.O.Write.contents c.run-in-Audit.new.out)
+    (sink g.E.Write.contents c.args.err.now) (sink g.E.Write.contents c.run-in-Audit.new.err) in
+    done_so store m c.args.asked (asks.Audit c.in-Audit.words) o c.run-in-Audit.result c.in-Audit.is
+    (((c.be_alone-in-Audit.ensures.door, c.be_alone-in-Audit.ensures.loopback), c.be_alone-in-Audit.ensures.texts), c.run-in-Audit.ensures)
 
 pub returns-in-Desk : goal.returns-in-Desk
 returns-in-Desk g c =
@@ -76,7 +95,9 @@ returns-in-Desk g c =
     let at = places_of g.H.Medium.Disk g.H.Salts.SaltSource H c.args.ports.office in
     let store = over_files {g = g.H.Medium.Disk} in
     let m = machine at (H.leaves _ c.args.ports.office) (texts_of g.F.TextFiles c.args.ports.texts) (dial_of g.C.Clock c.args.ports.clock)
-    (way D g.D.Reader.Read.remaining g.D.Writer.Write.contents) c.args.ports.door (loop_of g.L.Loopback g.L.Stream.Read.remaining g.L.Stream.Write.contents c.args.ports.loopback) in
-    let o = outputs (sink g.O.Write.contents c.args.out.now) (sink g.O.Write.contents c.run-in-Desk.new.out) (sink g.E.Write.contents c.args.err.now) (sink g.E.Write.contents c.run-in-Desk.new.err) in
+    (way D g.D.Reader.Read.remaining g.D.Writer.Write.contents) c.args.ports.door
+    (loop_of g.L.Loopback g.L.Stream.Read.remaining g.L.Stream.Write.contents c.args.ports.loopback) in
+    let o = outputs (sink g.O.Write.contents c.args.out.now) (sink g.O.Write.contents c.run-in-Desk.new.out)
+    (sink g.E.Write.contents c.args.err.now) (sink g.E.Write.contents c.run-in-Desk.new.err) in
     done_so store m c.args.asked (asks.Desk c.in-Desk.words) o c.run-in-Desk.result c.in-Desk.is
     (c.leave-in-Desk.ensures, c.leave-in-Desk-2.ensures, c.run-in-Desk.ensures)

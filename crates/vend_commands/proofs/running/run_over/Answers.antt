@@ -18,5 +18,10 @@ returns-in-Ok-read g c =
 pub returns-in-Err : goal.returns-in-Err
 returns-in-Err g c =
     let words = map (λ w. w.now) c.args.words.now in
-    told_by_clap _ _ c.in-Err.error _ (λ error text. ⊤) _ c.explain.result (c.in-Err.ensures words (meant_so words _ _ c.deref.ensures.value c.in-Ok.ensures))
-    (c.leave_all-in-Err.ensures.office, ((c.leave_all-in-Err.ensures.door, c.leave_all-in-Err.ensures.loopback), c.leave_all-in-Err.ensures.texts)) c.explain.ensures
+    told_by_clap _ _ c.in-Err.error _ (λ error text. ⊤) _ c.explain.result (c.in-Err.ensures words (meant_so words _ _ c.deref.ensures.value c.in-Ok.ensures)) (
+      c.leave_all-in-Err.ensures.office,
+      (
+        (c.leave_all-in-Err.ensures.door, c.leave_all-in-Err.ensures.loopback),
+        c.leave_all-in-Err.ensures.texts,
+      ),
+    ) c.explain.ensures

@@ -17,7 +17,8 @@ returns-in-None-clause-answered g c =
       sent = c.in-Ok-connect.ensures.sent;
       life = ready.0;
       prepared = ready.1;
-      converses = subst (ConversesWithItself ready.0 (g.L.Stream.Read.remaining ends.1) (g.L.Stream.Write.contents ends.2) (g.L.Stream.Write.contents c.answer.new.writer)) closed (c.in-Ok-answer.ensures ready.0 ready.2);
+      converses = subst (ConversesWithItself ready.0 (g.L.Stream.Read.remaining ends.1) (g.L.Stream.Write.contents ends.2)
+          (g.L.Stream.Write.contents c.answer.new.writer)) closed (c.in-Ok-answer.ensures ready.0 ready.2);
     }
 
 pub returns-clause-disagrees : goal.returns-clause-disagrees

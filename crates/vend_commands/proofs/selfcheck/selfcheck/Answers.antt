@@ -12,4 +12,5 @@ returns-in-Ok-false-clause-disagrees g c =
 
 pub returns-clause-disagrees : goal.returns-clause-disagrees
 returns-clause-disagrees g c =
-    not_read _ _ _ _ _ _ _ c.in-Ok.replies.items c.in-Ok.ensures.replies c.in-Ok-replies_over_net.stream c.in-Ok-replies_over_net.ensures.answered c.net_fault_of.ensures
+    not_read _ _ _ _ _ _ _ c.in-Ok.replies.items c.in-Ok.ensures.replies c.in-Ok-replies_over_net.stream
+    c.in-Ok-replies_over_net.ensures.answered c.net_fault_of.ensures

@@ -14,7 +14,8 @@ returns-in-Err g c =
         sold = l.invariant.1.sales.sold;
         ends =
             let refused = c.in-Err.ensures.refused l.invariant.0 l.invariant.1.last in
-            let next = subst (λ (i : ℕ). IsRefusedBy c.args.base c.args.moment l.invariant.0 (get_or c.args.amounts.now i 0) c.in-Err.fault) (sym l.invariant.1.each) refused in
+            let next = subst (λ (i : ℕ). IsRefusedBy c.args.base c.args.moment l.invariant.0 (get_or c.args.amounts.now i 0)
+            c.in-Err.fault) (sym l.invariant.1.each) refused in
             ends_by_refusal c.args.base c.args.moment c.args.amounts.now l.invariant.0 c.in-Err.fault (omega (arith, l.invariant.1.each)) next;
       },
     )
@@ -27,7 +28,8 @@ loop-tenths-preserved g c =
     let tid = c.in-Ok-sell.sale.tid in
     let counted : (l.nibble + 1) % 16 ≡ (length tids + 1) % 16 = omega (arith, so_far.each, so_far.nibble) in
     let sold = c.in-Ok-sell.ensures.sold tids (length tids + 1) so_far.last counted in
-    let sale = subst (λ (i : ℕ). IsSale (g.T.BlockTransform.forwards c.args.transform.now) c.args.key c.args.base c.args.moment tids (length tids + 1) (get_or c.args.amounts.now i 0) tid c.in-Ok-sell.sale.token) (sym so_far.each) sold in (
+    let sale = subst (λ (i : ℕ). IsSale (g.T.BlockTransform.forwards c.args.transform.now) c.args.key c.args.base c.args.moment tids
+    (length tids + 1) (get_or c.args.amounts.now i 0) tid c.in-Ok-sell.sale.token) (sym so_far.each) sold in (
       tids ++ tid ∷ [],
       record {
         sales = rw c.push_reserved.ensures.items (one_sale_more _ _ _ _ _ _ _ _ _ so_far.sales sale);

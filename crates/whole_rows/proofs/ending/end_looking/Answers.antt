@@ -34,7 +34,8 @@ returns-in-Ok g c = record {
       quiet = still_quiet c.rollback.ensures.quiet c.checkpoint.ensures.quiet;
       sound = λ none db may.
           let q = c.checkpoint.ensures.quiet in
-          (c.look-found.ensures.sound (omega (arith, q.clean, c.rollback.ensures.quiet.clean, none))).1 db (c.rollback.ensures.quiet.outcomes db (q.outcomes db may));
+          (c.look-found.ensures.sound (omega (arith, q.clean, c.rollback.ensures.quiet.clean, none))).1 db
+          (c.rollback.ensures.quiet.outcomes db (q.outcomes db may));
     }
 
     is_copied : AreClean g.D.Disk c.close.result.log c.close.result.db → IsCopied conn c.close.result
@@ -71,12 +72,14 @@ returns-in-Err g c = record {
         quiet = still_quiet c.rollback.ensures.quiet c.checkpoint.ensures.quiet;
         sound = λ none db may.
             let q = c.checkpoint.ensures.quiet in
-            (c.look-found.ensures.sound (omega (arith, q.clean, c.rollback.ensures.quiet.clean, none))).1 db (c.rollback.ensures.quiet.outcomes db (q.outcomes db may));
+            (c.look-found.ensures.sound (omega (arith, q.clean, c.rollback.ensures.quiet.clean, none))).1 db
+            (c.rollback.ensures.quiet.outcomes db (q.outcomes db may));
       },
       λ none. (
         c.in-Err.error,
         c.store_error.ensures,
-        excused conn c.rollback.new.self c.checkpoint.new.self c.in-Err.error c.rollback.ensures.quiet c.checkpoint.ensures.quiet c.rollback.ensures.undone none (c.in-Err.ensures.cause none),
+        excused conn c.rollback.new.self c.checkpoint.new.self c.in-Err.error c.rollback.ensures.quiet c.checkpoint.ensures.quiet
+            c.rollback.ensures.undone none (c.in-Err.ensures.cause none),
         c.in-Err.ensures.told,
       ),
     );

@@ -12,4 +12,5 @@ returns c earlier gathered =
     let s = c.args.sale.now in
     let base = c.args.base in
     let later : year_of c.args.sale.now.base < year_of c.args.base = grind (arith, nat_tests) in
-    subst (λ (b : Bool). IsTrue b ↔ IsNotAfter base earlier s) (sym (turned (is_some c.last_id.result) c.is_none.result c.is_none.ensures)) (not_after_or earlier s base later c.last_id.result (c.last_id.ensures earlier gathered))
+    subst (λ (b : Bool). IsTrue b ↔ IsNotAfter base earlier s) (sym (turned (is_some c.last_id.result) c.is_none.result c.is_none.ensures))
+    (not_after_or earlier s base later c.last_id.result (c.last_id.ensures earlier gathered))

@@ -7,7 +7,8 @@ use Rattle.audit_lists.proofs.reached.before.is_under_present_base.Goals as goal
 pub returns-then-not-is_not_after : goal.returns-then-not-is_not_after
 returns-then-not-is_not_after c earlier gathered = (
   λ e. absurd (false≢true e),
-  λ under. absurd (is_false c.is_not_after.result c.if-not-is_not_after.true ((c.is_not_after.ensures earlier gathered).1 (not_after_of earlier c.args.sale.now Y2014 under))),
+  λ under. absurd (is_false c.is_not_after.result c.if-not-is_not_after.true
+      ((c.is_not_after.ensures earlier gathered).1 (not_after_of earlier c.args.sale.now Y2014 under))),
 )
 
 pub returns : goal.returns

@@ -17,11 +17,14 @@ shifts-preserved c =
     record {
       bound = omega (arith, c.shifts-test.true);
       lasts = λ before.
-          subst (AreLasts c.insert.new.self shifts) next (lasts_more shifts at row.result there c.as_bytes.result (c.as_bytes.ensures.view ∙ ap (λ (s : Shift). s.operator) (sym row.is)) c.shifts.lasts c.insert.new.self c.in_ok-insert.ensures.updates (subst (AreLasts c.shifts.lasts shifts) here (c.shifts.invariant.lasts before)));
+          subst (AreLasts c.insert.new.self shifts) next (lasts_more shifts at row.result there c.as_bytes.result
+          (c.as_bytes.ensures.view ∙ ap (λ (s : Shift). s.operator) (sym row.is)) c.shifts.lasts c.insert.new.self
+          c.in_ok-insert.ensures.updates (subst (AreLasts c.shifts.lasts shifts) here (c.shifts.invariant.lasts before)));
     }
 
 pub returns : goal.returns
 returns c before =
     let shifts = c.args.shifts.now in
-    let end : min (length shifts) c.shifts.at ≡ min (length shifts) (max c.args.latest c.args.number) = omega (arith, c.shifts.invariant.bound, c.shifts.auto.at, c.shifts-test.false, c.min-end.ensures) in
+    let end : min (length shifts) c.shifts.at ≡ min (length shifts) (max c.args.latest c.args.number) =
+    omega (arith, c.shifts.invariant.bound, c.shifts.auto.at, c.shifts-test.false, c.min-end.ensures) in
     subst (AreLasts c.shifts.lasts shifts) end (c.shifts.invariant.lasts before)

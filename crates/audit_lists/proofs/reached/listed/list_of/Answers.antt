@@ -18,7 +18,8 @@ returns g c =
     let first = subst (λ (k : Key). AreFirstUnder step key rows k c.in_ok-steps.steps.items) c.of-key.ensures c.in_ok-steps.ensures in
     record {
       lists = λ _. tt;
-      found = says_weaker (λ _. c.in-Err.fault ≢ fault.Memory) (λ _. Each (IsNew key rows) rows → ¬ AreSteps step key rows q) c.steps_fault.result (λ f other once are.
+      found = says_weaker (λ _. c.in-Err.fault ≢ fault.Memory) (λ _. Each (IsNew key rows) rows → ¬ AreSteps step key rows q)
+          c.steps_fault.result (λ f other once are.
           let same = same_first step key rows once q c.in_ok-steps.steps.items are.steps first are.first are.priced in
           elim (c.in-Err.ensures.reads.1 (subst IsSteps (sym (c.deref.ensures.value ∙ same)) are.priced)) [
             | inl ok ↦ false≢true ok

@@ -28,6 +28,7 @@ returns-in_err-listed-clause-found c =
 pub returns-in_err-lists_of-clause-found : goal.returns-in_err-lists_of-clause-found
 returns-in_err-lists_of-clause-found c =
     let r = c.args.rows.now in
-    told_on (Says (λ _. (o : Office) → ¬ AreRowsOfOffice r o)) c.from_residual-in_err-lists_of.result c.in_err-lists_of.field-0.0 c.from_residual-in_err-lists_of.ensures.1
+    told_on (Says (λ _. (o : Office) → ¬ AreRowsOfOffice r o)) c.from_residual-in_err-lists_of.result c.in_err-lists_of.field-0.0
+    c.from_residual-in_err-lists_of.ensures.1
     (says_weaker (λ _. ¬ HaveLists dated_step_of dated_key c.deref-2.result.now) (λ _. (o : Office) → ¬ AreRowsOfOffice r o) c.in_err-lists_of.field-0.0
     (λ f none o are. none (subst (HaveLists dated_step_of dated_key) (sym c.deref-2.ensures.value) (have_dated r o are))) c.in_err-lists_of.ensures.found)

@@ -11,7 +11,9 @@ pub returns : goal.returns
 returns c o earlier are gathered few rows =
     let s = c.args.sale.now in
     let month_is : c.unwrap-month.result ≡ month_at s.moment = search rules in
-    let sum_is = c.unwrap_or.ensures ∙ ap (λ t. unwrap_or t 0) (c.tenths.ensures earlier gathered) ∙ tenths_or (sales_in_month earlier (s.meter, c.unwrap-month.result)) ∙ ap (prior (sales_alone earlier) s.meter) month_is in
+    let sum_is = c.unwrap_or.ensures ∙ ap (λ t. unwrap_or t 0) (c.tenths.ensures earlier gathered)
+    ∙ tenths_or (sales_in_month earlier (s.meter, c.unwrap-month.result)) ∙ ap (prior (sales_alone earlier) s.meter) month_is in
     let low = prior_within c.amount_law.ensures.greatest c.price_law.ensures.most_before o earlier rows few s.meter (month_at s.moment) in
     let prior_is : c.min-prior.result ≡ prior (sales_alone earlier) s.meter (month_at s.moment) = omega (arith, low, sum_is, c.min-prior.ensures) in
-    bought_or o earlier s c.args.listed.now are c.days.result c.min-prior.result (c.days.ensures.value ∙ c.day_of.ensures.value) prior_is c.some_sells.result c.some_sells.ensures.yes c.some_sells.ensures.no
+    bought_or o earlier s c.args.listed.now are c.days.result c.min-prior.result (c.days.ensures.value ∙ c.day_of.ensures.value) prior_is
+    c.some_sells.result c.some_sells.ensures.yes c.some_sells.ensures.no

@@ -9,11 +9,15 @@ returns-in-Some c o earlier latest office is are =
     let s = c.args.sale.now in
     let lasts = c.args.lasts.now in
     let found = ap (last_shift_under lasts) (sym c.as_bytes.ensures.view) ∙ sym c.last_of.ensures ∙ c.in-Some.is in
-    open_some o office s earlier latest is c.in-Some.place (last_some o.shifts (min (length o.shifts) latest) s.operator c.in-Some.place (last_shift_under lasts s.operator) found (are s.operator))
+    open_some o office s earlier latest is c.in-Some.place
+    (last_some o.shifts (min (length o.shifts) latest) s.operator c.in-Some.place (last_shift_under lasts s.operator) found (are s.operator))
 
 pub returns-in-None : goal.returns-in-None
 returns-in-None c o earlier latest office is are =
     let s = c.args.sale.now in
     let lasts = c.args.lasts.now in
-    let found = ap (last_shift_under lasts) (sym c.as_bytes.ensures.view) ∙ sym c.last_of.ensures ∙ c.in-None.is in
-    (λ e. open_none o office s earlier latest is (last_none o.shifts (min (length o.shifts) latest) s.operator (last_shift_under lasts s.operator) found (are s.operator)), λ was. refl)
+    let found = ap (last_shift_under lasts) (sym c.as_bytes.ensures.view) ∙ sym c.last_of.ensures ∙ c.in-None.is in (
+      λ e. open_none o office s earlier latest is (last_none o.shifts (min (length o.shifts) latest) s.operator
+          (last_shift_under lasts s.operator) found (are s.operator)),
+      λ was. refl,
+    )

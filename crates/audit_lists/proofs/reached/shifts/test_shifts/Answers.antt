@@ -12,18 +12,30 @@ returns-then-has_operator_of-clause-found c =
     let shifts = c.args.shifts.now in
     let at = c.shifts.at in
     let s = c.index-shifts-at.result in
-    let unclosed = subst (Any (λ (a : Shift). a.operator ≡ s.operator)) (c.deref.ensures.value ∙ c.shifts.invariant.unclosed) (c.has_operator_of.ensures.yes c.if-has_operator_of.true) in
-    (at, s, record { there = row_at shifts at s c.shifts-test.true c.index-shifts-at.is; before = c.shifts.invariant.before; breaks = not_all_closed (take at shifts) s unclosed }, c.found.ensures)
+    let unclosed = subst (Any (λ (a : Shift). a.operator ≡ s.operator)) (c.deref.ensures.value ∙ c.shifts.invariant.unclosed)
+    (c.has_operator_of.ensures.yes c.if-has_operator_of.true) in (
+      at,
+      s,
+      record {
+        there = row_at shifts at s c.shifts-test.true c.index-shifts-at.is;
+        before = c.shifts.invariant.before;
+        breaks = not_all_closed (take at shifts) s unclosed;
+      },
+      c.found.ensures,
+    )
 
 pub shifts-preserved : goal.shifts-preserved
 shifts-preserved c =
     let shifts = c.args.shifts.now in
     let at = c.shifts.at in
     let s = c.index-shifts-at.result in
-    let none = subst (All (λ (a : Shift). a.operator ≢ s.operator)) (c.deref.ensures.value ∙ c.shifts.invariant.unclosed) (c.has_operator_of.ensures.no c.if-has_operator_of.false) in
+    let none = subst (All (λ (a : Shift). a.operator ≢ s.operator)) (c.deref.ensures.value ∙ c.shifts.invariant.unclosed)
+    (c.has_operator_of.ensures.no c.if-has_operator_of.false) in
     record {
       unclosed =
           c.in_ok-add_unclosed.ensures ∙ ap (λ (l : List Shift). l ++ cond (is_open s) (s ∷ []) []) c.shifts.invariant.unclosed
-          ∙ sym (filter_more is_open shifts at s c.shifts-test.true ∙ ap (λ (x : Shift). filter is_open (take at shifts) ++ cond (is_open x) (x ∷ []) []) (sym c.index-shifts-at.is));
-      before = each_more (λ i x. All (λ a. IsClosedFirst a x) (take i shifts)) shifts at s (row_at shifts at s c.shifts-test.true c.index-shifts-at.is) (closed_all (take at shifts) s none) c.shifts.invariant.before;
+          ∙ sym (filter_more is_open shifts at s c.shifts-test.true
+          ∙ ap (λ (x : Shift). filter is_open (take at shifts) ++ cond (is_open x) (x ∷ []) []) (sym c.index-shifts-at.is));
+      before = each_more (λ i x. All (λ a. IsClosedFirst a x) (take i shifts)) shifts at s
+          (row_at shifts at s c.shifts-test.true c.index-shifts-at.is) (closed_all (take at shifts) s none) c.shifts.invariant.before;
     }

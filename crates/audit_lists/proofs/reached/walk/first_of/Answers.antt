@@ -8,7 +8,8 @@ use Rattle.audit_lists.proofs.ReachedLemmas.WalkLemmas.{breaks_last, breaks_stil
 use Rattle.audit_lists.proofs.reached.walk.first_of.Goals as goal
 
 pub returns-in-Some : goal.returns-in-Some
-returns-in-Some c rules o earlier s finds tells = breaks_still rules o earlier s c.args.rule c.in-Some.broken (subst (FindsRule rules o earlier s) c.in-Some.is finds)
+returns-in-Some c rules o earlier s finds tells = breaks_still rules o earlier s c.args.rule c.in-Some.broken
+    (subst (FindsRule rules o earlier s) c.in-Some.is finds)
 
 pub returns-then-kept : goal.returns-then-kept
 returns-then-kept c rules o earlier s finds tells =
@@ -16,4 +17,5 @@ returns-then-kept c rules o earlier s finds tells =
 
 pub returns-else-kept : goal.returns-else-kept
 returns-else-kept c rules o earlier s finds tells =
-    breaks_last rules o earlier s c.args.rule (subst (FindsRule rules o earlier s) c.in-None.is finds) (λ keeps. is_false c.args.kept c.if-kept.false (tells.1 keeps))
+    breaks_last rules o earlier s c.args.rule (subst (FindsRule rules o earlier s) c.in-None.is finds)
+    (λ keeps. is_false c.args.kept c.if-kept.false (tells.1 keeps))

@@ -14,7 +14,8 @@ use Rattle.audit_lists.proofs.reached.walk.test_sales.Goals as goal
 pub returns-in_err-listed-clause-found : goal.returns-in_err-listed-clause-found
 returns-in_err-listed-clause-found c =
     let r = c.args.rows.now in
-    told_on (TellsSale r) c.from_residual.result c.in_err-listed.field-0.0 c.from_residual.ensures.1 (tells_sale r c.in_err-listed.field-0.0 (search rules) c.in_err-listed.ensures.found)
+    told_on (TellsSale r) c.from_residual.result c.in_err-listed.field-0.0 c.from_residual.ensures.1
+    (tells_sale r c.in_err-listed.field-0.0 (search rules) c.in_err-listed.ensures.found)
 
 pub sales-init : goal.sales-init
 sales-init c o are = record {
@@ -32,7 +33,8 @@ returns-in-Some-clause-found c o are =
       place = at;
       sale = s;
       broken = c.in-Some.rule;
-      there = subst (λ (l : List Sale). slice_get l at ≡ Some s) (c.as_slice-sales.ensures.value ∙ are.members.sales) (row_at c.as_slice-sales.result.now at s c.sales-test.true c.index-sales-at.is);
+      there = subst (λ (l : List Sale). slice_get l at ≡ Some s) (c.as_slice-sales.ensures.value ∙ are.members.sales)
+          (row_at c.as_slice-sales.result.now at s c.sales-test.true c.index-sales-at.is);
       before = front.before;
       breaks = c.in-Some.ensures o at are.is (sym (c.as_slice-shifts.ensures.value ∙ are.members.shifts)) listed front.walked;
       named = c.found.ensures;
@@ -46,9 +48,11 @@ sales-preserved c o are =
     let listed = subst (AreListed o) (sym c.deref.ensures.value) (c.in_ok-listed.ensures.lists o are) in
     let shifts = c.as_slice-shifts.ensures.value ∙ are.members.shifts in
     front_more o are.is at s c.sales.walked c.add.new.self
-    (subst (λ (l : List Sale). slice_get l at ≡ Some s) (c.as_slice-sales.ensures.value ∙ are.members.sales) (row_at c.as_slice-sales.result.now at s c.sales-test.true c.index-sales-at.is))
+    (subst (λ (l : List Sale). slice_get l at ≡ Some s) (c.as_slice-sales.ensures.value ∙ are.members.sales)
+    (row_at c.as_slice-sales.result.now at s c.sales-test.true c.index-sales-at.is))
     front (granted o (take at o.sales) s (c.in-None.ensures o at are.is (sym shifts) listed front.walked))
-    (subst (λ (l : List Shift). (earlier : List Sale) → length earlier < 2 ^ 32 → IsWalked l earlier c.sales.walked → IsWalked l (earlier ++ s ∷ []) c.add.new.self) shifts c.in_ok-add-in-None.ensures)
+    (subst (λ (l : List Shift). (earlier : List Sale) → length earlier < 2 ^ 32 → IsWalked l earlier c.sales.walked
+    → IsWalked l (earlier ++ s ∷ []) c.add.new.self) shifts c.in_ok-add-in-None.ensures)
 
 pub returns-clause-passes : goal.returns-clause-passes
 returns-clause-passes c o are i s there =

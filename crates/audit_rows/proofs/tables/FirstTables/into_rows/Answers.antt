@@ -18,4 +18,6 @@ returns g c db says =
       bases = c.in_ok-bases.bases;
       dated_steps = c.new-4.result;
     } in
-    first_read db rows says.0 says.1.0 says.1.1.0 says.1.1.1.0 c.args.self.1.1.1.1.items says.1.1.1.1 (c.in_ok-sales.ensures ∙ ap (map sale_entry) c.deref-2.ensures.value) (c.in_ok-bases.ensures ∙ ap (map present_base) c.deref.ensures.value) c.new-4.ensures.items
+    first_read db rows says.0 says.1.0 says.1.1.0 says.1.1.1.0 c.args.self.1.1.1.1.items says.1.1.1.1
+    (c.in_ok-sales.ensures ∙ ap (map sale_entry) c.deref-2.ensures.value)
+    (c.in_ok-bases.ensures ∙ ap (map present_base) c.deref.ensures.value) c.new-4.ensures.items

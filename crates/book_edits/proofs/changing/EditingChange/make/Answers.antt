@@ -17,8 +17,13 @@ returns-in-AddTariff-clause-made g c clean way =
     let old = state g.S.Store c.args.tx.now.conn.now in
     let new = state g.S.Store c.add_tariff.new.tx.conn.now in
     let name = c.in-AddTariff.name in
-    made_by c.add_tariff.result c.args.self.now.edit.now (edits.AddTariff name c.in-AddTariff.steps) c.args.self.now.prior old new c.in-AddTariff.is (c.add_tariff.ensures.added clean)
-    (λ adds. (makes_tariff c.members_law.ensures.edited old new name c.in-AddTariff.steps (subst (λ (l : List Step). AddsTariff name l old new) c.as_slice.ensures.view adds), tt))
+    made_by c.add_tariff.result c.args.self.now.edit.now (edits.AddTariff name c.in-AddTariff.steps) c.args.self.now.prior old new
+    c.in-AddTariff.is (c.add_tariff.ensures.added clean)
+    (λ adds. (
+      makes_tariff c.members_law.ensures.edited old new name c.in-AddTariff.steps
+          (subst (λ (l : List Step). AddsTariff name l old new) c.as_slice.ensures.view adds),
+      tt,
+    ))
 
 pub returns-in-AddMeter-clause-made : goal.returns-in-AddMeter-clause-made
 returns-in-AddMeter-clause-made g c clean way =
@@ -26,7 +31,8 @@ returns-in-AddMeter-clause-made g c clean way =
     let new = state g.S.Store c.add_meter.new.tx.conn.now in
     let number = c.in-AddMeter.number in
     let meter = c.in-AddMeter.meter in
-    made_by c.add_meter.result c.args.self.now.edit.now (edits.AddMeter number meter) c.args.self.now.prior old new c.in-AddMeter.is (c.add_meter.ensures.added clean)
+    made_by c.add_meter.result c.args.self.now.edit.now (edits.AddMeter number meter) c.args.self.now.prior old new c.in-AddMeter.is
+    (c.add_meter.ensures.added clean)
     (λ adds. (makes_meter c.members_law.ensures.edited old new number meter adds, tt))
 
 pub returns-in-AddRows-clause-made : goal.returns-in-AddRows-clause-made
@@ -43,7 +49,8 @@ returns-in-SetTariff-clause-made g c clean way =
     let new = state g.S.Store c.set_tariff.new.tx.conn.now in
     let number = c.in-SetTariff.number in
     let name = c.in-SetTariff.name in
-    made_by c.set_tariff.result c.args.self.now.edit.now (edits.SetTariff number name) c.args.self.now.prior old new c.in-SetTariff.is (c.set_tariff.ensures.writes.made clean)
+    made_by c.set_tariff.result c.args.self.now.edit.now (edits.SetTariff number name) c.args.self.now.prior old new c.in-SetTariff.is
+    (c.set_tariff.ensures.writes.made clean)
     (λ sets. (makes_setting c.members_law.ensures.edited old new number name sets, tt))
 
 pub returns-in-OpenShift-clause-made : goal.returns-in-OpenShift-clause-made
@@ -51,7 +58,8 @@ returns-in-OpenShift-clause-made g c clean way =
     let old = state g.S.Store c.args.tx.now.conn.now in
     let new = state g.S.Store c.add_shift.new.tx.conn.now in
     let shift = c.in-OpenShift.shift in
-    made_by c.add_shift.result c.args.self.now.edit.now (edits.OpenShift shift) c.args.self.now.prior old new c.in-OpenShift.is (c.add_shift.ensures.writes.made clean)
+    made_by c.add_shift.result c.args.self.now.edit.now (edits.OpenShift shift) c.args.self.now.prior old new c.in-OpenShift.is
+    (c.add_shift.ensures.writes.made clean)
     (λ adds. (makes_shift c.members_law.ensures.edited old new shift adds, tt))
 
 pub returns-in-CloseShift-clause-made : goal.returns-in-CloseShift-clause-made
@@ -60,7 +68,8 @@ returns-in-CloseShift-clause-made g c clean way =
     let new = state g.S.Store c.close_shift.new.tx.conn.now in
     let number = c.in-CloseShift.number in
     let moment = c.in-CloseShift.moment in
-    made_by c.close_shift.result c.args.self.now.edit.now (edits.CloseShift number moment) c.args.self.now.prior old new c.in-CloseShift.is (c.close_shift.ensures.writes.made clean)
+    made_by c.close_shift.result c.args.self.now.edit.now (edits.CloseShift number moment) c.args.self.now.prior old new c.in-CloseShift.is
+    (c.close_shift.ensures.writes.made clean)
     (λ closes. (makes_closing c.members_law.ensures.edited old new number moment closes, tt))
 
 pub returns-in-AddSteps-clause-made : goal.returns-in-AddSteps-clause-made
@@ -69,8 +78,13 @@ returns-in-AddSteps-clause-made g c clean way =
     let new = state g.S.Store c.add_steps.new.tx.conn.now in
     let name = c.in-AddSteps.name in
     let day = c.in-AddSteps.day in
-    made_by c.add_steps.result c.args.self.now.edit.now (edits.AddSteps name day c.in-AddSteps.steps) c.args.self.now.prior old new c.in-AddSteps.is (c.add_steps.ensures.added clean)
-    (λ adds. (makes_steps c.members_law.ensures.edited old new name day c.in-AddSteps.steps (subst (λ (l : List Step). AddsSteps name day l old new) c.as_slice-in-AddSteps.ensures.view adds), tt))
+    made_by c.add_steps.result c.args.self.now.edit.now (edits.AddSteps name day c.in-AddSteps.steps) c.args.self.now.prior old new
+    c.in-AddSteps.is (c.add_steps.ensures.added clean)
+    (λ adds. (
+      makes_steps c.members_law.ensures.edited old new name day c.in-AddSteps.steps
+          (subst (λ (l : List Step). AddsSteps name day l old new) c.as_slice-in-AddSteps.ensures.view adds),
+      tt,
+    ))
 
 pub returns-in-MoveBase-clause-made : goal.returns-in-MoveBase-clause-made
 returns-in-MoveBase-clause-made g c clean way =
@@ -78,7 +92,8 @@ returns-in-MoveBase-clause-made g c clean way =
     let new = state g.S.Store c.move_base.new.tx.conn.now in
     let number = c.in-MoveBase.number in
     let base = c.in-MoveBase.base in
-    made_by c.move_base.result c.args.self.now.edit.now (edits.MoveBase number base) c.args.self.now.prior old new c.in-MoveBase.is (c.move_base.ensures.moved clean)
+    made_by c.move_base.result c.args.self.now.edit.now (edits.MoveBase number base) c.args.self.now.prior old new c.in-MoveBase.is
+    (c.move_base.ensures.moved clean)
     (λ moves. (makes_moving c.members_law.ensures.edited old new number base moves, tt))
 
 pub returns-in-AddSale-clause-made : goal.returns-in-AddSale-clause-made
@@ -86,7 +101,8 @@ returns-in-AddSale-clause-made g c clean way =
     let old = state g.S.Store c.args.tx.now.conn.now in
     let new = state g.S.Store c.add_counted.new.tx.conn.now in
     let sale = c.in-AddSale.sale in
-    made_by c.add_counted.result c.args.self.now.edit.now (edits.AddSale sale) c.args.self.now.prior old new c.in-AddSale.is (c.add_counted.ensures.added clean way)
+    made_by c.add_counted.result c.args.self.now.edit.now (edits.AddSale sale) c.args.self.now.prior old new c.in-AddSale.is
+    (c.add_counted.ensures.added clean way)
     (λ adds. (makes_sale c.members_law.ensures.edited old new sale adds.tells.adds, (adds.shown, adds.tells.tells, adds.month)))
 
 pub returns-in-AddTariff-clause-refused : goal.returns-in-AddTariff-clause-refused
@@ -95,7 +111,8 @@ returns-in-AddTariff-clause-refused g c clean way =
     let new = state g.S.Store c.add_tariff.new.tx.conn.now in
     let it = c.in-AddTariff in
     edit_refused c.add_tariff.result c.args.self.now.edit.now (edits.AddTariff it.name it.steps) c.args.self.now.prior old new it.is
-    (λ has. subst (λ (l : List Step). IfErr c.add_tariff.result (FailsToWriteAll (tariff_writes it.name l) old new)) c.as_slice.ensures.view (c.add_tariff.ensures.ends clean way has).1)
+    (λ has. subst (λ (l : List Step). IfErr c.add_tariff.result (FailsToWriteAll (tariff_writes it.name l) old new))
+    c.as_slice.ensures.view (c.add_tariff.ensures.ends clean way has).1)
 
 pub returns-in-AddMeter-clause-refused : goal.returns-in-AddMeter-clause-refused
 returns-in-AddMeter-clause-refused g c clean way =
@@ -129,7 +146,8 @@ returns-in-SetTariff-clause-refused g c clean way =
     let new = state g.S.Store c.set_tariff.new.tx.conn.now in
     let it = c.in-SetTariff in
     edit_refused c.set_tariff.result c.args.self.now.edit.now (edits.SetTariff it.number it.name) c.args.self.now.prior old new it.is
-    (λ has. if_err c.set_tariff.result (of_store [] old old new (came_here old way) (tariff_set it.number it.name) []) (c.set_tariff.ensures.writes.ends clean has).1)
+    (λ has. if_err c.set_tariff.result (of_store [] old old new (came_here old way) (tariff_set it.number it.name) [])
+    (c.set_tariff.ensures.writes.ends clean has).1)
 
 pub returns-in-OpenShift-clause-refused : goal.returns-in-OpenShift-clause-refused
 returns-in-OpenShift-clause-refused g c clean way =
@@ -145,18 +163,25 @@ returns-in-CloseShift-clause-refused g c clean way =
     let new = state g.S.Store c.close_shift.new.tx.conn.now in
     let it = c.in-CloseShift in
     edit_refused c.close_shift.result c.args.self.now.edit.now (edits.CloseShift it.number it.moment) c.args.self.now.prior old new it.is
-    (λ has. if_err c.close_shift.result (of_store [] old old new (came_here old way) (shift_ended it.number it.moment) []) (c.close_shift.ensures.writes.ends clean has).1)
+    (λ has. if_err c.close_shift.result (of_store [] old old new (came_here old way) (shift_ended it.number it.moment) [])
+    (c.close_shift.ensures.writes.ends clean has).1)
 
 pub returns-in-AddRows-clause-refused : goal.returns-in-AddRows-clause-refused
 returns-in-AddRows-clause-refused g c clean way =
     let old = state g.S.Store c.args.tx.now.conn.now in
     let new = state g.S.Store c.add_rows.new.tx.conn.now in
     let rows = c.in-AddRows.rows in
-    told_where c.args.self.now.edit.now c.args.self.now.prior (state g.S.Store c.args.tx.now.conn.now) (state g.S.Store c.add_rows.new.tx.conn.now) c.add_rows.result (λ has. refused_by c.add_rows.result c.args.self.now.edit.now (edits.AddRows rows) c.args.self.now.prior old new c.in-AddRows.is
-    (rows_refused c.add_rows.result rows c.as_slice-in-AddRows.result.now c.args.self.now.prior old new c.as_slice-in-AddRows.ensures.view (λ some. (c.add_rows.ensures.ends clean way has some).1)))
+    told_where c.args.self.now.edit.now c.args.self.now.prior (state g.S.Store c.args.tx.now.conn.now)
+    (state g.S.Store c.add_rows.new.tx.conn.now) c.add_rows.result
+    (λ has. refused_by c.add_rows.result c.args.self.now.edit.now (edits.AddRows rows) c.args.self.now.prior old new c.in-AddRows.is
+    (rows_refused c.add_rows.result rows c.as_slice-in-AddRows.result.now c.args.self.now.prior old new c.as_slice-in-AddRows.ensures.view
+    (λ some. (c.add_rows.ensures.ends clean way has some).1)))
 
 pub returns-in-AddSale-clause-refused : goal.returns-in-AddSale-clause-refused
 returns-in-AddSale-clause-refused g c clean way =
     let old = state g.S.Store c.args.tx.now.conn.now in
     let new = state g.S.Store c.add_counted.new.tx.conn.now in
-    told_where c.args.self.now.edit.now c.args.self.now.prior (state g.S.Store c.args.tx.now.conn.now) (state g.S.Store c.add_counted.new.tx.conn.now) c.add_counted.result (λ has. refused_by c.add_counted.result c.args.self.now.edit.now (edits.AddSale c.in-AddSale.sale) c.args.self.now.prior old new c.in-AddSale.is (c.add_counted.ensures.refused clean way has))
+    told_where c.args.self.now.edit.now c.args.self.now.prior (state g.S.Store c.args.tx.now.conn.now)
+    (state g.S.Store c.add_counted.new.tx.conn.now) c.add_counted.result
+    (λ has. refused_by c.add_counted.result c.args.self.now.edit.now (edits.AddSale c.in-AddSale.sale) c.args.self.now.prior old new
+    c.in-AddSale.is (c.add_counted.ensures.refused clean way has))

@@ -23,7 +23,12 @@ others-init g c =
       same = search rules;
       transaction = transaction_on c.in_ok-add_row.ensures.transaction;
       added = λ clean way has. (first, all, c.in_ok-add_row.ensures.added clean has);
-      written = λ clean way has. (first, all, subst (λ (l : List Write). AreCarriedOut l old new) (sym (append-nil (row_writes first))) (c.in_ok-add_row.ensures.ends clean way has).0);
+      written = λ clean way has. (
+        first,
+        all,
+        subst (λ (l : List Write). AreCarriedOut l old new) (sym (append-nil (row_writes first)))
+            (c.in_ok-add_row.ensures.ends clean way has).0,
+      );
     }
 
 pub others-preserved : goal.others-preserved
@@ -40,10 +45,16 @@ others-preserved g c =
           let early : HasCleanDisk mid = omega (arith, c.add_row-in-others.ensures.transaction.survives.clean) in
           let so_far = c.others.invariant.added early way has in
           let first = so_far.0 in
-          let last = c.in_ok-add_row-2.ensures.added clean (still_has (first ∷ take c.others.row-index others) old mid so_far.2 (c.others.invariant.transaction.inside early way) has) in
+          let last = c.in_ok-add_row-2.ensures.added clean (still_has (first ∷ take c.others.row-index others) old mid so_far.2
+          (c.others.invariant.transaction.inside early way) has) in
           let it = get_or others c.others.row-index row in
-          let more = makes_more (first ∷ take c.others.row-index others) it old.now mid.now new.now so_far.2 (subst (λ (r : Row). MakesRows (r ∷ []) mid.now new.now) c.row-item.is last) in
-          (first, so_far.1, subst (λ (l : List Row). MakesRows (first ∷ l) old.now new.now) (sym (take_more others c.others.row-index row c.others-test.true)) more);
+          let more = makes_more (first ∷ take c.others.row-index others) it old.now mid.now new.now so_far.2
+          (subst (λ (r : Row). MakesRows (r ∷ []) mid.now new.now) c.row-item.is last) in (
+            first,
+            so_far.1,
+            subst (λ (l : List Row). MakesRows (first ∷ l) old.now new.now)
+                (sym (take_more others c.others.row-index row c.others-test.true)) more,
+          );
       written = λ clean way has.
           let i = c.others.row-index in
           let early : HasCleanDisk mid = omega (arith, c.add_row-in-others.ensures.transaction.survives.clean) in
@@ -83,7 +94,8 @@ returns-in_err-add_row-clause-ends g c clean way has some =
     let all : first ∷ others ≡ c.args.rows.now = search rules in
     let e = c.in_err-add_row.field-0.0 in
     ends_off FailsToWriteAll (flat_map row_writes c.args.rows.now) old new e c.from_residual.result c.from_residual.ensures.1
-    (subst (λ (l : List Row). FailsToWriteAll (flat_map row_writes l) old new e) all (of_later [] old old new (came_here old way) (row_writes first) (flat_map row_writes others) e (c.in_err-add_row.ensures.ends clean way has).1))
+    (subst (λ (l : List Row). FailsToWriteAll (flat_map row_writes l) old new e) all
+    (of_later [] old old new (came_here old way) (row_writes first) (flat_map row_writes others) e (c.in_err-add_row.ensures.ends clean way has).1))
 
 pub returns-in_err-add_row-2-clause-ends : goal.returns-in_err-add_row-2-clause-ends
 returns-in_err-add_row-2-clause-ends g c clean way has some =
@@ -104,10 +116,14 @@ returns-in_err-add_row-2-clause-ends g c clean way has some =
     let here = subst (λ (r : Row). FailsToWriteAll (row_writes r) mid new e) c.row-item.is fails in
     let rest = rest_after (flat_map row_writes) (λ (rows : List Row) (r : Row). row_writes r) writes_more (it.0 ∷ []) others i row c.others-test.true in
     ends_off FailsToWriteAll (flat_map row_writes c.args.rows.now) old new e c.from_residual-in_err-add_row-2.result c.from_residual-in_err-add_row-2.ensures.1
-    (subst (λ (l : List Write). FailsToWriteAll l old new e) (rest.1 ∙ ap (λ (l : List Row). flat_map row_writes l) (sym it.1)) (of_later before old mid new came (row_writes (get_or others i row)) rest.0 e here))
+    (subst (λ (l : List Write). FailsToWriteAll l old new e) (rest.1 ∙ ap (λ (l : List Row). flat_map row_writes l) (sym it.1))
+    (of_later before old mid new came (row_writes (get_or others i row)) rest.0 e here))
 
 pub returns-clause-ends : goal.returns-clause-ends
 returns-clause-ends g c clean way has some =
     let it = c.others.invariant.written clean way has in
-    let all = ap (λ (l : List Row). it.0 ∷ l) (take_all c.others.row-index c.in-Some.others.now c.others-test.false) ∙ sym it.1 in
-    (subst (λ (l : List Row). AreCarriedOut (flat_map row_writes l) (state g.S.Store c.args.tx.now.conn.now) (state g.S.Store c.others.tx.conn.now)) all it.2, tt)
+    let all = ap (λ (l : List Row). it.0 ∷ l) (take_all c.others.row-index c.in-Some.others.now c.others-test.false) ∙ sym it.1 in (
+      subst (λ (l : List Row). AreCarriedOut (flat_map row_writes l) (state g.S.Store c.args.tx.now.conn.now)
+          (state g.S.Store c.others.tx.conn.now)) all it.2,
+      tt,
+    )

@@ -17,6 +17,8 @@ invariant-others g l =
     record {
       same : l.tx.conn.ghost_name ≡ l.fn.tx.conn.ghost_name;
       transaction : KeepsTransaction {T = Unit {0}} {E = TableError} old now (Ok tt);
-      added : HasCleanDisk now → IsUnderWay old → HasAllTables old → (first : Row) × (l.rows ≡ first ∷ l.others) × MakesRows (first ∷ take l.row-index l.others) old.now now.now;
-      written : HasCleanDisk now → IsUnderWay old → HasAllTables old → (first : Row) × (l.rows ≡ first ∷ l.others) × AreCarriedOut (flat_map row_writes (first ∷ take l.row-index l.others)) old now;
+      added : HasCleanDisk now → IsUnderWay old → HasAllTables old → (first : Row) × (l.rows ≡ first ∷ l.others)
+          × MakesRows (first ∷ take l.row-index l.others) old.now now.now;
+      written : HasCleanDisk now → IsUnderWay old → HasAllTables old → (first : Row) × (l.rows ≡ first ∷ l.others)
+          × AreCarriedOut (flat_map row_writes (first ∷ take l.row-index l.others)) old now;
     }

@@ -28,4 +28,9 @@ returns-then-totals-tenths-clause-refused g c clean way has =
 pub returns-then-totals-tenths-2-clause-refused : goal.returns-then-totals-tenths-2-clause-refused
 returns-then-totals-tenths-2-clause-refused g c clean way has =
     let told = c.in_ok-totals.ensures.adds clean way has in
-    inr (inr (c.in_ok-totals.totals, told.tells, λ same. omega (arith, c.if-totals-tenths.false, c.if-totals-tenths-2.true, same, c.tenths.ensures.value, c.from-tenths.ensures)))
+    inr (inr (
+      c.in_ok-totals.totals,
+      told.tells,
+      λ same. omega
+          (arith, c.if-totals-tenths.false, c.if-totals-tenths-2.true, same, c.tenths.ensures.value, c.from-tenths.ensures),
+    ))

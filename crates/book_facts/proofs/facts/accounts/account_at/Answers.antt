@@ -22,7 +22,8 @@ returns-in_err-last g c = looks_on c.from_residual.result c.from_residual.ensure
 pub returns-in_err-prior : goal.returns-in_err-prior
 returns-in_err-prior g c =
     let first = passed (read_in_office last_ids_in c.in_ok-last.ensures.reads) (g.met.S.Store.shut_if_dirty c.greatest_tid.new.conn.store) in
-    looks_on c.from_residual-in_err-prior.result c.from_residual-in_err-prior.ensures.1 (read_after first (read_in_office month_tenths_in c.in_err-prior.ensures.reads))
+    looks_on c.from_residual-in_err-prior.result c.from_residual-in_err-prior.ensures.1
+    (read_after first (read_in_office month_tenths_in c.in_err-prior.ensures.reads))
 
 pub returns-then-unwrap_or-gt-LAST_TID : goal.returns-then-unwrap_or-gt-LAST_TID
 returns-then-unwrap_or-gt-LAST_TID g c =
@@ -33,9 +34,16 @@ returns-then-unwrap_or-gt-LAST_TID g c =
     let both = read_after first read_2 in
     looks_none (stops_on RowOfNoOffice both (λ clean has. of_no_office both clean has (λ o office members.
     let was = was_clean office members first read_2 clean in
-    let last_is = sales_told office members none read_1 was last_ids_in (λ (sales : List Sale). greatest_of (map (λ s. s.tid) (filter (λ s. bytes_eq s.meter c.args.number.now && base_eq s.base c.args.meter.base) sales))) c.in_ok-last.last (c.in_ok-last.ensures.given was) in
-    let prior_is = sales_told office members first read_2 clean month_tenths_in (λ (sales : List Sale). sum_by (λ s. s.tenths) (filter (λ s. bytes_eq s.meter c.args.number.now && (month_at s.moment == c.unwrap-month.result)) sales)) c.in_ok-prior.prior (c.in_ok-prior.ensures.given clean) in
-    let low : unwrap_or c.in_ok-last.last 0 ≤ last_tid = last_within last_tid c.in_ok-last.last (used o c.args.number.now c.args.meter.base) last_is (c.store_law.ensures.used_range o c.args.number.now c.args.meter.base office) in
+    let last_is = sales_told office members none read_1 was last_ids_in
+    (λ (sales : List Sale). greatest_of (map (λ s. s.tid)
+    (filter (λ s. bytes_eq s.meter c.args.number.now && base_eq s.base c.args.meter.base) sales))) c.in_ok-last.last (c.in_ok-last.ensures.given was) in
+    let prior_is = sales_told office members first read_2 clean month_tenths_in
+    (λ (sales : List Sale). sum_by (λ s. s.tenths) (filter
+    (λ s. bytes_eq s.meter c.args.number.now && (month_at s.moment == c.unwrap-month.result)) sales)) c.in_ok-prior.prior
+    (c.in_ok-prior.ensures.given clean) in
+    let low : unwrap_or c.in_ok-last.last 0 ≤ last_tid =
+    last_within last_tid c.in_ok-last.last (used o c.args.number.now c.args.meter.base) last_is
+    (c.store_law.ensures.used_range o c.args.number.now c.args.meter.base office) in
     let few : c.in_ok-prior.prior ≤ 10 ^ 17 = rw prior_is (c.store_law.ensures.prior_range o c.args.number.now c.unwrap-month.result office) in
     elim c.then-unwrap_or-gt-LAST_TID.branch [
       | then-unwrap_or-gt-LAST_TID-via-then-unwrap_or-gt-LAST_TID w ↦ omega (arith, w.if-unwrap_or-gt-LAST_TID.true)
@@ -53,10 +61,22 @@ returns g c =
     record {
       facts = λ clean o office members.
           let was = was_clean office members first read_2 clean in
-          let last_is = sales_told office members none read_1 was last_ids_in (λ (sales : List Sale). greatest_of (map (λ s. s.tid) (filter (λ s. bytes_eq s.meter c.args.number.now && base_eq s.base c.args.meter.base) sales))) c.in_ok-last.last (c.in_ok-last.ensures.given was) in
-          let prior_is = sales_told office members first read_2 clean month_tenths_in (λ (sales : List Sale). sum_by (λ s. s.tenths) (filter (λ s. bytes_eq s.meter c.args.number.now && (month_at s.moment == c.unwrap-month.result)) sales)) c.in_ok-prior.prior (c.in_ok-prior.ensures.given clean) in
-          ap (λ (last : Option ℕ). let b : MeterAccount = record { meter = c.args.meter; steps = c.args.steps; last = last; prior = c.in_ok-prior.prior } in b) last_is
-          ∙ ap (λ (tenths : ℕ). let b : MeterAccount = record { meter = c.args.meter; steps = c.args.steps; last = greatest_of (used o c.args.number.now c.args.meter.base); prior = tenths } in b) (prior_is ∙ ap (λ (month : ℕ). prior o c.args.number.now month) month_is);
+          let last_is = sales_told office members none read_1 was last_ids_in
+          (λ (sales : List Sale). greatest_of (map (λ s. s.tid)
+          (filter (λ s. bytes_eq s.meter c.args.number.now && base_eq s.base c.args.meter.base) sales))) c.in_ok-last.last
+          (c.in_ok-last.ensures.given was) in
+          let prior_is = sales_told office members first read_2 clean month_tenths_in
+          (λ (sales : List Sale). sum_by (λ s. s.tenths) (filter
+          (λ s. bytes_eq s.meter c.args.number.now && (month_at s.moment == c.unwrap-month.result)) sales)) c.in_ok-prior.prior
+          (c.in_ok-prior.ensures.given clean) in
+          ap (λ (last : Option ℕ). let b : MeterAccount = record
+          { meter = c.args.meter; steps = c.args.steps; last = last; prior = c.in_ok-prior.prior } in b) last_is
+          ∙ ap (λ (tenths : ℕ). let b : MeterAccount = record {
+            meter = c.args.meter;
+            steps = c.args.steps;
+            last = greatest_of (used o c.args.number.now c.args.meter.base);
+            prior = tenths;
+          } in b) (prior_is ∙ ap (λ (month : ℕ). prior o c.args.number.now month) month_is);
       shown = λ clean has.
           let was = clean_before first read_2.survives has clean in
           let month_is : c.unwrap-month.result ≡ month_at c.args.moment = search rules in

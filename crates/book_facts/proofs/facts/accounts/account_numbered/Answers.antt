@@ -22,9 +22,11 @@ returns-in_default g c =
     let read_1 = (read_in_office meters_in c.in_ok-there.ensures.reads) in
     record {
       facts = λ clean o office members.
-          let meter_is = meter_told office members none read_1 clean c.members_law.ensures.meter c.args.number.now c.in_ok-there.there (c.in_ok-there.ensures.given clean) in
+          let meter_is = meter_told office members none read_1 clean c.members_law.ensures.meter c.args.number.now c.in_ok-there.there
+          (c.in_ok-there.ensures.given clean) in
           search (rules, sym c.in_default.is ∙ meter_is);
-      shown = λ clean has. subst (ShowsFirst (the_meter c.args.number.now) old.now) c.in_default.is (first_shown meters_in c.in_ok-there.ensures.sees clean has);
+      shown = λ clean has. subst (ShowsFirst (the_meter c.args.number.now) old.now) c.in_default.is
+          (first_shown meters_in c.in_ok-there.ensures.sees clean has);
       reads = read_on (read_in_office meters_in c.in_ok-there.ensures.reads);
     }
 
@@ -42,10 +44,12 @@ returns-in_default-found g c =
     let both = read_after first read_2 in
     looks_none (stops_on RowOfNoOffice both (λ clean has. of_no_office both clean has (λ o office members.
     let was = was_clean office members first read_2 clean in
-    let meter_is = meter_told office members none read_1 was c.members_law.ensures.meter c.args.number.now c.in_ok-there.there (c.in_ok-there.ensures.given was) in
+    let meter_is = meter_told office members none read_1 was c.members_law.ensures.meter c.args.number.now c.in_ok-there.there
+    (c.in_ok-there.ensures.given was) in
     let steps_are = c.in_ok-found.ensures.facts clean o office (members_after o members first read_2.survives clean) in
     let day_is : c.day_of.result ≡ day_at c.args.moment = search rules in
-    has_steps o office c.args.number.now (day_at c.args.moment) c.in_ok-there.there c.in-Some.meter c.in_ok-found.found meter_is c.in-Some.is (rw day_is at steps_are) c.in_default-found.is)))
+    has_steps o office c.args.number.now (day_at c.args.moment) c.in_ok-there.there c.in-Some.meter c.in_ok-found.found meter_is
+    c.in-Some.is (rw day_is at steps_are) c.in_default-found.is)))
 
 pub returns-in_err-account : goal.returns-in_err-account
 returns-in_err-account g c =
@@ -67,16 +71,20 @@ returns g c =
       facts = λ clean o office members.
           let was_2 = was_clean office members second read_3 clean in
           let was_1 = was_clean office members first read_2 was_2 in
-          let meter_is = meter_told office members none read_1 was_1 c.members_law.ensures.meter c.args.number.now c.in_ok-there.there (c.in_ok-there.ensures.given was_1) in
+          let meter_is = meter_told office members none read_1 was_1 c.members_law.ensures.meter c.args.number.now c.in_ok-there.there
+          (c.in_ok-there.ensures.given was_1) in
           let steps_are = c.in_ok-found.ensures.facts was_2 o office (members_after o members first read_2.survives was_2) in
           let sold = c.in_ok-account.ensures.facts clean o office (members_after o members second c.in_ok-account.ensures.reads.survives clean) in
-          account_is o c.args.number.now c.args.moment c.in_ok-there.there c.in-Some.meter c.in_ok-found.found c.in-Some-found.steps c.in_ok-account.account meter_is c.in-Some.is (rw day_is at steps_are) c.in-Some-found.is sold;
+          account_is o c.args.number.now c.args.moment c.in_ok-there.there c.in-Some.meter c.in_ok-found.found c.in-Some-found.steps
+          c.in_ok-account.account meter_is c.in-Some.is (rw day_is at steps_are) c.in-Some-found.is sold;
       shown = λ clean has.
           let was_2 = clean_before second read_3.survives has clean in
           let was_1 = clean_before first read_2.survives has was_2 in
           let day_is : c.day_of.result ≡ day_at c.args.moment = search rules in
           let there = subst (ShowsFirst (the_meter c.args.number.now) old.now) c.in-Some.is (first_shown meters_in c.in_ok-there.ensures.sees was_1 has) in
-          let steps = subst (AreStepsSeenOn c.in-Some.meter.tariff c.day_of.result old.now) c.in-Some-found.is (looks_shown first c.in_ok-found.ensures was_2 has) in
-          account_seen old.now c.args.number.now c.args.moment c.in-Some.meter c.in-Some-found.steps c.in_ok-account.account there (rw day_is at steps) (looks_shown second c.in_ok-account.ensures clean has);
+          let steps = subst (AreStepsSeenOn c.in-Some.meter.tariff c.day_of.result old.now) c.in-Some-found.is
+          (looks_shown first c.in_ok-found.ensures was_2 has) in
+          account_seen old.now c.args.number.now c.args.moment c.in-Some.meter c.in-Some-found.steps c.in_ok-account.account there
+          (rw day_is at steps) (looks_shown second c.in_ok-account.ensures clean has);
       reads = read_on (read_after second c.in_ok-account.ensures.reads);
     }

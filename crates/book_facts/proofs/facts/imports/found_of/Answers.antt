@@ -23,12 +23,14 @@ loop-row-init g c =
     }
 
 pub returns-in_err-facts : goal.returns-in_err-facts
-returns-in_err-facts g c = looks_on c.from_residual.result c.from_residual.ensures.1 (same_on (read_after c.loop-row.invariant.passed c.in_err-facts.ensures.reads))
+returns-in_err-facts g c = looks_on c.from_residual.result c.from_residual.ensures.1
+    (same_on (read_after c.loop-row.invariant.passed c.in_err-facts.ensures.reads))
 
 pub returns-in_err-map_err : goal.returns-in_err-map_err
 returns-in_err-map_err g c =
     let read = read_after c.loop-row.invariant.passed c.in_ok-facts.ensures.reads in
-    looks_on {U = ⊤} c.from_residual-in_err-map_err.result c.from_residual-in_err-map_err.ensures.1 (same_on (stops_on (Database (SqliteFailure OutOfMemory)) read (λ clean has. inr (refl, read.same clean has))))
+    looks_on {U = ⊤} c.from_residual-in_err-map_err.result c.from_residual-in_err-map_err.ensures.1
+    (same_on (stops_on (Database (SqliteFailure OutOfMemory)) read (λ clean has. inr (refl, read.same clean has))))
 
 pub returns-then-differs : goal.returns-then-differs
 returns-then-differs g c =
@@ -47,7 +49,8 @@ returns-then-differs g c =
           let was = was_clean office members before read clean in
           let differs = (c.differs-differs.ensures o today is).0 c.if-differs.true in
           rw pushed (subst (λ (found : List RowFacts). AreRowsFacts o today rows found) (append-nil (found ++ f ∷ []))
-          (rows_more o today rows i row found [] f c.loop-row-test.true c.row-item.is is (inl differs) (c.loop-row.invariant.found was o office members today)));
+          (rows_more o today rows i row found [] f c.loop-row-test.true c.row-item.is is (inl differs)
+          (c.loop-row.invariant.found was o office members today)));
       shown = λ clean has.
           let was = clean_before before read.survives has clean in
           let is = looks_shown before c.in_ok-facts.ensures clean has in
@@ -73,12 +76,15 @@ loop-row-preserved g c =
       found = λ clean o office members today more rest.
           let is = c.in_ok-facts.ensures.facts clean o office (members_after o members before read.survives clean) in
           let was = was_clean office members before read clean in
-          rw pushed (rows_more o today rows i row found more f c.loop-row-test.true c.row-item.is is (inr rest) (c.loop-row.invariant.found was o office members today));
+          rw pushed (rows_more o today rows i row found more f c.loop-row-test.true c.row-item.is is (inr rest)
+          (c.loop-row.invariant.found was o office members today));
       seen = λ clean has more rest.
           let was = clean_before before read.survives has clean in
           let is = looks_shown before c.in_ok-facts.ensures clean has in
-          let passed : IsPassedBy row f = λ o today same refused. absurd (let differs = (c.differs-differs.ensures o today same).1 refused in let not = c.if-differs.false in cc) in
-          rw pushed (rows_seen_more old.now rows i row found more f c.loop-row-test.true c.row-item.is is (inr (passed, rest)) (c.loop-row.invariant.seen was has));
+          let passed : IsPassedBy row f = λ o today same refused. absurd
+          (let differs = (c.differs-differs.ensures o today same).1 refused in let not = c.if-differs.false in cc) in
+          rw pushed (rows_seen_more old.now rows i row found more f c.loop-row-test.true c.row-item.is is (inr (passed, rest))
+          (c.loop-row.invariant.seen was has));
     }
 
 pub returns : goal.returns
@@ -89,9 +95,11 @@ returns g c =
     record {
       facts = λ clean o office members today.
           subst (λ (found : List RowFacts). AreRowsFacts o today rows found) (append-nil found)
-          (c.loop-row.invariant.found clean o office members today [] (subst (λ (rest : List Row). AreRowsFacts o today rest []) (sym (drop_all c.loop-row.row-index rows c.loop-row-test.false)) tt));
+          (c.loop-row.invariant.found clean o office members today []
+          (subst (λ (rest : List Row). AreRowsFacts o today rest []) (sym (drop_all c.loop-row.row-index rows c.loop-row-test.false)) tt));
       shown = λ clean has.
           subst (λ (found : List RowFacts). AreRowsSeen rows old.now found) (append-nil found)
-          (c.loop-row.invariant.seen clean has [] (subst (λ (rest : List Row). AreRowsSeen rest old.now []) (sym (drop_all c.loop-row.row-index rows c.loop-row-test.false)) refl));
+          (c.loop-row.invariant.seen clean has [] (subst (λ (rest : List Row). AreRowsSeen rest old.now [])
+          (sym (drop_all c.loop-row.row-index rows c.loop-row-test.false)) refl));
       reads = passed_reads c.loop-row.invariant.passed;
     }

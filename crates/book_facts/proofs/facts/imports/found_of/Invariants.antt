@@ -18,5 +18,6 @@ invariant-loop-row g l = record {
   found : HasCleanDisk (state g.S.Store l.conn) → (o : Office) → IsOffice o → HasMembers (state g.S.Store l.fn.conn) o
       → (today : ℕ) (more : List RowFacts) → AreRowsFacts o today (drop l.row-index l.rows) more → AreRowsFacts o today l.rows (l.found.items ++ more);
   seen : HasCleanDisk (state g.S.Store l.conn) → HasAllTables (state g.S.Store l.fn.conn)
-      → (more : List RowFacts) → AreRowsSeen (drop l.row-index l.rows) (state g.S.Store l.fn.conn).now more → AreRowsSeen l.rows (state g.S.Store l.fn.conn).now (l.found.items ++ more);
+      → (more : List RowFacts) → AreRowsSeen (drop l.row-index l.rows) (state g.S.Store l.fn.conn).now more
+      → AreRowsSeen l.rows (state g.S.Store l.fn.conn).now (l.found.items ++ more);
 }

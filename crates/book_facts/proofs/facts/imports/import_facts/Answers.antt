@@ -17,7 +17,16 @@ returns g c =
     let found = c.in_ok-found.found.items in
     let rows_are = ap (λ (fs : List RowFacts). let some : Option (List RowFacts) = Some fs in some) c.of.ensures in
     record {
-      facts = λ clean o office members today. (found, rows_are, subst (λ (rows : List Row). AreRowsFacts o today rows found) c.as_slice.ensures.view (c.in_ok-found.ensures.facts clean o office members today));
-      shown = λ clean has. (found, rows_are, subst (λ (rows : List Row). AreRowsSeen rows old.now found) c.as_slice.ensures.view (c.in_ok-found.ensures.shown clean has));
+      facts = λ clean o office members today. (
+        found,
+        rows_are,
+        subst (λ (rows : List Row). AreRowsFacts o today rows found) c.as_slice.ensures.view (c.in_ok-found.ensures.facts clean o office members today),
+      );
+      shown = λ clean has. (
+        found,
+        rows_are,
+        subst (λ (rows : List Row). AreRowsSeen rows old.now found) c.as_slice.ensures.view
+            (c.in_ok-found.ensures.shown clean has),
+      );
       reads = read_on c.in_ok-found.ensures.reads;
     }

@@ -22,7 +22,8 @@ returns-in-Some g c =
     let read_1 = (read_in_office meters_in c.in_ok-there.ensures.reads) in
     record {
       facts = λ clean o office members.
-          let meter_is = meter_told office members none read_1 clean c.members_law.ensures.meter c.args.number.now c.in_ok-there.there (c.in_ok-there.ensures.given clean) in
+          let meter_is = meter_told office members none read_1 clean c.members_law.ensures.meter c.args.number.now c.in_ok-there.there
+          (c.in_ok-there.ensures.given clean) in
           ap (λ (m : Option Meter). meter_found m (is_some (o.tariffs c.args.meter.now.tariff))) (sym c.in-Some.is ∙ meter_is);
       shown = λ clean has. subst (ShowsFirst (the_meter c.args.number.now) old.now) c.in-Some.is (first_shown meters_in c.in_ok-there.ensures.sees clean has);
       reads = read_on (read_in_office meters_in c.in_ok-there.ensures.reads);
@@ -31,7 +32,8 @@ returns-in-Some g c =
 pub returns-in_err-has_tariff : goal.returns-in_err-has_tariff
 returns-in_err-has_tariff g c =
     let first = passed (read_in_office meters_in c.in_ok-there.ensures.reads) (g.met.S.Store.shut_if_dirty c.meter_numbered.new.conn.store) in
-    looks_on c.from_residual-in_err-has_tariff.result c.from_residual-in_err-has_tariff.ensures.1 (read_after first (read_in_office tariffs_in c.in_err-has_tariff.ensures.reads))
+    looks_on c.from_residual-in_err-has_tariff.result c.from_residual-in_err-has_tariff.ensures.1
+    (read_after first (read_in_office tariffs_in c.in_err-has_tariff.ensures.reads))
 
 pub returns : goal.returns
 returns g c =
@@ -43,9 +45,12 @@ returns g c =
     record {
       facts = λ clean o office members.
           let was = was_clean office members first read_2 clean in
-          let meter_is = meter_told office members none read_1 was c.members_law.ensures.meter c.args.number.now c.in_ok-there.there (c.in_ok-there.ensures.given was) in
-          let tariff_is = tariff_told office members first read_2 clean c.args.meter.now.tariff c.in_ok-has_tariff.has_tariff (c.in_ok-has_tariff.ensures.given clean) in
-          ap (λ (b : Bool). NoMeter b) tariff_is ∙ ap (λ (m : Option Meter). meter_found m (is_some (o.tariffs c.args.meter.now.tariff))) (sym c.in_default.is ∙ meter_is);
+          let meter_is = meter_told office members none read_1 was c.members_law.ensures.meter c.args.number.now c.in_ok-there.there
+          (c.in_ok-there.ensures.given was) in
+          let tariff_is = tariff_told office members first read_2 clean c.args.meter.now.tariff c.in_ok-has_tariff.has_tariff
+          (c.in_ok-has_tariff.ensures.given clean) in
+          ap (λ (b : Bool). NoMeter b) tariff_is ∙ ap (λ (m : Option Meter). meter_found m (is_some (o.tariffs c.args.meter.now.tariff)))
+          (sym c.in_default.is ∙ meter_is);
       shown = λ clean has.
           let was = clean_before first read_2.survives has clean in (
             subst (ShowsFirst (the_meter c.args.number.now) old.now) c.in_default.is (first_shown meters_in c.in_ok-there.ensures.sees was has),

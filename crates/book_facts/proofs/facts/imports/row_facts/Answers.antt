@@ -22,7 +22,8 @@ returns-in_ok-steps-in-Tariff g c =
     let read = read_in_office steps_in c.in_ok-steps-in-Tariff.ensures.reads in
     record {
       facts = λ clean o office members.
-          let steps_are = office_told office members none read clean steps_in (λ (o : Office). o.tariffs c.in-Tariff.name) c.in_ok-steps-in-Tariff.steps (c.in_ok-steps-in-Tariff.ensures.given clean) in
+          let steps_are = office_told office members none read clean steps_in (λ (o : Office). o.tariffs c.in-Tariff.name)
+          c.in_ok-steps-in-Tariff.steps (c.in_ok-steps-in-Tariff.ensures.given clean) in
           rw c.in-Tariff.is (ap (λ (s : Option (List Step)). let f : RowFacts = found.Tariff s in f) steps_are);
       shown = λ clean has. rw c.in-Tariff.is (first_shown steps_in c.in_ok-steps-in-Tariff.ensures.sees clean has);
       reads = read_on (read_in_office steps_in c.in_ok-steps-in-Tariff.ensures.reads);

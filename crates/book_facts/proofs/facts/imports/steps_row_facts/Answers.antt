@@ -13,7 +13,8 @@ returns-in_err-has_tariff g c = looks_on c.from_residual.result c.from_residual.
 pub returns-in_err-steps : goal.returns-in_err-steps
 returns-in_err-steps g c =
     let first = passed (read_in_office tariffs_in c.in_ok-has_tariff.ensures.reads) (g.met.S.Store.shut_if_dirty c.has_tariff.new.conn.store) in
-    looks_on c.from_residual-in_err-steps.result c.from_residual-in_err-steps.ensures.1 (read_after first (read_in_office dated_steps_in c.in_err-steps.ensures.reads))
+    looks_on c.from_residual-in_err-steps.result c.from_residual-in_err-steps.ensures.1
+    (read_after first (read_in_office dated_steps_in c.in_err-steps.ensures.reads))
 
 pub returns : goal.returns
 returns g c =
@@ -26,7 +27,8 @@ returns g c =
       facts = λ clean o office members steps.
           let was = was_clean office members first read_2 clean in
           let tariff_is = tariff_told office members none read_1 was c.args.name.now c.in_ok-has_tariff.has_tariff (c.in_ok-has_tariff.ensures.given was) in
-          let steps_are = office_told office members first read_2 clean dated_steps_in (λ (o : Office). o.dated_steps c.args.name.now c.args.day) c.in_ok-steps.steps (c.in_ok-steps.ensures.given clean) in
+          let steps_are = office_told office members first read_2 clean dated_steps_in
+          (λ (o : Office). o.dated_steps c.args.name.now c.args.day) c.in_ok-steps.steps (c.in_ok-steps.ensures.given clean) in
           cc;
       shown = λ clean has steps.
           let was = clean_before first read_2.survives has clean in (

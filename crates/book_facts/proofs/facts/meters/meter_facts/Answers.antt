@@ -18,7 +18,8 @@ returns-then-is_some g c =
     record {
       facts = λ clean o office members.
           record {
-            meter = meter_told office members none read_1 clean c.members_law.ensures.meter c.args.number.now c.in_ok-there.there (c.in_ok-there.ensures.given clean);
+            meter = meter_told office members none read_1 clean c.members_law.ensures.meter c.args.number.now c.in_ok-there.there
+                (c.in_ok-there.ensures.given clean);
             has_tariff = search rules;
           };
       shown = λ clean has. record { meter = first_shown meters_in c.in_ok-there.ensures.sees clean has; has_tariff = search rules };
@@ -28,7 +29,8 @@ returns-then-is_some g c =
 pub returns-in_err-has_tariff : goal.returns-in_err-has_tariff
 returns-in_err-has_tariff g c =
     let first = passed (read_in_office meters_in c.in_ok-there.ensures.reads) (g.met.S.Store.shut_if_dirty c.meter_numbered.new.conn.store) in
-    looks_on c.from_residual-in_err-has_tariff.result c.from_residual-in_err-has_tariff.ensures.1 (read_after first (read_in_office tariffs_in c.in_err-has_tariff.ensures.reads))
+    looks_on c.from_residual-in_err-has_tariff.result c.from_residual-in_err-has_tariff.ensures.1
+    (read_after first (read_in_office tariffs_in c.in_err-has_tariff.ensures.reads))
 
 pub returns : goal.returns
 returns g c =
@@ -41,8 +43,10 @@ returns g c =
       facts = λ clean o office members.
           let was = was_clean office members first read_2 clean in
           record {
-            meter = meter_told office members none read_1 was c.members_law.ensures.meter c.args.number.now c.in_ok-there.there (c.in_ok-there.ensures.given was);
-            has_tariff = λ _. tariff_told office members first read_2 clean c.args.meter.now.tariff c.in_ok-has_tariff.has_tariff (c.in_ok-has_tariff.ensures.given clean);
+            meter = meter_told office members none read_1 was c.members_law.ensures.meter c.args.number.now c.in_ok-there.there
+                (c.in_ok-there.ensures.given was);
+            has_tariff = λ _. tariff_told office members first read_2 clean c.args.meter.now.tariff c.in_ok-has_tariff.has_tariff
+                (c.in_ok-has_tariff.ensures.given clean);
           };
       shown = λ clean has.
           let was = clean_before first read_2.survives has clean in

@@ -14,7 +14,8 @@ returns g c =
     let old = state g.S.Store c.args.conn.now in
     let none = passed_none old (g.met.S.Store.shut_if_dirty c.args.conn.now.store) in
     record {
-      facts = λ clean o office members. meter_told office members none (read_in_office meters_in c.in_ok-there.ensures.reads) clean c.members_law.ensures.meter c.args.number.now c.in_ok-there.there (c.in_ok-there.ensures.given clean);
+      facts = λ clean o office members. meter_told office members none (read_in_office meters_in c.in_ok-there.ensures.reads) clean
+          c.members_law.ensures.meter c.args.number.now c.in_ok-there.there (c.in_ok-there.ensures.given clean);
       shown = λ clean has. first_shown meters_in c.in_ok-there.ensures.sees clean has;
       reads = read_on (read_in_office meters_in c.in_ok-there.ensures.reads);
     }

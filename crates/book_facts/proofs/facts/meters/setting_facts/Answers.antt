@@ -19,21 +19,27 @@ returns-then-is_none g c =
     let read_1 = (read_in_office meters_in c.in_ok-there.ensures.reads) in
     record {
       facts = λ clean o office members.
-          let meter_is = meter_told office members none read_1 clean c.members_law.ensures.meter c.args.number.now c.in_ok-there.there (c.in_ok-there.ensures.given clean) in
+          let meter_is = meter_told office members none read_1 clean c.members_law.ensures.meter c.args.number.now c.in_ok-there.there
+          (c.in_ok-there.ensures.given clean) in
           record {
             meter = search (rules, meter_is);
             has_tariff = search rules;
           };
       shown = λ clean has.
           let same : c.in_ok-there.there ≡ c.none.result.meter = search rules in
-          record { meter = subst (ShowsFirst (the_meter c.args.number.now) old.now) same (first_shown meters_in c.in_ok-there.ensures.sees clean has); has_tariff = search rules };
+          record {
+            meter = subst (ShowsFirst (the_meter c.args.number.now) old.now) same
+                (first_shown meters_in c.in_ok-there.ensures.sees clean has);
+            has_tariff = search rules;
+          };
       reads = read_on (read_in_office meters_in c.in_ok-there.ensures.reads);
     }
 
 pub returns-in_err-has_tariff : goal.returns-in_err-has_tariff
 returns-in_err-has_tariff g c =
     let first = passed (read_in_office meters_in c.in_ok-there.ensures.reads) (g.met.S.Store.shut_if_dirty c.meter_numbered.new.conn.store) in
-    looks_on c.from_residual-in_err-has_tariff.result c.from_residual-in_err-has_tariff.ensures.1 (read_after first (read_in_office tariffs_in c.in_err-has_tariff.ensures.reads))
+    looks_on c.from_residual-in_err-has_tariff.result c.from_residual-in_err-has_tariff.ensures.1
+    (read_after first (read_in_office tariffs_in c.in_err-has_tariff.ensures.reads))
 
 pub returns : goal.returns
 returns g c =
@@ -46,8 +52,10 @@ returns g c =
       facts = λ clean o office members.
           let was = was_clean office members first read_2 clean in
           record {
-            meter = meter_told office members none read_1 was c.members_law.ensures.meter c.args.number.now c.in_ok-there.there (c.in_ok-there.ensures.given was);
-            has_tariff = λ _. tariff_told office members first read_2 clean c.args.name.now c.in_ok-has_tariff.has_tariff (c.in_ok-has_tariff.ensures.given clean);
+            meter = meter_told office members none read_1 was c.members_law.ensures.meter c.args.number.now c.in_ok-there.there
+                (c.in_ok-there.ensures.given was);
+            has_tariff = λ _. tariff_told office members first read_2 clean c.args.name.now c.in_ok-has_tariff.has_tariff
+                (c.in_ok-has_tariff.ensures.given clean);
           };
       shown = λ clean has.
           let was = clean_before first read_2.survives has clean in

@@ -15,7 +15,8 @@ returns g c =
     let old = state g.S.Store c.args.conn.now in
     let none = passed_none old (g.met.S.Store.shut_if_dirty c.args.conn.now.store) in
     record {
-      facts = λ clean o office members. office_told office members none (read_in_office steps_in c.in_ok-steps.ensures.reads) clean steps_in (λ (o : Office). o.tariffs c.args.name.now) c.in_ok-steps.steps (c.in_ok-steps.ensures.given clean);
+      facts = λ clean o office members. office_told office members none (read_in_office steps_in c.in_ok-steps.ensures.reads) clean
+          steps_in (λ (o : Office). o.tariffs c.args.name.now) c.in_ok-steps.steps (c.in_ok-steps.ensures.given clean);
       shown = λ clean has. first_shown steps_in c.in_ok-steps.ensures.sees clean has;
       reads = read_on (read_in_office steps_in c.in_ok-steps.ensures.reads);
     }

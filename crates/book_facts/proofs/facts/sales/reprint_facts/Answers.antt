@@ -15,7 +15,8 @@ returns g c =
     let old = state g.S.Store c.args.conn.now in
     let none = passed_none old (g.met.S.Store.shut_if_dirty c.args.conn.now.store) in
     record {
-      facts = λ clean o office members. sales_told office members none (read_in_office sales_in c.in_ok-sale.ensures.reads) clean sales_in (find (λ s. s.number == c.args.number)) c.in_ok-sale.sale (c.in_ok-sale.ensures.given clean);
+      facts = λ clean o office members. sales_told office members none (read_in_office sales_in c.in_ok-sale.ensures.reads) clean sales_in
+          (find (λ s. s.number == c.args.number)) c.in_ok-sale.sale (c.in_ok-sale.ensures.given clean);
       shown = λ clean has. first_shown sales_in c.in_ok-sale.ensures.sees clean has;
       reads = read_on (read_in_office sales_in c.in_ok-sale.ensures.reads);
     }

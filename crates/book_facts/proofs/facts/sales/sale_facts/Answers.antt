@@ -19,17 +19,25 @@ returns-then-is_some g c =
     record {
       facts = λ clean o office members counted.
           record {
-            first_sale = sales_told office members none read_1 clean sales_in (find (λ s. bytes_eq s.operator c.args.order.now.operator && bytes_eq s.order_ref c.args.order.now.order_ref)) c.in_ok-facts.field-0 (c.in_ok-facts.ensures.given clean);
+            first_sale = sales_told office members none read_1 clean sales_in
+                (find (λ s. bytes_eq s.operator c.args.order.now.operator && bytes_eq s.order_ref c.args.order.now.order_ref))
+                c.in_ok-facts.field-0 (c.in_ok-facts.ensures.given clean);
             new_sale = search rules;
           };
-      shown = λ clean has. record { first_sale = first_shown sales_in c.in_ok-facts.ensures.sees clean has; open_shift = search rules; account = search rules; sale_count = search rules };
+      shown = λ clean has. record {
+        first_sale = first_shown sales_in c.in_ok-facts.ensures.sees clean has;
+        open_shift = search rules;
+        account = search rules;
+        sale_count = search rules;
+      };
       reads = read_on (read_in_office sales_in c.in_ok-facts.ensures.reads);
     }
 
 pub returns-in_err-facts-2 : goal.returns-in_err-facts-2
 returns-in_err-facts-2 g c =
     let first = passed (read_in_office sales_in c.in_ok-facts.ensures.reads) (g.met.S.Store.shut_if_dirty c.sale_of_ref.new.conn.store) in
-    looks_on c.from_residual-in_err-facts-2.result c.from_residual-in_err-facts-2.ensures.1 (read_after first (read_in_office shifts_in c.in_err-facts-2.ensures.reads))
+    looks_on c.from_residual-in_err-facts-2.result c.from_residual-in_err-facts-2.ensures.1
+    (read_after first (read_in_office shifts_in c.in_err-facts-2.ensures.reads))
 
 pub returns-then-is_none : goal.returns-then-is_none
 returns-then-is_none g c =
@@ -42,9 +50,12 @@ returns-then-is_none g c =
       facts = λ clean o office members counted.
           let was = was_clean office members first read_2 clean in
           record {
-            first_sale = sales_told office members none read_1 was sales_in (find (λ s. bytes_eq s.operator c.args.order.now.operator && bytes_eq s.order_ref c.args.order.now.order_ref)) c.in_ok-facts.field-0 (c.in_ok-facts.ensures.given was);
+            first_sale = sales_told office members none read_1 was sales_in
+                (find (λ s. bytes_eq s.operator c.args.order.now.operator && bytes_eq s.order_ref c.args.order.now.order_ref))
+                c.in_ok-facts.field-0 (c.in_ok-facts.ensures.given was);
             new_sale = λ _. record {
-              open_shift = open_shift_told office members first read_2 clean c.args.order.now.operator c.in_ok-facts-2.field-0 (c.in_ok-facts-2.ensures.given clean);
+              open_shift = open_shift_told office members first read_2 clean c.args.order.now.operator c.in_ok-facts-2.field-0
+                  (c.in_ok-facts-2.ensures.given clean);
               account = search rules;
               sale_count = search rules;
             };
@@ -80,9 +91,12 @@ returns g c =
           let later = was_clean office members second read_3 clean in
           let was = was_clean office members first read_2 later in
           record {
-            first_sale = sales_told office members none read_1 was sales_in (find (λ s. bytes_eq s.operator c.args.order.now.operator && bytes_eq s.order_ref c.args.order.now.order_ref)) c.in_ok-facts.field-0 (c.in_ok-facts.ensures.given was);
+            first_sale = sales_told office members none read_1 was sales_in
+                (find (λ s. bytes_eq s.operator c.args.order.now.operator && bytes_eq s.order_ref c.args.order.now.order_ref))
+                c.in_ok-facts.field-0 (c.in_ok-facts.ensures.given was);
             new_sale = λ _. record {
-              open_shift = open_shift_told office members first read_2 later c.args.order.now.operator c.in_ok-facts-2.field-0 (c.in_ok-facts-2.ensures.given later);
+              open_shift = open_shift_told office members first read_2 later c.args.order.now.operator c.in_ok-facts-2.field-0
+                  (c.in_ok-facts-2.ensures.given later);
               account = λ _. c.in_ok-facts-3.ensures.facts clean o office (members_after o members second read_3.survives clean);
               sale_count = λ _ _. counted;
             };

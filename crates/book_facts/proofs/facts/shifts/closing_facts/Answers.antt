@@ -14,7 +14,8 @@ returns g c =
     let old = state g.S.Store c.args.conn.now in
     let none = passed_none old (g.met.S.Store.shut_if_dirty c.args.conn.now.store) in
     record {
-      facts = λ clean o office members. open_shift_told office members none (read_in_office shifts_in c.in_ok-open_shift.ensures.reads) clean c.args.operator.now c.in_ok-open_shift.open_shift (c.in_ok-open_shift.ensures.given clean);
+      facts = λ clean o office members. open_shift_told office members none (read_in_office shifts_in c.in_ok-open_shift.ensures.reads)
+          clean c.args.operator.now c.in_ok-open_shift.open_shift (c.in_ok-open_shift.ensures.given clean);
       shown = λ clean has. first_shown shifts_in c.in_ok-open_shift.ensures.sees clean has;
       reads = read_on (read_in_office shifts_in c.in_ok-open_shift.ensures.reads);
     }

@@ -18,7 +18,8 @@ returns-then-is_some g c =
     record {
       facts = λ clean o office members.
           record {
-            open_shift = open_shift_told office members none read_1 clean c.args.operator.now c.in_ok-open_shift.open_shift (c.in_ok-open_shift.ensures.given clean);
+            open_shift = open_shift_told office members none read_1 clean c.args.operator.now c.in_ok-open_shift.open_shift
+                (c.in_ok-open_shift.ensures.given clean);
             shift_count = search rules;
           };
       shown = λ clean has. record { open_shift = first_shown shifts_in c.in_ok-open_shift.ensures.sees clean has; shift_count = search rules };
@@ -41,14 +42,21 @@ returns g c =
       facts = λ clean o office members.
           let was = was_clean office members first read_2 clean in
           record {
-            open_shift = open_shift_told office members none read_1 was c.args.operator.now c.in_ok-open_shift.open_shift (c.in_ok-open_shift.ensures.given was);
-            shift_count = λ _. c.from.ensures ∙ c.unwrap_or.ensures ∙ shifts_told office members first read_2 clean length (unwrap_or c.in_ok-last.last 0) (c.in_ok-last.ensures.counted clean);
+            open_shift = open_shift_told office members none read_1 was c.args.operator.now c.in_ok-open_shift.open_shift
+                (c.in_ok-open_shift.ensures.given was);
+            shift_count = λ _. c.from.ensures ∙ c.unwrap_or.ensures
+                ∙ shifts_told office members first read_2 clean length (unwrap_or c.in_ok-last.last 0) (c.in_ok-last.ensures.counted clean);
           };
       shown = λ clean has.
           let was = clean_before first read_2.survives has clean in
           record {
             open_shift = first_shown shifts_in c.in_ok-open_shift.ensures.sees was has;
-            shift_count = λ _. (c.in_ok-last.last, table_shown first shifts_in c.in_ok-last.ensures.reads c.in_ok-last.ensures.sees clean has, c.from.ensures ∙ c.unwrap_or.ensures);
+            shift_count = λ _. (
+              c.in_ok-last.last,
+              table_shown first shifts_in c.in_ok-last.ensures.reads c.in_ok-last.ensures.sees clean
+                  has,
+              c.from.ensures ∙ c.unwrap_or.ensures,
+            );
           };
       reads = read_on (read_after first (read_in_office shifts_in c.in_ok-last.ensures.reads));
     }

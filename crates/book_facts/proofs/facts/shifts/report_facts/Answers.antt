@@ -24,11 +24,13 @@ returns-in_default g c =
     let read = read_in_office shifts_in c.in_ok-found.ensures.reads in
     record {
       facts = λ clean o office members.
-          let shift_is = shifts_told office members none read clean (find (λ s. s.number == c.args.number)) c.in_ok-found.found (c.in_ok-found.ensures.given clean) in
+          let shift_is = shifts_told office members none read clean (find (λ s. s.number == c.args.number)) c.in_ok-found.found
+          (c.in_ok-found.ensures.given clean) in
           ap (λ (f : Facts). f.report) c.none.ensures
           ∙ ap (option_map (λ (s : Shift). (s, sales_of_shift o c.args.number))) (sym (none_of c.in_ok-found.found c.in_default.not-Some) ∙ shift_is);
       shown = λ clean has.
-          let shift = subst (ShowsFirst (the_shift c.args.number) old.now) (none_of c.in_ok-found.found c.in_default.not-Some) (first_shown shifts_in c.in_ok-found.ensures.sees clean has) in
+          let shift = subst (ShowsFirst (the_shift c.args.number) old.now) (none_of c.in_ok-found.found c.in_default.not-Some)
+          (first_shown shifts_in c.in_ok-found.ensures.sees clean has) in
           subst (IsReportSeen c.args.number old.now) (sym (ap (λ (f : Facts). f.report) c.none.ensures)) shift;
       reads = read_on (read_in_office shifts_in c.in_ok-found.ensures.reads);
     }
@@ -36,7 +38,8 @@ returns-in_default g c =
 pub returns-in_err-sales : goal.returns-in_err-sales
 returns-in_err-sales g c =
     let first = passed (read_in_office shifts_in c.in_ok-found.ensures.reads) (g.met.S.Store.shut_if_dirty c.shift_numbered.new.conn.store) in
-    looks_on c.from_residual-in_err-sales.result c.from_residual-in_err-sales.ensures.1 (read_after first (read_in_office sales_in c.in_err-sales.ensures.reads))
+    looks_on c.from_residual-in_err-sales.result c.from_residual-in_err-sales.ensures.1
+    (read_after first (read_in_office sales_in c.in_err-sales.ensures.reads))
 
 pub returns : goal.returns
 returns g c =
@@ -48,8 +51,10 @@ returns g c =
     record {
       facts = λ clean o office members.
           let was = was_clean office members first read_2 clean in
-          let shift_is = shifts_told office members none read_1 was (find (λ s. s.number == c.args.number)) c.in_ok-found.found (c.in_ok-found.ensures.given was) in
-          let sales_are = sales_told office members first read_2 clean sales_in (filter (λ s. s.shift == c.args.number)) c.in_ok-sales.sales.items (c.in_ok-sales.ensures.given clean) in
+          let shift_is = shifts_told office members none read_1 was (find (λ s. s.number == c.args.number)) c.in_ok-found.found
+          (c.in_ok-found.ensures.given was) in
+          let sales_are = sales_told office members first read_2 clean sales_in (filter (λ s. s.shift == c.args.number))
+          c.in_ok-sales.sales.items (c.in_ok-sales.ensures.given clean) in
           ap (λ (sales : List Sale). let found : Option (Shift × List Sale) = Some (c.in-Some.shift, sales) in found) (c.of.ensures ∙ sales_are)
           ∙ ap (option_map (λ (s : Shift). (s, sales_of_shift o c.args.number))) (sym c.in-Some.is ∙ shift_is);
       shown = λ clean has.

@@ -30,14 +30,16 @@ returns-then-is_none g c =
           ap (option_map (λ (s : Shift). all_totals (sales_of_shift o number))) (none_if c.in_ok-found.found gone ∙ shift_is);
       shown = λ clean has.
           let gone : is_none c.in_ok-found.found ≡ true = search rules in
-          subst (ShowsFirst (the_shift c.args.number) old.now) (sym (none_if c.in_ok-found.found gone)) (first_shown shifts_in c.in_ok-found.ensures.sees clean has);
+          subst (ShowsFirst (the_shift c.args.number) old.now) (sym (none_if c.in_ok-found.found gone))
+          (first_shown shifts_in c.in_ok-found.ensures.sees clean has);
       reads = read_on (read_in_office shifts_in c.in_ok-found.ensures.reads);
     }
 
 pub returns-in_err-totals : goal.returns-in_err-totals
 returns-in_err-totals g c =
     let first = passed (read_in_office shifts_in c.in_ok-found.ensures.reads) (g.met.S.Store.shut_if_dirty c.shift_numbered.new.conn.store) in
-    looks_on c.from_residual-in_err-totals.result c.from_residual-in_err-totals.ensures.1 (read_after first (read_in_office shift_totals_in c.in_err-totals.ensures.reads))
+    looks_on c.from_residual-in_err-totals.result c.from_residual-in_err-totals.ensures.1
+    (read_after first (read_in_office shift_totals_in c.in_err-totals.ensures.reads))
 
 pub returns : goal.returns
 returns g c =
@@ -53,7 +55,8 @@ returns g c =
       facts = λ clean o office members.
           let was = was_clean office members first read_2 clean in
           let shift_is = shifts_told office members none read_1 was (find (λ s. s.number == number)) found (c.in_ok-found.ensures.given was) in
-          let totals_are = sales_told office members first read_2 clean shift_totals_in (λ (sales : List Sale). all_totals (sales_in_shift sales number)) c.in_ok-totals.totals (c.in_ok-totals.ensures.given clean) in
+          let totals_are = sales_told office members first read_2 clean shift_totals_in
+          (λ (sales : List Sale). all_totals (sales_in_shift sales number)) c.in_ok-totals.totals (c.in_ok-totals.ensures.given clean) in
           ap (λ (totals : Totals). let given : Option Totals = Some totals in given) totals_are
           ∙ told_there found (all_totals (sales_of_shift o number)) some
           ∙ ap (option_map (λ (s : Shift). all_totals (sales_of_shift o number))) shift_is;

@@ -26,14 +26,19 @@ returns-then-not-has_tariff g c =
           };
       shown = λ clean has.
           let same : c.in_ok-has_tariff.has_tariff ≡ c.none.result.has_tariff = search rules in
-          record { has_tariff = subst (IsTariffSeen c.args.name.now old.now) same (first_shown tariffs_in c.in_ok-has_tariff.ensures.sees clean has); dated_steps = search rules };
+          record {
+            has_tariff = subst (IsTariffSeen c.args.name.now old.now) same
+                (first_shown tariffs_in c.in_ok-has_tariff.ensures.sees clean has);
+            dated_steps = search rules;
+          };
       reads = read_on (read_in_office tariffs_in c.in_ok-has_tariff.ensures.reads);
     }
 
 pub returns-in_err-dated_steps : goal.returns-in_err-dated_steps
 returns-in_err-dated_steps g c =
     let first = passed (read_in_office tariffs_in c.in_ok-has_tariff.ensures.reads) (g.met.S.Store.shut_if_dirty c.has_tariff.new.conn.store) in
-    looks_on c.from_residual-in_err-dated_steps.result c.from_residual-in_err-dated_steps.ensures.1 (read_after first (read_in_office dated_steps_in c.in_err-dated_steps.ensures.reads))
+    looks_on c.from_residual-in_err-dated_steps.result c.from_residual-in_err-dated_steps.ensures.1
+    (read_after first (read_in_office dated_steps_in c.in_err-dated_steps.ensures.reads))
 
 pub returns : goal.returns
 returns g c =
@@ -48,7 +53,8 @@ returns g c =
           let was = was_clean office members first read_2 clean in
           record {
             has_tariff = tariff_told office members none read_1 was name c.in_ok-has_tariff.has_tariff (c.in_ok-has_tariff.ensures.given was);
-            dated_steps = λ _. office_told office members first read_2 clean dated_steps_in (λ (o : Office). o.dated_steps name c.args.day) c.in_ok-dated_steps.dated_steps (c.in_ok-dated_steps.ensures.given clean);
+            dated_steps = λ _. office_told office members first read_2 clean dated_steps_in (λ (o : Office). o.dated_steps name c.args.day)
+                c.in_ok-dated_steps.dated_steps (c.in_ok-dated_steps.ensures.given clean);
           };
       shown = λ clean has.
           let was = clean_before first read_2.survives has clean in

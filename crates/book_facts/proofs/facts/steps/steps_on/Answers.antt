@@ -23,10 +23,12 @@ returns-then-is_some g c =
     let read = read_in_office dated_steps_in c.in_ok-begun.ensures.reads in
     record {
       facts = λ clean o office members.
-          let begun_is = office_told office members none read clean dated_steps_in (λ (o : Office). latest (o.dated_steps name) c.args.day) c.in_ok-begun.begun (c.in_ok-begun.ensures.given clean) in
+          let begun_is = office_told office members none read clean dated_steps_in (λ (o : Office). latest (o.dated_steps name) c.args.day)
+          c.in_ok-begun.begun (c.in_ok-begun.ensures.given clean) in
           begun_alone c.in_ok-begun.begun (o.tariffs name) (sym c.is_some.ensures ∙ c.if-is_some.true)
           ∙ ap (λ (begun : Option (List Step)). option_or begun (o.tariffs name)) begun_is;
-      shown = λ clean has. or_first c.in_ok-begun.begun (sym c.is_some.ensures ∙ c.if-is_some.true) (first_shown dated_steps_in c.in_ok-begun.ensures.sees clean has);
+      shown = λ clean has. or_first c.in_ok-begun.begun (sym c.is_some.ensures ∙ c.if-is_some.true)
+          (first_shown dated_steps_in c.in_ok-begun.ensures.sees clean has);
       reads = read_on (read_in_office dated_steps_in c.in_ok-begun.ensures.reads);
     }
 
@@ -41,7 +43,8 @@ returns g c =
     record {
       facts = λ clean o office members.
           let was = clean_before first read_2.survives (tables_of old o members) clean in
-          let begun_is = office_told office members none read_1 was dated_steps_in (λ (o : Office). latest (o.dated_steps name) c.args.day) c.in_ok-begun.begun (c.in_ok-begun.ensures.given was) in
+          let begun_is = office_told office members none read_1 was dated_steps_in (λ (o : Office). latest (o.dated_steps name) c.args.day)
+          c.in_ok-begun.begun (c.in_ok-begun.ensures.given was) in
           IfOk-weaker c.steps_of.result _ _ (λ found is.
           begun_or_first c.in_ok-begun.begun (o.tariffs name) found (sym c.is_some.ensures ∙ c.if-is_some.false) is
           ∙ ap (λ (begun : Option (List Step)). option_or begun (o.tariffs name)) begun_is)

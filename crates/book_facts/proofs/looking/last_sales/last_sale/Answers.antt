@@ -42,8 +42,10 @@ returns-then-is_some-2 g c =
           let was = was_clean office members first read_2 clean in
           let latest_is = c.in_ok-latest.ensures.facts was o office members in
           let before_is = c.in_ok-before.ensures.facts clean o office (members_after o members first read_2.survives clean) in
-          begun_or_first c.in_ok-latest.latest (option_or (last_under o number Y2014) first_under) c.in_ok-before.before (sym c.is_some.ensures ∙ c.if-is_some.false)
-          (begun_alone c.in_ok-before.before first_under (sym c.is_some-2.ensures ∙ c.if-is_some-2.true) ∙ ap (λ (before : Option Sale). option_or before first_under) before_is)
+          begun_or_first c.in_ok-latest.latest (option_or (last_under o number Y2014) first_under) c.in_ok-before.before
+          (sym c.is_some.ensures ∙ c.if-is_some.false)
+          (begun_alone c.in_ok-before.before first_under (sym c.is_some-2.ensures ∙ c.if-is_some-2.true)
+          ∙ ap (λ (before : Option Sale). option_or before first_under) before_is)
           ∙ ap (λ (latest : Option Sale). option_or latest (option_or (last_under o number Y2014) first_under)) latest_is;
       shown = λ clean has.
           let was = clean_before first read_2.survives has clean in
@@ -68,7 +70,8 @@ returns g c =
           let before_is = c.in_ok-before.ensures.facts was_2 o office (members_after o members first read_2.survives was_2) in
           IfOk-weaker c.last_under-3.result _ _ (λ found is.
           begun_or_first c.in_ok-latest.latest (option_or (last_under o number Y2014) first_under) found (sym c.is_some.ensures ∙ c.if-is_some.false)
-          (begun_or_first c.in_ok-before.before first_under found (sym c.is_some-2.ensures ∙ c.if-is_some-2.false) is ∙ ap (λ (before : Option Sale). option_or before first_under) before_is)
+          (begun_or_first c.in_ok-before.before first_under found (sym c.is_some-2.ensures ∙ c.if-is_some-2.false) is
+          ∙ ap (λ (before : Option Sale). option_or before first_under) before_is)
           ∙ ap (λ (latest : Option Sale). option_or latest (option_or (last_under o number Y2014) first_under)) latest_is)
           (c.last_under-3.ensures.facts clean o office (members_after o members second read_3.survives clean));
       shown = λ clean has.

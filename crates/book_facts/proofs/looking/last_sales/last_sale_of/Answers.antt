@@ -22,7 +22,8 @@ returns-then-is_none-clause-looks g c =
     let gone : is_none c.in_ok-there.there ≡ true = search rules in
     record {
       facts = λ clean o office members.
-          let meter_is = meter_told office members none read clean c.members_law.ensures.meter c.args.number.now c.in_ok-there.there (c.in_ok-there.ensures.given clean) in
+          let meter_is = meter_told office members none read clean c.members_law.ensures.meter c.args.number.now c.in_ok-there.there
+          (c.in_ok-there.ensures.given clean) in
           ap (λ (there : Option Meter). last_found there (last_sale o c.args.number.now)) (none_if c.in_ok-there.there gone ∙ meter_is);
       shown = λ clean has.
           let gone : is_none c.in_ok-there.there ≡ true = search rules in
@@ -52,7 +53,8 @@ returns-clause-looks g c =
     record {
       facts = λ clean o office members.
           let was = was_clean office members first read_2 clean in
-          let meter_is = meter_told office members none read_1 was c.members_law.ensures.meter c.args.number.now c.in_ok-there.there (c.in_ok-there.ensures.given was) in
+          let meter_is = meter_told office members none read_1 was c.members_law.ensures.meter c.args.number.now c.in_ok-there.there
+          (c.in_ok-there.ensures.given was) in
           let last_is = c.in_ok-last.ensures.facts clean o office (members_after o members first read_2.survives clean) in
           c.sale_or_none.ensures.value
           ∙ ap (λ (last : Option Sale). sale_found last) last_is

@@ -26,16 +26,20 @@ returns-in_default g c =
     let read = read_in_office last_ids_in c.in_ok-last.ensures.reads in
     record {
       facts = λ clean o office members.
-          let last_is = sales_told office members none read clean last_ids_in (λ (sales : List Sale). greatest_of (map (λ s. s.tid) (filter (λ s. bytes_eq s.meter c.args.number.now && base_eq s.base c.args.base) sales))) c.in_ok-last.last (c.in_ok-last.ensures.given clean) in
+          let last_is = sales_told office members none read clean last_ids_in
+          (λ (sales : List Sale). greatest_of (map (λ s. s.tid)
+          (filter (λ s. bytes_eq s.meter c.args.number.now && base_eq s.base c.args.base) sales))) c.in_ok-last.last (c.in_ok-last.ensures.given clean) in
           ap (λ (tid : Option ℕ). sale_of_some_tid o c.args.number.now c.args.base tid) (sym c.in_default.is ∙ last_is);
-      shown = λ clean has. subst (ShowsFirst (the_last_id c.args.number.now c.args.base) old.now) c.in_default.is (first_shown last_ids_in c.in_ok-last.ensures.sees clean has);
+      shown = λ clean has. subst (ShowsFirst (the_last_id c.args.number.now c.args.base) old.now) c.in_default.is
+          (first_shown last_ids_in c.in_ok-last.ensures.sees clean has);
       reads = read_on (read_in_office last_ids_in c.in_ok-last.ensures.reads);
     }
 
 pub returns-in_err-there : goal.returns-in_err-there
 returns-in_err-there g c =
     let first = passed (read_in_office last_ids_in c.in_ok-last.ensures.reads) (g.met.S.Store.shut_if_dirty c.greatest_tid.new.conn.store) in
-    looks_on c.from_residual-in_err-there.result c.from_residual-in_err-there.ensures.1 (read_after first (read_in_office sales_in c.in_err-there.ensures.reads))
+    looks_on c.from_residual-in_err-there.result c.from_residual-in_err-there.ensures.1
+    (read_after first (read_in_office sales_in c.in_err-there.ensures.reads))
 
 pub returns-in_default-there : goal.returns-in_default-there
 returns-in_default-there g c =
@@ -49,8 +53,11 @@ returns-in_default-there g c =
     let both = read_after first read_2 in
     looks_none (stops_on RowOfNoOffice both (λ clean has. of_no_office both clean has (λ o office members.
     let was = was_clean office members first read_2 clean in
-    let last_is = sales_told office members none read_1 was last_ids_in (λ (sales : List Sale). greatest_of (map (λ s. s.tid) (filter (λ s. bytes_eq s.meter number && base_eq s.base base) sales))) c.in_ok-last.last (c.in_ok-last.ensures.given was) in
-    let sale_is = sales_told office members first read_2 clean sales_in (find (λ s. bytes_eq s.meter number && (base_eq s.base base && (s.tid == tid)))) c.in_ok-there.there (c.in_ok-there.ensures.given clean) in
+    let last_is = sales_told office members none read_1 was last_ids_in
+    (λ (sales : List Sale). greatest_of (map (λ s. s.tid) (filter (λ s. bytes_eq s.meter number && base_eq s.base base) sales)))
+    c.in_ok-last.last (c.in_ok-last.ensures.given was) in
+    let sale_is = sales_told office members first read_2 clean sales_in
+    (find (λ s. bytes_eq s.meter number && (base_eq s.base base && (s.tid == tid)))) c.in_ok-there.there (c.in_ok-there.ensures.given clean) in
     let at = c.store_law.ensures.of_last_sale o number base tid office (sym last_is ∙ c.in-Some.is) in
     sale_there o number base tid at.0 at.1 at.2 (sym sale_is ∙ c.in_default-there.is))))
 
@@ -67,15 +74,19 @@ returns g c =
     record {
       facts = λ clean o office members.
           let was = was_clean office members first read_2 clean in
-          let last_is = sales_told office members none read_1 was last_ids_in (λ (sales : List Sale). greatest_of (map (λ s. s.tid) (filter (λ s. bytes_eq s.meter number && base_eq s.base base) sales))) c.in_ok-last.last (c.in_ok-last.ensures.given was) in
-          let sale_is = sales_told office members first read_2 clean sales_in (find (λ s. bytes_eq s.meter number && (base_eq s.base base && (s.tid == tid)))) c.in_ok-there.there (c.in_ok-there.ensures.given clean) in
+          let last_is = sales_told office members none read_1 was last_ids_in
+          (λ (sales : List Sale). greatest_of (map (λ s. s.tid) (filter (λ s. bytes_eq s.meter number && base_eq s.base base) sales)))
+          c.in_ok-last.last (c.in_ok-last.ensures.given was) in
+          let sale_is = sales_told office members first read_2 clean sales_in
+          (find (λ s. bytes_eq s.meter number && (base_eq s.base base && (s.tid == tid)))) c.in_ok-there.there (c.in_ok-there.ensures.given clean) in
           sym c.in-Some-there.is ∙ sale_is
           ∙ ap (λ (tid : Option ℕ). sale_of_some_tid o number base tid) (sym c.in-Some.is ∙ last_is);
       shown = λ clean has.
           let was = clean_before first read_2.survives has clean in (
             tid,
             subst (ShowsFirst (the_last_id number base) old.now) c.in-Some.is (first_shown last_ids_in c.in_ok-last.ensures.sees was has),
-            subst (ShowsFirst (the_sale_of_tid number base tid) old.now) c.in-Some-there.is (table_shown first sales_in c.in_ok-there.ensures.reads c.in_ok-there.ensures.sees clean has),
+            subst (ShowsFirst (the_sale_of_tid number base tid) old.now) c.in-Some-there.is
+                (table_shown first sales_in c.in_ok-there.ensures.reads c.in_ok-there.ensures.sees clean has),
           );
       reads = read_on (read_after first (read_in_office sales_in c.in_ok-there.ensures.reads));
     }

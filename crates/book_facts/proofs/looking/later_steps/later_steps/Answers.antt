@@ -29,12 +29,15 @@ loop-later-init g c =
     }
 
 pub returns-in_err-from : goal.returns-in_err-from
-returns-in_err-from g c = looks_on c.from_residual.result c.from_residual.ensures.1 (read_after c.loop-later.invariant.passed (read_in_office dated_steps_in c.in_err-from.ensures.reads))
+returns-in_err-from g c = looks_on c.from_residual.result c.from_residual.ensures.1
+    (read_after c.loop-later.invariant.passed (read_in_office dated_steps_in c.in_err-from.ensures.reads))
 
 pub returns-in_err-found : goal.returns-in_err-found
 returns-in_err-found g c =
-    let next = passed_after c.loop-later.invariant.passed (read_in_office dated_steps_in c.in_ok-from.ensures.reads) (g.met.S.Store.shut_if_dirty c.first_day_after.new.conn.store) in
-    looks_on c.from_residual-in_err-found.result c.from_residual-in_err-found.ensures.1 (read_after next (read_in_office dated_steps_in c.in_err-found.ensures.reads))
+    let next = passed_after c.loop-later.invariant.passed (read_in_office dated_steps_in c.in_ok-from.ensures.reads)
+    (g.met.S.Store.shut_if_dirty c.first_day_after.new.conn.store) in
+    looks_on c.from_residual-in_err-found.result c.from_residual-in_err-found.ensures.1
+    (read_after next (read_in_office dated_steps_in c.in_err-found.ensures.reads))
 
 pub returns-in_default-found : goal.returns-in_default-found
 returns-in_default-found g c =
@@ -46,9 +49,12 @@ returns-in_default-found g c =
     let name = c.args.name.now in
     looks_none (stops_on RowOfNoOffice all (λ clean has. of_no_office all clean has (λ o office members.
     let was = clean_before next read_2.survives has clean in
-    let next_is = office_says office members before read_1 was dated_steps_in (λ (o : Office). IsNextDay (o.dated_steps name) c.loop-later.last c.in_ok-from.field-0) (c.in_ok-from.ensures.given was) in
-    let steps_are = office_told office members next read_2 clean dated_steps_in (λ (o : Office). o.dated_steps name c.in-Some.from) c.in_ok-found.found (c.in_ok-found.ensures.given clean) in
-    has_next (o.dated_steps name) c.loop-later.last c.in_ok-from.field-0 c.in-Some.from c.in_ok-found.found next_is c.in-Some.is steps_are c.in_default-found.is)))
+    let next_is = office_says office members before read_1 was dated_steps_in
+    (λ (o : Office). IsNextDay (o.dated_steps name) c.loop-later.last c.in_ok-from.field-0) (c.in_ok-from.ensures.given was) in
+    let steps_are = office_told office members next read_2 clean dated_steps_in (λ (o : Office). o.dated_steps name c.in-Some.from)
+    c.in_ok-found.found (c.in_ok-found.ensures.given clean) in
+    has_next (o.dated_steps name) c.loop-later.last c.in_ok-from.field-0 c.in-Some.from c.in_ok-found.found next_is c.in-Some.is steps_are
+    c.in_default-found.is)))
 
 pub returns-then-le : goal.returns-then-le
 returns-then-le g c =
@@ -60,15 +66,18 @@ returns-then-le g c =
     let name = c.args.name.now in
     looks_none (stops_on RowOfNoOffice all (λ clean has. of_no_office all clean has (λ o office members.
     let was = clean_before next read_2.survives has clean in
-    let next_is = office_says office members before read_1 was dated_steps_in (λ (o : Office). IsNextDay (o.dated_steps name) c.loop-later.last c.in_ok-from.field-0) (c.in_ok-from.ensures.given was) in
+    let next_is = office_says office members before read_1 was dated_steps_in
+    (λ (o : Office). IsNextDay (o.dated_steps name) c.loop-later.last c.in_ok-from.field-0) (c.in_ok-from.ensures.given was) in
     let not_after = le_from_is_le c.in-Some.from c.loop-later.last (sym c.le.ensures ∙ c.if-le.true) in
     never_before (o.dated_steps name) c.loop-later.last c.in_ok-from.field-0 c.in-Some.from next_is c.in-Some.is not_after)))
 
 pub returns-in_err-map_err : goal.returns-in_err-map_err
 returns-in_err-map_err g c =
-    let next = passed_after c.loop-later.invariant.passed (read_in_office dated_steps_in c.in_ok-from.ensures.reads) (g.met.S.Store.shut_if_dirty c.first_day_after.new.conn.store) in
+    let next = passed_after c.loop-later.invariant.passed (read_in_office dated_steps_in c.in_ok-from.ensures.reads)
+    (g.met.S.Store.shut_if_dirty c.first_day_after.new.conn.store) in
     let read = read_after next (read_in_office dated_steps_in c.in_ok-found.ensures.reads) in
-    looks_on {U = ⊤} c.from_residual-in_err-map_err.result c.from_residual-in_err-map_err.ensures.1 (stops_on (Database (SqliteFailure OutOfMemory)) read (λ clean has. inr (refl, read.same clean has)))
+    looks_on {U = ⊤} c.from_residual-in_err-map_err.result c.from_residual-in_err-map_err.ensures.1
+    (stops_on (Database (SqliteFailure OutOfMemory)) read (λ clean has. inr (refl, read.same clean has)))
 
 pub loop-later-preserved : goal.loop-later-preserved
 loop-later-preserved g c =
@@ -89,9 +98,12 @@ loop-later-preserved g c =
           let has = tables_of old o members in
           let was = clean_before next read_2.survives has clean in
           let was_1 = clean_before before read_1.survives has was in
-          let next_is = office_says office members before read_1 was dated_steps_in (λ (o : Office). IsNextDay (o.dated_steps name) last c.in_ok-from.field-0) (c.in_ok-from.ensures.given was) in
-          let steps_are = office_told office members next read_2 clean dated_steps_in (λ (o : Office). o.dated_steps name from) c.in_ok-found.found (c.in_ok-found.ensures.given clean) in
-          rw pushed (until_found (o.dated_steps name) last c.in_ok-from.field-0 from c.args.day so_far c.in_ok-found.found c.in-Some-found.steps (c.loop-later.invariant.until was_1 o office members) next_is c.in-Some.is steps_are c.in-Some-found.is);
+          let next_is = office_says office members before read_1 was dated_steps_in
+          (λ (o : Office). IsNextDay (o.dated_steps name) last c.in_ok-from.field-0) (c.in_ok-from.ensures.given was) in
+          let steps_are = office_told office members next read_2 clean dated_steps_in (λ (o : Office). o.dated_steps name from)
+          c.in_ok-found.found (c.in_ok-found.ensures.given clean) in
+          rw pushed (until_found (o.dated_steps name) last c.in_ok-from.field-0 from c.args.day so_far c.in_ok-found.found
+          c.in-Some-found.steps (c.loop-later.invariant.until was_1 o office members) next_is c.in-Some.is steps_are c.in-Some-found.is);
       seen = λ clean has more rest.
           let was = clean_before next read_2.survives has clean in
           let was_1 = clean_before before read_1.survives has was in
@@ -117,8 +129,10 @@ returns g c =
     record {
       facts = λ clean o office members.
           let was = clean_before before read.survives (tables_of old o members) clean in
-          let next_is = office_says office members before read clean dated_steps_in (λ (o : Office). IsNextDay (o.dated_steps name) last c.in_ok-from.field-0) (c.in_ok-from.ensures.given clean) in
-          until_none (o.dated_steps name) c.args.day last so_far c.in_ok-from.field-0 (c.loop-later.invariant.until was o office members) next_is c.in_default.is;
+          let next_is = office_says office members before read clean dated_steps_in
+          (λ (o : Office). IsNextDay (o.dated_steps name) last c.in_ok-from.field-0) (c.in_ok-from.ensures.given clean) in
+          until_none (o.dated_steps name) c.args.day last so_far c.in_ok-from.field-0 (c.loop-later.invariant.until was o office members)
+          next_is c.in_default.is;
       shown = λ clean has.
           let was = clean_before before read.survives has clean in
           let day = table_shown before dated_steps_in c.in_ok-from.ensures.reads c.in_ok-from.ensures.sees clean has in

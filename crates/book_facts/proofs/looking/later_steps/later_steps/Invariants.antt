@@ -19,7 +19,8 @@ invariant-loop-later g l = record {
   until : HasCleanDisk (state g.S.Store l.conn) → (o : Office) → IsOffice o → HasMembers (state g.S.Store l.fn.conn) o
       → AreUntil (o.dated_steps l.name) l.fn.day l.last l.later.items;
   seen : HasCleanDisk (state g.S.Store l.conn) → HasAllTables (state g.S.Store l.fn.conn)
-      → (more : List LaterSteps) → AreLaterSeen l.name l.last (state g.S.Store l.fn.conn).now more → AreLaterSeen l.name l.fn.day (state g.S.Store l.fn.conn).now (l.later.items ++ more);
+      → (more : List LaterSteps) → AreLaterSeen l.name l.last (state g.S.Store l.fn.conn).now more
+      → AreLaterSeen l.name l.fn.day (state g.S.Store l.fn.conn).now (l.later.items ++ more);
 }
 
 abbrev pub decreases-loop-later : goal.decreases-loop-later

@@ -22,7 +22,8 @@ returns-in_err-rows-clause-looks g c = looks_on c.from_residual.result c.from_re
 pub returns-in_err-listed-clause-looks : goal.returns-in_err-listed-clause-looks
 returns-in_err-listed-clause-looks g c =
     let read = read_in_office meters_in c.in_ok-rows.ensures.reads in
-    looks_on {U = ⊤} c.from_residual-in_err-listed.result c.from_residual-in_err-listed.ensures.1 (stops_on (Database (SqliteFailure OutOfMemory)) read (λ clean has. inr (refl, read.same clean has)))
+    looks_on {U = ⊤} c.from_residual-in_err-listed.result c.from_residual-in_err-listed.ensures.1
+    (stops_on (Database (SqliteFailure OutOfMemory)) read (λ clean has. inr (refl, read.same clean has)))
 
 pub returns-clause-looks : goal.returns-clause-looks
 returns-clause-looks g c =
@@ -33,11 +34,13 @@ returns-clause-looks g c =
     record {
       facts = λ clean o office members.
           subst (λ start. AreMetersAfter o start c.in_ok-listed.listed.items) c.number_or_none.ensures
-          (office_says office members none read clean meters_in (λ (o : Office). AreMetersAfter o start c.in_ok-listed.listed.items) (λ rows p has office_p members_p.
+          (office_says office members none read clean meters_in (λ (o : Office). AreMetersAfter o start c.in_ok-listed.listed.items)
+          (λ rows p has office_p members_p.
           let given = c.in_ok-rows.ensures.given clean rows p has office_p members_p in
           meters_listed p start c.in_ok-rows.rows.items c.in_ok-listed.listed.items c.in_ok-listed.ensures given.0 given.1));
       shown = λ clean has.
-          let rows = subst (λ start. ShowsAll (the_meters_after start) old.now c.in_ok-rows.rows.items) c.number_or_none.ensures (first_shown meters_in c.in_ok-rows.ensures.sees clean has) in
+          let rows = subst (λ start. ShowsAll (the_meters_after start) old.now c.in_ok-rows.rows.items) c.number_or_none.ensures
+          (first_shown meters_in c.in_ok-rows.ensures.sees clean has) in
           (c.in_ok-rows.rows.items, rows, c.in_ok-listed.ensures);
       reads = read_on (read_in_office meters_in c.in_ok-rows.ensures.reads);
     }

@@ -29,7 +29,8 @@ returns-in_default-clause-looks g c =
     record {
       facts = λ clean o office members.
           let meter_is = meter_told office members none read clean c.members_law.ensures.meter number c.in_ok-there.there (c.in_ok-there.ensures.given clean) in
-          ap (λ (there : Option Meter). meter_found number there (prior o number (month_at c.args.moment)) (last_sale o number)) (sym c.in_default.is ∙ meter_is);
+          ap (λ (there : Option Meter). meter_found number there (prior o number (month_at c.args.moment)) (last_sale o number))
+          (sym c.in_default.is ∙ meter_is);
       shown = λ clean has.
           record {
             there = None;
@@ -46,12 +47,14 @@ returns-in_default-clause-looks g c =
 pub returns-in_err-tenths-clause-looks : goal.returns-in_err-tenths-clause-looks
 returns-in_err-tenths-clause-looks g c =
     let first = passed (read_in_office meters_in c.in_ok-there.ensures.reads) (g.met.S.Store.shut_if_dirty c.meter_numbered.new.conn.store) in
-    looks_on c.from_residual-in_err-tenths.result c.from_residual-in_err-tenths.ensures.1 (read_after first (read_in_office month_tenths_in c.in_err-tenths.ensures.reads))
+    looks_on c.from_residual-in_err-tenths.result c.from_residual-in_err-tenths.ensures.1
+    (read_after first (read_in_office month_tenths_in c.in_err-tenths.ensures.reads))
 
 pub returns-in_err-last-clause-looks : goal.returns-in_err-last-clause-looks
 returns-in_err-last-clause-looks g c =
     let first = passed (read_in_office meters_in c.in_ok-there.ensures.reads) (g.met.S.Store.shut_if_dirty c.meter_numbered.new.conn.store) in
-    let second = passed_after first (read_in_office month_tenths_in c.in_ok-tenths.ensures.reads) (g.met.S.Store.shut_if_dirty c.tenths_in_month.new.conn.store) in
+    let second = passed_after first (read_in_office month_tenths_in c.in_ok-tenths.ensures.reads)
+    (g.met.S.Store.shut_if_dirty c.tenths_in_month.new.conn.store) in
     looks_on c.from_residual-in_err-last.result c.from_residual-in_err-last.ensures.1 (read_after second c.in_err-last.ensures.reads)
 
 pub returns-clause-looks : goal.returns-clause-looks
@@ -69,11 +72,16 @@ returns-clause-looks g c =
       facts = λ clean o office members.
           let was_2 = was_clean office members second read_3 clean in
           let was_1 = was_clean office members first read_2 was_2 in
-          let meter_is = meter_told office members none read_1 was_1 c.members_law.ensures.meter number c.in_ok-there.there (c.in_ok-there.ensures.given was_1) in
-          let tenths_are = sales_told office members first read_2 was_2 month_tenths_in (λ (sales : List Sale). sum_by (λ s. s.tenths) (filter (λ s. bytes_eq s.meter number && (month_at s.moment == c.unwrap-month.result)) sales)) c.in_ok-tenths.tenths (c.in_ok-tenths.ensures.given was_2) in
+          let meter_is = meter_told office members none read_1 was_1 c.members_law.ensures.meter number c.in_ok-there.there
+          (c.in_ok-there.ensures.given was_1) in
+          let tenths_are = sales_told office members first read_2 was_2 month_tenths_in
+          (λ (sales : List Sale). sum_by (λ s. s.tenths) (filter
+          (λ s. bytes_eq s.meter number && (month_at s.moment == c.unwrap-month.result)) sales)) c.in_ok-tenths.tenths
+          (c.in_ok-tenths.ensures.given was_2) in
           let last_is = c.in_ok-last.ensures.facts clean o office (members_after o members second read_3.survives clean) in
           let tenths_is : c.in_ok-tenths.tenths ≡ prior o number (month_at c.args.moment) = tenths_are ∙ ap (λ (month : ℕ). prior o number month) month_is in
-          meter_is_told number c.in-Some.meter (o.meters number) c.in_ok-tenths.tenths (prior o number (month_at c.args.moment)) c.in_ok-last.last (last_sale o number) c.number_of.result c.number_of.ensures tenths_is last_is (sym c.in-Some.is ∙ meter_is);
+          meter_is_told number c.in-Some.meter (o.meters number) c.in_ok-tenths.tenths (prior o number (month_at c.args.moment))
+          c.in_ok-last.last (last_sale o number) c.number_of.result c.number_of.ensures tenths_is last_is (sym c.in-Some.is ∙ meter_is);
       shown = λ clean has.
           let was_2 = clean_before second read_3.survives has clean in
           let was_1 = clean_before first read_2.survives has was_2 in
@@ -86,7 +94,8 @@ returns-clause-looks g c =
             sold = λ _. rw month_is at tenths;
             sale = c.in_ok-last.last;
             last = λ _. looks_shown second c.in_ok-last.ensures clean has;
-            told = meter_is_told number c.in-Some.meter (Some c.in-Some.meter) c.in_ok-tenths.tenths c.in_ok-tenths.tenths c.in_ok-last.last c.in_ok-last.last c.number_of.result c.number_of.ensures refl refl refl;
+            told = meter_is_told number c.in-Some.meter (Some c.in-Some.meter) c.in_ok-tenths.tenths c.in_ok-tenths.tenths
+                c.in_ok-last.last c.in_ok-last.last c.number_of.result c.number_of.ensures refl refl refl;
           };
       reads = read_on (read_after second c.in_ok-last.ensures.reads);
     }

@@ -24,10 +24,15 @@ returns-clause-looks g c =
           ∙ ap (λ (account : Option MeterAccount). quote_for c.args.moment c.args.number.now c.args.tender account c.args.sale_count) (same ∙ account_is)
           ∙ ap (λ (count : ℕ). quote_for c.args.moment c.args.number.now c.args.tender (account_of o c.args.number.now c.args.moment) count) counted;
       shown = λ clean has.
-          let same : option_copied c.as_ref.result ≡ c.in_ok-account.account = search rules in
-          (c.in_ok-account.account, c.in_ok-account.ensures.shown clean has, c.quoted.ensures ∙ ap (λ (account : Option MeterAccount). quote_for c.args.moment c.args.number.now c.args.tender account c.args.sale_count) same);
+          let same : option_copied c.as_ref.result ≡ c.in_ok-account.account = search rules in (
+            c.in_ok-account.account,
+            c.in_ok-account.ensures.shown clean has,
+            c.quoted.ensures ∙ ap (λ (account : Option MeterAccount). quote_for c.args.moment c.args.number.now c.args.tender account
+                c.args.sale_count) same,
+          );
       reads = read_on c.in_ok-account.ensures.reads;
     }
 
 pub returns-clause-rules : goal.returns-clause-rules
-returns-clause-rules g c = subst (λ (r : Result Found Refusal). IfErr r IsOfRules) (sym c.quoted.ensures) (quote_rules c.args.moment c.args.number.now c.args.tender _ c.args.sale_count)
+returns-clause-rules g c = subst (λ (r : Result Found Refusal). IfErr r IsOfRules) (sym c.quoted.ensures)
+    (quote_rules c.args.moment c.args.number.now c.args.tender _ c.args.sale_count)

@@ -19,7 +19,8 @@ returns-clause-looks g c =
     let none = passed_none old (g.met.S.Store.shut_if_dirty c.args.conn.now.store) in
     let after = c.args.after in
     record {
-      facts = λ clean o office members. sales_told office members none (read_in_office sales_in c.in_ok-sales.ensures.reads) clean sales_in (λ (sales : List Sale). take page_size (filter (λ s. nat_lt after s.number) sales)) c.in_ok-sales.sales.items (c.in_ok-sales.ensures.given clean);
+      facts = λ clean o office members. sales_told office members none (read_in_office sales_in c.in_ok-sales.ensures.reads) clean sales_in
+          (λ (sales : List Sale). take page_size (filter (λ s. nat_lt after s.number) sales)) c.in_ok-sales.sales.items (c.in_ok-sales.ensures.given clean);
       shown = λ clean has. first_shown sales_in c.in_ok-sales.ensures.sees clean has;
       reads = read_on (read_in_office sales_in c.in_ok-sales.ensures.reads);
     }

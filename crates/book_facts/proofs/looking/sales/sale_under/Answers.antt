@@ -19,7 +19,9 @@ returns-clause-looks g c =
     let none = passed_none old (g.met.S.Store.shut_if_dirty c.args.conn.now.store) in
     record {
       facts = λ clean o office members.
-          let there_is = sales_told office members none (read_in_office sales_in c.in_ok-there.ensures.reads) clean sales_in (find (λ s. bytes_eq s.operator c.args.operator.now && bytes_eq s.order_ref c.args.order_ref.now)) c.in_ok-there.there (c.in_ok-there.ensures.given clean) in
+          let there_is = sales_told office members none (read_in_office sales_in c.in_ok-there.ensures.reads) clean sales_in
+          (find (λ s. bytes_eq s.operator c.args.operator.now && bytes_eq s.order_ref c.args.order_ref.now)) c.in_ok-there.there
+          (c.in_ok-there.ensures.given clean) in
           c.sale_or_none.ensures.value ∙ ap (λ (there : Option Sale). sale_found there) there_is;
       shown = λ clean has. (c.in_ok-there.there, first_shown sales_in c.in_ok-there.ensures.sees clean has, c.sale_or_none.ensures.value);
       reads = read_on (read_in_office sales_in c.in_ok-there.ensures.reads);

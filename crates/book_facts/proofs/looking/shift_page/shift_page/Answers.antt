@@ -21,7 +21,8 @@ use Rattle.book_facts.proofs.LooksLemmas.{looks_on, first_shown, table_shown, zi
 use Rattle.book_facts.proofs.looking.shift_page.shift_page.Goals as goal
 
 pub returns-in_err-shifts-clause-looks : goal.returns-in_err-shifts-clause-looks
-returns-in_err-shifts-clause-looks g c = looks_on c.from_residual.result c.from_residual.ensures.1 (same_on (read_in_office shifts_in c.in_err-shifts.ensures.reads))
+returns-in_err-shifts-clause-looks g c = looks_on c.from_residual.result c.from_residual.ensures.1
+    (same_on (read_in_office shifts_in c.in_err-shifts.ensures.reads))
 
 pub loop-shift-init : goal.loop-shift-init
 loop-shift-init g c =
@@ -35,13 +36,15 @@ pub returns-in_err-totals-clause-looks : goal.returns-in_err-totals-clause-looks
 returns-in_err-totals-clause-looks g c =
     let first = passed (read_in_office shifts_in c.in_ok-shifts.ensures.reads) (g.met.S.Store.shut_if_dirty c.shifts_after.new.conn.store) in
     let before = passed_then first c.loop-shift.invariant.passed in
-    looks_on c.from_residual-in_err-totals.result c.from_residual-in_err-totals.ensures.1 (same_on (read_after before (read_in_office shift_totals_in c.in_err-totals.ensures.reads)))
+    looks_on c.from_residual-in_err-totals.result c.from_residual-in_err-totals.ensures.1
+    (same_on (read_after before (read_in_office shift_totals_in c.in_err-totals.ensures.reads)))
 
 pub returns-in_err-map_err-clause-looks : goal.returns-in_err-map_err-clause-looks
 returns-in_err-map_err-clause-looks g c =
     let first = passed (read_in_office shifts_in c.in_ok-shifts.ensures.reads) (g.met.S.Store.shut_if_dirty c.shifts_after.new.conn.store) in
     let read = read_after (passed_then first c.loop-shift.invariant.passed) (read_in_office shift_totals_in c.in_ok-totals.ensures.reads) in
-    looks_on {U = ⊤} c.from_residual-in_err-map_err.result c.from_residual-in_err-map_err.ensures.1 (same_on (stops_on (Database (SqliteFailure OutOfMemory)) read (λ clean has. inr (refl, read.same clean has))))
+    looks_on {U = ⊤} c.from_residual-in_err-map_err.result c.from_residual-in_err-map_err.ensures.1
+    (same_on (stops_on (Database (SqliteFailure OutOfMemory)) read (λ clean has. inr (refl, read.same clean has))))
 
 pub loop-shift-preserved : goal.loop-shift-preserved
 loop-shift-preserved g c =
@@ -58,7 +61,8 @@ loop-shift-preserved g c =
       passed = passed_after before read (g.met.S.Store.shut_if_dirty c.totals_of_shift.new.conn.store);
       listed = λ clean o office members.
           let was = clean_before before read.survives (tables_of initial o members) clean in
-          let totals_are = sales_told office members before read clean shift_totals_in (λ (sales : List Sale). all_totals (sales_in_shift sales shift.number)) c.in_ok-totals.totals (c.in_ok-totals.ensures.given clean) in
+          let totals_are = sales_told office members before read clean shift_totals_in
+          (λ (sales : List Sale). all_totals (sales_in_shift sales shift.number)) c.in_ok-totals.totals (c.in_ok-totals.ensures.given clean) in
           let this_is = ap (λ (totals : Totals). let listed : ListedShift = record { shift = shift; totals = totals } in listed) totals_are in
           pushed
           ∙ ap (λ (l : ListedShift). listed ++ l ∷ []) this_is
@@ -67,7 +71,8 @@ loop-shift-preserved g c =
       seen = λ clean has.
           let was = clean_before before read.survives has clean in
           let totals = table_shown before shift_totals_in c.in_ok-totals.ensures.reads c.in_ok-totals.ensures.sees clean has in
-          rw pushed (zip_more (IsShiftListedSeen initial.now) items i listed shift this c.loop-shift-test.true c.shift-item.is (c.loop-shift.invariant.seen was has) (refl, totals));
+          rw pushed (zip_more (IsShiftListedSeen initial.now) items i listed shift this c.loop-shift-test.true c.shift-item.is
+          (c.loop-shift.invariant.seen was has) (refl, totals));
     }
 
 pub returns-clause-looks : goal.returns-clause-looks
@@ -87,13 +92,16 @@ returns-clause-looks g c =
     record {
       facts = λ clean o office members.
           let was = clean_before first after.survives (tables_of old o members) clean in
-          let shifts_are = shifts_told office members none read was (λ (shifts : List Shift). take page_size (filter (λ s. nat_lt number s.number) shifts)) c.in_ok-shifts.shifts.items (c.in_ok-shifts.ensures.given was) in
+          let shifts_are = shifts_told office members none read was
+          (λ (shifts : List Shift). take page_size (filter (λ s. nat_lt number s.number) shifts)) c.in_ok-shifts.shifts.items
+          (c.in_ok-shifts.ensures.given was) in
           c.loop-shift.invariant.listed clean o office (members_after o members first after.survives clean)
           ∙ ap (map (listed_shift o)) (all ∙ items_are ∙ shifts_are);
       shown = λ clean has.
           let was = clean_before first after.survives has clean in
           let as_was = earlier old initial new first after.survives has clean in
-          let told = subst (λ (shifts : List Shift). AllZip (IsShiftListedSeen initial.now) shifts listed) (all ∙ items_are) (c.loop-shift.invariant.seen clean (tables_after first has)) in (
+          let told = subst (λ (shifts : List Shift). AllZip (IsShiftListedSeen initial.now) shifts listed) (all ∙ items_are)
+          (c.loop-shift.invariant.seen clean (tables_after first has)) in (
             c.in_ok-shifts.shifts.items,
             first_shown shifts_in c.in_ok-shifts.ensures.sees was has,
             subst (λ db. AllZip (IsShiftListedSeen db) c.in_ok-shifts.shifts.items listed) as_was.now_is told,

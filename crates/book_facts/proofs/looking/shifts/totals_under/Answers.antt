@@ -11,7 +11,8 @@ returns-in_err-there-clause-looks g c = looks_on c.from_residual.result c.from_r
 pub returns-clause-looks : goal.returns-clause-looks
 returns-clause-looks g c =
     record {
-      facts = λ clean o office members. c.totals_or_none.ensures.value ∙ ap (λ (there : Option Totals). totals_found c.args.number there) (c.in_ok-there.ensures.facts clean o office members);
+      facts = λ clean o office members. c.totals_or_none.ensures.value
+          ∙ ap (λ (there : Option Totals). totals_found c.args.number there) (c.in_ok-there.ensures.facts clean o office members);
       shown = λ clean has. (c.in_ok-there.there, c.in_ok-there.ensures.shown clean has, c.totals_or_none.ensures.value);
       reads = read_on c.in_ok-there.ensures.reads;
     }

@@ -15,8 +15,10 @@ returns-in_err-found g c = looks_on c.from_residual.result c.from_residual.ensur
 pub returns-in_default : goal.returns-in_default
 returns-in_default g c =
     record {
-      facts = λ clean o office members. none_told (latest (o.dated_steps c.args.name.now) c.args.day) (o.tariffs c.args.name.now) (sym c.in_default.is ∙ c.in_ok-found.ensures.facts clean o office members);
-      shown = λ clean has. subst (AreStepsSeenOn c.args.name.now c.args.day (state g.S.Store c.args.conn.now).now) c.in_default.is (c.in_ok-found.ensures.shown clean has);
+      facts = λ clean o office members. none_told (latest (o.dated_steps c.args.name.now) c.args.day) (o.tariffs c.args.name.now)
+          (sym c.in_default.is ∙ c.in_ok-found.ensures.facts clean o office members);
+      shown = λ clean has. subst (AreStepsSeenOn c.args.name.now c.args.day (state g.S.Store c.args.conn.now).now) c.in_default.is
+          (c.in_ok-found.ensures.shown clean has);
       reads = read_on c.in_ok-found.ensures.reads;
     }
 

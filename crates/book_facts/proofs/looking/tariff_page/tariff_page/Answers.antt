@@ -21,7 +21,8 @@ use Rattle.book_facts.proofs.LooksLemmas.{looks_none, looks_on, looks_shown, fir
 use Rattle.book_facts.proofs.looking.tariff_page.tariff_page.Goals as goal
 
 pub returns-in_err-names-clause-looks : goal.returns-in_err-names-clause-looks
-returns-in_err-names-clause-looks g c = looks_on c.from_residual.result c.from_residual.ensures.1 (same_on (read_in_office tariffs_in c.in_err-names.ensures.reads))
+returns-in_err-names-clause-looks g c = looks_on c.from_residual.result c.from_residual.ensures.1
+    (same_on (read_in_office tariffs_in c.in_err-names.ensures.reads))
 
 pub loop-name-init : goal.loop-name-init
 loop-name-init g c =
@@ -34,13 +35,15 @@ loop-name-init g c =
 pub returns-in_err-found-clause-looks : goal.returns-in_err-found-clause-looks
 returns-in_err-found-clause-looks g c =
     let first = passed (read_in_office tariffs_in c.in_ok-names.ensures.reads) (g.met.S.Store.shut_if_dirty c.tariffs_after.new.conn.store) in
-    looks_on c.from_residual-in_err-found.result c.from_residual-in_err-found.ensures.1 (same_on (read_after (passed_then first c.loop-name.invariant.passed) c.in_err-found.ensures.reads))
+    looks_on c.from_residual-in_err-found.result c.from_residual-in_err-found.ensures.1
+    (same_on (read_after (passed_then first c.loop-name.invariant.passed) c.in_err-found.ensures.reads))
 
 pub returns-in_err-map_err-clause-looks : goal.returns-in_err-map_err-clause-looks
 returns-in_err-map_err-clause-looks g c =
     let first = passed (read_in_office tariffs_in c.in_ok-names.ensures.reads) (g.met.S.Store.shut_if_dirty c.tariffs_after.new.conn.store) in
     let read = read_after (passed_then first c.loop-name.invariant.passed) c.in_ok-found.ensures.reads in
-    looks_on {U = ⊤} c.from_residual-in_err-map_err.result c.from_residual-in_err-map_err.ensures.1 (same_on (stops_on (Database (SqliteFailure OutOfMemory)) read (λ clean has. inr (refl, read.same clean has))))
+    looks_on {U = ⊤} c.from_residual-in_err-map_err.result c.from_residual-in_err-map_err.ensures.1
+    (same_on (stops_on (Database (SqliteFailure OutOfMemory)) read (λ clean has. inr (refl, read.same clean has))))
 
 pub returns-in_default-clause-looks : goal.returns-in_default-clause-looks
 returns-in_default-clause-looks g c =
@@ -58,9 +61,12 @@ returns-in_default-clause-looks g c =
     let was_1 = clean_before first so_far.survives has was in
     let items = c.deref-name-items.result.now in
     let items_are : c.in_ok-names.names.items ≡ items = search rules in
-    let page = subst (AreFirstAfter (λ name. IsSome (o.tariffs name)) start) items_are (office_says office members none read_1 was_1 tariffs_in (λ (o : Office). AreFirstAfter (λ name. IsSome (o.tariffs name)) start c.in_ok-names.names.items) (c.in_ok-names.ensures.given was_1)) in
+    let page = subst (AreFirstAfter (λ name. IsSome (o.tariffs name)) start) items_are
+    (office_says office members none read_1 was_1 tariffs_in
+    (λ (o : Office). AreFirstAfter (λ name. IsSome (o.tariffs name)) start c.in_ok-names.names.items) (c.in_ok-names.ensures.given was_1)) in
     let told = c.in_ok-found.ensures.facts clean o office (members_after o members before read.survives clean) in
-    never_none o c.day_of-day.result start items c.loop-name.name-index name c.in_ok-found.found page c.loop-name-test.true c.name-item.is told c.in_default.is))))
+    never_none o c.day_of-day.result start items c.loop-name.name-index name c.in_ok-found.found page c.loop-name-test.true c.name-item.is
+    told c.in_default.is))))
 
 pub loop-name-preserved : goal.loop-name-preserved
 loop-name-preserved g c =
@@ -77,12 +83,15 @@ loop-name-preserved g c =
       passed = passed_after before read (g.met.S.Store.shut_if_dirty c.tariff_named.new.conn.store);
       told = λ clean o office members.
           let was = clean_before before read.survives (tables_of initial o members) clean in
-          let told = subst (TellsOf o day name) c.in-Some.is (c.in_ok-found.ensures.facts clean o office (members_after o members before read.survives clean)) in
-          rw pushed (tell_more o day items i name listed c.in-Some.tariff c.loop-name-test.true c.name-item.is (c.loop-name.invariant.told was o office members) told);
+          let told = subst (TellsOf o day name) c.in-Some.is
+          (c.in_ok-found.ensures.facts clean o office (members_after o members before read.survives clean)) in
+          rw pushed (tell_more o day items i name listed c.in-Some.tariff c.loop-name-test.true c.name-item.is
+          (c.loop-name.invariant.told was o office members) told);
       seen = λ clean has.
           let was = clean_before before read.survives has clean in
           let seen = subst (IsTariffNamedSeen day name initial.now) c.in-Some.is (looks_shown before c.in_ok-found.ensures clean has) in
-          rw pushed (zip_more (IsTariffListedSeen day initial.now) items i listed name c.in-Some.tariff c.loop-name-test.true c.name-item.is (c.loop-name.invariant.seen was has) seen);
+          rw pushed (zip_more (IsTariffListedSeen day initial.now) items i listed name c.in-Some.tariff c.loop-name-test.true
+          c.name-item.is (c.loop-name.invariant.seen was has) seen);
     }
 
 pub returns-clause-looks : goal.returns-clause-looks
@@ -104,17 +113,23 @@ returns-clause-looks g c =
     record {
       facts = λ clean o office members.
           let was = clean_before first so_far.survives (tables_of old o members) clean in
-          let page = office_says office members none read was tariffs_in (λ (o : Office). AreFirstAfter (λ name. IsSome (o.tariffs name)) start names) (c.in_ok-names.ensures.given was) in
-          let told = subst (λ ns. TellTariffs o c.day_of-day.result ns listed) all (c.loop-name.invariant.told clean o office (members_after o members first so_far.survives clean)) in
+          let page = office_says office members none read was tariffs_in
+          (λ (o : Office). AreFirstAfter (λ name. IsSome (o.tariffs name)) start names) (c.in_ok-names.ensures.given was) in
+          let told = subst (λ ns. TellTariffs o c.day_of-day.result ns listed) all
+          (c.loop-name.invariant.told clean o office (members_after o members first so_far.survives clean)) in
           subst (λ day. AreTariffsAfter o day (unwrap_or c.args.after.now []) listed) day_is
-          (subst (λ start. AreTariffsAfter o c.day_of-day.result start listed) c.name_or_none.ensures (tariffs_listed o c.day_of-day.result start names listed page told));
+          (subst (λ start. AreTariffsAfter o c.day_of-day.result start listed) c.name_or_none.ensures
+          (tariffs_listed o c.day_of-day.result start names listed page told));
       shown = λ clean has.
           let was = clean_before first so_far.survives has clean in
           let as_was = earlier old initial new first so_far.survives has clean in
-          let seen = subst (λ ns. AllZip (IsTariffListedSeen c.day_of-day.result initial.now) ns listed) all (c.loop-name.invariant.seen clean (tables_after first has)) in (
+          let seen = subst (λ ns. AllZip (IsTariffListedSeen c.day_of-day.result initial.now) ns listed) all
+          (c.loop-name.invariant.seen clean (tables_after first has)) in (
             names,
-            subst (λ start. ShowsAll (the_tariffs_after start) old.now names) c.name_or_none.ensures (first_shown tariffs_in c.in_ok-names.ensures.sees was has),
-            subst (λ day. AllZip (IsTariffListedSeen day old.now) names listed) day_is (subst (λ db. AllZip (IsTariffListedSeen c.day_of-day.result db) names listed) as_was.now_is seen),
+            subst (λ start. ShowsAll (the_tariffs_after start) old.now names) c.name_or_none.ensures
+                (first_shown tariffs_in c.in_ok-names.ensures.sees was has),
+            subst (λ day. AllZip (IsTariffListedSeen day old.now) names listed) day_is
+                (subst (λ db. AllZip (IsTariffListedSeen c.day_of-day.result db) names listed) as_was.now_is seen),
           );
       reads = passed_reads (passed_then first so_far);
     }

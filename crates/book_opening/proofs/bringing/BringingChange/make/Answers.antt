@@ -10,10 +10,12 @@ returns-clause-made g c clean way =
 
 pub returns-clause-refused : goal.returns-clause-refused
 returns-clause-refused g c clean way =
-    refused_inside c.args.self.now.from c.args.self.now.meters.now c.args.self.now.sales.now (state g.S.Store c.args.tx.now.conn.now) (state g.S.Store c.bring.new.tx.conn.now) g.S.Store c.bring.result
+    refused_inside c.args.self.now.from c.args.self.now.meters.now c.args.self.now.sales.now (state g.S.Store c.args.tx.now.conn.now)
+    (state g.S.Store c.bring.new.tx.conn.now) g.S.Store c.bring.result
     (c.bring.ensures.refused clean way)
 
 pub returns-clause-told : goal.returns-clause-told
 returns-clause-told g c clean way =
-    told_inside c.args.self.now.from c.args.self.now.meters.now c.args.self.now.sales.now (state g.S.Store c.args.tx.now.conn.now) (state g.S.Store c.bring.new.tx.conn.now) g.S.Store c.bring.result
+    told_inside c.args.self.now.from c.args.self.now.meters.now c.args.self.now.sales.now (state g.S.Store c.args.tx.now.conn.now)
+    (state g.S.Store c.bring.new.tx.conn.now) g.S.Store c.bring.result
     (c.bring.ensures.refused clean way)

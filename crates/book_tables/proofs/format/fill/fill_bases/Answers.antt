@@ -25,7 +25,8 @@ bases-preserved g c =
     record {
       same = search rules;
       fills = subst (λ (l : List MeterRow). Fills (IsBaseWrite items) (FillsBases l) old new (Ok tt)) (sym next)
-          (fills_then old mid new (codes "meter_bases" ∷ []) (Ok tt) (λ first. first.only) (λ _ _ first second. bases_more (take i items) m old mid new first second) c.bases.invariant.fills
+          (fills_then old mid new (codes "meter_bases" ∷ []) (Ok tt) (λ first. first.only)
+          (λ _ _ first second. bases_more (take i items) m old mid new first second) c.bases.invariant.fills
           (fills_write _ (m, there, refl) mid new (Ok tt) c.in_ok-add_base.ensures.writes));
     }
 
@@ -38,8 +39,10 @@ returns-in_err-add_base-clause-fills g c =
     let m = c.present-item.result in
     let there = subst (Contains c.args.meters.now) (sym c.present-item.is) (Contains-get_or c.args.meters.now c.bases.present-index m c.bases-test.true) in
     fills_off old new e c.from_residual.result c.from_residual.ensures.1
-    (fills_then {C = λ _ _. Unit {0}} old mid new (codes "meter_bases" ∷ []) (Err e) (λ first. first.only) (λ _ _ _ _. tt) c.bases.invariant.fills (fills_write _ (m, there, refl) mid new (Err e) c.in_err-add_base.ensures.writes))
+    (fills_then {C = λ _ _. Unit {0}} old mid new (codes "meter_bases" ∷ []) (Err e) (λ first. first.only) (λ _ _ _ _. tt)
+    c.bases.invariant.fills (fills_write _ (m, there, refl) mid new (Err e) c.in_err-add_base.ensures.writes))
 
 pub returns-clause-fills : goal.returns-clause-fills
 returns-clause-fills g c =
-    subst (λ (l : List MeterRow). Fills (IsBaseWrite c.args.meters.now) (FillsBases l) (state g.S.Store c.args.tx.now.conn.now) (state g.S.Store c.bases.tx.conn.now) (Ok tt)) (take_all c.bases.present-index c.args.meters.now c.bases-test.false) c.bases.invariant.fills
+    subst (λ (l : List MeterRow). Fills (IsBaseWrite c.args.meters.now) (FillsBases l) (state g.S.Store c.args.tx.now.conn.now)
+    (state g.S.Store c.bases.tx.conn.now) (Ok tt)) (take_all c.bases.present-index c.args.meters.now c.bases-test.false) c.bases.invariant.fills

@@ -13,7 +13,8 @@ returns-in_err-fill_totals-in-1-clause-fills g c =
     let new = state g.S.Store c.fill_totals.new.tx.conn.now in
     let e = c.in_err-fill_totals-in-1.field-0.0 in
     let one : c.args.from ≡ 1 = omega (arith, c.in-1.is) in
-    fills_off old new e c.from_residual.result c.from_residual.ensures.1 (fills_by old new (Err e) (λ w is. inl (one, is)) c.in_err-fill_totals-in-1.ensures.fills)
+    fills_off old new e c.from_residual.result c.from_residual.ensures.1
+    (fills_by old new (Err e) (λ w is. inl (one, is)) c.in_err-fill_totals-in-1.ensures.fills)
 
 pub returns-in_ok-fill_totals-in-1-clause-fills : goal.returns-in_ok-fill_totals-in-1-clause-fills
 returns-in_ok-fill_totals-in-1-clause-fills g c =
@@ -25,7 +26,8 @@ returns-in_ok-fill_totals-in-1-clause-fills g c =
     let one : 1 ≡ c.args.from = omega (arith, c.in-1.is) in
     subst (λ (n : ℕ). Fills (IsFilling n meters sales) (FillsMissing n meters sales) old new c.fill_bases.result) one
     (fills_then old mid new totals_names c.fill_bases.result (λ totals. totals.only) (missing_first meters sales old mid new)
-    (fills_by old mid (Ok tt) (λ w is. inl (refl, is)) c.in_ok-fill_totals-in-1.ensures.fills) (fills_by mid new c.fill_bases.result (λ w is. inr (omega arith, omega arith, is)) c.fill_bases.ensures.fills))
+    (fills_by old mid (Ok tt) (λ w is. inl (refl, is)) c.in_ok-fill_totals-in-1.ensures.fills)
+    (fills_by mid new c.fill_bases.result (λ w is. inr (omega arith, omega arith, is)) c.fill_bases.ensures.fills))
 
 pub returns-in-2-clause-fills : goal.returns-in-2-clause-fills
 returns-in-2-clause-fills g c =
@@ -35,9 +37,11 @@ returns-in-2-clause-fills g c =
     let sales = c.args.sales.now in
     let two : 2 ≡ c.args.from = omega (arith, c.in-2.is) in
     subst (λ (n : ℕ). Fills (IsFilling n meters sales) (FillsMissing n meters sales) old new c.fill_bases-in-2.result) two
-    (fills_as old new c.fill_bases-in-2.result (missing_second meters sales old new) (fills_by old new c.fill_bases-in-2.result (λ w is. inr (omega arith, omega arith, is)) c.fill_bases-in-2.ensures.fills))
+    (fills_as old new c.fill_bases-in-2.result (missing_second meters sales old new)
+    (fills_by old new c.fill_bases-in-2.result (λ w is. inr (omega arith, omega arith, is)) c.fill_bases-in-2.ensures.fills))
 
 pub returns-in_default-clause-fills : goal.returns-in_default-clause-fills
 returns-in_default-clause-fills g c =
     let old = state g.S.Store c.args.tx.now.conn.now in
-    fills_none old (missing_third c.args.meters.now c.args.sales.now c.args.from c.requires (λ one. omega (arith, c.in_default, one)) (λ two. omega (arith, c.in_default, two)) old)
+    fills_none old (missing_third c.args.meters.now c.args.sales.now c.args.from c.requires (λ one. omega (arith, c.in_default, one))
+    (λ two. omega (arith, c.in_default, two)) old)

@@ -12,8 +12,10 @@ returns-in_err-put_all-clause-fills g c =
     let one = state g.S.Store c.put_all.new.tx.conn.now in
     let e = c.in_err-put_all.field-0.0 in
     let gathered = c.add_all.new.self in
-    let of_all = writes_gathered c.amount_law.ensures.greatest c.args.sales.now gathered (λ few. c.in_ok-add_all.ensures [] (omega (arith, few)) c.new-gathered.ensures) in
-    fills_off old one e c.from_residual-in_err-put_all.result c.from_residual-in_err-put_all.ensures.1 (fills_by old one (Err e) of_all.ids c.in_err-put_all.ensures.fills)
+    let of_all = writes_gathered c.amount_law.ensures.greatest c.args.sales.now gathered
+    (λ few. c.in_ok-add_all.ensures [] (omega (arith, few)) c.new-gathered.ensures) in
+    fills_off old one e c.from_residual-in_err-put_all.result c.from_residual-in_err-put_all.ensures.1
+    (fills_by old one (Err e) of_all.ids c.in_err-put_all.ensures.fills)
 
 pub returns-in_err-put_all-2-clause-fills : goal.returns-in_err-put_all-2-clause-fills
 returns-in_err-put_all-2-clause-fills g c =
@@ -22,7 +24,8 @@ returns-in_err-put_all-2-clause-fills g c =
     let two = state g.S.Store c.put_all-2.new.tx.conn.now in
     let e = c.in_err-put_all-2.field-0.0 in
     let gathered = c.add_all.new.self in
-    let of_all = writes_gathered c.amount_law.ensures.greatest c.args.sales.now gathered (λ few. c.in_ok-add_all.ensures [] (omega (arith, few)) c.new-gathered.ensures) in
+    let of_all = writes_gathered c.amount_law.ensures.greatest c.args.sales.now gathered
+    (λ few. c.in_ok-add_all.ensures [] (omega (arith, few)) c.new-gathered.ensures) in
     fills_off old two e c.from_residual-in_err-put_all-2.result c.from_residual-in_err-put_all-2.ensures.1
     (fills_then {C = λ _ _. Unit {0}} old one two totals_names (Err e) (λ ids. ids.only) (λ _ _ _ _. tt)
     (fills_by old one (Ok tt) of_all.ids c.in_ok-put_all.ensures.fills) (fills_by one two (Err e) of_all.months c.in_err-put_all-2.ensures.fills))
@@ -34,8 +37,12 @@ returns-clause-fills g c =
     let two = state g.S.Store c.put_all-2.new.tx.conn.now in
     let new = state g.S.Store c.put_all-3.new.tx.conn.now in
     let gathered = c.add_all.new.self in
-    let of_all = writes_gathered c.amount_law.ensures.greatest c.args.sales.now gathered (λ few. c.in_ok-add_all.ensures [] (omega (arith, few)) c.new-gathered.ensures) in
+    let of_all = writes_gathered c.amount_law.ensures.greatest c.args.sales.now gathered
+    (λ few. c.in_ok-add_all.ensures [] (omega (arith, few)) c.new-gathered.ensures) in
     fills_then {A = PutsTwo (values gathered.last_ids) (values gathered.month_tenths)} old two new totals_names c.put_all-3.result (λ both. both.only)
-    (λ _ _ both shifts. fills_gathered c.amount_law.ensures.greatest c.args.sales.now gathered (λ few. c.in_ok-add_all.ensures [] (omega (arith, few)) c.new-gathered.ensures) old two new both shifts)
-    (fills_then old one two totals_names (Ok tt) (λ ids. ids.only) (λ _ _ ids months. puts_two (values gathered.last_ids) (values gathered.month_tenths) old one two ids months) (fills_by old one (Ok tt) of_all.ids c.in_ok-put_all.ensures.fills) (fills_by one two (Ok tt) of_all.months c.in_ok-put_all-2.ensures.fills))
+    (λ _ _ both shifts. fills_gathered c.amount_law.ensures.greatest c.args.sales.now gathered
+    (λ few. c.in_ok-add_all.ensures [] (omega (arith, few)) c.new-gathered.ensures) old two new both shifts)
+    (fills_then old one two totals_names (Ok tt) (λ ids. ids.only)
+    (λ _ _ ids months. puts_two (values gathered.last_ids) (values gathered.month_tenths) old one two ids months)
+    (fills_by old one (Ok tt) of_all.ids c.in_ok-put_all.ensures.fills) (fills_by one two (Ok tt) of_all.months c.in_ok-put_all-2.ensures.fills))
     (fills_by two new c.put_all-3.result of_all.shifts c.put_all-3.ensures.fills)

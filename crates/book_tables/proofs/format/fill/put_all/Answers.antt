@@ -33,7 +33,8 @@ rows-preserved g c =
       same = search rules;
       before = before ++ r ∷ [];
       split = append_assoc before (r ∷ []) c.next.new.self ∙ ap (λ l. before ++ l) (sym step) ∙ c.rows.invariant.split;
-      puts = fills_then old mid new totals_names (Ok tt) (λ first. first.only) (λ _ _ first second. puts_more g.T.TotalRow.in_table g.T.TotalRow.are before r old mid new first second) c.rows.invariant.puts
+      puts = fills_then old mid new totals_names (Ok tt) (λ first. first.only)
+          (λ _ _ first second. puts_more g.T.TotalRow.in_table g.T.TotalRow.are before r old mid new first second) c.rows.invariant.puts
           (fills_write _ (r, there, c.in_ok-put.ensures.writes.1) mid new (Ok tt) c.in_ok-put.ensures.writes.2);
     }
 
@@ -43,7 +44,8 @@ returns-in_err-put-clause-fills g c =
     let mid = state g.S.Store c.rows.tx.conn.now in
     let new = state g.S.Store c.put.new.tx.conn.now in
     let e = c.in_err-put.field-0.0 in
-    let there = listed_at c.rows.invariant.before c.rows.row-iterator c.in-Some.row.now c.next.new.self _ (grind (arith, common_steps)) c.rows.invariant.split in
+    let there = listed_at c.rows.invariant.before c.rows.row-iterator c.in-Some.row.now c.next.new.self _ (grind (arith, common_steps))
+    c.rows.invariant.split in
     fills_off old new e c.from_residual.result c.from_residual.ensures.1
     (fills_then {C = λ _ _. Unit {0}} old mid new totals_names (Err e) (λ first. first.only) (λ _ _ _ _. tt) c.rows.invariant.puts
     (fills_write _ (c.in-Some.row.now, there, c.in_err-put.ensures.writes.1) mid new (Err e) c.in_err-put.ensures.writes.2))
@@ -54,4 +56,5 @@ returns-clause-fills g c =
     let new = state g.S.Store c.rows.tx.conn.now in
     let none : c.rows.row-iterator ≡ [] = grind (arith, common_steps) in
     let all = sym (append-nil c.rows.invariant.before) ∙ ap (λ l. c.rows.invariant.before ++ l) (sym none) ∙ c.rows.invariant.split in
-    subst (λ l. Fills (λ w. (row : _) × Contains (values c.args.rows.now) row × g.T.TotalRow.puts row w) (PutsFirst g.T.TotalRow.in_table g.T.TotalRow.are l) old new (Ok tt)) all c.rows.invariant.puts
+    subst (λ l. Fills (λ w. (row : _) × Contains (values c.args.rows.now) row × g.T.TotalRow.puts row w)
+    (PutsFirst g.T.TotalRow.in_table g.T.TotalRow.are l) old new (Ok tt)) all c.rows.invariant.puts

@@ -13,5 +13,6 @@ invariant-rows g l =
       same : l.tx.conn.ghost_name ≡ l.fn.tx.conn.ghost_name;
       before : List _;
       split : before ++ l.row-iterator ≡ values l.rows;
-      puts : Fills (λ w. (row : _) × Contains (values l.rows) row × g.T.TotalRow.puts row w) (PutsFirst g.T.TotalRow.in_table g.T.TotalRow.are before) old now (Ok tt);
+      puts : Fills (λ w. (row : _) × Contains (values l.rows) row × g.T.TotalRow.puts row w)
+          (PutsFirst g.T.TotalRow.in_table g.T.TotalRow.are before) old now (Ok tt);
     }

@@ -22,13 +22,15 @@ returns-in_err-told-clause-reads g c =
     let this : ReadsOnly (OnlyAsks format_text) IsUnchanged (FailsToShowRow (λ _. ⊤) format_text []) old new c.from_residual.result =
     fail_as (told why) c.from_residual.result c.from_residual.ensures.1 c.in_err-told.ensures.reads (λ fails. (why, refl, fails)) in
     read_where c.from_residual.result (only old) this
-    (λ clean has. read.fails format_asks about_kept (λ s has. has.0.has) (λ _. ⊤) old new has (λ rows held of_office found is i x low. _) c.from_residual.result [] refl (this.faults clean (only old has)))
+    (λ clean has. read.fails format_asks about_kept (λ s has. has.0.has) (λ _. ⊤) old new has (λ rows held of_office found is i x low. _)
+    c.from_residual.result [] refl (this.faults clean (only old has)))
 
 pub returns-then-len-ne1-clause-given : goal.returns-then-len-ne1-clause-given
 returns-then-len-ne1-clause-given g c clean has sound =
     let old = state g.S.Store c.args.conn.now in
     let new = state g.S.Store c.read_rows.new.conn in
-    given_none old new has sound c.in_ok-told.told.items (c.in_ok-told.ensures.given clean (only old has)) (c.in_ok-told.ensures.reads.same clean (only old has)).0.was_open (search rules)
+    given_none old new has sound c.in_ok-told.told.items (c.in_ok-told.ensures.given clean (only old has))
+    (c.in_ok-told.ensures.reads.same clean (only old has)).0.was_open (search rules)
 
 pub returns-then-len-ne1-clause-reads : goal.returns-then-len-ne1-clause-reads
 returns-then-len-ne1-clause-reads g c = read_so (only (state g.S.Store c.args.conn.now)) c.in_ok-told.ensures.reads
@@ -37,7 +39,8 @@ pub returns-clause-given : goal.returns-clause-given
 returns-clause-given g c clean has sound =
     let old = state g.S.Store c.args.conn.now in
     let new = state g.S.Store c.read_rows.new.conn in
-    given_one old new has sound c.in_ok-told.told.items _ (c.in_ok-told.ensures.given clean (only old has)) (c.in_ok-told.ensures.reads.same clean (only old has)).0.was_open (lone c.in_ok-told.told.items _ (search rules) c.index.ensures)
+    given_one old new has sound c.in_ok-told.told.items _ (c.in_ok-told.ensures.given clean (only old has))
+    (c.in_ok-told.ensures.reads.same clean (only old has)).0.was_open (lone c.in_ok-told.told.items _ (search rules) c.index.ensures)
 
 pub returns-clause-reads : goal.returns-clause-reads
 returns-clause-reads g c = read_so (only (state g.S.Store c.args.conn.now)) c.in_ok-told.ensures.reads

@@ -10,7 +10,8 @@ returns-in_err-fill_missing-clause-refused g c clean way =
     let r = c.from_residual-in_err-fill_missing.result in
     let made = c.in_ok-make_missing.ensures in
     fails_bringing c.args.from c.args.meters.now c.args.sales.now (state g.S.Store c.args.tx.now.conn.now) mid new r made.made made.inside made.transaction
-    (filled_off c.args.from c.args.meters.now c.args.sales.now mid new e r c.from_residual-in_err-fill_missing.ensures.1 c.in_err-fill_missing.ensures.fills) g.S.Store clean
+    (filled_off c.args.from c.args.meters.now c.args.sales.now mid new e r c.from_residual-in_err-fill_missing.ensures.1
+    c.in_err-fill_missing.ensures.fills) g.S.Store clean
 
 pub returns-in_err-fill_missing-clause-transaction : goal.returns-in_err-fill_missing-clause-transaction
 returns-in_err-fill_missing-clause-transaction g c =
@@ -30,7 +31,8 @@ returns-clause-brings g c clean =
     let r = c.tell_present.result in
     let made = c.in_ok-make_missing.ensures in
     brings_office c.args.from c.args.meters.now c.args.sales.now (state g.S.Store c.args.tx.now.conn.now) mid new r made.made made.inside made.transaction
-    (filled_on c.args.from c.args.meters.now c.args.sales.now mid filled new r c.in_ok-fill_missing.ensures.fills c.tell_present.ensures.writes) c.requires clean
+    (filled_on c.args.from c.args.meters.now c.args.sales.now mid filled new r c.in_ok-fill_missing.ensures.fills
+    c.tell_present.ensures.writes) c.requires clean
 
 pub returns-clause-leaves : goal.returns-clause-leaves
 returns-clause-leaves g c clean =

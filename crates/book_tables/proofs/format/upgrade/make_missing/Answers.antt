@@ -18,11 +18,13 @@ create_tables-requires-clause-some g c =
 
 pub create_tables-requires-clause-creations : goal.create_tables-requires-clause-creations
 create_tables-requires-clause-creations g c =
-    sym (list_all-map is_creation (λ (t : Bor (List ℕ)). t.now) c.tables_after.result.texts.now) ∙ ap (λ l. list_all is_creation l) c.tables_after.ensures.texts ∙ are_creations (later c.args.from) (later_texts c.args.from)
+    sym (list_all-map is_creation (λ (t : Bor (List ℕ)). t.now) c.tables_after.result.texts.now)
+    ∙ ap (λ l. list_all is_creation l) c.tables_after.ensures.texts ∙ are_creations (later c.args.from) (later_texts c.args.from)
 
 pub returns-in_err-create_tables-clause-transaction : goal.returns-in_err-create_tables-clause-transaction
 returns-in_err-create_tables-clause-transaction g c =
-    transaction_off _ c.from_residual.result c.from_residual.ensures.1 c.in_err-create_tables.ensures.transaction.kept c.in_err-create_tables.ensures.transaction.survives
+    transaction_off _ c.from_residual.result c.from_residual.ensures.1 c.in_err-create_tables.ensures.transaction.kept
+    c.in_err-create_tables.ensures.transaction.survives
 
 pub returns-clause-made : goal.returns-clause-made
 returns-clause-made g c clean has =

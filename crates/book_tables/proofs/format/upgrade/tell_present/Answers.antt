@@ -21,9 +21,11 @@ returns-then-before-eq0-clause-writes g c =
     let none : 0 ≡ c.args.before = omega (arith, c.if-before-eq0.true) in
     subst (λ (n : ℕ). WritesTables (format_write n) (TellsPresent n) old new c.put.result) none (record {
       made = λ clean has.
-          on_ok c.put.result (tells_first old new) (c.put.ensures.added clean (about_table tree) (place_in s (codes "about")) new_format_terms (new_format_means tree) (λ runs. (about_in.there s (has runs)).0.has));
+          on_ok c.put.result (tells_first old new) (c.put.ensures.added clean (about_table tree) (place_in s (codes "about"))
+          new_format_terms (new_format_means tree) (λ runs. (about_in.there s (has runs)).0.has));
       transaction = c.put.ensures.transaction;
-      ends = λ clean has. c.put.ensures.ends clean (about_table tree) (place_in s (codes "about")) new_format_terms (new_format_means tree) new_format_whole (λ runs. (about_in.there s (has runs)).0.has);
+      ends = λ clean has. c.put.ensures.ends clean (about_table tree) (place_in s (codes "about")) new_format_terms (new_format_means tree)
+          new_format_whole (λ runs. (about_in.there s (has runs)).0.has);
     })
 
 pub returns-else-before-eq0-clause-writes : goal.returns-else-before-eq0-clause-writes
@@ -37,7 +39,9 @@ returns-else-before-eq0-clause-writes g c =
     subst (λ (n : ℕ). WritesTables (format_write n) (TellsPresent n) old new c.set.result) some (record {
       made = λ clean has.
           on_ok c.set.result (tells_present old new below)
-          (c.set.ensures.changed clean (about_table tree) (place_in s (codes "about")) (format_set_query tree) (format_set_means tree) (λ runs. let there = about_in.there s (has runs) in (there.0.has, there.1)));
+          (c.set.ensures.changed clean (about_table tree) (place_in s (codes "about")) (format_set_query tree) (format_set_means tree)
+          (λ runs. let there = about_in.there s (has runs) in (there.0.has, there.1)));
       transaction = c.set.ensures.transaction;
-      ends = λ clean has. c.set.ensures.ends clean (about_table tree) (place_in s (codes "about")) (format_set_query tree) (format_set_means tree) format_set_whole (λ runs. (about_in.there s (has runs)).0.has);
+      ends = λ clean has. c.set.ensures.ends clean (about_table tree) (place_in s (codes "about")) (format_set_query tree)
+          (format_set_means tree) format_set_whole (λ runs. (about_in.there s (has runs)).0.has);
     })

@@ -16,10 +16,12 @@ returns-clause-given g c clean rows o has office are =
 
 pub returns-clause-reads : goal.returns-clause-reads
 returns-clause-reads g c =
-    reads (first_day_until c.args.name.now c.args.day c.store_law.ensures.greatest) (state g.S.Store c.args.conn.now) (state g.S.Store c.first_record.new.conn) c.first_record.result (bound c.dated_values.result) c.dated_values.ensures
+    reads (first_day_until c.args.name.now c.args.day c.store_law.ensures.greatest) (state g.S.Store c.args.conn.now)
+    (state g.S.Store c.first_record.new.conn) c.first_record.result (bound c.dated_values.result) c.dated_values.ensures
     c.first_record.ensures.reads
 
 pub returns-clause-sees : goal.returns-clause-sees
 returns-clause-sees g c =
-    sees (first_day_until c.args.name.now c.args.day c.store_law.ensures.greatest) (state g.S.Store c.args.conn.now) (state g.S.Store c.first_record.new.conn) c.first_record.result (bound c.dated_values.result) c.dated_values.ensures
+    sees (first_day_until c.args.name.now c.args.day c.store_law.ensures.greatest) (state g.S.Store c.args.conn.now)
+    (state g.S.Store c.first_record.new.conn) c.first_record.result (bound c.dated_values.result) c.dated_values.ensures
     c.first_record.ensures.reads c.first_record.ensures.given

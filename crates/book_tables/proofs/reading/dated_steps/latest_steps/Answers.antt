@@ -33,18 +33,21 @@ returns-clause-given g c clean rows o has office are =
     let begun = subst (IsFirstDay (o.dated_steps name) day) c.in-Some.is (c.in_ok-begun.ensures.given before rows o has office are) in
     let first = c.in-Some.first in
     let is = latest_begun (o.dated_steps name) day (c.store_law.ensures.latest_steps (o.dated_steps name) day) first begun in
-    if_ok c.steps_from.result (λ found found_is. found_is ∙ is) (c.steps_from.ensures.given clean rows o (rows_after dated_steps_kept c.in_ok-begun.ensures.reads shut rows has) office are)
+    if_ok c.steps_from.result (λ found found_is. found_is ∙ is)
+    (c.steps_from.ensures.given clean rows o (rows_after dated_steps_kept c.in_ok-begun.ensures.reads shut rows has) office are)
 
 pub returns-clause-reads : goal.returns-clause-reads
 returns-clause-reads g c =
-    read_after dated_steps_kept c.in_ok-begun.ensures.reads (g.met.S.Store.shut_if_dirty c.first_day_until.new.conn.store) c.steps_from.result c.steps_from.ensures.reads
+    read_after dated_steps_kept c.in_ok-begun.ensures.reads (g.met.S.Store.shut_if_dirty c.first_day_until.new.conn.store)
+    c.steps_from.result c.steps_from.ensures.reads
 
 pub returns-in_err-begun-clause-sees : goal.returns-in_err-begun-clause-sees
 returns-in_err-begun-clause-sees g c =
     let name = c.args.name.now in
     let day = c.args.day in
     let q = the_first_day name day in
-    sees_fault dated_steps_kept (ShowsFirst q) (AreLatestSeen name day) (HasSpoilt q) (HasSpoiltLatest name day) (λ db spoilt. inl spoilt) (state g.S.Store c.args.conn.now) (state g.S.Store c.first_day_until.new.conn)
+    sees_fault dated_steps_kept (ShowsFirst q) (AreLatestSeen name day) (HasSpoilt q) (HasSpoiltLatest name day) (λ db spoilt. inl spoilt)
+    (state g.S.Store c.args.conn.now) (state g.S.Store c.first_day_until.new.conn)
     c.in_err-begun.field-0.0 c.from_residual.result c.from_residual.ensures.1 c.in_err-begun.ensures.sees
 
 pub returns-in_default-clause-sees : goal.returns-in_default-clause-sees
@@ -52,7 +55,8 @@ returns-in_default-clause-sees g c =
     let name = c.args.name.now in
     let day = c.args.day in
     let q = the_first_day name day in
-    sees_made dated_steps_kept (ShowsFirst q) (AreLatestSeen name day) (HasSpoilt q) (HasSpoiltLatest name day) (state g.S.Store c.args.conn.now) (state g.S.Store c.first_day_until.new.conn) c.in_ok-begun.begun None
+    sees_made dated_steps_kept (ShowsFirst q) (AreLatestSeen name day) (HasSpoilt q) (HasSpoiltLatest name day)
+    (state g.S.Store c.args.conn.now) (state g.S.Store c.first_day_until.new.conn) c.in_ok-begun.begun None
     (λ db shown. record { first = None; shown = subst (ShowsFirst q db) c.in_default.is shown; from = refl }) c.in_ok-begun.ensures.sees
 
 pub returns-clause-sees : goal.returns-clause-sees

@@ -18,7 +18,8 @@ use Rattle.book_tables.proofs.reading.dated_steps.steps_from.Goals as goal
 pub returns-in_err-shown-clause-reads : goal.returns-in_err-shown-clause-reads
 returns-in_err-shown-clause-reads g c =
     fail_on c.from_residual.result c.from_residual.ensures.1
-    (reads (steps_from c.args.name.now c.args.day) (state g.S.Store c.args.conn.now) (state g.S.Store c.all_records.new.conn) (Err c.in_err-shown.field-0.0) (bound c.dated_values.result) c.dated_values.ensures c.in_err-shown.ensures.reads)
+    (reads (steps_from c.args.name.now c.args.day) (state g.S.Store c.args.conn.now) (state g.S.Store c.all_records.new.conn)
+    (Err c.in_err-shown.field-0.0) (bound c.dated_values.result) c.dated_values.ensures c.in_err-shown.ensures.reads)
 
 pub returns-clause-given : goal.returns-clause-given
 returns-clause-given g c clean rows o has office are =
@@ -29,7 +30,8 @@ returns-clause-given g c clean rows o has office are =
     let found = gives (steps_from name day) (λ found. found.items) old (state g.S.Store c.all_records.new.conn) rows has (o, office, are) c.all_records.result
     (bound c.dated_values.result) c.dated_values.ensures (c.all_records.ensures.reads.same clean only) (c.all_records.ensures.given clean only) in
     let here = subst (λ r. IfOk r (λ found. AreStepsFrom name day rows found.items)) c.in_ok-shown.was found in
-    makes c.deref.result.now c.tariff_of.result c.tariff_of.ensures.steps c.tariff_of.ensures.kept (o.dated_steps name day) (dated_keep o office name day (o.dated_steps name day) refl) (c.deref.ensures.value ∙ here o office are)
+    makes c.deref.result.now c.tariff_of.result c.tariff_of.ensures.steps c.tariff_of.ensures.kept (o.dated_steps name day)
+    (dated_keep o office name day (o.dated_steps name day) refl) (c.deref.ensures.value ∙ here o office are)
 
 pub returns-clause-reads : goal.returns-clause-reads
 returns-clause-reads g c =
@@ -47,10 +49,13 @@ returns-clause-reads g c =
           search (rules, left);
       mode = c.in_ok-shown.ensures.reads.mode;
       faults = λ clean has.
-          fails_to_make dated_steps_kept (λ o. o.dated_steps name day) (λ o office. dated_keep o office name day (o.dated_steps name day) refl) c.deref.result.now old new (c.in_ok-shown.ensures.reads.same clean (asks has))
+          fails_to_make dated_steps_kept (λ o. o.dated_steps name day)
+          (λ o office. dated_keep o office name day (o.dated_steps name day) refl) c.deref.result.now old new
+          (c.in_ok-shown.ensures.reads.same clean (asks has))
           (λ rows held of_office.
           let found = gives (steps_from name day) (λ found. found.items) old new rows (λ _. held) of_office c.all_records.result
-          (bound c.dated_values.result) c.dated_values.ensures (c.all_records.ensures.reads.same clean (asks has)) (c.all_records.ensures.given clean (asks has)) in
+          (bound c.dated_values.result) c.dated_values.ensures (c.all_records.ensures.reads.same clean (asks has))
+          (c.all_records.ensures.given clean (asks has)) in
           let here = subst (λ r. IfOk r (λ found. AreStepsFrom name day rows found.items)) c.in_ok-shown.was found in
           λ o office are. c.deref.ensures.value ∙ here o office are)
           c.tariff_of.result c.tariff_of.ensures.faults;
@@ -62,13 +67,17 @@ returns-in_err-shown-clause-sees g c =
     let q = the_steps_from c.args.name.now c.args.day in
     let old = state g.S.Store c.args.conn.now in
     let new = state g.S.Store c.all_records.new.conn in
-    sees_fault dated_steps_kept (λ db (found : Vec Step Global). ShowsAll q db found.items) (AreStepsSeen q) (HasSpoilt q) (HasSpoiltSteps q) (λ db spoilt. inl spoilt) old new c.in_err-shown.field-0.0 c.from_residual.result c.from_residual.ensures.1
-    (sees (steps_from c.args.name.now c.args.day) (λ (found : Vec Step Global). found.items) old new (Err c.in_err-shown.field-0.0) (bound c.dated_values.result) c.dated_values.ensures c.in_err-shown.ensures.reads (λ _ _. tt))
+    sees_fault dated_steps_kept (λ db (found : Vec Step Global). ShowsAll q db found.items) (AreStepsSeen q) (HasSpoilt q)
+    (HasSpoiltSteps q) (λ db spoilt. inl spoilt) old new c.in_err-shown.field-0.0 c.from_residual.result c.from_residual.ensures.1
+    (sees (steps_from c.args.name.now c.args.day) (λ (found : Vec Step Global). found.items) old new (Err c.in_err-shown.field-0.0)
+    (bound c.dated_values.result) c.dated_values.ensures c.in_err-shown.ensures.reads (λ _ _. tt))
 
 pub returns-clause-sees : goal.returns-clause-sees
 returns-clause-sees g c =
     let q = the_steps_from c.args.name.now c.args.day in
     let old = state g.S.Store c.args.conn.now in
     let new = state g.S.Store c.all_records.new.conn in
-    sees_steps q old new c.in_ok-shown.shown c.deref.result.now c.deref.ensures.value c.tariff_of.result c.tariff_of.ensures.steps c.tariff_of.ensures.kept c.tariff_of.ensures.faults
-    (sees (steps_from c.args.name.now c.args.day) (λ (found : Vec Step Global). found.items) old new (Ok c.in_ok-shown.shown) (bound c.dated_values.result) c.dated_values.ensures c.in_ok-shown.ensures.reads c.in_ok-shown.ensures.given)
+    sees_steps q old new c.in_ok-shown.shown c.deref.result.now c.deref.ensures.value c.tariff_of.result c.tariff_of.ensures.steps
+    c.tariff_of.ensures.kept c.tariff_of.ensures.faults
+    (sees (steps_from c.args.name.now c.args.day) (λ (found : Vec Step Global). found.items) old new (Ok c.in_ok-shown.shown)
+    (bound c.dated_values.result) c.dated_values.ensures c.in_ok-shown.ensures.reads c.in_ok-shown.ensures.given)

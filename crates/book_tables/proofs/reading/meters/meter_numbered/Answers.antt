@@ -13,10 +13,12 @@ returns-clause-given g c clean rows has of_office =
 
 pub returns-clause-reads : goal.returns-clause-reads
 returns-clause-reads g c =
-    reads (meter_numbered c.args.number.now) (state g.S.Store c.args.conn.now) (state g.S.Store c.first_record.new.conn) c.first_record.result (bound c.meter_no_values.result) c.meter_no_values.ensures
+    reads (meter_numbered c.args.number.now) (state g.S.Store c.args.conn.now) (state g.S.Store c.first_record.new.conn)
+    c.first_record.result (bound c.meter_no_values.result) c.meter_no_values.ensures
     c.first_record.ensures.reads
 
 pub returns-clause-sees : goal.returns-clause-sees
 returns-clause-sees g c =
-    sees (meter_numbered c.args.number.now) (state g.S.Store c.args.conn.now) (state g.S.Store c.first_record.new.conn) c.first_record.result (bound c.meter_no_values.result) c.meter_no_values.ensures
+    sees (meter_numbered c.args.number.now) (state g.S.Store c.args.conn.now) (state g.S.Store c.first_record.new.conn)
+    c.first_record.result (bound c.meter_no_values.result) c.meter_no_values.ensures
     c.first_record.ensures.reads c.first_record.ensures.given

@@ -13,10 +13,12 @@ returns-clause-given g c clean rows has of_office =
 
 pub returns-clause-reads : goal.returns-clause-reads
 returns-clause-reads g c =
-    reads (sales_after c.args.number c.args.limit) (state g.S.Store c.args.conn.now) (state g.S.Store c.all_records.new.conn) c.all_records.result (bound c.page_values.result) c.page_values.ensures
+    reads (sales_after c.args.number c.args.limit) (state g.S.Store c.args.conn.now) (state g.S.Store c.all_records.new.conn)
+    c.all_records.result (bound c.page_values.result) c.page_values.ensures
     c.all_records.ensures.reads
 
 pub returns-clause-sees : goal.returns-clause-sees
 returns-clause-sees g c =
-    sees (sales_after c.args.number c.args.limit) (λ found. found.items) (state g.S.Store c.args.conn.now) (state g.S.Store c.all_records.new.conn) c.all_records.result (bound c.page_values.result) c.page_values.ensures
+    sees (sales_after c.args.number c.args.limit) (λ found. found.items) (state g.S.Store c.args.conn.now)
+    (state g.S.Store c.all_records.new.conn) c.all_records.result (bound c.page_values.result) c.page_values.ensures
     c.all_records.ensures.reads c.all_records.ensures.given

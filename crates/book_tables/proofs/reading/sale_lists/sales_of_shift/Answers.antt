@@ -13,10 +13,12 @@ returns-clause-given g c clean rows has of_office =
 
 pub returns-clause-reads : goal.returns-clause-reads
 returns-clause-reads g c =
-    reads (sales_of_shift c.args.shift) (state g.S.Store c.args.conn.now) (state g.S.Store c.all_records.new.conn) c.all_records.result (bound c.number_values.result) c.number_values.ensures
+    reads (sales_of_shift c.args.shift) (state g.S.Store c.args.conn.now) (state g.S.Store c.all_records.new.conn) c.all_records.result
+    (bound c.number_values.result) c.number_values.ensures
     c.all_records.ensures.reads
 
 pub returns-clause-sees : goal.returns-clause-sees
 returns-clause-sees g c =
-    sees (sales_of_shift c.args.shift) (λ found. found.items) (state g.S.Store c.args.conn.now) (state g.S.Store c.all_records.new.conn) c.all_records.result (bound c.number_values.result) c.number_values.ensures
+    sees (sales_of_shift c.args.shift) (λ found. found.items) (state g.S.Store c.args.conn.now) (state g.S.Store c.all_records.new.conn)
+    c.all_records.result (bound c.number_values.result) c.number_values.ensures
     c.all_records.ensures.reads c.all_records.ensures.given

@@ -15,7 +15,8 @@ pub returns-clause-counted : goal.returns-clause-counted
 returns-clause-counted g c clean rows has of_office =
     let old = state g.S.Store c.args.conn.now in
     let only = only_asks last_sale_number old (λ runs. (has runs).0) in
-    gives_such last_sale_number old (state g.S.Store c.first_record.new.conn) rows has of_office (λ found. unwrap_or found 0 ≡ length rows.sales) (last_sale_counts rows of_office) c.first_record.result
+    gives_such last_sale_number old (state g.S.Store c.first_record.new.conn) rows has of_office
+    (λ found. unwrap_or found 0 ≡ length rows.sales) (last_sale_counts rows of_office) c.first_record.result
     [] refl (c.first_record.ensures.reads.same clean only) (c.first_record.ensures.given clean only)
 
 pub returns-clause-reads : goal.returns-clause-reads

@@ -13,10 +13,12 @@ returns-clause-given g c clean rows has of_office =
 
 pub returns-clause-reads : goal.returns-clause-reads
 returns-clause-reads g c =
-    reads (sale_of_tid c.args.meter.now c.args.base c.args.tid) (state g.S.Store c.args.conn.now) (state g.S.Store c.first_record.new.conn) c.first_record.result (bound c.last_id_values.result) c.last_id_values.ensures
+    reads (sale_of_tid c.args.meter.now c.args.base c.args.tid) (state g.S.Store c.args.conn.now) (state g.S.Store c.first_record.new.conn)
+    c.first_record.result (bound c.last_id_values.result) c.last_id_values.ensures
     c.first_record.ensures.reads
 
 pub returns-clause-sees : goal.returns-clause-sees
 returns-clause-sees g c =
-    sees (sale_of_tid c.args.meter.now c.args.base c.args.tid) (state g.S.Store c.args.conn.now) (state g.S.Store c.first_record.new.conn) c.first_record.result (bound c.last_id_values.result) c.last_id_values.ensures
+    sees (sale_of_tid c.args.meter.now c.args.base c.args.tid) (state g.S.Store c.args.conn.now) (state g.S.Store c.first_record.new.conn)
+    c.first_record.result (bound c.last_id_values.result) c.last_id_values.ensures
     c.first_record.ensures.reads c.first_record.ensures.given

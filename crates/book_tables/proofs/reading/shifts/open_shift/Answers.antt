@@ -13,10 +13,12 @@ returns-clause-given g c clean rows has of_office =
 
 pub returns-clause-reads : goal.returns-clause-reads
 returns-clause-reads g c =
-    reads (open_shift c.args.operator.now) (state g.S.Store c.args.conn.now) (state g.S.Store c.first_record.new.conn) c.first_record.result (bound c.operator_values.result) c.operator_values.ensures
+    reads (open_shift c.args.operator.now) (state g.S.Store c.args.conn.now) (state g.S.Store c.first_record.new.conn)
+    c.first_record.result (bound c.operator_values.result) c.operator_values.ensures
     c.first_record.ensures.reads
 
 pub returns-clause-sees : goal.returns-clause-sees
 returns-clause-sees g c =
-    sees (open_shift c.args.operator.now) (state g.S.Store c.args.conn.now) (state g.S.Store c.first_record.new.conn) c.first_record.result (bound c.operator_values.result) c.operator_values.ensures
+    sees (open_shift c.args.operator.now) (state g.S.Store c.args.conn.now) (state g.S.Store c.first_record.new.conn) c.first_record.result
+    (bound c.operator_values.result) c.operator_values.ensures
     c.first_record.ensures.reads c.first_record.ensures.given

@@ -14,7 +14,9 @@ use Rattle.book_tables.proofs.reading.tariffs.has_tariff.Goals as goal
 pub returns-in_err-found-clause-reads : goal.returns-in_err-found-clause-reads
 returns-in_err-found-clause-reads g c =
     let this = c.in_err-found.ensures.reads in
-    fail_on c.from_residual.result c.from_residual.ensures.1 (reads (tariff_named c.args.name.now) (state g.S.Store c.args.conn.now) (state g.S.Store c.first_record.new.conn) (Err c.in_err-found.field-0.0) (bound c.tariff_values.result) c.tariff_values.ensures this)
+    fail_on c.from_residual.result c.from_residual.ensures.1
+    (reads (tariff_named c.args.name.now) (state g.S.Store c.args.conn.now) (state g.S.Store c.first_record.new.conn)
+    (Err c.in_err-found.field-0.0) (bound c.tariff_values.result) c.tariff_values.ensures this)
 
 pub returns-clause-given : goal.returns-clause-given
 returns-clause-given g c clean rows has of_office =
@@ -29,20 +31,25 @@ returns-clause-given g c clean rows has of_office =
 pub returns-clause-reads : goal.returns-clause-reads
 returns-clause-reads g c =
     let this = c.in_ok-found.ensures.reads in
-    read_on (reads (tariff_named c.args.name.now) (state g.S.Store c.args.conn.now) (state g.S.Store c.first_record.new.conn) (Ok c.in_ok-found.found) (bound c.tariff_values.result) c.tariff_values.ensures this)
+    read_on (reads (tariff_named c.args.name.now) (state g.S.Store c.args.conn.now) (state g.S.Store c.first_record.new.conn)
+    (Ok c.in_ok-found.found) (bound c.tariff_values.result) c.tariff_values.ensures this)
 
 pub returns-in_err-found-clause-sees : goal.returns-in_err-found-clause-sees
 returns-in_err-found-clause-sees g c =
     let q = the_tariff c.args.name.now in
     let old = state g.S.Store c.args.conn.now in
     let new = state g.S.Store c.first_record.new.conn in
-    sees_fault tariffs_kept (ShowsFirst q) (ShowsMade q is_some) (HasSpoilt q) (HasSpoilt q) (λ db spoilt. spoilt) old new c.in_err-found.field-0.0 c.from_residual.result c.from_residual.ensures.1
-    (sees (tariff_named c.args.name.now) old new (Err c.in_err-found.field-0.0) (bound c.tariff_values.result) c.tariff_values.ensures c.in_err-found.ensures.reads (λ _ _. tt))
+    sees_fault tariffs_kept (ShowsFirst q) (ShowsMade q is_some) (HasSpoilt q) (HasSpoilt q) (λ db spoilt. spoilt) old new
+    c.in_err-found.field-0.0 c.from_residual.result c.from_residual.ensures.1
+    (sees (tariff_named c.args.name.now) old new (Err c.in_err-found.field-0.0) (bound c.tariff_values.result) c.tariff_values.ensures
+    c.in_err-found.ensures.reads (λ _ _. tt))
 
 pub returns-clause-sees : goal.returns-clause-sees
 returns-clause-sees g c =
     let q = the_tariff c.args.name.now in
     let old = state g.S.Store c.args.conn.now in
     let new = state g.S.Store c.first_record.new.conn in
-    sees_made tariffs_kept (ShowsFirst q) (ShowsMade q is_some) (HasSpoilt q) (HasSpoilt q) old new c.in_ok-found.found c.is_some.result (λ db shown. (c.in_ok-found.found, shown, c.is_some.ensures))
-    (sees (tariff_named c.args.name.now) old new (Ok c.in_ok-found.found) (bound c.tariff_values.result) c.tariff_values.ensures c.in_ok-found.ensures.reads c.in_ok-found.ensures.given)
+    sees_made tariffs_kept (ShowsFirst q) (ShowsMade q is_some) (HasSpoilt q) (HasSpoilt q) old new c.in_ok-found.found c.is_some.result
+    (λ db shown. (c.in_ok-found.found, shown, c.is_some.ensures))
+    (sees (tariff_named c.args.name.now) old new (Ok c.in_ok-found.found) (bound c.tariff_values.result) c.tariff_values.ensures
+    c.in_ok-found.ensures.reads c.in_ok-found.ensures.given)

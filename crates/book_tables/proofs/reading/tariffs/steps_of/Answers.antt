@@ -17,7 +17,9 @@ use Rattle.book_tables.proofs.reading.tariffs.steps_of.Goals as goal
 pub returns-in_err-shown-clause-reads : goal.returns-in_err-shown-clause-reads
 returns-in_err-shown-clause-reads g c =
     let this = c.in_err-shown.ensures.reads in
-    fail_on c.from_residual.result c.from_residual.ensures.1 (reads (steps_of c.args.name.now) (state g.S.Store c.args.conn.now) (state g.S.Store c.all_records.new.conn) (Err c.in_err-shown.field-0.0) (bound c.tariff_values.result) c.tariff_values.ensures this)
+    fail_on c.from_residual.result c.from_residual.ensures.1
+    (reads (steps_of c.args.name.now) (state g.S.Store c.args.conn.now) (state g.S.Store c.all_records.new.conn)
+    (Err c.in_err-shown.field-0.0) (bound c.tariff_values.result) c.tariff_values.ensures this)
 
 pub returns-clause-given : goal.returns-clause-given
 returns-clause-given g c clean rows o has office are =
@@ -27,7 +29,8 @@ returns-clause-given g c clean rows o has office are =
     let found = gives (steps_of name) (λ found. found.items) old (state g.S.Store c.all_records.new.conn) rows has (o, office, are) c.all_records.result
     (bound c.tariff_values.result) c.tariff_values.ensures (c.all_records.ensures.reads.same clean only) (c.all_records.ensures.given clean only) in
     let here = subst (λ r. IfOk r (λ found. AreStepsOf name rows found.items)) c.in_ok-shown.was found in
-    makes c.deref.result.now c.tariff_of.result c.tariff_of.ensures.steps c.tariff_of.ensures.kept (o.tariffs name) (tariff_keeps o office name (o.tariffs name) refl) (c.deref.ensures.value ∙ here o are)
+    makes c.deref.result.now c.tariff_of.result c.tariff_of.ensures.steps c.tariff_of.ensures.kept (o.tariffs name)
+    (tariff_keeps o office name (o.tariffs name) refl) (c.deref.ensures.value ∙ here o are)
 
 pub returns-clause-reads : goal.returns-clause-reads
 returns-clause-reads g c =
@@ -44,10 +47,12 @@ returns-clause-reads g c =
           search (rules, left);
       mode = c.in_ok-shown.ensures.reads.mode;
       faults = λ clean has.
-          fails_to_make steps_kept (λ o. o.tariffs name) (λ o office. tariff_keeps o office name (o.tariffs name) refl) c.deref.result.now old new (c.in_ok-shown.ensures.reads.same clean (asks has))
+          fails_to_make steps_kept (λ o. o.tariffs name) (λ o office. tariff_keeps o office name (o.tariffs name) refl) c.deref.result.now
+          old new (c.in_ok-shown.ensures.reads.same clean (asks has))
           (λ rows held of_office.
           let found = gives (steps_of name) (λ found. found.items) old new rows (λ _. held) of_office c.all_records.result
-          (bound c.tariff_values.result) c.tariff_values.ensures (c.all_records.ensures.reads.same clean (asks has)) (c.all_records.ensures.given clean (asks has)) in
+          (bound c.tariff_values.result) c.tariff_values.ensures (c.all_records.ensures.reads.same clean (asks has))
+          (c.all_records.ensures.given clean (asks has)) in
           let here = subst (λ r. IfOk r (λ found. AreStepsOf name rows found.items)) c.in_ok-shown.was found in
           λ o office are. c.deref.ensures.value ∙ here o are)
           c.tariff_of.result c.tariff_of.ensures.faults;
@@ -59,13 +64,17 @@ returns-in_err-shown-clause-sees g c =
     let q = the_steps c.args.name.now in
     let old = state g.S.Store c.args.conn.now in
     let new = state g.S.Store c.all_records.new.conn in
-    sees_fault steps_kept (λ db (found : Vec Step Global). ShowsAll q db found.items) (AreStepsSeen q) (HasSpoilt q) (HasSpoiltSteps q) (λ db spoilt. inl spoilt) old new c.in_err-shown.field-0.0 c.from_residual.result c.from_residual.ensures.1
-    (sees (steps_of c.args.name.now) (λ (found : Vec Step Global). found.items) old new (Err c.in_err-shown.field-0.0) (bound c.tariff_values.result) c.tariff_values.ensures c.in_err-shown.ensures.reads (λ _ _. tt))
+    sees_fault steps_kept (λ db (found : Vec Step Global). ShowsAll q db found.items) (AreStepsSeen q) (HasSpoilt q) (HasSpoiltSteps q)
+    (λ db spoilt. inl spoilt) old new c.in_err-shown.field-0.0 c.from_residual.result c.from_residual.ensures.1
+    (sees (steps_of c.args.name.now) (λ (found : Vec Step Global). found.items) old new (Err c.in_err-shown.field-0.0)
+    (bound c.tariff_values.result) c.tariff_values.ensures c.in_err-shown.ensures.reads (λ _ _. tt))
 
 pub returns-clause-sees : goal.returns-clause-sees
 returns-clause-sees g c =
     let q = the_steps c.args.name.now in
     let old = state g.S.Store c.args.conn.now in
     let new = state g.S.Store c.all_records.new.conn in
-    sees_steps q old new c.in_ok-shown.shown c.deref.result.now c.deref.ensures.value c.tariff_of.result c.tariff_of.ensures.steps c.tariff_of.ensures.kept c.tariff_of.ensures.faults
-    (sees (steps_of c.args.name.now) (λ (found : Vec Step Global). found.items) old new (Ok c.in_ok-shown.shown) (bound c.tariff_values.result) c.tariff_values.ensures c.in_ok-shown.ensures.reads c.in_ok-shown.ensures.given)
+    sees_steps q old new c.in_ok-shown.shown c.deref.result.now c.deref.ensures.value c.tariff_of.result c.tariff_of.ensures.steps
+    c.tariff_of.ensures.kept c.tariff_of.ensures.faults
+    (sees (steps_of c.args.name.now) (λ (found : Vec Step Global). found.items) old new (Ok c.in_ok-shown.shown)
+    (bound c.tariff_values.result) c.tariff_values.ensures c.in_ok-shown.ensures.reads c.in_ok-shown.ensures.given)

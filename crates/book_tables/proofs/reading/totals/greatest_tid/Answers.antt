@@ -18,7 +18,9 @@ use Rattle.book_tables.proofs.reading.totals.greatest_tid.Goals as goal
 
 pub returns-in_err-found-clause-reads : goal.returns-in_err-found-clause-reads
 returns-in_err-found-clause-reads g c =
-    fail_on c.from_residual.result c.from_residual.ensures.1 (reads (last_id_found c.args.meter.now c.args.base) (state g.S.Store c.args.conn.now) (state g.S.Store c.first_record.new.conn) (Err c.in_err-found.field-0.0) (bound c.base_values.result) c.base_values.ensures c.in_err-found.ensures.reads)
+    fail_on c.from_residual.result c.from_residual.ensures.1
+    (reads (last_id_found c.args.meter.now c.args.base) (state g.S.Store c.args.conn.now) (state g.S.Store c.first_record.new.conn)
+    (Err c.in_err-found.field-0.0) (bound c.base_values.result) c.base_values.ensures c.in_err-found.ensures.reads)
 
 pub returns-clause-given : goal.returns-clause-given
 returns-clause-given g c clean rows has of_office =
@@ -29,11 +31,13 @@ returns-clause-given g c clean rows has of_office =
     let found = gives (last_id_found meter base) old (state g.S.Store c.first_record.new.conn) rows has of_office c.first_record.result
     (bound c.base_values.result) c.base_values.ensures (c.first_record.ensures.reads.same clean only) (c.first_record.ensures.given clean only) in
     let is : c.in_ok-found.found ≡ found_tid meter base rows = subst (λ r. IfOk r (λ x. x ≡ found_tid meter base rows)) c.in_ok-found.was found in
-    c.number_of.ensures ∙ ap (option_map (λ (t : Tid). t.number)) is ∙ tid_back meter base (greatest_of (map (λ (s : Sale). s.tid) (sales_under rows.sales (meter, base))))
+    c.number_of.ensures ∙ ap (option_map (λ (t : Tid). t.number)) is
+    ∙ tid_back meter base (greatest_of (map (λ (s : Sale). s.tid) (sales_under rows.sales (meter, base))))
 
 pub returns-clause-reads : goal.returns-clause-reads
 returns-clause-reads g c =
-    read_on (reads (last_id_found c.args.meter.now c.args.base) (state g.S.Store c.args.conn.now) (state g.S.Store c.first_record.new.conn) (Ok c.in_ok-found.found) (bound c.base_values.result) c.base_values.ensures c.in_ok-found.ensures.reads)
+    read_on (reads (last_id_found c.args.meter.now c.args.base) (state g.S.Store c.args.conn.now) (state g.S.Store c.first_record.new.conn)
+    (Ok c.in_ok-found.found) (bound c.base_values.result) c.base_values.ensures c.in_ok-found.ensures.reads)
 
 pub returns-in_err-found-clause-sees : goal.returns-in_err-found-clause-sees
 returns-in_err-found-clause-sees g c =
@@ -42,7 +46,8 @@ returns-in_err-found-clause-sees g c =
     let old = state g.S.Store c.args.conn.now in
     let new = state g.S.Store c.first_record.new.conn in
     sees_fault last_ids_kept (ShowsFirst (asked finds)) (ShowsFirst q) (HasSpoilt (asked finds)) (HasSpoilt q)
-    (λ db. part_spoilt last_ids_kept shown_number IsTid q.text q.params (λ (t : Tid). t.number) db (λ n. record { number = n }) (λ n. refl)) old new c.in_err-found.field-0.0 c.from_residual.result c.from_residual.ensures.1
+    (λ db. part_spoilt last_ids_kept shown_number IsTid q.text q.params (λ (t : Tid). t.number) db (λ n. record { number = n })
+    (λ n. refl)) old new c.in_err-found.field-0.0 c.from_residual.result c.from_residual.ensures.1
     (sees finds old new (Err c.in_err-found.field-0.0) (bound c.base_values.result) c.base_values.ensures c.in_err-found.ensures.reads (λ _ _. tt))
 
 pub returns-clause-sees : goal.returns-clause-sees
@@ -51,5 +56,7 @@ returns-clause-sees g c =
     let finds = last_id_found c.args.meter.now c.args.base in
     let old = state g.S.Store c.args.conn.now in
     let new = state g.S.Store c.first_record.new.conn in
-    sees_made last_ids_kept (ShowsFirst (asked finds)) (ShowsFirst q) (HasSpoilt (asked finds)) (HasSpoilt q) old new c.in_ok-found.found c.number_of.result (λ db shown. subst (ShowsFirst q db) (sym c.number_of.ensures) (part_first last_ids_kept shown_number IsTid q.text q.params (λ (t : Tid). t.number) db c.in_ok-found.found shown))
+    sees_made last_ids_kept (ShowsFirst (asked finds)) (ShowsFirst q) (HasSpoilt (asked finds)) (HasSpoilt q) old new c.in_ok-found.found
+    c.number_of.result (λ db shown. subst (ShowsFirst q db) (sym c.number_of.ensures)
+    (part_first last_ids_kept shown_number IsTid q.text q.params (λ (t : Tid). t.number) db c.in_ok-found.found shown))
     (sees finds old new (Ok c.in_ok-found.found) (bound c.base_values.result) c.base_values.ensures c.in_ok-found.ensures.reads c.in_ok-found.ensures.given)

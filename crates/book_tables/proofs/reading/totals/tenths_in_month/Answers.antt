@@ -16,7 +16,10 @@ use Rattle.book_tables.proofs.reading.totals.tenths_in_month.Goals as goal
 
 pub returns-in_err-found-clause-reads : goal.returns-in_err-found-clause-reads
 returns-in_err-found-clause-reads g c =
-    fail_on c.from_residual.result c.from_residual.ensures.1 (reads (month_found c.amount_law.ensures.greatest c.args.meter.now c.args.month) (state g.S.Store c.args.conn.now) (state g.S.Store c.first_record.new.conn) (Err c.in_err-found.field-0.0) (bound c.month_values.result) c.month_values.ensures c.in_err-found.ensures.reads)
+    fail_on c.from_residual.result c.from_residual.ensures.1
+    (reads (month_found c.amount_law.ensures.greatest c.args.meter.now c.args.month) (state g.S.Store c.args.conn.now)
+    (state g.S.Store c.first_record.new.conn) (Err c.in_err-found.field-0.0) (bound c.month_values.result) c.month_values.ensures
+    c.in_err-found.ensures.reads)
 
 pub returns-clause-given : goal.returns-clause-given
 returns-clause-given g c clean rows has of_office =
@@ -27,12 +30,15 @@ returns-clause-given g c clean rows has of_office =
     let only = only_asks (month_found greatest meter month) old (λ runs. (has runs).0) in
     let found = gives (month_found greatest meter month) old (state g.S.Store c.first_record.new.conn) rows has of_office c.first_record.result
     (bound c.month_values.result) c.month_values.ensures (c.first_record.ensures.reads.same clean only) (c.first_record.ensures.given clean only) in
-    let is : c.in_ok-found.found ≡ found_tenths greatest meter month rows = subst (λ r. IfOk r (λ x. x ≡ found_tenths greatest meter month rows)) c.in_ok-found.was found in
-    c.sum_of.ensures ∙ ap (λ (o : Option Tenths). unwrap_or (option_map (λ (t : Tenths). t.sum) o) 0) is ∙ tenths_back greatest meter month (sales_in_month rows.sales (meter, month))
+    let is : c.in_ok-found.found ≡ found_tenths greatest meter month rows =
+    subst (λ r. IfOk r (λ x. x ≡ found_tenths greatest meter month rows)) c.in_ok-found.was found in
+    c.sum_of.ensures ∙ ap (λ (o : Option Tenths). unwrap_or (option_map (λ (t : Tenths). t.sum) o) 0) is
+    ∙ tenths_back greatest meter month (sales_in_month rows.sales (meter, month))
 
 pub returns-clause-reads : goal.returns-clause-reads
 returns-clause-reads g c =
-    read_on (reads (month_found c.amount_law.ensures.greatest c.args.meter.now c.args.month) (state g.S.Store c.args.conn.now) (state g.S.Store c.first_record.new.conn) (Ok c.in_ok-found.found) (bound c.month_values.result) c.month_values.ensures c.in_ok-found.ensures.reads)
+    read_on (reads (month_found c.amount_law.ensures.greatest c.args.meter.now c.args.month) (state g.S.Store c.args.conn.now)
+    (state g.S.Store c.first_record.new.conn) (Ok c.in_ok-found.found) (bound c.month_values.result) c.month_values.ensures c.in_ok-found.ensures.reads)
 
 pub returns-in_err-found-clause-sees : goal.returns-in_err-found-clause-sees
 returns-in_err-found-clause-sees g c =
@@ -41,7 +47,8 @@ returns-in_err-found-clause-sees g c =
     let old = state g.S.Store c.args.conn.now in
     let new = state g.S.Store c.first_record.new.conn in
     sees_fault month_tenths_kept (ShowsFirst (asked finds)) (ShowsMade q (λ o. unwrap_or o 0)) (HasSpoilt (asked finds)) (HasSpoilt q)
-    (λ db. part_spoilt month_tenths_kept shown_number IsTotal q.text q.params (λ (t : Tenths). t.sum) db (λ n. record { sum = n }) (λ n. refl)) old new c.in_err-found.field-0.0 c.from_residual.result c.from_residual.ensures.1
+    (λ db. part_spoilt month_tenths_kept shown_number IsTotal q.text q.params (λ (t : Tenths). t.sum) db (λ n. record { sum = n })
+    (λ n. refl)) old new c.in_err-found.field-0.0 c.from_residual.result c.from_residual.ensures.1
     (sees finds old new (Err c.in_err-found.field-0.0) (bound c.month_values.result) c.month_values.ensures c.in_err-found.ensures.reads (λ _ _. tt))
 
 pub returns-clause-sees : goal.returns-clause-sees
@@ -50,5 +57,10 @@ returns-clause-sees g c =
     let finds = month_found c.amount_law.ensures.greatest c.args.meter.now c.args.month in
     let old = state g.S.Store c.args.conn.now in
     let new = state g.S.Store c.first_record.new.conn in
-    sees_made month_tenths_kept (ShowsFirst (asked finds)) (ShowsMade q (λ o. unwrap_or o 0)) (HasSpoilt (asked finds)) (HasSpoilt q) old new c.in_ok-found.found c.sum_of.result (λ db shown. (option_map (λ (t : Tenths). t.sum) c.in_ok-found.found, part_first month_tenths_kept shown_number IsTotal q.text q.params (λ (t : Tenths). t.sum) db c.in_ok-found.found shown, c.sum_of.ensures))
+    sees_made month_tenths_kept (ShowsFirst (asked finds)) (ShowsMade q (λ o. unwrap_or o 0)) (HasSpoilt (asked finds)) (HasSpoilt q) old
+    new c.in_ok-found.found c.sum_of.result (λ db shown. (
+      option_map (λ (t : Tenths). t.sum) c.in_ok-found.found,
+      part_first month_tenths_kept shown_number IsTotal q.text q.params (λ (t : Tenths). t.sum) db c.in_ok-found.found shown,
+      c.sum_of.ensures,
+    ))
     (sees finds old new (Ok c.in_ok-found.found) (bound c.month_values.result) c.month_values.ensures c.in_ok-found.ensures.reads c.in_ok-found.ensures.given)

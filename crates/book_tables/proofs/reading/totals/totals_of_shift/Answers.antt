@@ -16,7 +16,10 @@ use Rattle.book_tables.proofs.reading.totals.totals_of_shift.Goals as goal
 
 pub returns-in_err-found-clause-reads : goal.returns-in_err-found-clause-reads
 returns-in_err-found-clause-reads g c =
-    fail_on c.from_residual.result c.from_residual.ensures.1 (reads (totals_found c.amount_law.ensures.greatest c.args.shift) (state g.S.Store c.args.conn.now) (state g.S.Store c.first_record.new.conn) (Err c.in_err-found.field-0.0) (bound c.number_values.result) c.number_values.ensures c.in_err-found.ensures.reads)
+    fail_on c.from_residual.result c.from_residual.ensures.1
+    (reads (totals_found c.amount_law.ensures.greatest c.args.shift) (state g.S.Store c.args.conn.now)
+    (state g.S.Store c.first_record.new.conn) (Err c.in_err-found.field-0.0) (bound c.number_values.result) c.number_values.ensures
+    c.in_err-found.ensures.reads)
 
 pub returns-clause-given : goal.returns-clause-given
 returns-clause-given g c clean rows has of_office =
@@ -31,20 +34,25 @@ returns-clause-given g c clean rows has of_office =
 
 pub returns-clause-reads : goal.returns-clause-reads
 returns-clause-reads g c =
-    read_on (reads (totals_found c.amount_law.ensures.greatest c.args.shift) (state g.S.Store c.args.conn.now) (state g.S.Store c.first_record.new.conn) (Ok c.in_ok-found.found) (bound c.number_values.result) c.number_values.ensures c.in_ok-found.ensures.reads)
+    read_on (reads (totals_found c.amount_law.ensures.greatest c.args.shift) (state g.S.Store c.args.conn.now)
+    (state g.S.Store c.first_record.new.conn) (Ok c.in_ok-found.found) (bound c.number_values.result) c.number_values.ensures c.in_ok-found.ensures.reads)
 
 pub returns-in_err-found-clause-sees : goal.returns-in_err-found-clause-sees
 returns-in_err-found-clause-sees g c =
     let q = the_shift_totals c.args.shift in
     let old = state g.S.Store c.args.conn.now in
     let new = state g.S.Store c.first_record.new.conn in
-    sees_fault shift_totals_kept (ShowsFirst q) (ShowsMade q (λ o. unwrap_or o no_totals)) (HasSpoilt q) (HasSpoilt q) (λ db spoilt. spoilt) old new c.in_err-found.field-0.0 c.from_residual.result c.from_residual.ensures.1
-    (sees (totals_found c.amount_law.ensures.greatest c.args.shift) old new (Err c.in_err-found.field-0.0) (bound c.number_values.result) c.number_values.ensures c.in_err-found.ensures.reads (λ _ _. tt))
+    sees_fault shift_totals_kept (ShowsFirst q) (ShowsMade q (λ o. unwrap_or o no_totals)) (HasSpoilt q) (HasSpoilt q)
+    (λ db spoilt. spoilt) old new c.in_err-found.field-0.0 c.from_residual.result c.from_residual.ensures.1
+    (sees (totals_found c.amount_law.ensures.greatest c.args.shift) old new (Err c.in_err-found.field-0.0) (bound c.number_values.result)
+    c.number_values.ensures c.in_err-found.ensures.reads (λ _ _. tt))
 
 pub returns-clause-sees : goal.returns-clause-sees
 returns-clause-sees g c =
     let q = the_shift_totals c.args.shift in
     let old = state g.S.Store c.args.conn.now in
     let new = state g.S.Store c.first_record.new.conn in
-    sees_made shift_totals_kept (ShowsFirst q) (ShowsMade q (λ o. unwrap_or o no_totals)) (HasSpoilt q) (HasSpoilt q) old new c.in_ok-found.found c.totals_or_none.result (λ db shown. (c.in_ok-found.found, shown, c.totals_or_none.ensures))
-    (sees (totals_found c.amount_law.ensures.greatest c.args.shift) old new (Ok c.in_ok-found.found) (bound c.number_values.result) c.number_values.ensures c.in_ok-found.ensures.reads c.in_ok-found.ensures.given)
+    sees_made shift_totals_kept (ShowsFirst q) (ShowsMade q (λ o. unwrap_or o no_totals)) (HasSpoilt q) (HasSpoilt q) old new
+    c.in_ok-found.found c.totals_or_none.result (λ db shown. (c.in_ok-found.found, shown, c.totals_or_none.ensures))
+    (sees (totals_found c.amount_law.ensures.greatest c.args.shift) old new (Ok c.in_ok-found.found) (bound c.number_values.result)
+    c.number_values.ensures c.in_ok-found.ensures.reads c.in_ok-found.ensures.given)

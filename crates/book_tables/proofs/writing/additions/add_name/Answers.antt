@@ -18,10 +18,14 @@ returns-clause-writes g c =
     let tree = tree_in s (codes "tariffs") in
     record {
       made = λ clean has.
-          on_ok c.put.result (adds_name (state g.S.Store c.args.tx.now.conn.now) (state g.S.Store c.put.new.tx.conn.now) has c.args.name.now _ c.tariff_values.ensures)
-          (c.put.ensures.added clean (tariffs_table tree) (place_in s (codes "tariffs")) one_term (new_tariff_means tree) (λ runs. (has runs).tables.1.0.0.has));
+          on_ok c.put.result (adds_name (state g.S.Store c.args.tx.now.conn.now) (state g.S.Store c.put.new.tx.conn.now) has
+          c.args.name.now _ c.tariff_values.ensures)
+          (c.put.ensures.added clean (tariffs_table tree) (place_in s (codes "tariffs")) one_term (new_tariff_means tree)
+          (λ runs. (has runs).tables.1.0.0.has));
       transaction = c.put.ensures.transaction;
       ends = λ clean has.
-          subst (λ (ps : Values). Ends FailsToStore (record { sql = new_tariff_text; params = ps }) (state g.S.Store c.args.tx.now.conn.now) (state g.S.Store c.put.new.tx.conn.now) c.put.result) c.tariff_values.ensures
-          (c.put.ensures.ends clean (tariffs_table tree) (place_in s (codes "tariffs")) one_term (new_tariff_means tree) (subst (λ ps. is_whole new_tariff_text (length ps) ≡ true) (sym c.tariff_values.ensures) new_tariff_whole) (λ runs. (has runs).tables.1.0.0.has));
+          subst (λ (ps : Values). Ends FailsToStore (record { sql = new_tariff_text; params = ps })
+          (state g.S.Store c.args.tx.now.conn.now) (state g.S.Store c.put.new.tx.conn.now) c.put.result) c.tariff_values.ensures
+          (c.put.ensures.ends clean (tariffs_table tree) (place_in s (codes "tariffs")) one_term (new_tariff_means tree)
+          (subst (λ ps. is_whole new_tariff_text (length ps) ≡ true) (sym c.tariff_values.ensures) new_tariff_whole) (λ runs. (has runs).tables.1.0.0.has));
     }

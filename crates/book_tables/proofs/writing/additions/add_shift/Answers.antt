@@ -18,10 +18,15 @@ returns-clause-writes g c =
     let tree = tree_in s (codes "shifts") in
     record {
       made = λ clean has.
-          on_ok c.put.result (adds_shift (state g.S.Store c.args.tx.now.conn.now) (state g.S.Store c.put.new.tx.conn.now) has c.args.shift.now _ c.shift_values.ensures)
-          (c.put.ensures.added clean (shifts_table tree) (place_in s (codes "shifts")) new_shift_terms (new_shift_means tree) (λ runs. (has runs).tables.1.1.1.1.0.0.has));
+          on_ok c.put.result (adds_shift (state g.S.Store c.args.tx.now.conn.now) (state g.S.Store c.put.new.tx.conn.now) has
+          c.args.shift.now _ c.shift_values.ensures)
+          (c.put.ensures.added clean (shifts_table tree) (place_in s (codes "shifts")) new_shift_terms (new_shift_means tree)
+          (λ runs. (has runs).tables.1.1.1.1.0.0.has));
       transaction = c.put.ensures.transaction;
       ends = λ clean has.
-          subst (λ (ps : Values). Ends FailsToStore (record { sql = new_shift_text; params = ps }) (state g.S.Store c.args.tx.now.conn.now) (state g.S.Store c.put.new.tx.conn.now) c.put.result) c.shift_values.ensures
-          (c.put.ensures.ends clean (shifts_table tree) (place_in s (codes "shifts")) new_shift_terms (new_shift_means tree) (subst (λ ps. is_whole new_shift_text (length ps) ≡ true) (sym c.shift_values.ensures) new_shift_whole) (λ runs. (has runs).tables.1.1.1.1.0.0.has));
+          subst (λ (ps : Values). Ends FailsToStore (record { sql = new_shift_text; params = ps }) (state g.S.Store c.args.tx.now.conn.now)
+          (state g.S.Store c.put.new.tx.conn.now) c.put.result) c.shift_values.ensures
+          (c.put.ensures.ends clean (shifts_table tree) (place_in s (codes "shifts")) new_shift_terms (new_shift_means tree)
+          (subst (λ ps. is_whole new_shift_text (length ps) ≡ true) (sym c.shift_values.ensures) new_shift_whole)
+          (λ runs. (has runs).tables.1.1.1.1.0.0.has));
     }

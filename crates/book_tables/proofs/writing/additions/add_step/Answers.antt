@@ -18,10 +18,14 @@ returns-clause-writes g c =
     let tree = tree_in s (codes "tariff_steps") in
     record {
       made = λ clean has.
-          on_ok c.put.result (adds_step (state g.S.Store c.args.tx.now.conn.now) (state g.S.Store c.put.new.tx.conn.now) has (record { tariff = c.args.name.now; place = c.args.place; step = c.args.step }) _ c.step_values.ensures)
-          (c.put.ensures.added clean (tariff_steps_table tree) (place_in s (codes "tariff_steps")) four_terms (new_step_means tree) (λ runs. (has runs).tables.1.1.0.0.has));
+          on_ok c.put.result (adds_step (state g.S.Store c.args.tx.now.conn.now) (state g.S.Store c.put.new.tx.conn.now) has
+          (record { tariff = c.args.name.now; place = c.args.place; step = c.args.step }) _ c.step_values.ensures)
+          (c.put.ensures.added clean (tariff_steps_table tree) (place_in s (codes "tariff_steps")) four_terms (new_step_means tree)
+          (λ runs. (has runs).tables.1.1.0.0.has));
       transaction = c.put.ensures.transaction;
       ends = λ clean has.
-          subst (λ (ps : Values). Ends FailsToStore (record { sql = new_step_text; params = ps }) (state g.S.Store c.args.tx.now.conn.now) (state g.S.Store c.put.new.tx.conn.now) c.put.result) c.step_values.ensures
-          (c.put.ensures.ends clean (tariff_steps_table tree) (place_in s (codes "tariff_steps")) four_terms (new_step_means tree) (subst (λ ps. is_whole new_step_text (length ps) ≡ true) (sym c.step_values.ensures) new_step_whole) (λ runs. (has runs).tables.1.1.0.0.has));
+          subst (λ (ps : Values). Ends FailsToStore (record { sql = new_step_text; params = ps }) (state g.S.Store c.args.tx.now.conn.now)
+          (state g.S.Store c.put.new.tx.conn.now) c.put.result) c.step_values.ensures
+          (c.put.ensures.ends clean (tariff_steps_table tree) (place_in s (codes "tariff_steps")) four_terms (new_step_means tree)
+          (subst (λ ps. is_whole new_step_text (length ps) ≡ true) (sym c.step_values.ensures) new_step_whole) (λ runs. (has runs).tables.1.1.0.0.has));
     }

@@ -19,7 +19,8 @@ steps-init g c = record {
   same = search rules;
   place = search rules;
   transaction = transaction_on c.in_ok-add_name.ensures.writes.transaction;
-  added = λ clean has. adds_none c.args.name.now (state g.S.Store c.args.tx.now.conn.now) (state g.S.Store c.add_name.new.tx.conn.now) has (c.in_ok-add_name.ensures.writes.made clean has);
+  added = λ clean has. adds_none c.args.name.now (state g.S.Store c.args.tx.now.conn.now) (state g.S.Store c.add_name.new.tx.conn.now) has
+      (c.in_ok-add_name.ensures.writes.made clean has);
   written = λ clean has. (c.in_ok-add_name.ensures.writes.ends clean has).0;
 }
 
@@ -27,7 +28,8 @@ pub steps-preserved : goal.steps-preserved
 steps-preserved g c = record {
   same = search rules;
   place = search rules;
-  transaction = transaction_then (state g.S.Store c.args.tx.now.conn.now) (state g.S.Store c.steps.tx.conn.now) (state g.S.Store c.add_step.new.tx.conn.now) (Ok tt) c.steps.invariant.transaction (transaction_on c.in_ok-add_step.ensures.writes.transaction);
+  transaction = transaction_then (state g.S.Store c.args.tx.now.conn.now) (state g.S.Store c.steps.tx.conn.now)
+      (state g.S.Store c.add_step.new.tx.conn.now) (Ok tt) c.steps.invariant.transaction (transaction_on c.in_ok-add_step.ensures.writes.transaction);
   added = λ clean has.
       let old = state g.S.Store c.args.tx.now.conn.now in
       let mid = state g.S.Store c.steps.tx.conn.now in
@@ -36,9 +38,12 @@ steps-preserved g c = record {
       let so_far = c.steps.invariant.added early has in
       let last = c.in_ok-add_step.ensures.writes.made clean (tables_there _ old mid so_far.only has) in
       let step = get_or c.args.steps.now c.steps.step-index (record { ends = None; price = 0 }) in
-      let count : length (take c.steps.step-index c.args.steps.now) ≡ c.steps.step-index = length-take-le c.steps.step-index c.args.steps.now (omega (arith, c.steps-test.true)) in
-      subst (λ (l : List Step). AddsTariff c.args.name.now l old new) (sym (take_more c.args.steps.now c.steps.step-index (record { ends = None; price = 0 }) c.steps-test.true))
-      (adds_next c.args.name.now (take c.steps.step-index c.args.steps.now) c.steps.place step old mid new (c.steps.invariant.place ∙ sym count) has so_far last);
+      let count : length (take c.steps.step-index c.args.steps.now) ≡ c.steps.step-index =
+      length-take-le c.steps.step-index c.args.steps.now (omega (arith, c.steps-test.true)) in
+      subst (λ (l : List Step). AddsTariff c.args.name.now l old new)
+      (sym (take_more c.args.steps.now c.steps.step-index (record { ends = None; price = 0 }) c.steps-test.true))
+      (adds_next c.args.name.now (take c.steps.step-index c.args.steps.now) c.steps.place step old mid new
+      (c.steps.invariant.place ∙ sym count) has so_far last);
   written = λ clean has.
       let old = state g.S.Store c.args.tx.now.conn.now in
       let mid = state g.S.Store c.steps.tx.conn.now in
@@ -49,28 +54,34 @@ steps-preserved g c = record {
       let none : Step = record { ends = None; price = 0 } in
       let early : HasCleanDisk mid = omega (arith, c.add_step.ensures.writes.transaction.survives.clean) in
       let so_far = c.steps.invariant.added early has in
-      let came = came_by (tariff_writes name (take i steps)) old mid (c.steps.invariant.written early has) so_far.only.inside c.steps.invariant.transaction.survives in
+      let came = came_by (tariff_writes name (take i steps)) old mid (c.steps.invariant.written early has) so_far.only.inside
+      c.steps.invariant.transaction.survives in
       let count : length (take i steps) ≡ i = length-take-le i steps (omega (arith, c.steps-test.true)) in
       let last = (c.in_ok-add_step.ensures.writes.ends clean (tables_there _ old mid so_far.only has)).0 in
       let here = subst (λ (n : ℕ). AreCarriedOut (new_step (step_row name n (get_or steps i none)) ∷ []) mid new) (c.steps.invariant.place ∙ sym count) last in
-      subst (λ (l : List Write). AreCarriedOut l old new) (with_next (tariff_writes name) (step_block name) (tariff_more name) [] steps i none c.steps-test.true)
+      subst (λ (l : List Write). AreCarriedOut l old new)
+      (with_next (tariff_writes name) (step_block name) (tariff_more name) [] steps i none c.steps-test.true)
       (written_then (tariff_writes name (take i steps)) (step_block name (take i steps) (get_or steps i none)) old mid new came here);
 }
 
 pub returns-clause-added : goal.returns-clause-added
 returns-clause-added g c clean has =
-    subst (λ (l : List Step). AddsTariff c.args.name.now l (state g.S.Store c.args.tx.now.conn.now) (state g.S.Store c.steps.tx.conn.now)) (take_all c.steps.step-index c.args.steps.now c.steps-test.false)
+    subst (λ (l : List Step). AddsTariff c.args.name.now l (state g.S.Store c.args.tx.now.conn.now) (state g.S.Store c.steps.tx.conn.now))
+    (take_all c.steps.step-index c.args.steps.now c.steps-test.false)
     (c.steps.invariant.added clean has)
 
 pub returns-in_err-add_name-clause-transaction : goal.returns-in_err-add_name-clause-transaction
 returns-in_err-add_name-clause-transaction g c =
-    transaction_off _ c.from_residual.result c.from_residual.ensures.1 c.in_err-add_name.ensures.writes.transaction.kept c.in_err-add_name.ensures.writes.transaction.survives
+    transaction_off _ c.from_residual.result c.from_residual.ensures.1 c.in_err-add_name.ensures.writes.transaction.kept
+    c.in_err-add_name.ensures.writes.transaction.survives
 
 pub returns-in_err-add_step-clause-transaction : goal.returns-in_err-add_step-clause-transaction
 returns-in_err-add_step-clause-transaction g c =
     let r = c.from_residual-in_err-add_step.result in
-    transaction_then (state g.S.Store c.args.tx.now.conn.now) (state g.S.Store c.steps.tx.conn.now) (state g.S.Store c.add_step.new.tx.conn.now) r c.steps.invariant.transaction
-    (transaction_off _ r c.from_residual-in_err-add_step.ensures.1 c.in_err-add_step.ensures.writes.transaction.kept c.in_err-add_step.ensures.writes.transaction.survives)
+    transaction_then (state g.S.Store c.args.tx.now.conn.now) (state g.S.Store c.steps.tx.conn.now)
+    (state g.S.Store c.add_step.new.tx.conn.now) r c.steps.invariant.transaction
+    (transaction_off _ r c.from_residual-in_err-add_step.ensures.1 c.in_err-add_step.ensures.writes.transaction.kept
+    c.in_err-add_step.ensures.writes.transaction.survives)
 
 pub returns-clause-transaction : goal.returns-clause-transaction
 returns-clause-transaction g c = transaction_on c.steps.invariant.transaction
@@ -82,7 +93,8 @@ returns-in_err-add_name-clause-ends g c clean way has =
     let name = c.args.name.now in
     let e = c.in_err-add_name.field-0.0 in
     ends_off FailsToWriteAll (tariff_writes name c.args.steps.now) old new e c.from_residual.result c.from_residual.ensures.1
-    (of_store [] old old new (came_here old way) (new_tariff name) (map new_step (step_rows name c.args.steps.now)) e (c.in_err-add_name.ensures.writes.ends clean has).1)
+    (of_store [] old old new (came_here old way) (new_tariff name) (map new_step (step_rows name c.args.steps.now)) e
+    (c.in_err-add_name.ensures.writes.ends clean has).1)
 
 pub returns-in_err-add_step-clause-ends : goal.returns-in_err-add_step-clause-ends
 returns-in_err-add_step-clause-ends g c clean way has =
@@ -95,18 +107,21 @@ returns-in_err-add_step-clause-ends g c clean way has =
     let none : Step = record { ends = None; price = 0 } in
     let early : HasCleanDisk mid = omega (arith, c.add_step.ensures.writes.transaction.survives.clean) in
     let so_far = c.steps.invariant.added early has in
-    let came = came_by (tariff_writes name (take i steps)) old mid (c.steps.invariant.written early has) so_far.only.inside c.steps.invariant.transaction.survives in
+    let came = came_by (tariff_writes name (take i steps)) old mid (c.steps.invariant.written early has) so_far.only.inside
+    c.steps.invariant.transaction.survives in
     let count : length (take i steps) ≡ i = length-take-le i steps (omega (arith, c.steps-test.true)) in
     let e = c.in_err-add_step.field-0.0 in
     let fails = (c.in_err-add_step.ensures.writes.ends clean (tables_there _ old mid so_far.only has)).1 in
     let here = subst (λ (n : ℕ). FailsToStore (new_step (step_row name n (get_or steps i none))) mid new e) (c.steps.invariant.place ∙ sym count) fails in
     let rest = rest_after (tariff_writes name) (step_block name) (tariff_more name) [] steps i none c.steps-test.true in
     ends_off FailsToWriteAll (tariff_writes name steps) old new e c.from_residual-in_err-add_step.result c.from_residual-in_err-add_step.ensures.1
-    (subst (λ (l : List Write). FailsToWriteAll l old new e) rest.1 (of_store (tariff_writes name (take i steps)) old mid new came (new_step (step_row name (length (take i steps)) (get_or steps i none))) rest.0 e here))
+    (subst (λ (l : List Write). FailsToWriteAll l old new e) rest.1
+    (of_store (tariff_writes name (take i steps)) old mid new came (new_step (step_row name (length (take i steps)) (get_or steps i none))) rest.0 e here))
 
 pub returns-clause-ends : goal.returns-clause-ends
 returns-clause-ends g c clean way has = (
-  subst (λ (l : List Step). AreCarriedOut (tariff_writes c.args.name.now l) (state g.S.Store c.args.tx.now.conn.now) (state g.S.Store c.steps.tx.conn.now)) (take_all c.steps.step-index c.args.steps.now c.steps-test.false)
+  subst (λ (l : List Step). AreCarriedOut (tariff_writes c.args.name.now l) (state g.S.Store c.args.tx.now.conn.now)
+      (state g.S.Store c.steps.tx.conn.now)) (take_all c.steps.step-index c.args.steps.now c.steps-test.false)
       (c.steps.invariant.written clean has),
   tt,
 )

@@ -19,10 +19,15 @@ returns-clause-writes g c =
     let tree = tree_in s (codes "meters") in
     record {
       made = λ clean has.
-          on_ok c.set.result (sets_base (state g.S.Store c.args.tx.now.conn.now) (state g.S.Store c.set.new.tx.conn.now) has c.args.number.now c.args.base _ c.base_values.ensures)
-          (c.set.ensures.changed clean (meters_table tree) (place_in s (codes "meters")) (base_set_query tree) (base_set_means tree) (λ runs. let there = meters_in.there s (has runs) in (there.0.has, there.1)));
+          on_ok c.set.result (sets_base (state g.S.Store c.args.tx.now.conn.now) (state g.S.Store c.set.new.tx.conn.now) has
+          c.args.number.now c.args.base _ c.base_values.ensures)
+          (c.set.ensures.changed clean (meters_table tree) (place_in s (codes "meters")) (base_set_query tree) (base_set_means tree)
+          (λ runs. let there = meters_in.there s (has runs) in (there.0.has, there.1)));
       transaction = c.set.ensures.transaction;
       ends = λ clean has.
-          subst (λ (ps : Values). Ends FailsToStore (record { sql = base_set_text; params = ps }) (state g.S.Store c.args.tx.now.conn.now) (state g.S.Store c.set.new.tx.conn.now) c.set.result) c.base_values.ensures
-          (c.set.ensures.ends clean (meters_table tree) (place_in s (codes "meters")) (base_set_query tree) (base_set_means tree) (subst (λ ps. is_whole base_set_text (length ps) ≡ true) (sym c.base_values.ensures) base_set_whole) (λ runs. (meters_in.there s (has runs)).0.has));
+          subst (λ (ps : Values). Ends FailsToStore (record { sql = base_set_text; params = ps }) (state g.S.Store c.args.tx.now.conn.now)
+          (state g.S.Store c.set.new.tx.conn.now) c.set.result) c.base_values.ensures
+          (c.set.ensures.ends clean (meters_table tree) (place_in s (codes "meters")) (base_set_query tree) (base_set_means tree)
+          (subst (λ ps. is_whole base_set_text (length ps) ≡ true) (sym c.base_values.ensures) base_set_whole)
+          (λ runs. (meters_in.there s (has runs)).0.has));
     }

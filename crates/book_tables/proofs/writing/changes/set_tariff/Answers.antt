@@ -17,10 +17,15 @@ returns-clause-writes g c =
     let tree = tree_in s (codes "meters") in
     record {
       made = λ clean has.
-          on_ok c.set.result (sets_tariff (state g.S.Store c.args.tx.now.conn.now) (state g.S.Store c.set.new.tx.conn.now) has c.args.number.now c.args.name.now _ (rw (c.as_bytes.ensures.view, c.as_bytes-2.ensures.view) refl))
-          (c.set.ensures.changed clean (meters_table tree) (place_in s (codes "meters")) (tariff_set_query tree) (tariff_set_means tree) (λ runs. ((has runs).tables.1.1.1.0.0.has, (has runs).tables.1.1.1.0.1)));
+          on_ok c.set.result (sets_tariff (state g.S.Store c.args.tx.now.conn.now) (state g.S.Store c.set.new.tx.conn.now) has
+          c.args.number.now c.args.name.now _ (rw (c.as_bytes.ensures.view, c.as_bytes-2.ensures.view) refl))
+          (c.set.ensures.changed clean (meters_table tree) (place_in s (codes "meters")) (tariff_set_query tree) (tariff_set_means tree)
+          (λ runs. ((has runs).tables.1.1.1.0.0.has, (has runs).tables.1.1.1.0.1)));
       transaction = c.set.ensures.transaction;
       ends = λ clean has.
-          subst (λ (ps : Values). Ends FailsToStore (record { sql = tariff_set_text; params = ps }) (state g.S.Store c.args.tx.now.conn.now) (state g.S.Store c.set.new.tx.conn.now) c.set.result) (rw (c.as_bytes.ensures.view, c.as_bytes-2.ensures.view) refl)
-          (c.set.ensures.ends clean (meters_table tree) (place_in s (codes "meters")) (tariff_set_query tree) (tariff_set_means tree) tariff_set_whole (λ runs. (has runs).tables.1.1.1.0.0.has));
+          subst (λ (ps : Values). Ends FailsToStore (record { sql = tariff_set_text; params = ps })
+          (state g.S.Store c.args.tx.now.conn.now) (state g.S.Store c.set.new.tx.conn.now) c.set.result)
+          (rw (c.as_bytes.ensures.view, c.as_bytes-2.ensures.view) refl)
+          (c.set.ensures.ends clean (meters_table tree) (place_in s (codes "meters")) (tariff_set_query tree) (tariff_set_means tree)
+          tariff_set_whole (λ runs. (has runs).tables.1.1.1.0.0.has));
     }

@@ -22,10 +22,15 @@ returns-clause-writes g c =
     let row = dated_at c.args.name.now c.args.day c.args.place c.args.step in
     record {
       made = λ clean has.
-          on_ok c.put.result (adds_dated_step (state g.S.Store c.args.tx.now.conn.now) (state g.S.Store c.put.new.tx.conn.now) has row _ c.dated_step_values.ensures)
-          (c.put.ensures.added clean (dated_steps_table tree) (place_in s (codes "dated_steps")) five_terms (new_dated_means tree) (λ runs. (dated_steps_in.there s (has runs)).0.has));
+          on_ok c.put.result (adds_dated_step (state g.S.Store c.args.tx.now.conn.now) (state g.S.Store c.put.new.tx.conn.now) has row _
+          c.dated_step_values.ensures)
+          (c.put.ensures.added clean (dated_steps_table tree) (place_in s (codes "dated_steps")) five_terms (new_dated_means tree)
+          (λ runs. (dated_steps_in.there s (has runs)).0.has));
       transaction = c.put.ensures.transaction;
       ends = λ clean has.
-          subst (λ (ps : Values). Ends FailsToStore (record { sql = new_dated_text; params = ps }) (state g.S.Store c.args.tx.now.conn.now) (state g.S.Store c.put.new.tx.conn.now) c.put.result) c.dated_step_values.ensures
-          (c.put.ensures.ends clean (dated_steps_table tree) (place_in s (codes "dated_steps")) five_terms (new_dated_means tree) (subst (λ ps. is_whole new_dated_text (length ps) ≡ true) (sym {b = dated_columns row} c.dated_step_values.ensures) new_dated_whole) (λ runs. (dated_steps_in.there s (has runs)).0.has));
+          subst (λ (ps : Values). Ends FailsToStore (record { sql = new_dated_text; params = ps }) (state g.S.Store c.args.tx.now.conn.now)
+          (state g.S.Store c.put.new.tx.conn.now) c.put.result) c.dated_step_values.ensures
+          (c.put.ensures.ends clean (dated_steps_table tree) (place_in s (codes "dated_steps")) five_terms (new_dated_means tree)
+          (subst (λ ps. is_whole new_dated_text (length ps) ≡ true) (sym {b = dated_columns row} c.dated_step_values.ensures)
+          new_dated_whole) (λ runs. (dated_steps_in.there s (has runs)).0.has));
     }

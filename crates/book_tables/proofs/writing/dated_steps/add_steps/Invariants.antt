@@ -17,6 +17,8 @@ invariant-others g l =
       same : l.tx.conn.ghost_name ≡ l.fn.tx.conn.ghost_name;
       place : l.place ≡ l.step-index + 1;
       transaction : KeepsTransaction {T = Unit {0}} {E = TableError} old now (Ok tt);
-      added : HasCleanDisk now → HasAllTables old → (first : Step) × (l.steps ≡ first ∷ l.others) × AddsSteps l.name l.day (first ∷ take l.step-index l.others) old now;
-      written : HasCleanDisk now → HasAllTables old → (first : Step) × (l.steps ≡ first ∷ l.others) × AreCarriedOut (steps_writes l.name l.day (first ∷ take l.step-index l.others)) old now;
+      added : HasCleanDisk now → HasAllTables old → (first : Step) × (l.steps ≡ first ∷ l.others)
+          × AddsSteps l.name l.day (first ∷ take l.step-index l.others) old now;
+      written : HasCleanDisk now → HasAllTables old → (first : Step) × (l.steps ≡ first ∷ l.others)
+          × AreCarriedOut (steps_writes l.name l.day (first ∷ take l.step-index l.others)) old now;
     }

@@ -14,16 +14,21 @@ pub returns-in_err-shown-clause-ends : goal.returns-in_err-shown-clause-ends
 returns-in_err-shown-clause-ends g c clean way t at m is whole stands =
     let old = state g.S.Store c.args.tx.now.conn.now in
     let new = state g.S.Store c.upsert.new.tx.conn.now in
-    fails_to_merge old new (record { sql = c.args.sql.now; params = bound c.args.params.now }) t m at c.in_err-shown.field-0.0 c.from_residual.result c.from_residual.ensures.1 (λ runs. means_merging c.args.sql.now old.now.schema t at m is (stands runs))
+    fails_to_merge old new (record { sql = c.args.sql.now; params = bound c.args.params.now }) t m at c.in_err-shown.field-0.0
+    c.from_residual.result c.from_residual.ensures.1 (λ runs. means_merging c.args.sql.now old.now.schema t at m is (stands runs))
     (c.in_err-shown.ensures.failed clean way t at m is whole stands)
 
 pub returns-clause-ends : goal.returns-clause-ends
-returns-clause-ends g c clean way t at m is whole stands =
-    (one_written (record { sql = c.args.sql.now; params = bound c.args.params.now }) (state g.S.Store c.args.tx.now.conn.now) (state g.S.Store c.upsert.new.tx.conn.now) (c.in_ok-shown.ensures.ran clean t at m is stands), tt)
+returns-clause-ends g c clean way t at m is whole stands = (
+  one_written (record { sql = c.args.sql.now; params = bound c.args.params.now }) (state g.S.Store c.args.tx.now.conn.now)
+      (state g.S.Store c.upsert.new.tx.conn.now) (c.in_ok-shown.ensures.ran clean t at m is stands),
+  tt,
+)
 
 pub returns-in_err-shown-clause-false_row : goal.returns-in_err-shown-clause-false_row
 returns-in_err-shown-clause-false_row g c clean way t at m is whole takes told_so =
-    false_row t m (bound c.args.params.now) at (ShowsRecord g.T.Record.shown g.T.Record.keeps) c.in_err-shown.field-0.0 c.from_residual.result c.from_residual.ensures.1 (c.in_err-shown.ensures.refused clean way t at m is whole takes) told_so
+    false_row t m (bound c.args.params.now) at (ShowsRecord g.T.Record.shown g.T.Record.keeps) c.in_err-shown.field-0.0
+    c.from_residual.result c.from_residual.ensures.1 (c.in_err-shown.ensures.refused clean way t at m is whole takes) told_so
 
 pub returns-clause-transaction : goal.returns-clause-transaction
 returns-clause-transaction g c = transaction_on c.in_ok-shown.ensures.transaction

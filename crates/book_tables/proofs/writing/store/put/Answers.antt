@@ -14,12 +14,16 @@ returns-in_err-insert-clause-transaction g c =
 pub returns-in_err-insert-clause-ends : goal.returns-in_err-insert-clause-ends
 returns-in_err-insert-clause-ends g c clean t at terms is whole has =
     let old = state g.S.Store c.args.tx.now.conn.now in
-    fails_to_store (record { sql = c.args.sql.now; params = bound c.args.params.now }) (insert_as at t terms) c.from_residual.result c.from_residual.ensures.1 (λ runs. inserts old.now.schema at t (has runs) terms c.args.sql.now is)
+    fails_to_store (record { sql = c.args.sql.now; params = bound c.args.params.now }) (insert_as at t terms) c.from_residual.result
+    c.from_residual.ensures.1 (λ runs. inserts old.now.schema at t (has runs) terms c.args.sql.now is)
     (c.in_err-insert.ensures.refused clean t at terms is whole has)
 
 pub returns-clause-ends : goal.returns-clause-ends
-returns-clause-ends g c clean t at terms is whole has =
-    (one_written (record { sql = c.args.sql.now; params = bound c.args.params.now }) (state g.S.Store c.args.tx.now.conn.now) (state g.S.Store c.insert.new.tx.conn.now) (c.in_ok-insert.ensures.ran clean t at terms is has), tt)
+returns-clause-ends g c clean t at terms is whole has = (
+  one_written (record { sql = c.args.sql.now; params = bound c.args.params.now }) (state g.S.Store c.args.tx.now.conn.now)
+      (state g.S.Store c.insert.new.tx.conn.now) (c.in_ok-insert.ensures.ran clean t at terms is has),
+  tt,
+)
 
 pub returns-clause-transaction : goal.returns-clause-transaction
 returns-clause-transaction g c = transaction_on c.in_ok-insert.ensures.transaction

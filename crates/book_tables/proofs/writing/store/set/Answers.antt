@@ -14,12 +14,16 @@ returns-in_err-update-clause-transaction g c =
 pub returns-in_err-update-clause-ends : goal.returns-in_err-update-clause-ends
 returns-in_err-update-clause-ends g c clean t at q is whole has =
     let old = state g.S.Store c.args.tx.now.conn.now in
-    fails_to_store (record { sql = c.args.sql.now; params = bound c.args.params.now }) (update_as at q) c.from_residual.result c.from_residual.ensures.1 (λ runs. updates old.now.schema at t (has runs) q c.args.sql.now is)
+    fails_to_store (record { sql = c.args.sql.now; params = bound c.args.params.now }) (update_as at q) c.from_residual.result
+    c.from_residual.ensures.1 (λ runs. updates old.now.schema at t (has runs) q c.args.sql.now is)
     (c.in_err-update.ensures.refused clean t at q is whole has)
 
 pub returns-clause-ends : goal.returns-clause-ends
-returns-clause-ends g c clean t at q is whole has =
-    (one_written (record { sql = c.args.sql.now; params = bound c.args.params.now }) (state g.S.Store c.args.tx.now.conn.now) (state g.S.Store c.update.new.tx.conn.now) (c.in_ok-update.ensures.ran clean t at q is has), tt)
+returns-clause-ends g c clean t at q is whole has = (
+  one_written (record { sql = c.args.sql.now; params = bound c.args.params.now }) (state g.S.Store c.args.tx.now.conn.now)
+      (state g.S.Store c.update.new.tx.conn.now) (c.in_ok-update.ensures.ran clean t at q is has),
+  tt,
+)
 
 pub returns-clause-transaction : goal.returns-clause-transaction
 returns-clause-transaction g c = transaction_on c.in_ok-update.ensures.transaction

@@ -19,12 +19,14 @@ pub returns-in_err-totals-clause-transaction : goal.returns-in_err-totals-clause
 returns-in_err-totals-clause-transaction g c =
     let r = c.from_residual-in_err-totals.result in
     let failed = c.in_err-totals.ensures.transaction in
-    transaction_then (state g.S.Store c.args.tx.now.conn.now) (state g.S.Store c.add_sale.new.tx.conn.now) (state g.S.Store c.add_totals.new.tx.conn.now) r c.in_ok-add_sale.ensures.writes.transaction
+    transaction_then (state g.S.Store c.args.tx.now.conn.now) (state g.S.Store c.add_sale.new.tx.conn.now)
+    (state g.S.Store c.add_totals.new.tx.conn.now) r c.in_ok-add_sale.ensures.writes.transaction
     (transaction_off _ r c.from_residual-in_err-totals.ensures.1 failed.kept failed.survives)
 
 pub returns-clause-transaction : goal.returns-clause-transaction
 returns-clause-transaction g c =
-    transaction_then (state g.S.Store c.args.tx.now.conn.now) (state g.S.Store c.add_sale.new.tx.conn.now) (state g.S.Store c.add_totals.new.tx.conn.now) _ c.in_ok-add_sale.ensures.writes.transaction
+    transaction_then (state g.S.Store c.args.tx.now.conn.now) (state g.S.Store c.add_sale.new.tx.conn.now)
+    (state g.S.Store c.add_totals.new.tx.conn.now) _ c.in_ok-add_sale.ensures.writes.transaction
     (transaction_on c.in_ok-totals.ensures.transaction)
 
 pub returns-clause-adds : goal.returns-clause-adds
@@ -43,7 +45,8 @@ returns-in_err-add_sale-clause-no_false_row g c clean way format rows held known
     let new = state g.S.Store c.add_sale.new.tx.conn.now in
     let e = c.in_err-add_sale.field-0.0 in
     let fails : FailsToStore (new_sale c.args.sale.now) old new e = (c.in_err-add_sale.ensures.writes.ends clean (λ runs. (held runs).has)).1 in
-    subst (FailsToStore (new_sale c.args.sale.now) old new) (same_error {A = Unit {0}} e RowOfNoOffice (handed_on e RowOfNoOffice c.from_residual.result c.from_residual.ensures.1 told_so)) fails
+    subst (FailsToStore (new_sale c.args.sale.now) old new)
+    (same_error {A = Unit {0}} e RowOfNoOffice (handed_on e RowOfNoOffice c.from_residual.result c.from_residual.ensures.1 told_so)) fails
 
 pub returns-in_err-totals-clause-no_false_row : goal.returns-in_err-totals-clause-no_false_row
 returns-in_err-totals-clause-no_false_row g c clean way format rows held known told_so =
@@ -62,7 +65,8 @@ returns-in_err-add_sale-clause-ends g c clean way has =
     let old = state g.S.Store c.args.tx.now.conn.now in
     let new = state g.S.Store c.add_sale.new.tx.conn.now in
     let e = c.in_err-add_sale.field-0.0 in
-    ends_off FailsToMergeAll (sale_writes sale) old new e c.from_residual.result c.from_residual.ensures.1 (inl (of_store [] old old new (came_here old way) (new_sale sale) (totals_writes sale sale.tid) e (c.in_err-add_sale.ensures.writes.ends clean has).1))
+    ends_off FailsToMergeAll (sale_writes sale) old new e c.from_residual.result c.from_residual.ensures.1
+    (inl (of_store [] old old new (came_here old way) (new_sale sale) (totals_writes sale sale.tid) e (c.in_err-add_sale.ensures.writes.ends clean has).1))
 
 pub returns-in_err-totals-clause-ends : goal.returns-in_err-totals-clause-ends
 returns-in_err-totals-clause-ends g c clean way has =
@@ -76,7 +80,8 @@ returns-in_err-totals-clause-ends g c clean way has =
     let came = came_by (new_sale sale ∷ []) old mid (done.ends early has).0 first.only.inside done.transaction.survives in
     let e = c.in_err-totals.field-0.0 in
     let fails = (c.in_err-totals.ensures.ends clean first.only.inside.mode (tables_stay (codes "sales" ∷ []) old mid first.only has)).1 in
-    ends_off FailsToMergeAll (sale_writes sale) old new e c.from_residual-in_err-totals.result c.from_residual-in_err-totals.ensures.1 (of_later_merge (new_sale sale ∷ []) old mid new came (totals_writes sale sale.tid) [] e fails)
+    ends_off FailsToMergeAll (sale_writes sale) old new e c.from_residual-in_err-totals.result c.from_residual-in_err-totals.ensures.1
+    (of_later_merge (new_sale sale ∷ []) old mid new came (totals_writes sale sale.tid) [] e fails)
 
 pub returns-clause-ends : goal.returns-clause-ends
 returns-clause-ends g c clean way has =

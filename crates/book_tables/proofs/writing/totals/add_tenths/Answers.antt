@@ -23,7 +23,8 @@ returns-in_err-all-clause-merges g c =
     merge_off e c.from_residual.result c.from_residual.ensures.1 failed.transaction.kept failed.transaction.survives
     (λ clean way has. subst (λ (ps : Values). FailsToMerge (record { sql = tenths_added_text; params = ps }) old new e) c.tenths_values.ensures
     (failed.ends clean way (month_tenths old new) (month_tenths_at old new) tenths_merging (tenths_added_means (month_tenths old new).tree)
-    (subst (λ ps. is_whole tenths_added_text (length ps) ≡ true) (sym c.tenths_values.ensures) tenths_added_whole) (λ runs. stands_for month_tenths_kept old.now.schema (month_tenths_in.there old.now.schema (has runs)))).1)
+    (subst (λ ps. is_whole tenths_added_text (length ps) ≡ true) (sym c.tenths_values.ensures) tenths_added_whole)
+    (λ runs. stands_for month_tenths_kept old.now.schema (month_tenths_in.there old.now.schema (has runs)))).1)
 
 pub returns-clause-merges : goal.returns-clause-merges
 returns-clause-merges g c =
@@ -33,13 +34,17 @@ returns-clause-merges g c =
     record {
       made = λ clean way has.
           adds_tenths old new c.args.meter.now c.args.month c.args.tenths has c.in_ok-all.all (bound c.tenths_values.result) c.tenths_values.ensures
-          (done.touched clean way (month_tenths old new) (month_tenths_at old new) tenths_merging (tenths_added_means (month_tenths old new).tree) (λ runs. stands_for month_tenths_kept old.now.schema (month_tenths_in.there old.now.schema (has runs))))
-          (λ takes. let it = done.merged clean way (month_tenths old new) (month_tenths_at old new) tenths_merging (tenths_added_means (month_tenths old new).tree) takes in it);
+          (done.touched clean way (month_tenths old new) (month_tenths_at old new) tenths_merging
+          (tenths_added_means (month_tenths old new).tree) (λ runs. stands_for month_tenths_kept old.now.schema
+          (month_tenths_in.there old.now.schema (has runs))))
+          (λ takes. let it = done.merged clean way (month_tenths old new) (month_tenths_at old new) tenths_merging
+          (tenths_added_means (month_tenths old new).tree) takes in it);
       transaction = transaction_on done.transaction;
       ends = λ clean way has. (
         subst (λ (ps : Values). AreCarriedOut (record { sql = tenths_added_text; params = ps } ∷ []) old new) c.tenths_values.ensures
             (done.ends clean way (month_tenths old new) (month_tenths_at old new) tenths_merging (tenths_added_means (month_tenths old new).tree)
-            (subst (λ ps. is_whole tenths_added_text (length ps) ≡ true) (sym c.tenths_values.ensures) tenths_added_whole) (λ runs. stands_for month_tenths_kept old.now.schema (month_tenths_in.there old.now.schema (has runs)))).0,
+            (subst (λ ps. is_whole tenths_added_text (length ps) ≡ true) (sym c.tenths_values.ensures) tenths_added_whole)
+            (λ runs. stands_for month_tenths_kept old.now.schema (month_tenths_in.there old.now.schema (has runs)))).0,
         tt,
       );
     }
@@ -50,6 +55,10 @@ returns-in_err-all-clause-no_false_row g c clean way format rows held known told
     let new = state g.S.Store c.merge.new.tx.conn.now in
     let e = c.in_err-all.field-0.0 in
     let low = total_fits _ known.2 in
-    sum_is_shown old new c.args.meter.now c.args.month c.args.tenths (bound c.tenths_values.result) c.tenths_values.ensures format rows held known.0 known.1 low known.2
-    (c.in_err-all.ensures.false_row clean way (month_tenths old new) (month_tenths_at old new) tenths_merging (tenths_added_means (month_tenths old new).tree) (subst (λ ps. is_whole tenths_added_text (length ps) ≡ true) (sym c.tenths_values.ensures) tenths_added_whole)
-    (takes_tenths old new c.args.meter.now c.args.month c.args.tenths (bound c.tenths_values.result) c.tenths_values.ensures format rows held known.0 known.1 low) (handed_on e RowOfNoOffice c.from_residual.result c.from_residual.ensures.1 told_so))
+    sum_is_shown old new c.args.meter.now c.args.month c.args.tenths (bound c.tenths_values.result) c.tenths_values.ensures format rows
+    held known.0 known.1 low known.2
+    (c.in_err-all.ensures.false_row clean way (month_tenths old new) (month_tenths_at old new) tenths_merging
+    (tenths_added_means (month_tenths old new).tree) (subst (λ ps. is_whole tenths_added_text (length ps) ≡ true)
+    (sym c.tenths_values.ensures) tenths_added_whole)
+    (takes_tenths old new c.args.meter.now c.args.month c.args.tenths (bound c.tenths_values.result) c.tenths_values.ensures format rows
+    held known.0 known.1 low) (handed_on e RowOfNoOffice c.from_residual.result c.from_residual.ensures.1 told_so))

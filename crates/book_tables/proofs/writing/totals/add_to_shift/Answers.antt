@@ -23,7 +23,8 @@ returns-in_err-all-clause-merges g c =
     merge_off e c.from_residual.result c.from_residual.ensures.1 failed.transaction.kept failed.transaction.survives
     (λ clean way has. subst (λ (ps : Values). FailsToMerge (record { sql = sale_counted_text; params = ps }) old new e) c.sale_total_values.ensures
     (failed.ends clean way (shift_totals old new) (shift_totals_at old new) totals_merging (sale_counted_means (shift_totals old new).tree)
-    (subst (λ ps. is_whole sale_counted_text (length ps) ≡ true) (sym c.sale_total_values.ensures) sale_counted_whole) (λ runs. stands_for shift_totals_kept old.now.schema (shift_totals_in.there old.now.schema (has runs)))).1)
+    (subst (λ ps. is_whole sale_counted_text (length ps) ≡ true) (sym c.sale_total_values.ensures) sale_counted_whole)
+    (λ runs. stands_for shift_totals_kept old.now.schema (shift_totals_in.there old.now.schema (has runs)))).1)
 
 pub returns-clause-merges : goal.returns-clause-merges
 returns-clause-merges g c =
@@ -33,13 +34,17 @@ returns-clause-merges g c =
     record {
       made = λ clean way has.
           adds_to_shift old new c.args.shift c.args.tenths c.args.price has c.in_ok-all.all (bound c.sale_total_values.result) c.sale_total_values.ensures
-          (done.touched clean way (shift_totals old new) (shift_totals_at old new) totals_merging (sale_counted_means (shift_totals old new).tree) (λ runs. stands_for shift_totals_kept old.now.schema (shift_totals_in.there old.now.schema (has runs))))
-          (λ takes. let it = done.merged clean way (shift_totals old new) (shift_totals_at old new) totals_merging (sale_counted_means (shift_totals old new).tree) takes in it);
+          (done.touched clean way (shift_totals old new) (shift_totals_at old new) totals_merging
+          (sale_counted_means (shift_totals old new).tree) (λ runs. stands_for shift_totals_kept old.now.schema
+          (shift_totals_in.there old.now.schema (has runs))))
+          (λ takes. let it = done.merged clean way (shift_totals old new) (shift_totals_at old new) totals_merging
+          (sale_counted_means (shift_totals old new).tree) takes in it);
       transaction = transaction_on done.transaction;
       ends = λ clean way has. (
         subst (λ (ps : Values). AreCarriedOut (record { sql = sale_counted_text; params = ps } ∷ []) old new) c.sale_total_values.ensures
             (done.ends clean way (shift_totals old new) (shift_totals_at old new) totals_merging (sale_counted_means (shift_totals old new).tree)
-            (subst (λ ps. is_whole sale_counted_text (length ps) ≡ true) (sym c.sale_total_values.ensures) sale_counted_whole) (λ runs. stands_for shift_totals_kept old.now.schema (shift_totals_in.there old.now.schema (has runs)))).0,
+            (subst (λ ps. is_whole sale_counted_text (length ps) ≡ true) (sym c.sale_total_values.ensures) sale_counted_whole)
+            (λ runs. stands_for shift_totals_kept old.now.schema (shift_totals_in.there old.now.schema (has runs)))).0,
         tt,
       );
     }
@@ -50,6 +55,10 @@ returns-in_err-all-clause-no_false_row g c clean way format rows held known told
     let new = state g.S.Store c.merge.new.tx.conn.now in
     let e = c.in_err-all.field-0.0 in
     let room = totals_fit _ known.3 in
-    totals_are_shown old new c.args.shift c.args.tenths c.args.price (bound c.sale_total_values.result) c.sale_total_values.ensures format rows held known.0 known.1 known.2 room known.3
-    (c.in_err-all.ensures.false_row clean way (shift_totals old new) (shift_totals_at old new) totals_merging (sale_counted_means (shift_totals old new).tree) (subst (λ ps. is_whole sale_counted_text (length ps) ≡ true) (sym c.sale_total_values.ensures) sale_counted_whole)
-    (takes_totals old new c.args.shift c.args.tenths c.args.price (bound c.sale_total_values.result) c.sale_total_values.ensures format rows held known.0 known.1 known.2 room) (handed_on e RowOfNoOffice c.from_residual.result c.from_residual.ensures.1 told_so))
+    totals_are_shown old new c.args.shift c.args.tenths c.args.price (bound c.sale_total_values.result) c.sale_total_values.ensures format
+    rows held known.0 known.1 known.2 room known.3
+    (c.in_err-all.ensures.false_row clean way (shift_totals old new) (shift_totals_at old new) totals_merging
+    (sale_counted_means (shift_totals old new).tree) (subst (λ ps. is_whole sale_counted_text (length ps) ≡ true)
+    (sym c.sale_total_values.ensures) sale_counted_whole)
+    (takes_totals old new c.args.shift c.args.tenths c.args.price (bound c.sale_total_values.result) c.sale_total_values.ensures format
+    rows held known.0 known.1 known.2 room) (handed_on e RowOfNoOffice c.from_residual.result c.from_residual.ensures.1 told_so))

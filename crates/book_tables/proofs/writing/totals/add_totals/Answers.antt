@@ -24,7 +24,8 @@ pub returns-in_err-month_tenths-clause-transaction : goal.returns-in_err-month_t
 returns-in_err-month_tenths-clause-transaction g c =
     let r = c.from_residual-in_err-month_tenths.result in
     let failed = c.in_err-month_tenths.ensures.merges.transaction in
-    transaction_then (state g.S.Store c.args.tx.now.conn.now) (state g.S.Store c.set_last_id.new.tx.conn.now) (state g.S.Store c.add_tenths.new.tx.conn.now) r c.in_ok-set_last_id.ensures.merges.transaction
+    transaction_then (state g.S.Store c.args.tx.now.conn.now) (state g.S.Store c.set_last_id.new.tx.conn.now)
+    (state g.S.Store c.add_tenths.new.tx.conn.now) r c.in_ok-set_last_id.ensures.merges.transaction
     (transaction_off _ r c.from_residual-in_err-month_tenths.ensures.1 failed.kept failed.survives)
 
 pub returns-in_err-shift-clause-transaction : goal.returns-in_err-shift-clause-transaction
@@ -36,7 +37,8 @@ returns-in_err-shift-clause-transaction g c =
     let r = c.from_residual-in_err-shift.result in
     let failed = c.in_err-shift.ensures.merges.transaction in
     transaction_then old one new r c.in_ok-set_last_id.ensures.merges.transaction
-    (transaction_then one two new r c.in_ok-month_tenths.ensures.merges.transaction (transaction_off _ r c.from_residual-in_err-shift.ensures.1 failed.kept failed.survives))
+    (transaction_then one two new r c.in_ok-month_tenths.ensures.merges.transaction
+    (transaction_off _ r c.from_residual-in_err-shift.ensures.1 failed.kept failed.survives))
 
 pub returns-clause-transaction : goal.returns-clause-transaction
 returns-clause-transaction g c =
@@ -44,7 +46,8 @@ returns-clause-transaction g c =
     let one = state g.S.Store c.set_last_id.new.tx.conn.now in
     let two = state g.S.Store c.add_tenths.new.tx.conn.now in
     let new = state g.S.Store c.add_to_shift.new.tx.conn.now in
-    transaction_then old one new _ c.in_ok-set_last_id.ensures.merges.transaction (transaction_then one two new _ c.in_ok-month_tenths.ensures.merges.transaction (transaction_on c.in_ok-shift.ensures.merges.transaction))
+    transaction_then old one new _ c.in_ok-set_last_id.ensures.merges.transaction
+    (transaction_then one two new _ c.in_ok-month_tenths.ensures.merges.transaction (transaction_on c.in_ok-shift.ensures.merges.transaction))
 
 pub returns-clause-adds : goal.returns-clause-adds
 returns-clause-adds g c clean way has =
@@ -63,13 +66,15 @@ returns-clause-adds g c clean way has =
     let has_two = tables_stay (codes "month_tenths" ∷ []) one two second.only has_one in
     let third = c.in_ok-shift.ensures.merges.made clean second.only.inside.mode has_two in
     tells_totals sale c.args.last (record { month_tenths = sum; shift = shift }) old one two new first
-    (subst (λ (n : ℕ). AddsTenths (sale.meter, month_at sale.moment) n sum one two) c.tenths-tenths.ensures.value (subst (λ (n : ℕ). AddsTenths (sale.meter, n) c.tenths-tenths.result sum one two) c.month_of_sale-month.ensures second))
+    (subst (λ (n : ℕ). AddsTenths (sale.meter, month_at sale.moment) n sum one two) c.tenths-tenths.ensures.value
+    (subst (λ (n : ℕ). AddsTenths (sale.meter, n) c.tenths-tenths.result sum one two) c.month_of_sale-month.ensures second))
     (subst (λ (n : ℕ). AddsToShift sale.shift n sale.price shift two new) c.tenths-tenths.ensures.value third) has
 
 pub returns-in_err-set_last_id-clause-no_false_row : goal.returns-in_err-set_last_id-clause-no_false_row
 returns-in_err-set_last_id-clause-no_false_row g c clean way format rows held known told_so =
     let are = known.1.1 in
-    c.in_err-set_last_id.ensures.no_false_row clean way format rows held (known.0, ((λ k. greatest_of (map (λ (t : Sale). t.tid) (sales_under known.1.0 k))), are.last_ids))
+    c.in_err-set_last_id.ensures.no_false_row clean way format rows held
+    (known.0, ((λ k. greatest_of (map (λ (t : Sale). t.tid) (sales_under known.1.0 k))), are.last_ids))
     (handed_on c.in_err-set_last_id.field-0.0 RowOfNoOffice c.from_residual.result c.from_residual.ensures.1 told_so)
 
 pub returns-in_err-month_tenths-clause-no_false_row : goal.returns-in_err-month_tenths-clause-no_false_row
@@ -82,7 +87,8 @@ returns-in_err-month_tenths-clause-no_false_row g c clean way format rows held k
     let first = c.in_ok-set_last_id.ensures.merges.made clean_one way (λ runs. (held runs).has) in
     let mid = may_add_tenths sale c.args.last old one format rows (held first.only.inside.was_open) first known in
     c.in_err-month_tenths.ensures.no_false_row clean first.only.inside.mode format mid.0 (λ _. mid.1)
-    (subst (λ (n : ℕ). MayAddTenths (sale.meter, n) c.tenths-tenths.result format mid.0) (sym c.month_of_sale-month.ensures) (subst (λ (n : ℕ). MayAddTenths (sale.meter, month_at sale.moment) n format mid.0) (sym c.tenths-tenths.ensures.value) mid.2))
+    (subst (λ (n : ℕ). MayAddTenths (sale.meter, n) c.tenths-tenths.result format mid.0) (sym c.month_of_sale-month.ensures)
+    (subst (λ (n : ℕ). MayAddTenths (sale.meter, month_at sale.moment) n format mid.0) (sym c.tenths-tenths.ensures.value) mid.2))
     (handed_on c.in_err-month_tenths.field-0.0 RowOfNoOffice c.from_residual-in_err-month_tenths.result c.from_residual-in_err-month_tenths.ensures.1 told_so)
 
 pub returns-in_err-shift-clause-no_false_row : goal.returns-in_err-shift-clause-no_false_row
@@ -100,7 +106,8 @@ returns-in_err-shift-clause-no_false_row g c clean way format rows held known to
     let adds = subst (λ (n : ℕ). AddsTenths (sale.meter, month_at sale.moment) n sum one two) c.tenths-tenths.ensures.value
     (subst (λ (n : ℕ). AddsTenths (sale.meter, n) c.tenths-tenths.result sum one two) c.month_of_sale-month.ensures second) in
     let then = may_add_to_shift sale c.args.last one two format mid.0 mid.1 sum adds mid.2 mid.3 in
-    c.in_err-shift.ensures.no_false_row clean adds.only.inside.mode format then.0 (λ _. then.1) (subst (λ (n : ℕ). MayAddToShift sale.shift n sale.price format then.0) (sym c.tenths-tenths.ensures.value) then.2)
+    c.in_err-shift.ensures.no_false_row clean adds.only.inside.mode format
+    then.0 (λ _. then.1) (subst (λ (n : ℕ). MayAddToShift sale.shift n sale.price format then.0) (sym c.tenths-tenths.ensures.value) then.2)
     (handed_on c.in_err-shift.field-0.0 RowOfNoOffice c.from_residual-in_err-shift.result c.from_residual-in_err-shift.ensures.1 told_so)
 
 pub returns-in_err-set_last_id-clause-ends : goal.returns-in_err-set_last_id-clause-ends
@@ -110,7 +117,8 @@ returns-in_err-set_last_id-clause-ends g c clean way has =
     let new = state g.S.Store c.set_last_id.new.tx.conn.now in
     let e = c.in_err-set_last_id.field-0.0 in
     ends_off FailsToMergeAll (totals_writes sale c.args.last) old new e c.from_residual.result c.from_residual.ensures.1
-    (of_merge [] old old new (came_here old way) (last_id_set (sale.meter, sale.base) c.args.last) (tenths_added (sale.meter, month_at sale.moment) sale.tenths ∷ sale_counted sale.shift sale.tenths sale.price ∷ []) e
+    (of_merge [] old old new (came_here old way) (last_id_set (sale.meter, sale.base) c.args.last)
+    (tenths_added (sale.meter, month_at sale.moment) sale.tenths ∷ sale_counted sale.shift sale.tenths sale.price ∷ []) e
     (c.in_err-set_last_id.ensures.merges.ends clean way has).1)
 
 pub returns-in_err-month_tenths-clause-ends : goal.returns-in_err-month_tenths-clause-ends
@@ -127,15 +135,19 @@ returns-in_err-month_tenths-clause-ends g c clean way has =
     let e = c.in_err-month_tenths.field-0.0 in
     let fails = (c.in_err-month_tenths.ensures.merges.ends clean first.only.inside.mode (tables_stay (codes "last_ids" ∷ []) old one first.only has)).1 in
     let tenths = tenths_added (sale.meter, month_at sale.moment) sale.tenths in
-    let here = subst (λ (n : ℕ). FailsToMerge (tenths_added (sale.meter, month_at sale.moment) n) one new e) c.tenths-tenths.ensures.value (subst (λ (n : ℕ). FailsToMerge (tenths_added (sale.meter, n) c.tenths-tenths.result) one new e) c.month_of_sale-month.ensures fails) in
+    let here = subst (λ (n : ℕ). FailsToMerge (tenths_added (sale.meter, month_at sale.moment) n) one new e) c.tenths-tenths.ensures.value
+    (subst (λ (n : ℕ). FailsToMerge (tenths_added (sale.meter, n) c.tenths-tenths.result) one new e) c.month_of_sale-month.ensures fails) in
     ends_off FailsToMergeAll (totals_writes sale c.args.last) old new e c.from_residual-in_err-month_tenths.result c.from_residual-in_err-month_tenths.ensures.1
     (of_merge (id ∷ []) old one new came tenths (sale_counted sale.shift sale.tenths sale.price ∷ []) e here)
 
 -- the first two of them were written
-two_written : (sale : Sale) (last month tenths : ℕ) (old one two : State) → month ≡ month_at sale.moment → tenths ≡ sale.tenths → (came : Came (last_id_set (sale.meter, sale.base) last ∷ []) old one)
-    → AreCarriedOut (tenths_added (sale.meter, month) tenths ∷ []) one two → AreCarriedOut (last_id_set (sale.meter, sale.base) last ∷ tenths_added (sale.meter, month_at sale.moment) sale.tenths ∷ []) old two
+two_written : (sale : Sale) (last month tenths : ℕ) (old one two : State) → month ≡ month_at sale.moment → tenths ≡ sale.tenths
+    → (came : Came (last_id_set (sale.meter, sale.base) last ∷ []) old one)
+    → AreCarriedOut (tenths_added (sale.meter, month) tenths ∷ []) one two
+    → AreCarriedOut (last_id_set (sale.meter, sale.base) last ∷ tenths_added (sale.meter, month_at sale.moment) sale.tenths ∷ []) old two
 two_written sale last month tenths old one two months sums came then =
-    let here = subst (λ (n : ℕ). AreCarriedOut (tenths_added (sale.meter, month_at sale.moment) n ∷ []) one two) sums (subst (λ (n : ℕ). AreCarriedOut (tenths_added (sale.meter, n) tenths ∷ []) one two) months then) in
+    let here = subst (λ (n : ℕ). AreCarriedOut (tenths_added (sale.meter, month_at sale.moment) n ∷ []) one two) sums
+    (subst (λ (n : ℕ). AreCarriedOut (tenths_added (sale.meter, n) tenths ∷ []) one two) months then) in
     written_then (last_id_set (sale.meter, sale.base) last ∷ []) (tenths_added (sale.meter, month_at sale.moment) sale.tenths ∷ []) old one two came here
 
 pub returns-in_err-shift-clause-ends : goal.returns-in_err-shift-clause-ends
@@ -156,12 +168,14 @@ returns-in_err-shift-clause-ends g c clean way has =
     let second = then.made clean_two first.only.inside.mode has_one in
     let has_two = tables_stay (codes "month_tenths" ∷ []) one two second.only has_one in
     let came_one = came_by (id ∷ []) old one (done.ends clean_one way has).0 first.only.inside done.transaction.survives in
-    let both = two_written sale c.args.last c.month_of_sale-month.result c.tenths-tenths.result old one two c.month_of_sale-month.ensures c.tenths-tenths.ensures.value came_one (then.ends clean_two first.only.inside.mode has_one).0 in
+    let both = two_written sale c.args.last c.month_of_sale-month.result c.tenths-tenths.result old one two c.month_of_sale-month.ensures
+    c.tenths-tenths.ensures.value came_one (then.ends clean_two first.only.inside.mode has_one).0 in
     let came = came_later (id ∷ tenths ∷ []) old one two came_one both second.only.inside then.transaction.survives in
     let e = c.in_err-shift.field-0.0 in
     let fails = (c.in_err-shift.ensures.merges.ends clean second.only.inside.mode has_two).1 in
     let here = subst (λ (n : ℕ). FailsToMerge (sale_counted sale.shift n sale.price) two new e) c.tenths-tenths.ensures.value fails in
-    ends_off FailsToMergeAll (totals_writes sale c.args.last) old new e c.from_residual-in_err-shift.result c.from_residual-in_err-shift.ensures.1 (of_merge (id ∷ tenths ∷ []) old two new came (sale_counted sale.shift sale.tenths sale.price) [] e here)
+    ends_off FailsToMergeAll (totals_writes sale c.args.last) old new e c.from_residual-in_err-shift.result
+    c.from_residual-in_err-shift.ensures.1 (of_merge (id ∷ tenths ∷ []) old two new came (sale_counted sale.shift sale.tenths sale.price) [] e here)
 
 pub returns-clause-ends : goal.returns-clause-ends
 returns-clause-ends g c clean way has =
@@ -181,7 +195,8 @@ returns-clause-ends g c clean way has =
     let second = then.made clean_two first.only.inside.mode has_one in
     let has_two = tables_stay (codes "month_tenths" ∷ []) one two second.only has_one in
     let came_one = came_by (id ∷ []) old one (done.ends clean_one way has).0 first.only.inside done.transaction.survives in
-    let both = two_written sale c.args.last c.month_of_sale-month.result c.tenths-tenths.result old one two c.month_of_sale-month.ensures c.tenths-tenths.ensures.value came_one (then.ends clean_two first.only.inside.mode has_one).0 in
+    let both = two_written sale c.args.last c.month_of_sale-month.result c.tenths-tenths.result old one two c.month_of_sale-month.ensures
+    c.tenths-tenths.ensures.value came_one (then.ends clean_two first.only.inside.mode has_one).0 in
     let came = came_later (id ∷ tenths ∷ []) old one two came_one both second.only.inside then.transaction.survives in
     let last = (c.in_ok-shift.ensures.merges.ends clean second.only.inside.mode has_two).0 in
     let here = subst (λ (n : ℕ). AreCarriedOut (sale_counted sale.shift n sale.price ∷ []) two new) c.tenths-tenths.ensures.value last in

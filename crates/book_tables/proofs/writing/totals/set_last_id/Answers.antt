@@ -25,7 +25,8 @@ returns-in_err-last-clause-merges g c =
     merge_off e c.from_residual.result c.from_residual.ensures.1 failed.transaction.kept failed.transaction.survives
     (λ clean way has. subst (λ (ps : Values). FailsToMerge (record { sql = last_id_set_text; params = ps }) old new e) c.last_id_values.ensures
     (failed.ends clean way (last_ids old new) (last_ids_at old new) last_id_merging (last_id_set_means (last_ids old new).tree)
-    (subst (λ ps. is_whole last_id_set_text (length ps) ≡ true) (sym c.last_id_values.ensures) last_id_set_whole) (λ runs. stands_for last_ids_kept old.now.schema (last_ids_in.there old.now.schema (has runs)))).1)
+    (subst (λ ps. is_whole last_id_set_text (length ps) ≡ true) (sym c.last_id_values.ensures) last_id_set_whole)
+    (λ runs. stands_for last_ids_kept old.now.schema (last_ids_in.there old.now.schema (has runs)))).1)
 
 pub returns-clause-merges : goal.returns-clause-merges
 returns-clause-merges g c =
@@ -35,13 +36,16 @@ returns-clause-merges g c =
     record {
       made = λ clean way has.
           sets_last_id old new c.args.meter.now c.args.base c.args.tid has (bound c.last_id_values.result) c.last_id_values.ensures
-          (done.touched clean way (last_ids old new) (last_ids_at old new) last_id_merging (last_id_set_means (last_ids old new).tree) (λ runs. stands_for last_ids_kept old.now.schema (last_ids_in.there old.now.schema (has runs))))
-          (λ takes. let it = done.merged clean way (last_ids old new) (last_ids_at old new) last_id_merging (last_id_set_means (last_ids old new).tree) takes in (it.0, it.2));
+          (done.touched clean way (last_ids old new) (last_ids_at old new) last_id_merging (last_id_set_means (last_ids old new).tree)
+          (λ runs. stands_for last_ids_kept old.now.schema (last_ids_in.there old.now.schema (has runs))))
+          (λ takes. let it = done.merged clean way (last_ids old new) (last_ids_at old new) last_id_merging
+          (last_id_set_means (last_ids old new).tree) takes in (it.0, it.2));
       transaction = transaction_on done.transaction;
       ends = λ clean way has. (
         subst (λ (ps : Values). AreCarriedOut (record { sql = last_id_set_text; params = ps } ∷ []) old new) c.last_id_values.ensures
             (done.ends clean way (last_ids old new) (last_ids_at old new) last_id_merging (last_id_set_means (last_ids old new).tree)
-            (subst (λ ps. is_whole last_id_set_text (length ps) ≡ true) (sym c.last_id_values.ensures) last_id_set_whole) (λ runs. stands_for last_ids_kept old.now.schema (last_ids_in.there old.now.schema (has runs)))).0,
+            (subst (λ ps. is_whole last_id_set_text (length ps) ≡ true) (sym c.last_id_values.ensures) last_id_set_whole)
+            (λ runs. stands_for last_ids_kept old.now.schema (last_ids_in.there old.now.schema (has runs)))).0,
         tt,
       );
     }
@@ -51,9 +55,13 @@ returns-in_err-last-clause-no_false_row g c clean way format rows held known tol
     let old = state g.S.Store c.args.tx.now.conn.now in
     let new = state g.S.Store c.merge.new.tx.conn.now in
     let e = c.in_err-last.field-0.0 in
-    tid_is_shown old new c.args.meter.now c.args.base c.args.tid (bound c.last_id_values.result) c.last_id_values.ensures format rows held known.1.0 known.1.1 known.0
-    (c.in_err-last.ensures.false_row clean way (last_ids old new) (last_ids_at old new) last_id_merging (last_id_set_means (last_ids old new).tree) (subst (λ ps. is_whole last_id_set_text (length ps) ≡ true) (sym c.last_id_values.ensures) last_id_set_whole)
-    (takes_last_id old new c.args.meter.now c.args.base c.args.tid (bound c.last_id_values.result) c.last_id_values.ensures format rows held known.1.0 known.1.1) (handed_on e RowOfNoOffice c.from_residual.result c.from_residual.ensures.1 told_so))
+    tid_is_shown old new c.args.meter.now c.args.base c.args.tid (bound c.last_id_values.result) c.last_id_values.ensures format rows held
+    known.1.0 known.1.1 known.0
+    (c.in_err-last.ensures.false_row clean way (last_ids old new) (last_ids_at old new) last_id_merging
+    (last_id_set_means (last_ids old new).tree) (subst (λ ps. is_whole last_id_set_text (length ps) ≡ true)
+    (sym c.last_id_values.ensures) last_id_set_whole)
+    (takes_last_id old new c.args.meter.now c.args.base c.args.tid (bound c.last_id_values.result) c.last_id_values.ensures format rows
+    held known.1.0 known.1.1) (handed_on e RowOfNoOffice c.from_residual.result c.from_residual.ensures.1 told_so))
 
 pub returns-then-last-tid-clause-merges : goal.returns-then-last-tid-clause-merges
 returns-then-last-tid-clause-merges g c =
@@ -70,7 +78,8 @@ returns-then-last-tid-clause-merges g c =
               table = last_ids old new;
               merging = last_id_merging;
               at = last_ids_at old new;
-              means = λ runs. means_merging last_id_set_text old.now.schema (last_ids old new) (last_ids_at old new) last_id_merging (last_id_set_means (last_ids old new).tree) (stands runs);
+              means = λ runs. means_merging last_id_set_text old.now.schema (last_ids old new) (last_ids_at old new) last_id_merging
+                  (last_id_set_means (last_ids old new).tree) (stands runs);
               fails = done.touched clean way (last_ids old new) (last_ids_at old new) last_id_merging (last_id_set_means (last_ids old new).tree) stands;
             }),
           );
@@ -86,5 +95,6 @@ returns-then-last-tid-clause-no_false_row g c clean way format rows held known t
     let it = c.in_ok-last.ensures.merged clean way (last_ids old new) (last_ids_at old new) last_id_merging (last_id_set_means (last_ids old new).tree)
     (takes_last_id old new meter c.args.base c.args.tid values c.last_id_values.ensures format rows held known.1.0 known.1.1) in
     let same : c.in_ok-last.last.number ≡ c.args.tid =
-    one_number c.in_ok-last.last.number c.args.tid (it.1.0 ∙ tid_shown old new meter c.args.base c.args.tid values c.last_id_values.ensures format rows held known.1.0 known.1.1 it.0 it.2) in
+    one_number c.in_ok-last.last.number c.args.tid (it.1.0
+    ∙ tid_shown old new meter c.args.base c.args.tid values c.last_id_values.ensures format rows held known.1.0 known.1.1 it.0 it.2) in
     omega (arith, c.if-last-tid.true, same)

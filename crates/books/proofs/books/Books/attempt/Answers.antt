@@ -20,10 +20,12 @@ returns-in_err-decided-clause-attempts g c clean o held =
     let new = record old { state = state g.S.Store c.decision_of.new.conn } in
     let nothing = c.decision_of.ensures.nothing clean (has_tables o old.state held.at) in
     let same = handed_on c.from_residual.result c.in_err-decided.field-0.0 c.from_residual.ensures.1 in
-    rw same (refused_ends forward o c.args.at.now c.in_err-decided.field-0.0 old new held (c.in_err-decided.ensures.decides clean o held.at held.next) clean nothing refl)
+    rw same (refused_ends forward o c.args.at.now c.in_err-decided.field-0.0 old new held
+    (c.in_err-decided.ensures.decides clean o held.at held.next) clean nothing refl)
 
 pub returns-in_err-decided-clause-others : goal.returns-in_err-decided-clause-others
-returns-in_err-decided-clause-others g c clean tables = nothing_others (state g.S.Store c.args.self.now.conn) (state g.S.Store c.decision_of.new.conn) clean (c.decision_of.ensures.nothing clean tables)
+returns-in_err-decided-clause-others g c clean tables =
+    nothing_others (state g.S.Store c.args.self.now.conn) (state g.S.Store c.decision_of.new.conn) clean (c.decision_of.ensures.nothing clean tables)
 
 pub returns-in_err-commit-clause-attempts : goal.returns-in_err-commit-clause-attempts
 returns-in_err-commit-clause-attempts g c clean o held =
@@ -45,7 +47,8 @@ returns-in_err-commit-clause-attempts g c clean o held =
     let applied = is_applied forward o at change decided new c.in-Some.edit c.in-Some.is in
     let office = subst IsOffice applied (c.office_law.ensures.keeps_office forward o at held.at.office c.requires.stamped range) in
     let commits = c.in_err-commit.ensures.commits clean (has_tables o mid here) in
-    rw same (failed_ends forward o at change decided new c.in-Some.edit c.in-Some.is mid here meets office c.in_ok-decided.decided.prior c.in_err-commit.field-0.0 clean commits held.next)
+    rw same (failed_ends forward o at change decided new c.in-Some.edit c.in-Some.is mid here meets office c.in_ok-decided.decided.prior
+    c.in_err-commit.field-0.0 clean commits held.next)
 
 pub returns-in_err-commit-clause-others : goal.returns-in_err-commit-clause-others
 returns-in_err-commit-clause-others g c clean tables =
@@ -54,7 +57,8 @@ returns-in_err-commit-clause-others g c clean tables =
     let new = state g.S.Store c.commit.new.conn in
     let early = c.commit.ensures.clean clean in
     let first = nothing_others old mid early (c.decision_of.ensures.nothing early tables) in
-    others_then old mid new first (commits_others c.in-Some.edit c.in_ok-decided.decided.prior _ mid new clean (c.in_err-commit.ensures.commits clean (tables_stay old mid first tables)))
+    others_then old mid new first (commits_others c.in-Some.edit c.in_ok-decided.decided.prior _ mid new clean
+    (c.in_err-commit.ensures.commits clean (tables_stay old mid first tables)))
 
 pub returns-clause-attempts : goal.returns-clause-attempts
 returns-clause-attempts g c clean o held =
@@ -99,7 +103,8 @@ returns-clause-others g c clean tables =
           let early = w.commit.ensures.clean late in
           let new = state g.S.Store w.commit.new.conn in
           let first = nothing_others old mid early (c.decision_of.ensures.nothing early tables) in
-          rw w.self-is (others_then old mid new first (commits_others w.in-Some.edit c.in_ok-decided.decided.prior _ mid new late (w.in_ok-commit.ensures.commits late (tables_stay old mid first tables))))
+          rw w.self-is (others_then old mid new first (commits_others w.in-Some.edit c.in_ok-decided.decided.prior _ mid new late
+          (w.in_ok-commit.ensures.commits late (tables_stay old mid first tables))))
       | in_default w ↦
           let late = rw w.self-is at clean in
           rw w.self-is (nothing_others old mid late (c.decision_of.ensures.nothing late tables))
@@ -121,12 +126,26 @@ returns-in_err-commit-clause-failures g c clean tables =
     let commits = c.in_err-commit.ensures.commits clean (tables_stay old mid (nothing_others old mid early nothing) tables) in
     let decided : IsDecidedFor c.args.at.now (seen c.args.self.now) c.in-Some.edit = λ o held. (
       c.in_ok-decided.decided.change,
-      is_decision (g.T.BlockTransform.forwards c.args.self.now.transform) o c.args.at.now c.in_ok-decided.decided.change (c.in_ok-decided.ensures.decides early o held.at held.next),
+      is_decision (g.T.BlockTransform.forwards c.args.self.now.transform) o c.args.at.now c.in_ok-decided.decided.change
+          (c.in_ok-decided.ensures.decides early o held.at held.next),
       c.in-Some.is,
     ) in
     let prior = c.in_ok-decided.decided.prior in
     let change = c.in_ok-decided.decided.change in
-    rw same (inr (c.in-Some.edit, decided, (change, c.in-Some.is, (prior, c.in_ok-decided.ensures.read early, fails_after c.in-Some.edit old mid new clean nothing g.S.Store prior c.in_err-commit.field-0.0 commits.failed))))
+    rw same (inr (
+      c.in-Some.edit,
+      decided,
+      (
+        change,
+        c.in-Some.is,
+        (
+          prior,
+          c.in_ok-decided.ensures.read early,
+          fails_after c.in-Some.edit old mid new clean nothing g.S.Store prior
+              c.in_err-commit.field-0.0 commits.failed,
+        ),
+      ),
+    ))
 
 pub returns-clause-granted : goal.returns-clause-granted
 returns-clause-granted g c clean tables =
@@ -144,11 +163,17 @@ returns-clause-granted g c clean tables =
           let nothing = c.decision_of.ensures.nothing early tables in
           let commits = w.in_ok-commit.ensures.commits late (tables_stay old mid (nothing_others old mid early nothing) tables) in
           let counted = counted_after w.in-Some.edit old mid new late nothing prior commits.done.was_open commits.counted in
-          let made = subst (λ (edit : Option Edit). IsMade edit prior books after) (sym w.in-Some.is) (has_after w.in-Some.edit old mid new late nothing commits.done, counted) in
+          let made = subst (λ (edit : Option Edit). IsMade edit prior books after) (sym w.in-Some.is)
+          (has_after w.in-Some.edit old mid new late nothing commits.done, counted) in
           rw w.self-is (record {
             change = change;
             answers = refl;
-            granted = λ o held. (change, is_decision (g.T.BlockTransform.forwards c.args.self.now.transform) o c.args.at.now change (c.in_ok-decided.ensures.decides early o held.at held.next), refl);
+            granted = λ o held. (
+              change,
+              is_decision (g.T.BlockTransform.forwards c.args.self.now.transform) o c.args.at.now change
+                  (c.in_ok-decided.ensures.decides early o held.at held.next),
+              refl,
+            );
             prior = prior;
             read = c.in_ok-decided.ensures.read early;
             made = made;
@@ -156,11 +181,17 @@ returns-clause-granted g c clean tables =
       | in_default w ↦
           let late = rw w.self-is at clean in
           let after : Seen = record books { state = mid } in
-          let made = subst (λ (edit : Option Edit). IsMade edit prior books after) (sym (none_of change.edit w.in_default.not-Some)) (c.decision_of.ensures.nothing late tables) in
+          let made = subst (λ (edit : Option Edit). IsMade edit prior books after) (sym (none_of change.edit w.in_default.not-Some))
+          (c.decision_of.ensures.nothing late tables) in
           rw w.self-is (record {
             change = change;
             answers = refl;
-            granted = λ o held. (change, is_decision (g.T.BlockTransform.forwards c.args.self.now.transform) o c.args.at.now change (c.in_ok-decided.ensures.decides late o held.at held.next), refl);
+            granted = λ o held. (
+              change,
+              is_decision (g.T.BlockTransform.forwards c.args.self.now.transform) o c.args.at.now change
+                  (c.in_ok-decided.ensures.decides late o held.at held.next),
+              refl,
+            );
             prior = prior;
             read = c.in_ok-decided.ensures.read late;
             made = made;

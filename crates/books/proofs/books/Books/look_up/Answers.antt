@@ -13,7 +13,8 @@ returns-clause-reads g c =
     let old = seen c.args.self.now in
     let new = record old { state = state g.S.Store c.look_up-found.new.conn; stopped = c.has_failed-self.result } in
     let told = c.look_up-found.ensures in
-    was_read IsOfRules c.look_up-found.result old new c.if-self.false refl refl told.nothing told.clean told.failures told.refusals (λ own. own.not_stopped refl) c.has_failed-self.ensures told.seen
+    was_read IsOfRules c.look_up-found.result old new c.if-self.false refl refl told.nothing told.clean told.failures told.refusals
+    (λ own. own.not_stopped refl) c.has_failed-self.ensures told.seen
 
 pub returns-clause-found : goal.returns-clause-found
 returns-clause-found g c clean life keeps =

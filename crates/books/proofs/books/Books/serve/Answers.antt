@@ -12,7 +12,8 @@ returns-then-self-clause-replies g c =
     record {
       keeps = λ life keeps clean.
           let kept = keeps clean in
-          kept_stopped life at old (c.life_law.ensures.stopped life at kept.is_life c.keeps_ranges.ensures) (c.life_law.ensures.stays life at) c.if-self.true kept;
+          kept_stopped life at old (c.life_law.ensures.stopped life at kept.is_life c.keeps_ranges.ensures)
+          (c.life_law.ensures.stays life at) c.if-self.true kept;
       tables = λ has. has;
       others = λ clean has. others_same old.state;
       clean = λ clean. clean;
@@ -47,7 +48,8 @@ returns-clause-replies g c =
           let attempts = tried.attempts clean o (record { at = here.at; next = here.next }) in
           let ends = subst (λ f. ServingEnds f o at answer mid) (sym kept.forward) attempts in
           let forward = kept.forward ∙ ap g.T.BlockTransform.forwards (sym tried.transform) in
-          kept_attempted life o at answer (record mid { stopped = c.has_failed-self.result }) laws kept.opening forward (with_stopped life.forward o at answer mid c.has_failed-self.result ends) c.has_failed-self.ensures.1;
+          kept_attempted life o at answer (record mid { stopped = c.has_failed-self.result }) laws kept.opening forward
+          (with_stopped life.forward o at answer mid c.has_failed-self.result ends) c.has_failed-self.ensures.1;
       tables = λ has clean runs.
           let before = has (tried.clean clean) c.if-self.false in
           tables_stay old.state mid.state (tried.others clean before) before;

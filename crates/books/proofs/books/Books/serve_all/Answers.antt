@@ -23,9 +23,12 @@ loop-at-preserved g c =
     let ats = take c.loop-at.at-index c.args.ats.now in
     let replies = c.loop-at.replies.items in
     let at = c.at-item.result in
-    let more : take (c.loop-at.at-index + 1) c.args.ats.now ≡ ats ++ at ∷ [] = take_more c.args.ats.now c.loop-at.at-index at (omega arith) ∙ ap (λ x. ats ++ x ∷ []) (sym c.at-item.is) in record {
+    let more : take (c.loop-at.at-index + 1) c.args.ats.now ≡ ats ++ at ∷ [] =
+    take_more c.args.ats.now c.loop-at.at-index at (omega arith) ∙ ap (λ x. ats ++ x ∷ []) (sym c.at-item.is) in record {
       served = rw (more, c.push_reserved.ensures.items)
-          (served_more old mid new ats replies at c.serve-reply.result so_far.served (λ life. c.life_law.ensures.along_one life ats replies at c.serve-reply.result) c.serve-reply.ensures.replies.keeps c.serve-reply.ensures.replies.tables c.serve-reply.ensures.replies.others
+          (served_more old mid new ats replies at c.serve-reply.result so_far.served
+          (λ life. c.life_law.ensures.along_one life ats replies at c.serve-reply.result) c.serve-reply.ensures.replies.keeps
+          c.serve-reply.ensures.replies.tables c.serve-reply.ensures.replies.others
           c.serve-reply.ensures.replies.clean c.serve-reply.ensures.replies.stopped c.serve-reply.ensures.replies.stops);
       each = rw (more, c.push_reserved.ensures.items)
           (served_on seen c.args.self.now c.loop-at.self c.serve-reply.new.self ats replies at c.serve-reply.result so_far.each

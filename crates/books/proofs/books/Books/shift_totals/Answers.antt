@@ -13,4 +13,5 @@ returns-clause-reads g c =
     let old = seen c.args.self.now in
     let new = record old { state = state g.S.Store c.totals-totals.new.conn; stopped = c.has_failed-self.result } in
     let told = c.totals-totals.ensures in
-    was_read (λ why. why ≡ NoSuchShift) c.totals-totals.result old new c.if-self.false refl refl told.nothing told.clean told.failures told.refusals (λ is. absurd cc) c.has_failed-self.ensures told.seen
+    was_read (λ why. why ≡ NoSuchShift) c.totals-totals.result old new c.if-self.false refl refl told.nothing told.clean told.failures
+    told.refusals (λ is. absurd cc) c.has_failed-self.ensures told.seen

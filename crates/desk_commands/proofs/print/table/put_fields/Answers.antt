@@ -8,10 +8,12 @@ loop-field-init c = ap (λ line. c.args.text.now.items ++ (line ++ 10 ∷ [])) (
 
 pub loop-field-preserved : goal.loop-field-preserved
 loop-field-preserved c =
-    fields_more c.loop-field.separator.now c.args.fields.now c.loop-field.field-index _ c.loop-field.text.items c.extend_from_slice.new.self.items _ _ c.loop-field-test.true
+    fields_more c.loop-field.separator.now c.args.fields.now c.loop-field.field-index _ c.loop-field.text.items
+    c.extend_from_slice.new.self.items _ _ c.loop-field-test.true
     c.in_ok-extend_from_slice.ensures.items c.in_ok-extend_from_slice-2.ensures.items c.loop-field.invariant
 
 pub returns : goal.returns
 returns c =
-    fields_done c.extend_from_slice-2.result c.loop-field.separator.now c.args.fields.now c.loop-field.field-index c.loop-field.text.items _ _ c.loop-field-test.false
+    fields_done c.extend_from_slice-2.result c.loop-field.separator.now c.args.fields.now c.loop-field.field-index c.loop-field.text.items
+    _ _ c.loop-field-test.false
     c.extend_from_slice-2.ensures.items c.loop-field.invariant

@@ -12,5 +12,6 @@ returns-in-None c = λ said says. c.in-None.ensures said.0 (says.day_text, says.
 
 pub returns-in-Err : goal.returns-in-Err
 returns-in-Err c =
-    not_found_in {A = List Step} (IsStepsAt (get (codes "steps") (view c.args.value.now))) (λ said. BodySaysDatedSteps (view c.args.value.now) said.0 said.1) c.in-Err.fault
+    not_found_in {A = List Step} (IsStepsAt (get (codes "steps") (view c.args.value.now)))
+    (λ said. BodySaysDatedSteps (view c.args.value.now) said.0 said.1) c.in-Err.fault
     (λ said says. (said.1, (says.steps_text, says.members.each.1.0, says.written, says.priced))) c.in-Err.ensures

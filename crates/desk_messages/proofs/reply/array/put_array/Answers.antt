@@ -7,7 +7,8 @@ loop-element-init g c =
 
 pub loop-element-preserved : goal.loop-element-preserved
 loop-element-preserved g c =
-    element_more g.T.Element.value c.loop-element.later c.args.elements.now c.loop-element.element-index c.element-item.result _ _ _ _ c.loop-element-test.true c.element-item.is
+    element_more g.T.Element.value c.loop-element.later c.args.elements.now c.loop-element.element-index c.element-item.result _ _ _ _
+    c.loop-element-test.true c.element-item.is
     c.in_ok-put_between.ensures c.in_ok-put.ensures c.loop-element.invariant
 
 pub returns : goal.returns

@@ -8,12 +8,14 @@ returns-in_default c = λ named is. c.in_default.ensures named.0 named.1 (letter
 
 pub returns-in_default-read : goal.returns-in_default-read
 returns-in_default-read c =
-    no_first IsOperator (λ text. text) IsName (λ text. text) c.args.target.now (codes "/operators/") (codes "sales/") c.in-Some.operator.now c.in-Some.order_ref.now
+    no_first IsOperator (λ text. text) IsName (λ text. text) c.args.target.now (codes "/operators/") (codes "sales/")
+    c.in-Some.operator.now c.in-Some.order_ref.now
     (λ text rule. letters_lack text rule.bytes) c.in-Some.ensures.0 c.in-Some.ensures.1
     (reads_name IsOperator c.in-Some.operator.now None c.in_default-read.ensures.rule c.in_default-read.ensures.value)
 
 pub returns-in-None : goal.returns-in-None
 returns-in-None c =
-    no_second IsOperator (λ text. text) IsName (λ text. text) c.args.target.now (codes "/operators/") (codes "sales/") c.in-Some.operator.now c.in-Some.order_ref.now
+    no_second IsOperator (λ text. text) IsName (λ text. text) c.args.target.now (codes "/operators/") (codes "sales/")
+    c.in-Some.operator.now c.in-Some.order_ref.now
     (λ text rule. letters_lack text rule.bytes) c.in-Some.ensures.0 c.in-Some.ensures.1
     (reads_name IsName c.in-Some.order_ref.now None c.in-None.ensures.rule c.in-None.ensures.value)

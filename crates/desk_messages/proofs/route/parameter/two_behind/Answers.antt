@@ -17,7 +17,8 @@ returns-in_default-cut_at_slash c =
 pub returns-in-Some-strip_prefix : goal.returns-in-Some-strip_prefix
 returns-in-Some-strip_prefix c = (
   c.in-Some-cut_at_slash.ensures.0,
-  is_two c.args.text.now c.args.front.now c.args.middle.now c.in-Some.text.now c.in-Some-cut_at_slash.first.now c.in-Some-cut_at_slash.text.now c.in-Some-strip_prefix.second.now
+  is_two c.args.text.now c.args.front.now c.args.middle.now c.in-Some.text.now c.in-Some-cut_at_slash.first.now
+      c.in-Some-cut_at_slash.text.now c.in-Some-strip_prefix.second.now
       (strip_prefix_is Decides-eqb c.args.text.now c.args.front.now (Some c.in-Some.text) c.in-Some.ensures.cases)
       c.in-Some-cut_at_slash.ensures.1
       (strip_prefix_is Decides-eqb c.in-Some-cut_at_slash.text.now c.args.middle.now (Some c.in-Some-strip_prefix.second) c.in-Some-strip_prefix.ensures.cases),

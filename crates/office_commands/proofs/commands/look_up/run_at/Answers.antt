@@ -12,7 +12,8 @@ use Rattle.office_commands.proofs.commands.look_up.run_at.Goals as goal
 pub returns-in-Ok-Some : goal.returns-in-Ok-Some
 returns-in-Ok-Some g c =
     let at = places_of g.H.Medium.Disk g.H.Salts.SaltSource g.H.OfficeFile c.args.office c.args.asked.now.file.now c.args.asked.now.wait in
-    let opened = subst (λ found. IfSome found (IsOpened at.image (OpensIn g.H.Medium.Disk at.image) Plain)) c.in-Ok-Some.field-0-is c.in-Ok-Some.ensures.opened in
+    let opened = subst (λ found. IfSome found (IsOpened at.image (OpensIn g.H.Medium.Disk at.image) Plain)) c.in-Ok-Some.field-0-is
+    c.in-Ok-Some.ensures.opened in
     let meets = subst (λ found. IfSome found (λ books. at.meets)) c.in-Ok-Some.field-0-is c.in-Ok-Some.ensures.meets in
     present (visited c.in-Ok-Some.books c.read-end.new.books opened meets c.read-end.ensures c.close_office.ensures)
 

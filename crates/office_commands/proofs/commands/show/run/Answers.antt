@@ -11,6 +11,8 @@ use Rattle.office_commands.proofs.commands.show.run.Goals as goal
 pub returns : goal.returns
 returns g c =
     let at = places_of g.H.Medium.Disk g.H.Salts.SaltSource g.H.OfficeFile c.args.office in
-    let o = outputs (sink g.O.Write.contents c.args.out.now) (sink g.O.Write.contents c.run.new.out) (sink g.E.Write.contents c.args.err.now) (sink g.E.Write.contents c.run.new.err) in
+    let o = outputs (sink g.O.Write.contents c.args.out.now) (sink g.O.Write.contents c.run.new.out)
+    (sink g.E.Write.contents c.args.err.now) (sink g.E.Write.contents c.run.new.err) in
     let words = c.args.words.now in
-    subst (λ (lookup : Lookup). IsShown (over_files {g = g.H.Medium.Disk}) at (g.H.OfficeFile.leaves _ c.args.office) (dial_of g.C.Clock c.args.clock.now) words.at words.file.now words.wait (One lookup words.json) o c.run.result) c.lookup_of.ensures c.run.ensures
+    subst (λ (lookup : Lookup). IsShown (over_files {g = g.H.Medium.Disk}) at (g.H.OfficeFile.leaves _ c.args.office)
+    (dial_of g.C.Clock c.args.clock.now) words.at words.file.now words.wait (One lookup words.json) o c.run.result) c.lookup_of.ensures c.run.ensures

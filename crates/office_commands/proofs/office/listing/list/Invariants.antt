@@ -8,5 +8,6 @@ use Rattle.office_commands.proofs.office.listing.list.Given as goal
 -- the pages before this one were printed, and nothing on the error output
 abbrev pub invariant-loop-page : goal.invariant-loop-page
 invariant-loop-page g l =
-    (pages : List Found) × ListedSoFar l.fn.moment l.fn.list l.fn.json (seen l.fn.books) (seen l.books) (sink g.O.Write.contents l.fn.out) (sink g.O.Write.contents l.out) l.next l.page pages
+    (pages : List Found) × ListedSoFar l.fn.moment l.fn.list l.fn.json (seen l.fn.books) (seen l.books) (sink g.O.Write.contents l.fn.out)
+    (sink g.O.Write.contents l.out) l.next l.page pages
     × (sink g.E.Write.contents l.err ≡ sink g.E.Write.contents l.fn.err)

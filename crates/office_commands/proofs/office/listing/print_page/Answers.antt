@@ -16,7 +16,8 @@ returns-in-Err-clause-page g c =
     let new = seen c.look_up.new.self in (
       takes_none (sink g.O.Write.contents c.args.out.now),
       λ clean life kept.
-          let found = subst (λ (lookup : Lookup). IsFoundAt life c.args.moment lookup (Err c.in-Err.refusal)) {y = page_lookup c.args.list} c.page_lookup.ensures (c.in-Err.ensures.found clean life kept) in
+          let found = subst (λ (lookup : Lookup). IsFoundAt life c.args.moment lookup (Err c.in-Err.refusal)) {y = page_lookup c.args.list}
+          c.page_lookup.ensures (c.in-Err.ensures.found clean life kept) in
           page_refusal life c.args.moment c.args.list c.in-Err.refusal found,
       tells_refusal old new c.in-Err.refusal (c.in-Err.ensures.reads.stopped, c.in-Err.ensures.reads.stops),
     )
@@ -25,7 +26,8 @@ pub returns-in-Ok-put_page-clause-page : goal.returns-in-Ok-put_page-clause-page
 returns-in-Ok-put_page-clause-page g c = (
   c.in-Ok.page,
   λ clean life kept.
-      let found = subst (λ (lookup : Lookup). IsFoundAt life c.args.moment lookup (Ok c.in-Ok.page)) {y = page_lookup c.args.list} c.page_lookup.ensures (c.in-Ok.ensures.found clean life kept) in
+      let found = subst (λ (lookup : Lookup). IsFoundAt life c.args.moment lookup (Ok c.in-Ok.page)) {y = page_lookup c.args.list}
+      c.page_lookup.ensures (c.in-Ok.ensures.found clean life kept) in
       page_found life c.args.moment (page_lookup c.args.list) c.in-Ok.page found,
   c.in-Ok-put_page.ensures.0,
   c.in-Ok-put_page.ensures.1,

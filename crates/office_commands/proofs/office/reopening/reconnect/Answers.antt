@@ -28,12 +28,14 @@ returns-in-Ok-clause-next g c clean =
     let quiet = c.into_store.ensures.quiet in
     let honest = subst (λ p. AreClean g.D.Disk p.0 p.1) c.close-files.ensures found.honest in
     let none : IsClean (view store) = no_doubt _ (clean_is store.pool ∙ honest) in
-    let may : (state store).may_leave image = may_leave_is store.pool image honest (subst (λ p. outcomes g.D.Disk p.0 p.1 image) c.close-files.ensures (stays _, stays _)) in
+    let may : (state store).may_leave image = may_leave_is store.pool image honest
+    (subst (λ p. outcomes g.D.Disk p.0 p.1 image) c.close-files.ensures (stays _, stays _)) in
     record {
       clean = omega (arith, quiet.clean, none);
       opens = opened.0;
       live = opened.1;
-      left = ∥∥₁_map (next_run store (c.into_store.ensures.numbered none) (c.into_store.ensures.sound none) image may (file_state c.in-Ok.next) (record { holds = found.holds; reads = found.reads })) (λ it. quiet.outcomes _ it);
+      left = ∥∥₁_map (next_run store (c.into_store.ensures.numbered none) (c.into_store.ensures.sound none) image may
+          (file_state c.in-Ok.next) (record { holds = found.holds; reads = found.reads })) (λ it. quiet.outcomes _ it);
       settled = λ trees may. settled_at c.in-Ok.next.store stays trees opened.0.is_open may;
       unlimited = c.in-Ok.ensures.fresh.unlimited;
     }

@@ -33,8 +33,12 @@ returns-in-Ok-open_from-clause-left g c clean =
     }
 
 pub returns-in-Err-clause-refused : goal.returns-in-Err-clause-refused
-returns-in-Err-clause-refused g c =
-    (c.in-Err.error, c.fault_of.ensures.value, subst (λ conn. FailsToReconnect conn c.in-Err.error c.in-Err.left) c.into_connection.ensures.same c.in-Err.ensures.fails)
+returns-in-Err-clause-refused g c = (
+  c.in-Err.error,
+  c.fault_of.ensures.value,
+  subst (λ conn. FailsToReconnect conn c.in-Err.error c.in-Err.left)
+      c.into_connection.ensures.same c.in-Err.ensures.fails,
+)
 
 pub returns-in-Err-open_from-clause-refused : goal.returns-in-Err-open_from-clause-refused
 returns-in-Err-open_from-clause-refused g c =

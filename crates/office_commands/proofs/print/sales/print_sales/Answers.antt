@@ -13,13 +13,19 @@ loop-page-init g c = ([], no_pages (seen c.args.books.now) (sink g.O.Write.conte
 pub returns-in-Ok-false : goal.returns-in-Ok-false
 returns-in-Ok-false g c =
     let so_far = c.loop-page.invariant in
-    rw so_far.2 (page_last (seen c.args.books.now) (seen c.loop-page.books) (seen c.print_page.new.books) (sink g.O.Write.contents c.args.out.now) (sink g.O.Write.contents c.loop-page.out) (sink g.O.Write.contents c.print_page.new.out) c.loop-page.page so_far.0 c.export_law.ensures.pages so_far.1 c.in-Ok-false.ensures.reads (sink g.E.Write.contents c.args.err.now) _ c.in-Ok-false.field-0-test c.in-Ok-false.ensures.page)
+    rw so_far.2 (page_last (seen c.args.books.now) (seen c.loop-page.books) (seen c.print_page.new.books)
+    (sink g.O.Write.contents c.args.out.now) (sink g.O.Write.contents c.loop-page.out) (sink g.O.Write.contents c.print_page.new.out)
+    c.loop-page.page so_far.0 c.export_law.ensures.pages so_far.1 c.in-Ok-false.ensures.reads (sink g.E.Write.contents c.args.err.now)
+    _ c.in-Ok-false.field-0-test c.in-Ok-false.ensures.page)
 
 pub returns-in-Err : goal.returns-in-Err
 returns-in-Err g c =
     let so_far = c.loop-page.invariant in
     let told = subst (λ e. Takes e (sink g.E.Write.contents c.put_refusal.new.out) (refusal_line c.in-Err.refusal)) so_far.2 c.put_refusal.ensures in
-    page_refused (seen c.args.books.now) (seen c.loop-page.books) (seen c.print_page.new.books) (sink g.O.Write.contents c.args.out.now) (sink g.O.Write.contents c.loop-page.out) (sink g.O.Write.contents c.print_page.new.out) c.loop-page.page so_far.0 c.export_law.ensures.pages so_far.1 c.in-Err.ensures.reads (sink g.E.Write.contents c.args.err.now) (sink g.E.Write.contents c.put_refusal.new.out) c.in-Err.refusal c.in-Err.ensures.page told
+    page_refused (seen c.args.books.now) (seen c.loop-page.books) (seen c.print_page.new.books) (sink g.O.Write.contents c.args.out.now)
+    (sink g.O.Write.contents c.loop-page.out) (sink g.O.Write.contents c.print_page.new.out) c.loop-page.page so_far.0
+    c.export_law.ensures.pages so_far.1 c.in-Err.ensures.reads (sink g.E.Write.contents c.args.err.now)
+    (sink g.E.Write.contents c.put_refusal.new.out) c.in-Err.refusal c.in-Err.ensures.page told
 
 pub loop-page-preserved : goal.loop-page-preserved
 loop-page-preserved g c =
@@ -36,7 +42,9 @@ loop-page-preserved g c =
 pub returns : goal.returns
 returns g c =
     let so_far = c.loop-page.invariant in
-    rw so_far.2 (all_pages (seen c.args.books.now) (seen c.loop-page.books) (sink g.O.Write.contents c.args.out.now) (sink g.O.Write.contents c.loop-page.out) (sink g.E.Write.contents c.args.err.now) c.loop-page.page so_far.0 (omega (arith, c.loop-page-test.false)) so_far.1
+    rw so_far.2 (all_pages (seen c.args.books.now) (seen c.loop-page.books) (sink g.O.Write.contents c.args.out.now)
+    (sink g.O.Write.contents c.loop-page.out) (sink g.E.Write.contents c.args.err.now) c.loop-page.page so_far.0
+    (omega (arith, c.loop-page-test.false)) so_far.1
     (λ clean life kept.
     let here = kept clean in
     let office = (c.life_law.ensures.left life (present life) here.is_life here.opening (inl refl)).0 in

@@ -20,7 +20,8 @@ returns-in-Err g c = record {
   are_totals = record {
     none = λ clean life kept is. c.in-Err.ensures.none clean life kept (ap Err is);
     refused = record {
-      tells = tells_refusal (seen c.args.books.now) (seen c.shift_totals.new.self) c.in-Err.refusal (c.in-Err.ensures.reads.stopped, c.in-Err.ensures.reads.stops);
+      tells = tells_refusal (seen c.args.books.now) (seen c.shift_totals.new.self) c.in-Err.refusal
+          (c.in-Err.ensures.reads.stopped, c.in-Err.ensures.reads.stops);
       failures = c.in-Err.ensures.reads.failures;
     };
   };

@@ -13,11 +13,14 @@ use Rattle.office_decisions.proofs.ImportWalkLemmas.{FactsAt, SeesNew, facts_at,
 use Rattle.office_decisions.proofs.decision.import.new_rows.Goals as goal
 
 -- the facts at this row, and what was found of it
-facts_here : (c : goal.In_ok-go_on) (o : Office) → AreRowsFacts o c.args.today c.args.rows.now c.args.found.now → FactsAt o c.args.today c.args.rows.now c.args.found.now c.loop-row.row-index c.row-item.result
-facts_here c o facts = facts_at o c.args.today c.args.rows.now c.args.found.now c.loop-row.row-index c.row-item.result (omega arith) c.row-item.is (c.loop-row.invariant.facts o facts)
+facts_here : (c : goal.In_ok-go_on) (o : Office) → AreRowsFacts o c.args.today c.args.rows.now c.args.found.now
+    → FactsAt o c.args.today c.args.rows.now c.args.found.now c.loop-row.row-index c.row-item.result
+facts_here c o facts = facts_at o c.args.today c.args.rows.now c.args.found.now c.loop-row.row-index c.row-item.result (omega arith)
+    c.row-item.is (c.loop-row.invariant.facts o facts)
 
 got : (c : goal.In_ok-go_on) → option_copied c.get-facts.result ≡ slice_get c.args.found.now c.loop-row.row-index
-got c = get_copied c.get-facts.result c.args.found.now c.loop-row.number c.get-facts.ensures.lookup.0 c.get-facts.ensures.lookup.1 ∙ ap (slice_get c.args.found.now) c.loop-row.invariant.numbered
+got c = get_copied c.get-facts.result c.args.found.now c.loop-row.number c.get-facts.ensures.lookup.0 c.get-facts.ensures.lookup.1
+    ∙ ap (slice_get c.args.found.now) c.loop-row.invariant.numbered
 
 pub loop-row-preserved : goal.loop-row-preserved
 loop-row-preserved c =
@@ -25,7 +28,8 @@ loop-row-preserved c =
     let rows = c.args.rows.now in
     let taken = c.loop-row.taken.rows.items in
     let row = c.row-item.result in
-    let granted = λ (o : Office) (facts : AreRowsFacts o c.args.today c.args.rows.now c.args.found.now). c.in_ok-go_on.ensures.ok o (got c ∙ (facts_here c o facts).found) in
+    let granted = λ (o : Office) (facts : AreRowsFacts o c.args.today c.args.rows.now c.args.found.now). c.in_ok-go_on.ensures.ok o
+    (got c ∙ (facts_here c o facts).found) in
     record {
       numbered = omega arith;
       few = omega (arith, c.in_ok-go_on.ensures.one);
@@ -48,5 +52,7 @@ returns-in_err-go_on-clause-memory c = λ o facts none.
     let row = c.row-item.result in
     let at = facts_at o c.args.today rows c.args.found.now i row (omega arith) c.row-item.is (c.loop-row.invariant.facts o facts) in
     let failed = same_err c.from_residual.result c.in_err-go_on.field-0.0 refusals.Memory c.from_residual.ensures.1 none in
-    let found = get_copied c.get-facts.result c.args.found.now c.loop-row.number c.get-facts.ensures.lookup.0 c.get-facts.ensures.lookup.1 ∙ ap (slice_get c.args.found.now) c.loop-row.invariant.numbered ∙ at.found in
-    new_here o c.args.today rows c.loop-row.taken.rows.items i row (omega arith) c.row-item.is (c.loop-row.invariant.seen o facts) (c.in_err-go_on.ensures.memory o found failed)
+    let found = get_copied c.get-facts.result c.args.found.now c.loop-row.number c.get-facts.ensures.lookup.0 c.get-facts.ensures.lookup.1
+    ∙ ap (slice_get c.args.found.now) c.loop-row.invariant.numbered ∙ at.found in
+    new_here o c.args.today rows c.loop-row.taken.rows.items i row (omega arith) c.row-item.is (c.loop-row.invariant.seen o facts)
+    (c.in_err-go_on.ensures.memory o found failed)

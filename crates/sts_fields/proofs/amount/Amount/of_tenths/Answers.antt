@@ -13,7 +13,8 @@ returns-else-tenths-le-MAX_TENTHS-clause-representable c = (
       let no_rest = no_rest_from_representable _ _ range carried in
       absurd
       (elim c.else-tenths-le-MAX_TENTHS.branch [
-        | else-tenths-le-MAX_TENTHS-via-then-tenths-le-MAX_TENTHS+else-tenths-start-eq0 w ↦ w.if-tenths-start-eq0.false (rw (w.start.ensures, w.step.ensures) no_rest)
+        | else-tenths-le-MAX_TENTHS-via-then-tenths-le-MAX_TENTHS+else-tenths-start-eq0 w ↦
+            w.if-tenths-start-eq0.false (rw (w.start.ensures, w.step.ensures) no_rest)
         | else-tenths-le-MAX_TENTHS-via-else-tenths-le-MAX_TENTHS w ↦ omega (arith, bound)
       ]),
 )

@@ -21,7 +21,8 @@ returns-in-Some g c = was_open c.in-Ok.books c.in-Ok.ensures.opened c.in-Ok.ensu
 })
 
 pub returns-in-Ok : goal.returns-in-Ok
-returns-in-Ok g c = unheard c.in-Ok.books c.in-Ok.ensures.opened c.in-Ok.ensures.finds c.listen.new.door c.in-None.ensures c.leave-in-None.ensures c.close_office.ensures refl
+returns-in-Ok g c = unheard c.in-Ok.books c.in-Ok.ensures.opened c.in-Ok.ensures.finds c.listen.new.door c.in-None.ensures
+    c.leave-in-None.ensures c.close_office.ensures refl
 
 pub returns : goal.returns
 returns g c = unopened c.in-Err.fault c.in-Err.ensures.fails c.leave-in-Err.ensures c.put_opening.ensures refl

@@ -3,4 +3,5 @@ use Rattle.office_rules.specs.Office.{empty_office}
 use Rattle.vend_commands.proofs.selfcheck.prepared.prepare.Goals as goal
 
 pub returns-in-Ok-ready-clause-prepared : goal.returns-in-Ok-ready-clause-prepared
-returns-in-Ok-ready-clause-prepared g c = c.in-Ok-ready.ensures.granted (opened (g.T.BlockTransform.forwards c.args.transform) empty_office) c.in-Ok.ensures.opens
+returns-in-Ok-ready-clause-prepared g c = c.in-Ok-ready.ensures.granted
+    (opened (g.T.BlockTransform.forwards c.args.transform) empty_office) c.in-Ok.ensures.opens

@@ -28,10 +28,12 @@ returns-in_err-grant-2-clause-refused g c =
     let see = seen {g = over_memory} {h = g.T.BlockTransform} in
     let why = c.in_err-grant-2.field-0.0 in
     passed_on (λ why. IsUnprepared see (Refused why)) c.from_residual-in_err-grant-2.result why c.from_residual-in_err-grant-2.ensures.1
-    (ungranted see c.add_selfcheck_meter.result add_selfcheck_meter why c.grant.new.books c.grant-2.new.books c.add_selfcheck_meter.ensures second_request c.in_err-grant-2.ensures.refused)
+    (ungranted see c.add_selfcheck_meter.result add_selfcheck_meter why c.grant.new.books c.grant-2.new.books c.add_selfcheck_meter.ensures
+    second_request c.in_err-grant-2.ensures.refused)
 
 pub returns-clause-refused : goal.returns-clause-refused
 returns-clause-refused g c =
     let see = seen {g = over_memory} {h = g.T.BlockTransform} in
     on_err c.grant-3.result c.grant-3.ensures.refused
-    (λ why. ungranted see c.open_selfcheck_shift.result open_selfcheck_shift why c.grant-2.new.books c.grant-3.new.books c.open_selfcheck_shift.ensures third_request)
+    (λ why. ungranted see c.open_selfcheck_shift.result open_selfcheck_shift why c.grant-2.new.books c.grant-3.new.books
+    c.open_selfcheck_shift.ensures third_request)

@@ -63,7 +63,11 @@ pub returns-clause-fresh : goal.returns-clause-fresh
 returns-clause-fresh c = λ o meter base now. c.fresh_law.ensures.computed (used o meter base) now _ (greatest_is_last (used o meter base))
 
 pub returns-clause-rules_alone : goal.returns-clause-rules_alone
-returns-clause-rules_alone c = λ forward o at. (never_answers forward o at Memory refl, never_answers forward o at Store refl, never_answers forward o at Stopped refl)
+returns-clause-rules_alone c = λ forward o at. (
+  never_answers forward o at Memory refl,
+  never_answers forward o at Store refl,
+  never_answers forward o at Stopped refl,
+)
 
 pub returns-clause-some_tenths : goal.returns-clause-some_tenths
 returns-clause-some_tenths c = after_sells_some (lower c)

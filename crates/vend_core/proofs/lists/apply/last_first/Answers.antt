@@ -17,7 +17,8 @@ loop-row-preserved-in-Continue-1 c =
     let ds = c.loop-row.dated_steps.items in
     let ms = c.loop-row.meters.items in
     record {
-      tariffs = moved tariffs_of tariffs_of-push all before after c.loop-row.tariffs.items c.push.new.self.items row popped c.in_ok-push-in-Tariff.ensures.items c.loop-row.invariant.tariffs;
+      tariffs = moved tariffs_of tariffs_of-push all before after c.loop-row.tariffs.items c.push.new.self.items row popped
+          c.in_ok-push-in-Tariff.ensures.items c.loop-row.invariant.tariffs;
       dated_steps = moved dated_steps_of dated_steps_of-push all before after ds ds row popped (sym (append-nil ds)) c.loop-row.invariant.dated_steps;
       meters = moved meters_of meters_of-push all before after ms ms row popped (sym (append-nil ms)) c.loop-row.invariant.meters;
     }
@@ -33,7 +34,8 @@ loop-row-preserved-in-Continue-branch-2 c =
     let ms = c.loop-row.meters.items in
     record {
       tariffs = moved tariffs_of tariffs_of-push all before after ts ts row popped (sym (append-nil ts)) c.loop-row.invariant.tariffs;
-      dated_steps = moved dated_steps_of dated_steps_of-push all before after c.loop-row.dated_steps.items c.push-in-Steps.new.self.items row popped c.in_ok-push-in-Steps.ensures.items c.loop-row.invariant.dated_steps;
+      dated_steps = moved dated_steps_of dated_steps_of-push all before after c.loop-row.dated_steps.items c.push-in-Steps.new.self.items
+          row popped c.in_ok-push-in-Steps.ensures.items c.loop-row.invariant.dated_steps;
       meters = moved meters_of meters_of-push all before after ms ms row popped (sym (append-nil ms)) c.loop-row.invariant.meters;
     }
 
@@ -49,5 +51,6 @@ loop-row-preserved c =
     record {
       tariffs = moved tariffs_of tariffs_of-push all before after ts ts row popped (sym (append-nil ts)) c.loop-row.invariant.tariffs;
       dated_steps = moved dated_steps_of dated_steps_of-push all before after ds ds row popped (sym (append-nil ds)) c.loop-row.invariant.dated_steps;
-      meters = moved meters_of meters_of-push all before after c.loop-row.meters.items c.push-in-Meter.new.self.items row popped c.in_ok-push-in-Meter.ensures.items c.loop-row.invariant.meters;
+      meters = moved meters_of meters_of-push all before after c.loop-row.meters.items c.push-in-Meter.new.self.items row popped
+          c.in_ok-push-in-Meter.ensures.items c.loop-row.invariant.meters;
     }

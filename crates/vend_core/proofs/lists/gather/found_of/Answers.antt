@@ -10,4 +10,5 @@ pub returns : goal.returns
 returns c = λ today.
     let o = recorded c.args.records.now in
     subst (λ (fs : List RowFacts). AreRowsFacts o today c.args.rows.now fs) (append-nil c.loop-row.found.items)
-    (c.loop-row.invariant today [] (subst (λ (rest : List Row). AreRowsFacts o today rest []) (sym (drop_all c.loop-row.row-index c.args.rows.now c.loop-row-test.false)) tt))
+    (c.loop-row.invariant today [] (subst (λ (rest : List Row). AreRowsFacts o today rest [])
+    (sym (drop_all c.loop-row.row-index c.args.rows.now c.loop-row-test.false)) tt))

@@ -7,4 +7,5 @@ use Rattle.vend_core.proofs.lists.gather.found_of.Given as goal
 -- what is found for the other rows is, behind what is found so far, found for all
 abbrev pub invariant-loop-row : goal.invariant-loop-row
 invariant-loop-row l =
-    (today : ℕ) (more : List RowFacts) → AreRowsFacts (recorded l.records) today (drop l.row-index l.rows) more → AreRowsFacts (recorded l.records) today l.rows (l.found.items ++ more)
+    (today : ℕ) (more : List RowFacts) → AreRowsFacts (recorded l.records) today (drop l.row-index l.rows) more
+    → AreRowsFacts (recorded l.records) today l.rows (l.found.items ++ more)

@@ -18,7 +18,8 @@ loop-sale-preserved c =
           let within : c.sale-item.result.tid ≤ last_tid =
           subst (λ (s : Sale). s.tid ≤ last_tid) (sym c.sale-item.is) (c.requires c.loop-sale.sale-index c.sale-item.result (omega arith)) in
           record {
-            greatest = last ∙ ap (λ (o : Option ℕ). let r : Option ℕ = Some (max (unwrap_or o 0) c.sale-item.result.tid) in r) c.loop-sale.invariant.greatest ∙ sym more;
+            greatest = last ∙ ap (λ (o : Option ℕ). let r : Option ℕ = Some (max (unwrap_or o 0) c.sale-item.result.tid) in r)
+                c.loop-sale.invariant.greatest ∙ sym more;
             range = greatest_within c.loop-sale.last c.if-is_under.last c.sale-item.result.tid last_tid c.loop-sale.invariant.range within last;
           }
       | else-is_under w ↦

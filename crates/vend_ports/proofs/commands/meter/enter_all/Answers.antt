@@ -23,7 +23,8 @@ loop-token-preserved g c =
     let more = takes_more _ _ _ so_far.0 _ _ _ so_far.1.put next (c.enter.ensures.told read before so_far.1.from) in (
       _,
       record {
-        from = subst (λ h. ComesFrom inverses read h c.enter.new.meter) (sym (history-more c.args.tokens.now i _ c.loop-token-test.true)) (c.enter.ensures.entered read before so_far.1.from);
+        from = subst (λ h. ComesFrom inverses read h c.enter.new.meter) (sym (history-more c.args.tokens.now i _ c.loop-token-test.true))
+            (c.enter.ensures.entered read before so_far.1.from);
         put = more.0;
         left = more.1;
       },
@@ -34,5 +35,6 @@ returns g c =
     let so_far = c.loop-token.invariant in
     let read = reading_of (g.T.BlockTransform.inverses c.args.transform) c.args.key in
     let before = history c.args.tokens.now c.loop-token.token-index in
-    let left = last_line read c.args.tokens.now c.loop-token.token-index so_far.0 _ c.loop-token-test.false so_far.1.left ∙ ap (λ n. so_far.0 ++ credit_line n) (sym (c.credit.ensures read before so_far.1.from)) in
+    let left = last_line read c.args.tokens.now c.loop-token.token-index so_far.0 _ c.loop-token-test.false so_far.1.left
+    ∙ ap (λ n. so_far.0 ++ credit_line n) (sym (c.credit.ensures read before so_far.1.from)) in
     takes_last _ _ _ so_far.0 _ _ so_far.1.put left c.put_credit.ensures

@@ -5,4 +5,5 @@ use Rattle.vend_ports.proofs.commands.trial.put_fault.Goals as goal
 
 pub returns-in-Amount : goal.returns-in-Amount
 returns-in-Amount g c =
-    subst (λ fault. Takes (sink g.E.Write.contents c.args.err.now) (sink g.E.Write.contents c.put_line.new.out) (trial_fault_line fault)) (sym c.in-Amount.is) c.put_line.ensures
+    subst (λ fault. Takes (sink g.E.Write.contents c.args.err.now) (sink g.E.Write.contents c.put_line.new.out) (trial_fault_line fault))
+    (sym c.in-Amount.is) c.put_line.ensures

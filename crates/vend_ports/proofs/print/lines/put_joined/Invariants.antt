@@ -9,5 +9,6 @@ abbrev pub invariant-loop-word : goal.invariant-loop-word
 invariant-loop-word g l =
     (front : List ℕ) × record {
       put : Takes (sink g.W.Write.contents l.fn.out) (sink g.W.Write.contents l.out) front;
-      left : joined_line l.byte (map (λ w. w.now) l.words) ≡ (front ++ l.line.items) ++ (spaced l.byte l.separator (map (λ w. w.now) (drop l.word-index l.words)) ++ 10 ∷ []);
+      left : joined_line l.byte (map (λ w. w.now) l.words) ≡ (front ++ l.line.items)
+          ++ (spaced l.byte l.separator (map (λ w. w.now) (drop l.word-index l.words)) ++ 10 ∷ []);
     }

@@ -25,12 +25,16 @@ returns c = λ sales few held.
     let totals : ℕ → Totals = λ t. one_more t s.price (unwrap_or (shifts_of s.shift) no_totals) in
     let ids = c.in_ok-add_id.ensures ids_of held.last_ids in
     let in_month = month_in_words sales s small few held.small in
-    let room = subst (λ (n : ℕ). sum n c.tenths-tenths.result < 2 ^ 64) (sym month) (subst (λ (t : ℕ). sum (month_at s.moment) t < 2 ^ 64) (sym tenths) in_month) in
+    let room = subst (λ (n : ℕ). sum n c.tenths-tenths.result < 2 ^ 64) (sym month)
+    (subst (λ (t : ℕ). sum (month_at s.moment) t < 2 ^ 64) (sym tenths) in_month) in
     let months = c.in_ok-add_tenths.ensures months_of held.month_tenths room in
-    let by_month = subst (λ (n : ℕ). HoldsAt key_cmp (own_place {K = List ℕ × ℕ}) c.add_tenths.new.months (put_under (is_in_month (s.meter, n)) (sum n c.tenths-tenths.result) months_of)) month months in
-    let months_are = subst (λ (t : ℕ). HoldsAt key_cmp (own_place {K = List ℕ × ℕ}) c.add_tenths.new.months (put_under (is_in_month (s.meter, month_at s.moment)) (sum (month_at s.moment) t) months_of)) tenths by_month in
+    let by_month = subst (λ (n : ℕ). HoldsAt key_cmp (own_place {K = List ℕ × ℕ}) c.add_tenths.new.months
+    (put_under (is_in_month (s.meter, n)) (sum n c.tenths-tenths.result) months_of)) month months in
+    let months_are = subst (λ (t : ℕ). HoldsAt key_cmp (own_place {K = List ℕ × ℕ}) c.add_tenths.new.months
+    (put_under (is_in_month (s.meter, month_at s.moment)) (sum (month_at s.moment) t) months_of)) tenths by_month in
     let in_words = subst (λ (t : ℕ). IsInWords (totals t)) (sym tenths) (shift_in_words sales s small few held.small) in
     let shifts = c.in_ok-add_to_shift.ensures shifts_of held.shift_totals in_words in
-    let shifts_are = subst (λ (t : ℕ). HoldsAt nat_cmp (own_place {K = ℕ}) c.add_to_shift.new.shifts (put_under (λ n. n == s.shift) (totals t) shifts_of)) tenths shifts in
+    let shifts_are = subst (λ (t : ℕ). HoldsAt nat_cmp (own_place {K = ℕ}) c.add_to_shift.new.shifts
+    (put_under (λ n. n == s.shift) (totals t) shifts_of)) tenths shifts in
     let after : Gathered = record { last_ids = c.add_id.new.ids; month_tenths = c.add_tenths.new.months; shift_totals = c.add_to_shift.new.shifts } in
     gathered_more sales s c.args.self.now after held small ids months_are shifts_are

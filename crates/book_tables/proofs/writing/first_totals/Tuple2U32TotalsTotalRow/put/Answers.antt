@@ -19,9 +19,13 @@ returns-clause-writes g c =
       (λ fits. ap (λ (p : Row). let w : Write = record { sql = new_totals_text; params = p } in w) (c.shift_total_values.ensures.bound fits)),
       record {
         made = λ clean has.
-            on_ok c.put.result (puts_shift_totals (state g.S.Store c.args.tx.now.conn.now) (state g.S.Store c.put.new.tx.conn.now) c.args.self.now _ c.shift_total_values.ensures.bound)
-            (c.put.ensures.added clean (shift_totals_table tree) (place_in s (codes "shift_totals")) totals_terms (new_totals_means tree) (λ runs. (shift_totals_in.there s (has runs)).0.has));
+            on_ok c.put.result (puts_shift_totals (state g.S.Store c.args.tx.now.conn.now) (state g.S.Store c.put.new.tx.conn.now)
+            c.args.self.now _ c.shift_total_values.ensures.bound)
+            (c.put.ensures.added clean (shift_totals_table tree) (place_in s (codes "shift_totals")) totals_terms (new_totals_means tree)
+            (λ runs. (shift_totals_in.there s (has runs)).0.has));
         transaction = c.put.ensures.transaction;
-        ends = λ clean has. c.put.ensures.ends clean (shift_totals_table tree) (place_in s (codes "shift_totals")) totals_terms (new_totals_means tree) (subst (λ n. is_whole new_totals_text n ≡ true) (sym c.shift_total_values.ensures.count) new_totals_whole) (λ runs. (shift_totals_in.there s (has runs)).0.has);
+        ends = λ clean has. c.put.ensures.ends clean (shift_totals_table tree) (place_in s (codes "shift_totals")) totals_terms
+            (new_totals_means tree) (subst (λ n. is_whole new_totals_text n ≡ true) (sym c.shift_total_values.ensures.count)
+            new_totals_whole) (λ runs. (shift_totals_in.there s (has runs)).0.has);
       },
     )

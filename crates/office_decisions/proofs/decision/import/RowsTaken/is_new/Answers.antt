@@ -39,5 +39,6 @@ returns-in-Meter-clause-value c = λ o found.
     let there = c.meter_under.ensures o (c.meter_of.ensures o number m same) in
     c.is_new_meter.ensures.value number
     ∙ ap is_new (same_meter_decision number m c.meter_under.result (p.meters number) c.has_tariff-in-Meter.result (is_some (p.tariffs m.tariff)) there
-    (λ none. c.has_tariff-in-Meter.ensures o (c.has_tariff_of.ensures o number m same (or_none _ (o.meters number) (sym (c.args.self.now.meters_found o number) ∙ none)))))
+    (λ none. c.has_tariff-in-Meter.ensures o (c.has_tariff_of.ensures o number m same
+    (or_none _ (o.meters number) (sym (c.args.self.now.meters_found o number) ∙ none)))))
     ∙ ap (λ (row : Row). is_new (row_decision p c.args.today row)) (sym c.in-Meter.is)
