@@ -139,26 +139,26 @@ rows_fault_line TooLong = file_line
 
 -- The question is asked by one message, and what the reply tells is printed; or no reply came, and
 -- that is told; or there was no room for the message, and no desk was called.
-pub data IsAskedOfDesk (calls : Calls) (uncalled : Type 0) (desk : Address) (json : Bool)
+pub data IsAsked (calls : Calls) (uncalled : Type 0) (desk : Address) (json : Bool)
     (question : Question) (o : Outputs) (end : CommandEnd) : Type 0 where
   replied : (came : Text) → calls.exchanges desk (one_round (question_text question) came)
       → (told : Told) → IsReply (wanted_by question) came told → TellsTold json question told o end
-      → IsAskedOfDesk calls uncalled desk json question o end
+      → IsAsked calls uncalled desk json question o end
   broken : (came : Text) → calls.exchanges desk (one_round (question_text question) came)
       → ((told : Told) → ¬ IsReply (wanted_by question) came told)
-      → IsTold o [] net_line Refused end → IsAskedOfDesk calls uncalled desk json question o end
+      → IsTold o [] net_line Refused end → IsAsked calls uncalled desk json question o end
   unsent : (fault : ExchangeFault) → IsUnsent calls desk [] fault
       → IsTold o [] (exchange_fault_line fault) Refused end
-      → IsAskedOfDesk calls uncalled desk json question o end
+      → IsAsked calls uncalled desk json question o end
   no_room : uncalled → IsTold o [] (refusal_line refusals.Memory) Refused end
-      → IsAskedOfDesk calls uncalled desk json question o end
+      → IsAsked calls uncalled desk json question o end
 
 -- the words ask a desk one question; or they name a file of rows that it cannot be asked with, and
 -- it is not called
 pub data IsAskedOnce (texts : Texts) (calls : Calls) (uncalled : Type 0) (desk : Address)
     (question : DeskQuestion) (o : Outputs) (end : CommandEnd) : Type 0 where
   asked : (rows : Bor Text) → AreRowsFor texts question rows.now
-      → IsAskedOfDesk calls uncalled desk (is_json question) (question_of question rows) o end
+      → IsAsked calls uncalled desk (is_json question) (question_of question rows) o end
       → IsAskedOnce texts calls uncalled desk question o end
   without_rows : (fault : RowsFault) → HasNoRows texts question fault → uncalled
       → IsTold o [] (rows_fault_line fault) Refused end

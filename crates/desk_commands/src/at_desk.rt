@@ -2,7 +2,7 @@
 //! reply.
 
 ghost use Rattle.std.specs.Prelude.{◌≡◌, [], IfErr, IfOk, MatchResult};
-ghost use Rattle.desk_commands.specs.AskedOfDesk.{AreRowsFor, HasNoRows, IsAskedOfDesk};
+ghost use Rattle.desk_commands.specs.AskedOfDesk.{AreRowsFor, HasNoRows, IsAsked};
 ghost use Rattle.desk_commands.specs.AskedOfDesk.{IsAskedOfDesk, IsAskedOnce, NeedsRoom};
 ghost use Rattle.desk_commands.specs.AskedOfDesk.{SaleNeedsRoom, TellsGranted, TellsTold};
 ghost use Rattle.desk_commands.specs.AskedOfDesk.{granted_output, is_json};
@@ -162,7 +162,7 @@ fn ask<L: Loopback, O: Write, E: Write>(
     out: &mut Watched<'_, O>,
     err: &mut Watched<'_, E>,
 ) -> CommandEnd
-    ensures { IsAskedOfDesk (calls_of L.Loopback L.Stream.remaining L.Stream.contents loopback)
+    ensures { IsAsked (calls_of L.Loopback L.Stream.remaining L.Stream.contents loopback)
         (L.leaves L loopback) desk json question.now
         (outputs (sink O.contents out.old) (sink O.contents out.new)
         (sink E.contents err.old) (sink E.contents err.new)) result }

@@ -26,7 +26,7 @@ use Rattle.papers.specs.declared.row_fault.RowFault.{RowFault}
 use Rattle.tariff.specs.Purchase.{purchase_of}
 use Rattle.command_line.specs.Asked.{AskFor}
 use Rattle.office_commands.specs.commands.Asked.{IsAskedAt}
-use Rattle.desk_commands.specs.AskedOfDesk.{IsAnswered, IsAskedOfDesk, IsAskedOnce, TellsTold}
+use Rattle.desk_commands.specs.AskedOfDesk.{IsAnswered, IsAsked, IsAskedOnce, TellsTold}
 use Rattle.desk_commands.specs.AskedOfDesk.IsAsked.{broken, no_room as desk_full, replied, unsent}
 use Rattle.desk_commands.specs.AskedOfDesk.IsAskedOnce.{asked as desk_asked, without_rows}
 use Rattle.desk_commands.specs.ListedAtDesk.{page_stop_end}
@@ -213,7 +213,7 @@ told_in_reply_ends json question (tells.Refused refusal) o end told = told_ends 
 told_in_reply_ends json question tells.NoMoment o end told = told_ends o _ _ how.Refused end (omega arith) told
 
 desk_asked_ends : (calls : Calls) (uncalled : Type 0) (desk : Address) (json : Bool) (question : Question) (o : Outputs) (end : CommandEnd)
-    → IsAskedOfDesk calls uncalled desk json question o end → exit_status_of end ≤ 1
+    → IsAsked calls uncalled desk json question o end → exit_status_of end ≤ 1
 desk_asked_ends calls uncalled desk json question o end (replied came exchanged told is done) = told_in_reply_ends json question told o end done
 desk_asked_ends calls uncalled desk json question o end (broken came exchanged none told) = told_ends o _ _ how.Refused end (omega arith) told
 desk_asked_ends calls uncalled desk json question o end (unsent fault why told) = told_ends o _ _ how.Refused end (omega arith) told

@@ -29,7 +29,7 @@ use Rattle.command_line.specs.declared.commands.report.ReportWords.{ReportWords}
 use Rattle.command_line.specs.declared.commands.serve.ServeWords.{ServeWords}
 use Rattle.command_line.specs.declared.transform.Shipped.{Shipped}
 use Rattle.office_commands.specs.commands.Asked.{IsAskedAt}
-use Rattle.desk_commands.specs.AskedOfDesk.{IsAnswered, IsAskedOfDesk, IsAskedOnce, TellsTold}
+use Rattle.desk_commands.specs.AskedOfDesk.{IsAnswered, IsAsked, IsAskedOnce, TellsTold}
 use Rattle.desk_commands.specs.AskedOfDesk.IsAsked.{broken, no_room as desk_full, replied, unsent}
 use Rattle.desk_commands.specs.AskedOfDesk.IsAskedOnce.{asked as desk_asked, without_rows}
 use Rattle.desk_commands.specs.Exchanged.{Calls}
@@ -162,7 +162,7 @@ told_in_reply_same json question (tells.Refused refusal) o end told = told_same 
 told_in_reply_same json question tells.NoMoment o end told = told_same o _ _ _ end told
 
 desk_asked_same : (calls : Calls) (uncalled : Type 0) (desk : Address) (json : Bool) (question : Question) (o : Outputs) (end : CommandEnd)
-    → IsAskedOfDesk calls uncalled desk json question o end → AreSame o
+    → IsAsked calls uncalled desk json question o end → AreSame o
 desk_asked_same calls uncalled desk json question o end (replied came exchanged told is done) = told_in_reply_same json question told o end done
 desk_asked_same calls uncalled desk json question o end (broken came exchanged none told) = told_same o _ _ _ end told
 desk_asked_same calls uncalled desk json question o end (unsent fault why told) = told_same o _ _ _ end told

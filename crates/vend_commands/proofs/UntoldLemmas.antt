@@ -24,7 +24,7 @@ use Rattle.vend_commands.specs.Run.IsProgramRun.{answered, bad_word, explained, 
 use Rattle.vend_commands.specs.commands.Selfchecked.{HasReplies}
 use Rattle.vend_ports.specs.print.Told.{Held, Outputs, Sink}
 use Rattle.vend_commands.proofs.RunLemmas.{selfcheck_done}
-use Rattle.desk_commands.specs.AskedOfDesk.{IsAnswered, IsAskedOfDesk, IsAskedOnce}
+use Rattle.desk_commands.specs.AskedOfDesk.{IsAnswered, IsAsked, IsAskedOnce}
 use Rattle.desk_commands.specs.AskedOfDesk.IsAsked.{broken, no_room as desk_full, replied, unsent as message_unsent}
 use Rattle.desk_commands.specs.AskedOfDesk.IsAskedOnce.{asked as desk_asked, without_rows}
 use Rattle.desk_commands.specs.ListedAtDesk.{IsDeskStop, IsListedAtDesk, IsPageStop}
@@ -170,7 +170,7 @@ unsent_bare calls desk rounds fault (unsent held is) = unsent tt is
 unsent_bare calls desk rounds fault (full held is) = full tt is
 
 desk_asked_bare : (calls : Calls) (uncalled : Type 0) (desk : Address) (json : Bool) (question : Question) (o : Outputs) (end : CommandEnd)
-    → IsAskedOfDesk calls uncalled desk json question o end → IsAskedOfDesk untold_calls ⊤ desk json question o end
+    → IsAsked calls uncalled desk json question o end → IsAsked untold_calls ⊤ desk json question o end
 desk_asked_bare calls uncalled desk json question o end (replied came exchanged told is done) = replied came tt told is done
 desk_asked_bare calls uncalled desk json question o end (broken came exchanged none told) = broken came tt none told
 desk_asked_bare calls uncalled desk json question o end (message_unsent fault why told) = message_unsent fault (unsent_bare calls desk [] fault why) told
