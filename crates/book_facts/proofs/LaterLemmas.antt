@@ -7,7 +7,7 @@ use Rattle.tariff.specs.declared.step.Step.{Step}
 use Rattle.book_lists.specs.Days.{IsNextBegun, IsNextDay}
 use Rattle.book_tables.proofs.ListLemmas.{contains_none, no_pairs, pairs_append, pairs_of_one}
 use Rattle.book_facts.specs.Lookups.{AreLaterSteps}
-use Rattle.book_facts.specs.declared.lookup.LaterSteps.{LaterSteps}
+use Rattle.book_states.specs.declared.lookup.LaterSteps.{LaterSteps}
 
 -- those of the days after a day, until another one
 pub record AreUntil (dated : ℕ → Option (List Step)) (day last : ℕ) (later : List LaterSteps) : Type 0 where

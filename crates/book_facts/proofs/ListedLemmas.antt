@@ -15,8 +15,8 @@ use Rattle.book_tables.proofs.ListLemmas.{contains_cases, contains_map, contains
 use Rattle.book_tables.specs.declared.reading.pages.MeterRow.{MeterRow}
 use Rattle.book_facts.specs.Listing.{TellsOf, TellsSteps, listed_meter}
 use Rattle.book_facts.specs.Lookups.{AreMetersAfter, AreTariffsAfter, IsListedMeter, IsListedTariff}
-use Rattle.book_facts.specs.declared.lookup.ListedMeter.{ListedMeter}
-use Rattle.book_facts.specs.declared.lookup.ListedTariff.{ListedTariff}
+use Rattle.book_states.specs.declared.lookup.ListedMeter.{ListedMeter}
+use Rattle.book_states.specs.declared.lookup.ListedTariff.{ListedTariff}
 
 -- what is made of the first items, and one more
 pub take_more : {X : Type 0} (xs : List X) (i : ℕ) (x : X) → i < length xs → x ≡ get_or xs i x → take (i + 1) xs ≡ take i xs ++ x ∷ []

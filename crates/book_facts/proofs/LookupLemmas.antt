@@ -26,8 +26,8 @@ use Rattle.office_rules.specs.declared.office.meter.Meter.{Meter}
 use Rattle.office_rules.specs.declared.office.sale.Sale.{Sale}
 use Rattle.office_rules.specs.declared.office.shift.Shift.{Shift}
 use Rattle.book_facts.specs.Lookups.{IsOfRules, IsQuoted, last_found, meter_found, quote_for, sale_found, sale_of_tid}
-use Rattle.book_facts.specs.declared.lookup.Found.{Found}
-use Rattle.book_facts.specs.declared.lookup.Found.TheVariants as found
+use Rattle.book_states.specs.declared.lookup.Found.{Found}
+use Rattle.book_states.specs.declared.lookup.Found.TheVariants as found
 
 abbrev pub told_of : List ℕ → Meter → ℕ → Option ℕ → Result Found Refusal
 told_of number m tenths last =

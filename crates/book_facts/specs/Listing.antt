@@ -4,8 +4,8 @@ use Rattle.office_rules.specs.Office.Lookup.{steps_on}
 use Rattle.office_rules.specs.Office.{Office}
 use Rattle.book_tables.specs.declared.reading.pages.MeterRow.{MeterRow}
 use Rattle.book_facts.specs.Lookups.{AreLaterSteps}
-use Rattle.book_facts.specs.declared.lookup.ListedMeter.{ListedMeter}
-use Rattle.book_facts.specs.declared.lookup.ListedTariff.{ListedTariff}
+use Rattle.book_states.specs.declared.lookup.ListedMeter.{ListedMeter}
+use Rattle.book_states.specs.declared.lookup.ListedTariff.{ListedTariff}
 
 -- a meter as a list has it, without its key
 abbrev pub listed_meter : MeterRow → ListedMeter

@@ -7,9 +7,6 @@
 pub use decided::Decided;
 pub use decisions::decision_of;
 pub use looking::{look_up, quote_law};
-pub use lookup::{
-    Found, LaterSteps, ListedMeter, ListedShift, ListedTariff, Lookup, MeterSummary, Quote,
-};
 pub use pages::page;
 pub use shift_totals::totals;
 
@@ -17,6 +14,5 @@ mod decided;
 mod decisions;
 mod facts;
 mod looking;
-mod lookup;
 mod pages;
 mod shift_totals;

@@ -12,8 +12,7 @@ ghost use Rattle.book_facts.specs.Lookups.{Finds, IsFoundIn, IsOfRules};
 ghost use Rattle.book_facts.specs.Looking.{LooksUp};
 ghost use Rattle.book_facts.specs.LookupsSeen.{FindsSeen, IsFoundSeen};
 
-use crate::lookup::{Found, Lookup};
-use book_states::refusal_of;
+use book_states::{Found, Lookup, refusal_of};
 use book_tables::TableError;
 use office_rules::{Moment, Refusal};
 use sqlite::{Alter, Connection};

@@ -10,8 +10,8 @@ use Rattle.office_rules.specs.declared.decision.refusal.Refusal.{Refusal}
 use Rattle.office_rules.specs.declared.decision.refusal.Refusal.TheVariants.{Memory, Store, Stopped}
 use Rattle.book_tables.specs.reading.Reading.{HasAllTables}
 use Rattle.book_facts.specs.Lookups.{Finds, IsFoundIn}
-use Rattle.book_facts.specs.declared.lookup.Found.{Found}
-use Rattle.book_facts.specs.declared.lookup.Lookup.{Lookup}
+use Rattle.book_states.specs.declared.lookup.Found.{Found}
+use Rattle.book_states.specs.declared.lookup.Lookup.{Lookup}
 use Rattle.book_states.specs.Failing.{IsToldOfRead}
 use Rattle.book_states.specs.Same.{ChangesNothing}
 use Rattle.book_states.specs.Stores.{Stores}

@@ -13,8 +13,8 @@ use Rattle.books.specs.Asking.{IsAsked, Replies, ReplyAt}
 use Rattle.books.specs.Keeps.{Represents, Seen}
 use Rattle.books.specs.Others.{LeavesOthers}
 use Rattle.books.proofs.OthersLemmas.{kept_tables, others_same, others_then}
-use Rattle.book_facts.specs.declared.lookup.Found.{Found}
-use Rattle.book_facts.specs.declared.lookup.Lookup.{Lookup}
+use Rattle.book_states.specs.declared.lookup.Found.{Found}
+use Rattle.book_states.specs.declared.lookup.Lookup.{Lookup}
 use Rattle.conversation.specs.Exchanges.{MessageExchange, GaveUp, ReadsClock, Timed, timed}
 use Rattle.conversation.specs.message.Messages.{Message}
 use Rattle.conversation.specs.Run.{IsRun}

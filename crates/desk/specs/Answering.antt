@@ -3,8 +3,8 @@ use Rattle.std.specs.Prelude.{◌≡◌, ◌≢◌, ℕ, ◌+◌, ◌%◌, ℤ, 
 use Rattle.books.specs.Asking.{ReplyAt}
 use Rattle.books.specs.Keeps.{Represents, Seen}
 use Rattle.books.specs.Looking.{IsFoundAt, LooksUpBooks}
-use Rattle.book_facts.specs.declared.lookup.Found.{Found}
-use Rattle.book_facts.specs.declared.lookup.Lookup.{Lookup}
+use Rattle.book_states.specs.declared.lookup.Found.{Found}
+use Rattle.book_states.specs.declared.lookup.Lookup.{Lookup}
 use Rattle.sqlite.specs.State.{HasCleanDisk}
 use Rattle.vend_core.specs.Law.Life.{Life, present}
 use Rattle.vend_core.specs.Law.LifeLaws.{extended_by}

@@ -2,7 +2,7 @@
 use Rattle.std.specs.Prelude.{◌≡◌, ℕ, ℤ, List, ◌++◌, map, Option}
 use Rattle.office_rules.specs.declared.decision.request.Request.{Request}
 use Rattle.office_rules.specs.declared.decision.request.Stamped.{Stamped}
-use Rattle.book_facts.specs.declared.lookup.Lookup.{Lookup}
+use Rattle.book_states.specs.declared.lookup.Lookup.{Lookup}
 use Rattle.conversation.specs.Conversation.{last_words, replies_of}
 use Rattle.conversation.specs.Exchanges.{MessageExchange}
 use Rattle.conversation.specs.message.Messages.{AgreeBy, Ending, Message, Stop, ended}

@@ -4,7 +4,7 @@ ghost use Rattle.vend_core.specs.Law.LifeLaws.{extended_along};
 ghost use Rattle.office_rules.specs.declared.decision.answer.Answer.{Answer};
 ghost use Rattle.office_rules.specs.declared.decision.refusal.Refusal.{Refusal};
 ghost use Rattle.office_rules.specs.declared.decision.request.Stamped.{Stamped};
-ghost use Rattle.book_facts.specs.declared.lookup.Found.{Found};
+ghost use Rattle.book_states.specs.declared.lookup.Found.{Found};
 ghost use Rattle.conversation.specs.Conversation.{messages_of};
 ghost use Rattle.conversation.specs.Exchanges.{Exchanged, MessageExchange, Timed, timed};
 ghost use Rattle.conversation.specs.message.Messages.{Ending, Message, Messages, Stop};

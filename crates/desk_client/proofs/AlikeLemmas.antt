@@ -4,8 +4,8 @@ use Rattle.std.specs.Prelude.{decimal}
 use Rattle.std.proofs.lemmas.Fmt.{decimal_injective, decimal_is_IsNumeral}
 use Rattle.std.proofs.lemmas.List.{append_cancel_left}
 use Rattle.std.proofs.lemmas.Str.Parse.{digit_at}
-use Rattle.book_facts.specs.declared.lookup.MeterSummary.{MeterSummary}
-use Rattle.book_facts.specs.declared.lookup.Quote.{Quote}
+use Rattle.book_states.specs.declared.lookup.MeterSummary.{MeterSummary}
+use Rattle.book_states.specs.declared.lookup.Quote.{Quote}
 use Rattle.book_tables.specs.declared.row.totals.Totals.{Totals}
 use Rattle.sts_fields.specs.Amount.{IsRepresentable, greatest_amount}
 use Rattle.sts_fields.specs.Base.{year_of}

@@ -4,7 +4,7 @@ use Rattle.std.specs.Prelude.{nat_le}
 use Rattle.std.proofs.lemmas.Bool.{and_parts}
 use Rattle.std.proofs.lemmas.Bool.Decides.{nat_tests}
 use Rattle.std.specs.List.{AllByRecursion, concat, flat_map, list_all}
-use Rattle.book_facts.specs.declared.lookup.Lookup.TheVariants as lookups
+use Rattle.book_states.specs.declared.lookup.Lookup.TheVariants as lookups
 use Rattle.conversation.specs.message.Messages.{BeginsMessage, Message}
 use Rattle.desk_messages.specs.Asking.{BodyAsks, import_of}
 use Rattle.desk_messages.specs.Meaning.{ComesAt, IsFor, IsIdle, sale_form_of}

@@ -5,11 +5,11 @@ use Rattle.std.specs.List.{AllByRecursion, join_with_byte, list_all}
 use Rattle.std.proofs.lemmas.List.{append_cancel_left, map-id}
 use Rattle.std.proofs.lemmas.List.Elements.{All-head, All-tail, recursion_from_All}
 use Rattle.std.proofs.lemmas.List.Sums.{AllPass-from_list_all}
-use Rattle.book_facts.specs.declared.lookup.Found.{Found}
-use Rattle.book_facts.specs.declared.lookup.Found.TheVariants as found
-use Rattle.book_facts.specs.declared.lookup.ListedMeter.{ListedMeter}
-use Rattle.book_facts.specs.declared.lookup.ListedShift.{ListedShift}
-use Rattle.book_facts.specs.declared.lookup.ListedTariff.{ListedTariff}
+use Rattle.book_states.specs.declared.lookup.Found.{Found}
+use Rattle.book_states.specs.declared.lookup.Found.TheVariants as found
+use Rattle.book_states.specs.declared.lookup.ListedMeter.{ListedMeter}
+use Rattle.book_states.specs.declared.lookup.ListedShift.{ListedShift}
+use Rattle.book_states.specs.declared.lookup.ListedTariff.{ListedTariff}
 use Rattle.desk_messages.specs.reply.Body.{sale_data}
 use Rattle.desk_messages.specs.reply.Lists.{comma, list_members, list_text, listed_meter_data, listed_shift_data, tariff_data, tariff_text}
 use Rattle.desk_messages.specs.reply.Members.{json_text}

@@ -1,7 +1,7 @@
 -- The values of a meter, of a quote and of a shift's totals.
 use Rattle.std.proofs.Common.{ℕ, ◌≤◌, Option, Some, None, refl, arith}
-use Rattle.book_facts.specs.declared.lookup.MeterSummary.{MeterSummary}
-use Rattle.book_facts.specs.declared.lookup.Quote.{Quote}
+use Rattle.book_states.specs.declared.lookup.MeterSummary.{MeterSummary}
+use Rattle.book_states.specs.declared.lookup.Quote.{Quote}
 use Rattle.book_tables.specs.declared.row.totals.Totals.{Totals}
 use Rattle.sts_fields.specs.Amount.{IsRepresentable, greatest_amount}
 use Rattle.desk_client.specs.Meter.{IsLastSaleNumber, IsToldMeter, last_number_text, meter_values}

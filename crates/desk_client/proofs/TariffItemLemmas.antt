@@ -10,8 +10,8 @@ use Rattle.sts_fields.specs.Day.{IsDay}
 use Rattle.tariff.specs.Steps.{IsSteps}
 use Rattle.tariff.specs.StepsText.{steps_text}
 use Rattle.tariff.specs.declared.step.Step.{Step}
-use Rattle.book_facts.specs.declared.lookup.LaterSteps.{LaterSteps}
-use Rattle.book_facts.specs.declared.lookup.ListedTariff.{ListedTariff}
+use Rattle.book_states.specs.declared.lookup.LaterSteps.{LaterSteps}
+use Rattle.book_states.specs.declared.lookup.ListedTariff.{ListedTariff}
 use Rattle.desk_messages.specs.reply.Members.{array_of}
 use Rattle.desk_messages.specs.reply.Lists.{array_text, day_text, later_data, later_text, tariff_text}
 use Rattle.desk_client.specs.Items.{AreReadInOneWay, closed_list_text}

@@ -1,8 +1,8 @@
 -- The replies of a desk are the texts that are read.
 use Rattle.std.proofs.Common.{◌≡◌, ◌∙◌, ℕ, ◌≤◌, false, List, [], ◌++◌, length, codes, None, Ok, Err, refl, ap, sym, subst, arith, append_assoc, append-nil}
 use Rattle.std.specs.Fmt.{decimal, digits}
-use Rattle.book_facts.specs.declared.lookup.Found.{Found}
-use Rattle.book_facts.specs.declared.lookup.Found.TheVariants as found
+use Rattle.book_states.specs.declared.lookup.Found.{Found}
+use Rattle.book_states.specs.declared.lookup.Found.TheVariants as found
 use Rattle.desk_messages.specs.declared.desk_fault.DeskFault.{DeskFault}
 use Rattle.desk_messages.specs.declared.desk_fault.DeskFault.TheVariants as faults
 use Rattle.desk_messages.specs.declared.reply.form.Form.{Form}

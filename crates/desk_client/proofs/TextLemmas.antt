@@ -10,8 +10,8 @@ use Rattle.std.proofs.lemmas.Str.Parse.{digit_at}
 use Rattle.json.specs.Print.{escape_byte, quoted}
 use Rattle.serde_json.proofs.OnLiterals.{serde_json_on_literals}
 use Rattle.serde_json.specs.Data.{boolean, string}
-use Rattle.book_facts.specs.declared.lookup.MeterSummary.{MeterSummary}
-use Rattle.book_facts.specs.declared.lookup.Quote.{Quote}
+use Rattle.book_states.specs.declared.lookup.MeterSummary.{MeterSummary}
+use Rattle.book_states.specs.declared.lookup.Quote.{Quote}
 use Rattle.book_tables.specs.declared.row.totals.Totals.{Totals}
 use Rattle.desk_messages.specs.reply.Body.{fault_members, meter_members, quote_members, refusal_members, row_members, totals_members}
 use Rattle.desk_messages.specs.reply.Members.{json_text, some_number, whole_number}

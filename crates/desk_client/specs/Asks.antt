@@ -1,8 +1,8 @@
 -- What the message of a question asks of a desk.
 use Rattle.std.specs.Prelude.{◌≢◌, ℕ, ℤ, pos, ◌≤◌, false, List, length, Some, None, Result, Ok, Err, ⊤}
 use Rattle.std.specs.List.{concat}
-use Rattle.book_facts.specs.declared.lookup.Lookup.{Lookup}
-use Rattle.book_facts.specs.declared.lookup.Lookup.TheVariants as lookups
+use Rattle.book_states.specs.declared.lookup.Lookup.{Lookup}
+use Rattle.book_states.specs.declared.lookup.Lookup.TheVariants as lookups
 use Rattle.conversation.specs.message.Framing.{longest_body}
 use Rattle.conversation.specs.message.Messages.{Message}
 use Rattle.desk_messages.specs.declared.reply.form.Form.{Form}

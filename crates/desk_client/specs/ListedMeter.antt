@@ -1,6 +1,6 @@
 -- The text of a meter of a list in a reply.
 use Rattle.std.specs.Prelude.{ℕ, List, [], ◌∷◌, ◌++◌, codes, decimal}
-use Rattle.book_facts.specs.declared.lookup.ListedMeter.{ListedMeter}
+use Rattle.book_states.specs.declared.lookup.ListedMeter.{ListedMeter}
 use Rattle.sts_fields.specs.Base.{year_of}
 use Rattle.desk_client.specs.Text.{woven}
 

@@ -1,6 +1,6 @@
 -- The text of a shift of a list in a reply.
 use Rattle.std.specs.Prelude.{ℕ, List, [], ◌∷◌, ◌++◌, Option, Some, None, codes, decimal}
-use Rattle.book_facts.specs.declared.lookup.ListedShift.{ListedShift}
+use Rattle.book_states.specs.declared.lookup.ListedShift.{ListedShift}
 use Rattle.desk_client.specs.Text.{woven}
 
 -- the moment of the end of a shift, or that there is none

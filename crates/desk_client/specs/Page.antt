@@ -1,11 +1,11 @@
 -- Pages of lists in replies: their texts, and the pages that they tell.
 use Rattle.std.specs.Prelude.{◌≡◌, ℕ, ◌^◌, ◌<◌, ◌≤◌, List, All, length, map, Option, Some, None, ⊤}
-use Rattle.book_facts.specs.declared.lookup.Found.{Found}
-use Rattle.book_facts.specs.declared.lookup.Found.TheVariants as found
-use Rattle.book_facts.specs.declared.lookup.LaterSteps.{LaterSteps}
-use Rattle.book_facts.specs.declared.lookup.ListedMeter.{ListedMeter}
-use Rattle.book_facts.specs.declared.lookup.ListedShift.{ListedShift}
-use Rattle.book_facts.specs.declared.lookup.ListedTariff.{ListedTariff}
+use Rattle.book_states.specs.declared.lookup.Found.{Found}
+use Rattle.book_states.specs.declared.lookup.Found.TheVariants as found
+use Rattle.book_states.specs.declared.lookup.LaterSteps.{LaterSteps}
+use Rattle.book_states.specs.declared.lookup.ListedMeter.{ListedMeter}
+use Rattle.book_states.specs.declared.lookup.ListedShift.{ListedShift}
+use Rattle.book_states.specs.declared.lookup.ListedTariff.{ListedTariff}
 use Rattle.book_lists.specs.Pages.{page_size}
 use Rattle.desk_messages.specs.declared.reply.form.Form.TheVariants.{Json}
 use Rattle.desk_messages.specs.reply.Body.{found_body}

@@ -1,6 +1,6 @@
 -- The text of a quote in a reply, and the quotes that it tells.
 use Rattle.std.specs.Prelude.{ℕ, ◌-◌, ◌≤◌, List, [], ◌∷◌, ◌++◌, codes, decimal}
-use Rattle.book_facts.specs.declared.lookup.Quote.{Quote}
+use Rattle.book_states.specs.declared.lookup.Quote.{Quote}
 use Rattle.sts_fields.specs.Amount.{IsRepresentable}
 use Rattle.tariff.specs.Tender.{IsTender}
 use Rattle.office_rules.specs.Name.{IsMeterNo, IsName}

@@ -1,7 +1,7 @@
 -- What the outcomes of a desk tell.
 use Rattle.std.specs.Prelude.{◌≡◌, ℕ, List, Ok, Err}
-use Rattle.book_facts.specs.declared.lookup.Found.{Found}
-use Rattle.book_facts.specs.declared.lookup.Found.TheVariants as found
+use Rattle.book_states.specs.declared.lookup.Found.{Found}
+use Rattle.book_states.specs.declared.lookup.Found.TheVariants as found
 use Rattle.desk_messages.specs.declared.desk_fault.DeskFault.{DeskFault}
 use Rattle.desk_messages.specs.declared.desk_fault.DeskFault.TheVariants as faults
 use Rattle.desk_messages.specs.declared.reply.form.Form.{Form}

@@ -6,7 +6,7 @@ ghost use Rattle.desk_client.specs.Text.{IsFound, now};
 use crate::items::Item;
 use crate::text::{Values, read_front_values};
 use crate::values::{base_of, meter_of, tariff_of};
-use book_facts::ListedMeter;
+use book_states::ListedMeter;
 use std::alloc::{AllocError, Global};
 
 // What stands behind each value of a meter.

@@ -6,7 +6,7 @@ ghost use Rattle.desk_client.specs.Text.{IsFound, now};
 use crate::items::Item;
 use crate::text::{Values, number, read_front_values, small_number};
 use crate::values::{end_of, moment_of, operator_of};
-use book_facts::ListedShift;
+use book_states::ListedShift;
 use book_tables::Totals;
 use office_rules::Shift;
 use std::alloc::{AllocError, Global};

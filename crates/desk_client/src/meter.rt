@@ -4,7 +4,7 @@ ghost use Rattle.desk_client.specs.Text.{IsFound, now};
 
 use crate::text::{Values, number, read_values};
 use crate::values::{base_of, last_sale_of, meter_of, tariff_of};
-use book_facts::MeterSummary;
+use book_states::MeterSummary;
 
 // What stands behind each value of a meter.
 const ENDS: [&str; 5] = [

@@ -1,14 +1,14 @@
 //! Pages of lists, as replies tell them.
 
 ghost use Rattle.std.specs.Prelude.{◌≡◌, IfOk};
-ghost use Rattle.book_facts.specs.declared.lookup.Found.{Found as WhatIsFound};
+ghost use Rattle.book_states.specs.declared.lookup.Found.{Found as WhatIsFound};
 ghost use Rattle.desk_client.specs.Page.{AreAlike, IsToldPage, page_as_read};
 ghost use Rattle.desk_client.specs.Text.{IsFound};
 ghost use Rattle.desk_client.specs.declared.page.PageKind.TheVariants.{Meters, Sales, Shifts, Tariffs};
 
 use crate::items::{Item, read_list};
 use crate::tariff_items::tariff_law;
-use book_facts::{Found, ListedMeter, ListedShift, ListedTariff};
+use book_states::{Found, ListedMeter, ListedShift, ListedTariff};
 use desk_messages::list_law;
 use office_rules::Sale;
 use std::alloc::{AllocError, Global};

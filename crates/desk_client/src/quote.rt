@@ -4,7 +4,7 @@ ghost use Rattle.desk_client.specs.Text.{IsFound, now};
 
 use crate::text::{Values, read_values, small_number};
 use crate::values::{amount_of, meter_of, tariff_of, tender_of};
-use book_facts::Quote;
+use book_states::Quote;
 use sts_fields::amount_law;
 
 // What stands behind each value of a quote.

@@ -9,7 +9,7 @@ use crate::refusal::{plain_refusal, row_refusal};
 use crate::sale::read_sale;
 use crate::start::Start;
 use crate::totals::read_totals;
-use book_facts::{MeterSummary, Quote};
+use book_states::{MeterSummary, Quote};
 use book_tables::Totals;
 use office_rules::{Refusal, Sale};
 

@@ -4,7 +4,7 @@ use Rattle.std.specs.Prelude.{if◌then◌else◌}
 use Rattle.std.specs.List.{flat_map}
 use Rattle.std.proofs.lemmas.Bool.{ne_eqb}
 use Rattle.std.proofs.lemmas.Grind.{flat_map-append}
-use Rattle.book_facts.specs.declared.lookup.Found.{Found}
+use Rattle.book_states.specs.declared.lookup.Found.{Found}
 use Rattle.command_line.specs.declared.commands.list.Listed.{Listed}
 use Rattle.desk_commands.specs.print.ListTexts.{page_text, pages_text}
 

@@ -2,7 +2,7 @@
 -- by a message of one connection.
 use Rattle.std.specs.Prelude.{◌≡◌, ◌≢◌, ◌⊎◌, ⊤, Bool, true, List, [], ◌∷◌, ◌++◌, length, Option, Some, None, Result, Ok, Err}
 use Rattle.std.specs.Borrow.{Bor}
-use Rattle.book_facts.specs.declared.lookup.Found.{Found}
+use Rattle.book_states.specs.declared.lookup.Found.{Found}
 use Rattle.command_line.specs.declared.address.Address.{Address}
 use Rattle.command_line.specs.declared.commands.list.Listed.{Listed}
 use Rattle.command_line.specs.declared.commands.list.Listed.TheVariants as listed

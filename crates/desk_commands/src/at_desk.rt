@@ -16,7 +16,7 @@ use crate::exchange::{exchange, told_in};
 use crate::list_at_desk::{list, page_question, put_exchange_fault};
 use crate::print::found::put_found;
 use crate::print::totals::put_totals;
-use book_facts::{Found, Lookup};
+use book_states::{Found, Lookup};
 use command_line::{Address, DeskQuestion, DeskWords, Shown};
 use conversation::MAX_BODY;
 use desk_client::{Granted, Question, Told};

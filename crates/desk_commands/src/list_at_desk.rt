@@ -10,7 +10,7 @@ ghost use Rattle.vend_ports.specs.print.Told.{Takes, outputs, sink};
 
 use crate::exchange::{ExchangeFault, exchange_on, told_in};
 use crate::print::pages::put_page;
-use book_facts::Found;
+use book_states::Found;
 use command_line::{Address, Listed};
 use desk_client::{Granted, PageKind, Question, Told, Wanted, page_in};
 use office_rules::Refusal;

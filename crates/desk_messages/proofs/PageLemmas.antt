@@ -16,10 +16,10 @@ use Rattle.tariff.specs.Steps.{IsSteps}
 use Rattle.tariff.specs.StepsText.{IsWritable, steps_text}
 use Rattle.tariff.specs.declared.step.Step.{Step}
 use Rattle.office_rules.specs.Name.{IsMeterNo, IsName, IsOperator, is_name_byte}
-use Rattle.book_facts.specs.declared.lookup.LaterSteps.{LaterSteps}
-use Rattle.book_facts.specs.declared.lookup.ListedMeter.{ListedMeter}
-use Rattle.book_facts.specs.declared.lookup.ListedShift.{ListedShift}
-use Rattle.book_facts.specs.declared.lookup.ListedTariff.{ListedTariff}
+use Rattle.book_states.specs.declared.lookup.LaterSteps.{LaterSteps}
+use Rattle.book_states.specs.declared.lookup.ListedMeter.{ListedMeter}
+use Rattle.book_states.specs.declared.lookup.ListedShift.{ListedShift}
+use Rattle.book_states.specs.declared.lookup.ListedTariff.{ListedTariff}
 use Rattle.desk_messages.specs.reply.Lists.{beginning, comma, day_text, later_data, later_text, list_members, list_text, listed_meter_data, listed_meter_text, listed_shift_data, listed_shift_text, tariff_data, tariff_text}
 use Rattle.desk_messages.specs.reply.Members.{array_of, json_text, object_of, some_number, whole_number}
 use Rattle.desk_messages.proofs.ArrayLemmas.{array-text}

@@ -16,8 +16,8 @@ use Rattle.desk_messages.specs.declared.route.endpoint.Endpoint.{Endpoint}
 use Rattle.desk_messages.specs.declared.route.endpoint.Endpoint.TheVariants.{Tariffs, TariffSteps, MeterTariff, MeterBase, Shift, Sale, SaleReceipt, Health, Meter, LastSale, Quote, SaleOfRef, ShiftTotals, FirstTariffs, TariffsAfter, FirstMeters, MetersAfter, ShiftsAfter, SalesAfter}
 use Rattle.desk_messages.specs.declared.route.Route.{Route}
 use Rattle.desk_messages.specs.declared.route.Route.TheVariants.{AddTariff, AddSteps, AddMeter, SetTariff, MoveBase, OpenShift, CloseShift, ShiftReport, Sell, Reprint, Receipt, ImportMeters, ImportTariffs, LookUp}
-use Rattle.book_facts.specs.declared.lookup.Lookup.{Lookup}
-use Rattle.book_facts.specs.declared.lookup.Lookup.TheVariants as lookups
+use Rattle.book_states.specs.declared.lookup.Lookup.{Lookup}
+use Rattle.book_states.specs.declared.lookup.Lookup.TheVariants as lookups
 use Rattle.desk_messages.specs.route.Endpoint.{Table, closes, endpoints, endpoint_method, filled, opens, pattern_of, quote_target, sale_target, with_endpoint, with_pattern}
 use Rattle.desk_messages.specs.route.Route.{FindsRoute, IsRouted, LeadsTo, Names, NamesLookup, endpoint_of, lookup_endpoint}
 use Rattle.desk_messages.proofs.ParameterLemmas.{digits_lack, letters_lack, same_number, same_start, same_two}

@@ -9,8 +9,8 @@ use Rattle.std.proofs.lemmas.Bool.Decides.{nat_tests}
 use Rattle.std.proofs.lemmas.List.{get_or_past}
 use Rattle.std.proofs.lemmas.Str.{IsUtf8-from_ascii, utf8_lossy-IsUtf8}
 use Rattle.serde_json.specs.Data.{Data, string}
-use Rattle.book_facts.specs.declared.lookup.MeterSummary.{MeterSummary}
-use Rattle.book_facts.specs.declared.lookup.Quote.{Quote}
+use Rattle.book_states.specs.declared.lookup.MeterSummary.{MeterSummary}
+use Rattle.book_states.specs.declared.lookup.Quote.{Quote}
 use Rattle.desk_messages.specs.reply.Members.{Pair, some_number, whole_number}
 use Rattle.desk_messages.specs.reply.Body.{meter_members, quote_members, sale_members}
 use Rattle.papers.specs.Text.{change_of}

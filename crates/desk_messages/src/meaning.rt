@@ -3,7 +3,7 @@
 ghost use Rattle.std.specs.Prelude.{◌≡◌, ◌≢◌, ℤ, MatchOption, Option, Some, Ok, pos};
 ghost use Rattle.conversation.specs.Exchanges.{ReadsClock};
 ghost use Rattle.conversation.specs.message.Next.{message_of};
-ghost use Rattle.book_facts.specs.declared.lookup.Lookup.{Lookup};
+ghost use Rattle.book_states.specs.declared.lookup.Lookup.{Lookup};
 ghost use Rattle.desk_messages.specs.Meaning.{AsksRequest, IsFor, IsMeaning, lookup_form, sale_form_of};
 ghost use Rattle.desk_messages.specs.declared.route.Route.{Route};
 
@@ -14,7 +14,7 @@ use crate::reply::form::Form;
 use crate::reply::outcome::Outcome;
 use crate::route::Route;
 use crate::route::routes::Routes;
-use book_facts::Lookup;
+use book_states::Lookup;
 use conversation::{Clock, Received};
 use office_rules::{Moment, Refusal, Request};
 use std::alloc::Global;

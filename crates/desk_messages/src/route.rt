@@ -4,7 +4,7 @@ pub(crate) mod endpoint;
 mod parameter;
 pub(crate) mod routes;
 
-use book_facts::Lookup;
+use book_states::Lookup;
 use office_rules::{MeterNo, TariffName};
 
 /// What a target asks for, with what it names: a request, which may change the office, or a

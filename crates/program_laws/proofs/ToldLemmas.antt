@@ -24,7 +24,7 @@ use Rattle.office_rules.specs.declared.office.row.Row.{Row}
 use Rattle.office_rules.proofs.OfficeLemmas.RowLemmas.{contains_cases}
 use Rattle.office_rules.specs.declared.office.sale.Sale.{Sale}
 use Rattle.papers.specs.declared.row_fault.RowFault.{RowFault}
-use Rattle.book_facts.specs.declared.lookup.Lookup.TheVariants as lookups
+use Rattle.book_states.specs.declared.lookup.Lookup.TheVariants as lookups
 use Rattle.book_opening.specs.declared.fault.OpenFault.{OpenFault}
 use Rattle.books.specs.Keeps.{Seen}
 use Rattle.books.specs.declared.refused_files.RefusedFiles.TheVariants.{Connected, Unconnected}

@@ -2,8 +2,8 @@
 use Rattle.std.specs.Prelude.{ℕ, Bool, List, All, AllPairs, Contains, IsSome, map}
 use Rattle.std.specs.List.{flat_map}
 use Rattle.book_facts.specs.Lookups.{IsListedMeter, IsListedTariff}
-use Rattle.book_facts.specs.declared.lookup.ListedMeter.{ListedMeter}
-use Rattle.book_facts.specs.declared.lookup.ListedTariff.{ListedTariff}
+use Rattle.book_states.specs.declared.lookup.ListedMeter.{ListedMeter}
+use Rattle.book_states.specs.declared.lookup.ListedTariff.{ListedTariff}
 use Rattle.book_lists.specs.Pages.{ComesBefore}
 use Rattle.sts_fields.specs.Text.{Text}
 use Rattle.office_rules.specs.Office.{Office}

@@ -30,7 +30,7 @@ use Rattle.desk_commands.specs.AskedOfDesk.IsAskedOnce.{asked as desk_asked, wit
 use Rattle.desk_commands.specs.ListedAtDesk.{IsDeskStop, IsListedAtDesk, IsPageStop}
 use Rattle.desk_commands.specs.declared.list_at_desk.PageFault.{PageFault}
 use Rattle.desk_commands.specs.declared.list_at_desk.PageFault.TheVariants as faults
-use Rattle.book_facts.specs.declared.lookup.Found.{Found}
+use Rattle.book_states.specs.declared.lookup.Found.{Found}
 use Rattle.command_line.specs.declared.commands.list.Listed.{Listed}
 use Rattle.desk_commands.specs.Exchanged.{Calls, IsUnsent, Round, untold_calls}
 use Rattle.desk_commands.specs.Exchanged.IsUnsent.{no_room as full, unreached, unsent}

@@ -8,7 +8,7 @@ ghost use Rattle.book_facts.specs.Looking.{LooksUp};
 ghost use Rattle.book_facts.specs.LookupsSeen.{IsLastFoundSeen, IsLastSaleSeen, IsLastUnderSeen};
 
 use crate::looking::sales::sale_or_none;
-use crate::lookup::Found;
+use book_states::Found;
 use book_tables::reading::{meters, sales, totals};
 use book_tables::{TableError, members_law};
 use office_rules::{MeterNo, Refusal, Sale, store_law};

@@ -6,8 +6,8 @@ ghost use Rattle.book_facts.specs.Lookups.{AreLaterSteps};
 ghost use Rattle.book_facts.specs.Looking.{LooksUp};
 ghost use Rattle.book_facts.specs.LookupsSeen.{AreLaterSeen};
 
-use crate::lookup::LaterSteps;
 use book_lists::first_day_after;
+use book_states::LaterSteps;
 use book_tables::TableError;
 use book_tables::reading::dated_steps::steps_from;
 use office_rules::TariffName;

@@ -8,8 +8,8 @@ ghost use Rattle.book_facts.specs.Lookups.{FindsMeters, IsOfRules};
 ghost use Rattle.book_facts.specs.Looking.{LooksUp};
 ghost use Rattle.book_facts.specs.LookupsSeen.{FindsMetersSeen};
 
-use crate::lookup::{Found, ListedMeter};
 use book_lists::meters_after;
+use book_states::{Found, ListedMeter};
 use book_tables::TableError;
 use book_tables::reading::pages::MeterRow;
 use office_rules::{MeterNo, Refusal};

@@ -10,7 +10,7 @@ ghost use Rattle.book_facts.specs.Looking.{LooksUp};
 ghost use Rattle.book_facts.specs.LookupsSeen.{IsMeterFoundSeen};
 
 use crate::looking::last_sales::last_sale;
-use crate::lookup::{Found, MeterSummary};
+use book_states::{Found, MeterSummary};
 use book_tables::reading::{meters, totals};
 use book_tables::{TableError, members_law};
 use office_rules::{MeterNo, Moment, Refusal, Sale};

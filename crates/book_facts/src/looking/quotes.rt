@@ -15,7 +15,7 @@ ghost use Rattle.book_facts.specs.Looking.{LooksUp};
 ghost use Rattle.book_facts.specs.LookupsSeen.{IsQuoteSeen};
 
 use crate::facts::accounts::account_numbered;
-use crate::lookup::{Found, Quote};
+use book_states::{Found, Quote};
 use book_tables::TableError;
 use office_rules::{GREATEST_COUNT, MeterAccount, MeterNo, Moment, Refusal, limits_law};
 use sqlite::{Alter, Connection};

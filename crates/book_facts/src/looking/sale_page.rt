@@ -7,8 +7,8 @@ ghost use Rattle.book_facts.specs.Lookups.{FindsSales, IsOfRules};
 ghost use Rattle.book_facts.specs.Looking.{LooksUp};
 ghost use Rattle.book_facts.specs.LookupsSeen.{FindsSalesSeen};
 
-use crate::lookup::Found;
 use book_lists::PAGE;
+use book_states::Found;
 use book_tables::TableError;
 use book_tables::reading::sale_lists;
 use office_rules::Refusal;

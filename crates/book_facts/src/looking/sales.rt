@@ -8,7 +8,7 @@ ghost use Rattle.book_facts.specs.Lookups.{IsOfRules, sale_found};
 ghost use Rattle.book_facts.specs.Looking.{LooksUp};
 ghost use Rattle.book_facts.specs.LookupsSeen.{IsSaleFoundSeen};
 
-use crate::lookup::Found;
+use book_states::Found;
 use book_tables::TableError;
 use book_tables::reading::sales;
 use office_rules::{Operator, Ref, Refusal, Sale};

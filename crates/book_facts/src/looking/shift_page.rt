@@ -7,8 +7,8 @@ ghost use Rattle.book_facts.specs.Lookups.{FindsShifts, IsOfRules};
 ghost use Rattle.book_facts.specs.Looking.{LooksUp};
 ghost use Rattle.book_facts.specs.LookupsSeen.{FindsShiftsSeen};
 
-use crate::lookup::{Found, ListedShift};
 use book_lists::shifts_after;
+use book_states::{Found, ListedShift};
 use book_tables::TableError;
 use book_tables::reading::totals;
 use office_rules::Refusal;

@@ -9,7 +9,7 @@ ghost use Rattle.book_facts.specs.Looking.{LooksUp};
 ghost use Rattle.book_facts.specs.LookupsSeen.{AreTotalsFoundSeen};
 
 use crate::facts::shifts::totals_of;
-use crate::lookup::Found;
+use book_states::Found;
 use book_tables::{TableError, Totals};
 use office_rules::Refusal;
 use sqlite::{Alter, Connection};

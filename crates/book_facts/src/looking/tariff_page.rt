@@ -12,8 +12,8 @@ ghost use Rattle.book_facts.specs.LookupsSeen.{FindsTariffsSeen, IsTariffNamedSe
 
 use crate::facts::steps::steps_on;
 use crate::looking::later_steps::later_steps;
-use crate::lookup::{Found, ListedTariff};
 use book_lists::tariffs_after;
+use book_states::{Found, ListedTariff};
 use book_tables::TableError;
 use office_rules::{Moment, Refusal, TariffName};
 use sqlite::{Alter, Connection};

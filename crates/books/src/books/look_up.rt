@@ -7,8 +7,8 @@ ghost use Rattle.books.specs.Keeps.{Represents, seen};
 ghost use Rattle.books.specs.Looking.{IsFoundAt, LooksUpBooks};
 
 use super::Books;
-use book_facts::{Found, Lookup, look_up};
-use book_states::has_failed;
+use book_facts::look_up;
+use book_states::{Found, Lookup, has_failed};
 use office_rules::{Moment, Refusal};
 use sqlite::Alter;
 use sts_token::BlockTransform;

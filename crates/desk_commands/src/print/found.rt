@@ -5,10 +5,10 @@ ghost use Rattle.desk_commands.specs.print.FoundTexts.{IsMadeWhole, found_text, 
 ghost use Rattle.desk_commands.specs.print.FoundTexts.{meter_table_row, number_or_none, purchase_in};
 ghost use Rattle.desk_commands.specs.print.FoundTexts.{sale_lines};
 ghost use Rattle.vend_ports.specs.print.Told.{Takes, sink};
-ghost use Rattle.book_facts.specs.declared.lookup.Found.TheVariants.{Sale as FoundSale};
+ghost use Rattle.book_states.specs.declared.lookup.Found.TheVariants.{Sale as FoundSale};
 
 use crate::print::page::json_line;
-use book_facts::{Found, Lookup, MeterSummary, Quote};
+use book_states::{Found, Lookup, MeterSummary, Quote};
 use itoa::Buffer;
 use office_rules::Sale;
 use papers::{export, receipt_in_place};

@@ -6,7 +6,7 @@ ghost use Rattle.desk_commands.specs.print.FoundTexts.{number_or_none};
 ghost use Rattle.desk_commands.specs.print.ListTexts.{later_line};
 
 use crate::print::table::{TableRow, put_fields};
-use book_facts::{LaterSteps, ListedMeter, ListedShift, ListedTariff};
+use book_states::{LaterSteps, ListedMeter, ListedShift, ListedTariff};
 use desk_messages::{put_day, put_steps};
 use itoa::Buffer;
 use office_rules::Moment;

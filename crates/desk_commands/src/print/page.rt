@@ -5,7 +5,7 @@ ghost use Rattle.desk_commands.specs.print.FoundTexts.{json_line};
 ghost use Rattle.desk_commands.specs.print.ListTexts.{page_text};
 
 use crate::print::table::table;
-use book_facts::Found;
+use book_states::Found;
 use desk_messages::found_json;
 use papers::export;
 use std::alloc::{AllocError, Global};

@@ -6,8 +6,8 @@ ghost use Rattle.desk_commands.specs.print.Pages.{IsPagePut, last_of_full, list_
 ghost use Rattle.vend_ports.specs.print.Told.{Takes, sink};
 
 use crate::print::page::page_text;
-use book_facts::Found;
 use book_lists::PAGE;
+use book_states::Found;
 use command_line::Listed;
 use std::alloc::{AllocError, Global};
 use std::io::Write;

@@ -13,10 +13,10 @@ use Rattle.desk_messages.specs.reply.Lists.{list_members, listed_meter_data, lis
 use Rattle.desk_messages.specs.reply.Members.{Pair, json_text, object_of, some_number, whole_number}
 use Rattle.book_tables.specs.row.Rows.{present_format}
 use Rattle.book_tables.specs.declared.row.totals.Totals.{Totals}
-use Rattle.book_facts.specs.declared.lookup.Found.{Found}
-use Rattle.book_facts.specs.declared.lookup.Found.TheVariants as found
-use Rattle.book_facts.specs.declared.lookup.MeterSummary.{MeterSummary}
-use Rattle.book_facts.specs.declared.lookup.Quote.{Quote}
+use Rattle.book_states.specs.declared.lookup.Found.{Found}
+use Rattle.book_states.specs.declared.lookup.Found.TheVariants as found
+use Rattle.book_states.specs.declared.lookup.MeterSummary.{MeterSummary}
+use Rattle.book_states.specs.declared.lookup.Quote.{Quote}
 use Rattle.papers.specs.Receipt.{receipt_of}
 use Rattle.papers.specs.Report.{report_of}
 use Rattle.papers.specs.Text.{change_of}

@@ -11,8 +11,8 @@ use Rattle.desk_messages.specs.declared.reply.outcome.Outcome.TheVariants.{Refus
 use Rattle.desk_messages.specs.declared.reply.outcome.Outcome.TheVariants as outcomes
 use Rattle.desk_messages.specs.declared.reply.head.ReplyHead.{ReplyHead}
 use Rattle.desk_messages.specs.DeskFault.{desk_fault_status}
-use Rattle.book_facts.specs.declared.lookup.Found.{Found}
-use Rattle.book_facts.specs.declared.lookup.Found.TheVariants as found
+use Rattle.book_states.specs.declared.lookup.Found.{Found}
+use Rattle.book_states.specs.declared.lookup.Found.TheVariants as found
 use Rattle.office_rules.specs.declared.decision.answer.Answer.{Answer}
 use Rattle.office_rules.specs.declared.decision.answer.Answer.TheVariants.{Done, Imported, Opened, Closed, Sold, Reprinted, Report}
 use Rattle.office_rules.specs.Decision.Refusals.{refusal_category}

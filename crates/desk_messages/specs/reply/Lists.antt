@@ -8,10 +8,10 @@ use Rattle.sts_fields.specs.Base.{year_of}
 use Rattle.sts_fields.specs.Calendar.{civil_at}
 use Rattle.sts_fields.specs.Moment.{UnixSeconds, first_moment}
 use Rattle.tariff.specs.StepsText.{steps_text}
-use Rattle.book_facts.specs.declared.lookup.LaterSteps.{LaterSteps}
-use Rattle.book_facts.specs.declared.lookup.ListedMeter.{ListedMeter}
-use Rattle.book_facts.specs.declared.lookup.ListedShift.{ListedShift}
-use Rattle.book_facts.specs.declared.lookup.ListedTariff.{ListedTariff}
+use Rattle.book_states.specs.declared.lookup.LaterSteps.{LaterSteps}
+use Rattle.book_states.specs.declared.lookup.ListedMeter.{ListedMeter}
+use Rattle.book_states.specs.declared.lookup.ListedShift.{ListedShift}
+use Rattle.book_states.specs.declared.lookup.ListedTariff.{ListedTariff}
 use Rattle.desk_messages.specs.reply.Members.{Pair, array_of, object_of, some_number, whole_number}
 
 -- ',', between two items

@@ -9,7 +9,7 @@ use crate::reply::members::{Member, object_text};
 use crate::reply::outcome::Outcome;
 use crate::reply::pages::{meters_body, sales_body, shifts_body, tariffs_body};
 use crate::reply::sale_text::{change, seconds};
-use book_facts::Found;
+use book_states::Found;
 use office_rules::{Answer, Category, Refusal, Sale};
 use papers::{receipt, shift_report};
 use std::alloc::{AllocError, Global};

@@ -2,7 +2,7 @@ ghost use Rattle.std.specs.Prelude.{◌≡◌, ◌++◌, codes};
 ghost use Rattle.desk_messages.specs.reply.Text.{field_line, media_type};
 ghost use Rattle.desk_messages.specs.reply.Head.{answer_form, found_form};
 
-use book_facts::Found;
+use book_states::Found;
 use office_rules::Answer;
 
 /// What a sale is told as. All else that the office answers has one form only.

@@ -5,7 +5,7 @@ ghost use Rattle.desk_messages.specs.reply.Body.{health_members, meter_members, 
 ghost use Rattle.desk_messages.specs.reply.Members.{data_of, json_text, some_number};
 
 use crate::reply::members::{Member, object_text};
-use book_facts::{MeterSummary, Quote};
+use book_states::{MeterSummary, Quote};
 use book_tables::{PRESENT_FORMAT, Totals};
 use std::alloc::{AllocError, Global};
 

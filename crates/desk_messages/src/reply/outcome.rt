@@ -1,6 +1,6 @@
 use crate::desk_fault::DeskFault;
 use crate::reply::form::Form;
-use book_facts::Found;
+use book_states::Found;
 use conversation::MessageFault;
 use office_rules::{Refusal, Reply};
 

@@ -11,7 +11,7 @@ use crate::reply::body::{are_digits, sale_object};
 use crate::reply::dates::put_day;
 use crate::reply::sale_text::{sale_text, seconds};
 use crate::reply::steps_text::put_steps;
-use book_facts::{LaterSteps, ListedMeter, ListedShift, ListedTariff};
+use book_states::{LaterSteps, ListedMeter, ListedShift, ListedTariff};
 use office_rules::{Moment, Sale};
 use std::alloc::{AllocError, Global};
 

@@ -11,7 +11,7 @@ use crate::desk_fault::DeskFault;
 use crate::route::Route;
 use crate::route::endpoint::Endpoint;
 use crate::route::parameter::{meter_at, number_at, quote_at, sale_of_ref_at, start_at, tariff_at};
-use book_facts::Lookup;
+use book_states::Lookup;
 use conversation::Method;
 use matchit::Router;
 use std::alloc::{AllocError, Global};

@@ -2,10 +2,10 @@
 use Rattle.std.specs.Prelude.{◌≡◌, ◌⊎◌, ℕ, Bool, [], Option, Some, Result, Ok, Err}
 use Rattle.sqlite.specs.State.{HasCleanDisk}
 use Rattle.sqlite_trees.specs.declared.store.Store.{Ghosts}
-use Rattle.book_facts.specs.declared.lookup.Found.{Found}
-use Rattle.book_facts.specs.declared.lookup.Lookup.{Lookup}
-use Rattle.book_facts.specs.declared.lookup.Lookup.TheVariants as lookups
-use Rattle.book_facts.specs.declared.lookup.Quote.{Quote}
+use Rattle.book_states.specs.declared.lookup.Found.{Found}
+use Rattle.book_states.specs.declared.lookup.Lookup.{Lookup}
+use Rattle.book_states.specs.declared.lookup.Lookup.TheVariants as lookups
+use Rattle.book_states.specs.declared.lookup.Quote.{Quote}
 use Rattle.books.specs.Keeps.{Represents, Seen}
 use Rattle.books.specs.Looking.{IsFoundAt, LooksUpBooks}
 use Rattle.command_line.specs.declared.commands.show.Shown.{Shown}

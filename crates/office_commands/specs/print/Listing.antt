@@ -2,7 +2,7 @@
 use Rattle.std.specs.Prelude.{◌≡◌, ◌⊎◌, ℕ, ◌-◌, Bool, false, List, [], length, Option, Some, None, IfSome, Result, Ok, Err, if◌then◌else◌}
 use Rattle.sqlite.specs.State.{HasCleanDisk}
 use Rattle.book_facts.specs.Lookups.{Finds}
-use Rattle.book_facts.specs.declared.lookup.Found.{Found}
+use Rattle.book_states.specs.declared.lookup.Found.{Found}
 use Rattle.books.specs.Keeps.{Represents, Seen}
 use Rattle.command_line.specs.declared.commands.list.Listed.{Listed}
 use Rattle.vend_core.specs.Law.Life.{Life, present}

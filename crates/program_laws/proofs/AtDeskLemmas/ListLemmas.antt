@@ -9,8 +9,8 @@ use Rattle.vend_core.specs.Law.Life.{IsLife, Life, present}
 use Rattle.office_rules.specs.Office.{IsOffice, Office}
 use Rattle.office_rules.specs.declared.decision.refusal.Refusal.{Refusal}
 use Rattle.book_facts.specs.Lookups.{Finds, FindsTariffs}
-use Rattle.book_facts.specs.declared.lookup.Found.{Found}
-use Rattle.book_facts.specs.declared.lookup.Found.TheVariants as found
+use Rattle.book_states.specs.declared.lookup.Found.{Found}
+use Rattle.book_states.specs.declared.lookup.Found.TheVariants as found
 use Rattle.books.specs.Looking.{IsFoundAt}
 use Rattle.conversation.specs.Exchanges.{Timed}
 use Rattle.desk_messages.specs.Meaning.{MessageLooks}

@@ -16,11 +16,11 @@ use Rattle.office_rules.specs.Office.Lookup.{latest, steps_on}
 use Rattle.office_rules.specs.declared.office.sale.Sale.{Sale}
 use Rattle.office_rules.specs.declared.office.shift.Shift.{Shift}
 use Rattle.book_facts.specs.Lookups.{Finds, IsListedMeter, IsListedTariff, listed_shift}
-use Rattle.book_facts.specs.declared.lookup.Found.{Found}
-use Rattle.book_facts.specs.declared.lookup.Found.TheVariants as found
-use Rattle.book_facts.specs.declared.lookup.ListedMeter.{ListedMeter}
-use Rattle.book_facts.specs.declared.lookup.ListedShift.{ListedShift}
-use Rattle.book_facts.specs.declared.lookup.ListedTariff.{ListedTariff}
+use Rattle.book_states.specs.declared.lookup.Found.{Found}
+use Rattle.book_states.specs.declared.lookup.Found.TheVariants as found
+use Rattle.book_states.specs.declared.lookup.ListedMeter.{ListedMeter}
+use Rattle.book_states.specs.declared.lookup.ListedShift.{ListedShift}
+use Rattle.book_states.specs.declared.lookup.ListedTariff.{ListedTariff}
 use Rattle.book_lists.specs.Pages.{page_size}
 use Rattle.desk_messages.specs.reply.Body.{sale_data}
 use Rattle.desk_messages.specs.reply.Lists.{list_members}

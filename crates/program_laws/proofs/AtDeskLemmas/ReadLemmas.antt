@@ -14,8 +14,8 @@ use Rattle.office_rules.specs.declared.decision.refusal.Refusal.TheVariants.{Imp
 use Rattle.office_rules.specs.declared.decision.request.Request.{Request}
 use Rattle.office_rules.specs.declared.decision.request.Request.TheVariants as requests
 use Rattle.office_rules.specs.declared.office.row.Row.{Row}
-use Rattle.book_facts.specs.declared.lookup.Lookup.{Lookup}
-use Rattle.book_facts.specs.declared.lookup.Lookup.TheVariants as lookups
+use Rattle.book_states.specs.declared.lookup.Lookup.{Lookup}
+use Rattle.book_states.specs.declared.lookup.Lookup.TheVariants as lookups
 use Rattle.conversation.specs.Exchanges.{Timed}
 use Rattle.desk_messages.specs.Meaning.{MessageAsks, MessageLooks, lookup_form}
 use Rattle.desk_messages.specs.declared.reply.form.Form.TheVariants as forms

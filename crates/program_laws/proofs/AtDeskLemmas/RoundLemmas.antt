@@ -4,7 +4,7 @@ use Rattle.std.specs.Prelude.{All, IfSome, MatchBool, decimal}
 use Rattle.std.proofs.lemmas.List.Elements.{All-head, All-tail}
 use Rattle.vend_core.specs.Law.Life.{IsLife, Life, present}
 use Rattle.office_rules.specs.Office.{IsOffice}
-use Rattle.book_facts.specs.declared.lookup.Found.{Found}
+use Rattle.book_states.specs.declared.lookup.Found.{Found}
 use Rattle.conversation.specs.Conversation.{Conversation, last_words, messages_of, replies_of}
 use Rattle.conversation.specs.Exchanges.{Exchanged, MessageExchange, Timed, timed}
 use Rattle.conversation.specs.declared.message.framing.Framing.{Framing}

@@ -1,8 +1,8 @@
 use Rattle.std.proofs.Common.{ap, refl, Ok, Result, ℕ}
 use Rattle.sqlite.specs.Held.{state}
 use Rattle.office_rules.specs.declared.decision.refusal.Refusal.{Refusal}
-use Rattle.book_facts.specs.declared.lookup.Found.{Found}
-use Rattle.book_facts.specs.declared.lookup.Found.TheVariants.{SaleCount}
+use Rattle.book_states.specs.declared.lookup.Found.{Found}
+use Rattle.book_states.specs.declared.lookup.Found.TheVariants.{SaleCount}
 use Rattle.book_facts.proofs.LooksLemmas.{looks_same, looks_weaker}
 use Rattle.book_facts.proofs.PassedLemmas.{passed_none, passed_reads}
 use Rattle.book_facts.proofs.looking.found_of.Goals as goal

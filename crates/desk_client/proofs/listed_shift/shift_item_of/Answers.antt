@@ -1,5 +1,5 @@
 use Rattle.std.proofs.Common.{◌≡◌, map, take, arith}
-use Rattle.book_facts.specs.declared.lookup.ListedShift.{ListedShift}
+use Rattle.book_states.specs.declared.lookup.ListedShift.{ListedShift}
 use Rattle.desk_client.specs.ListedShift.{listed_shift_values}
 use Rattle.desk_client.specs.Page.{IsToldListedShift}
 use Rattle.desk_client.specs.Text.{now}

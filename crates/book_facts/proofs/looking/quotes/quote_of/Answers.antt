@@ -5,7 +5,7 @@ use Rattle.one_table.proofs.ReadsOnlyLemmas.{read_on}
 use Rattle.office_rules.specs.Decision.{MeterAccount, account_of}
 use Rattle.office_rules.specs.declared.decision.refusal.Refusal.{Refusal}
 use Rattle.book_facts.specs.Lookups.{IsOfRules, quote_for}
-use Rattle.book_facts.specs.declared.lookup.Found.{Found}
+use Rattle.book_states.specs.declared.lookup.Found.{Found}
 use Rattle.book_facts.proofs.LookupLemmas.{quote_rules}
 use Rattle.book_facts.proofs.LooksLemmas.{looks_on}
 use Rattle.book_facts.proofs.FactsLemmas.{account_is}

@@ -12,7 +12,7 @@ use Rattle.book_tables.specs.declared.row.totals.Totals.{Totals}
 use Rattle.book_tables.proofs.OfficeTableLemmas.{shift_totals_in, shifts_in, read_in_office}
 use Rattle.book_lists.specs.Pages.{page_size}
 use Rattle.book_facts.specs.Lookups.{listed_shift}
-use Rattle.book_facts.specs.declared.lookup.ListedShift.{ListedShift}
+use Rattle.book_states.specs.declared.lookup.ListedShift.{ListedShift}
 use Rattle.book_facts.proofs.FactsLemmas.{members_after, sales_told, shifts_told, tables_of}
 use Rattle.book_facts.proofs.ListedLemmas.{map_more}
 use Rattle.book_facts.proofs.PassedLemmas.{clean_before, passed, passed_after, passed_none, passed_reads, passed_then, read_after, same_on, stops_on, earlier, tables_after}

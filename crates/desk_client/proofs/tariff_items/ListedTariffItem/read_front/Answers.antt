@@ -2,7 +2,7 @@ use Rattle.std.proofs.Common.{◌∙◌, List, ℕ, ◌++◌, codes, Some, ap, s
 use Rattle.std.proofs.lemmas.Bool.Decides.{Decides-eqb}
 use Rattle.std.proofs.lemmas.Slice.Eq.{strip_prefix_is}
 use Rattle.desk_client.specs.Page.{IsToldTariff}
-use Rattle.book_facts.specs.declared.lookup.ListedTariff.{ListedTariff}
+use Rattle.book_states.specs.declared.lookup.ListedTariff.{ListedTariff}
 use Rattle.desk_client.specs.TariffItem.{with_steps}
 use Rattle.desk_client.proofs.PlainLemmas.{plain_name}
 use Rattle.desk_client.proofs.TariffItemLemmas.{at_later, behind_later, lent, tariff_there}

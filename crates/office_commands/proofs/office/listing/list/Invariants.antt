@@ -1,5 +1,5 @@
 use Rattle.std.proofs.Common.{◌≡◌, List}
-use Rattle.book_facts.specs.declared.lookup.Found.{Found}
+use Rattle.book_states.specs.declared.lookup.Found.{Found}
 use Rattle.books.specs.Keeps.{seen}
 use Rattle.vend_ports.specs.print.Told.{sink}
 use Rattle.office_commands.proofs.ListingLemmas.{ListedSoFar}

@@ -1,5 +1,5 @@
 use Rattle.std.proofs.Common.{Ok, Err, inl, refl, subst}
-use Rattle.book_facts.specs.declared.lookup.Lookup.{Lookup}
+use Rattle.book_states.specs.declared.lookup.Lookup.{Lookup}
 use Rattle.books.specs.Keeps.{seen}
 use Rattle.books.specs.Looking.{IsFoundAt}
 use Rattle.desk_commands.specs.print.Pages.{page_lookup}

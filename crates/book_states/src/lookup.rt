@@ -20,7 +20,8 @@ pub enum Lookup {
     Quote(MeterNo, Tender),
     /// The running totals of the shift of a number (1 to 10^9).
     ShiftTotals(u32),
-    /// A page of the tariffs whose names come after this one in the order of their bytes, or of all.
+    /// A page of the tariffs whose names come after this one in the order of their bytes, or of
+    /// all.
     Tariffs(Option<TariffName>),
     /// A page of the meters whose numbers come after this one, or of all.
     Meters(Option<MeterNo>),
@@ -30,8 +31,8 @@ pub enum Lookup {
     Sales(u32),
 }
 
-/// What is found where something is looked up. A page has at most `book_lists::PAGE` members, and one
-/// that has fewer is the last one.
+/// What is found where something is looked up. A page has at most `book_lists::PAGE` members, and
+/// one that has fewer is the last one.
 #[derive(Debug, Drop)]
 pub enum Found {
     /// At most 10^9.
