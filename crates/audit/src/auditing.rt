@@ -74,8 +74,8 @@ fn audit_format<S: Alter, T: BlockTransform, F: Follows>(
 }
 
 /// Looks at all rows of all tables, of whatever format they are, and counts them; and tests by the
-/// transform whether each sale's digits are its token, where one is given. The follower is told which
-/// parts have passed.
+/// transform whether each sale's digits are its token, where one is given. The follower is told
+/// which parts have passed.
 ///
 /// It passes a database exactly if its rows are those of an office that requests may lead to, whose
 /// tokens the transform wrote (`IsAuditOf`). Over a store that keeps the rows of each table in the

@@ -41,7 +41,8 @@ tariff_rules tariffs steps =
     ∷ once (steps_of steps) rule.Twice step_key
     ∷ names (steps_of steps) rule.Missing step_tariff_key name_key tariffs
     ∷ names (steps_of steps) rule.Steps step_before_key step_key steps
-    ∷ each (listed_tariffs tariffs) rule.Steps (λ name. AreSteps row_step step_key steps (name_key name))
+    ∷ each (listed_tariffs tariffs) rule.Steps
+    (λ name. AreSteps row_step step_key steps (name_key name))
     ∷ []
 
 -- the same of the steps of a tariff from a day on

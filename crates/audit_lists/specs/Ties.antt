@@ -1,5 +1,5 @@
--- Rules that tie the rows of a list to one another, or to those of other lists: what each row keeps,
--- and the first one that does not.
+-- Rules that tie the rows of a list to one another, or to those of other lists: what each row
+-- keeps, and the first one that does not.
 use Rattle.std.specs.Prelude.{◌≡◌, ◌⊎◌, ◌+◌, ◌<◌, ⊤, ℕ, List, [], ◌∷◌, Some, slice_get}
 use Rattle.office_rules.specs.Office.{greatest_count}
 use Rattle.audit_rows.specs.declared.finding.Finding.{Finding}

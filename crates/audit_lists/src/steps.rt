@@ -47,7 +47,8 @@ pub(crate) fn first_steps<'a, T: HasStep, K: KeyOf<T>>(
     key: LentKey<'a>,
 ) -> Result<Vec<Step>, AllocError>
     requires { ArePlaces K.key places.now rows.now (length rows.now) }
-    ensures { IfOk result (λ steps. AreFirstUnder T.step K.key rows.now (owned_key key.entry) steps.items) }
+    ensures { IfOk result (λ steps.
+        AreFirstUnder T.step K.key rows.now (owned_key key.entry) steps.items) }
 {
     let (text, more, number, _) = key;
     let mut steps = Vec::new(alloc);
@@ -69,7 +70,8 @@ fn are_steps<'a, T: HasStep, K: KeyOf<T>>(
 ) -> Result<bool, AllocError>
     requires places { ArePlaces K.key places.now rows.now (length rows.now) }
     requires apart { Each (IsNew K.key rows.now) rows.now }
-    ensures { IfOk result (λ are. IsTrue are ↔ AreSteps T.step K.key rows.now (owned_key key.entry)) }
+    ensures { IfOk result (λ are.
+        IsTrue are ↔ AreSteps T.step K.key rows.now (owned_key key.entry)) }
 {
     let steps = first_steps::<T, K>(alloc, rows, places, key)?;
     match Steps::read(alloc, &steps) {

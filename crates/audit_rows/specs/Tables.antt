@@ -1,5 +1,5 @@
 -- The office's tables by their names.
-use Rattle.std.specs.Prelude.{ℕ, List, [], ◌∷◌, codes, filter, nat_le}
+use Rattle.std.specs.Prelude.{ℕ, List, [], ◌∷◌, ◌++◌, codes, filter, nat_le}
 use Rattle.book_tables.specs.Kept.{Kept, bases_kept, dated_steps_kept, last_ids_kept, meters_kept, month_tenths_kept, sales_kept, shift_totals_kept, shifts_kept, steps_kept, tariffs_kept}
 use Rattle.audit_rows.specs.declared.table_name.TableName.{TableName}
 use Rattle.audit_rows.specs.declared.table_name.TableName.TheVariants as table
@@ -36,7 +36,8 @@ list_of table.TariffSteps = codes "SELECT tariff, place, ends, price FROM tariff
 list_of table.Meters = codes "SELECT meter, base, tariff, secret FROM meters"
 list_of table.Shifts = codes "SELECT number, operator, opened, closed FROM shifts ORDER BY number"
 list_of table.Sales =
-    codes "SELECT number, moment, month, shift, operator, ref, meter, base, tid, rnd, tenths, price, tender, digits FROM sales ORDER BY number"
+    codes "SELECT number, moment, month, shift, operator, ref, meter, base, tid, rnd, tenths, "
+    ++ codes "price, tender, digits FROM sales ORDER BY number"
 list_of table.LastIds = codes "SELECT meter, base, tid FROM last_ids"
 list_of table.MonthTenths = codes "SELECT meter, month, tenths FROM month_tenths"
 list_of table.ShiftTotals =

@@ -1,5 +1,5 @@
 -- What the lists ask: each a SELECT over one of the tables.
-use Rattle.std.specs.Prelude.{ℕ, List, [], ◌∷◌, codes}
+use Rattle.std.specs.Prelude.{ℕ, List, [], ◌∷◌, ◌++◌, codes}
 use Rattle.sqlite.specs.declared.types.Value.TheVariants.{Text}
 use Rattle.sts_fields.specs.Day.{IsDay}
 use Rattle.office_rules.specs.Name.{IsMeterNo, IsName}
@@ -31,7 +31,8 @@ the_meters_after after =
 
 abbrev pub shifts_after_text : List ℕ
 shifts_after_text =
-    codes "SELECT number, operator, opened, closed FROM shifts WHERE number > ?1 ORDER BY number LIMIT ?2"
+    codes "SELECT number, operator, opened, closed FROM shifts WHERE number > ?1 ORDER BY number "
+    ++ codes "LIMIT ?2"
 
 abbrev pub the_shifts_after : ℕ → Question Shift
 the_shifts_after after =

@@ -155,7 +155,8 @@ FailsToBringUp g from conn new fault =
     × (e : Error) × (fault ≡ fault_of e)
     × FailsInside g (FailsToBring g from meters sales) conn new (Unmade (table.Database e)))
     ⊎ ((fault ≡ Store)
-    × ((e : Error) × HasBeen g (λ made. FailsAtCommit (BringsOffice from) (state g conn) made new e)))
+    × ((e : Error)
+        × HasBeen g (λ made. FailsAtCommit (BringsOffice from) (state g conn) made new e)))
 
 -- The opening found the tables of an older format, or none, and failed to bring them up. The
 -- connection had then what it had before.

@@ -94,9 +94,9 @@ RefusesUnchanged forward at next old new refusal =
     IsToldOfRead refusal old new
     ⊎ ((refusal ≢ Store) × IsDecidedByFacts forward at next old (Err refusal))
 
--- Why an edit fails inside its transaction: one of its writes does, for a cause; or while the connection was
--- open its rows were those of no office that the edit meets; or the tables told other tenths of a
--- sale's month than those that were read and its own.
+-- Why an edit fails inside its transaction: one of its writes does, for a cause; or while the
+-- connection was open its rows were those of no office that the edit meets; or the tables told
+-- other tenths of a sale's month than those that were read and its own.
 abbrev pub FailsToMakeEdit : Edit → ℕ → State → State → TableError → Type 0
 FailsToMakeEdit edit prior old new e =
     FailsToWriteAll (writes_of edit) old new e
@@ -104,8 +104,8 @@ FailsToMakeEdit edit prior old new e =
     ⊎ IsMiscounted edit prior old.now)
 
 -- The disk failed more often than before; or the connection was shut; or the rules of the tables
--- refused one of the edit's writes, and this is their error; or the rows are no office's that the edit
--- meets; or the tables told other tenths.
+-- refused one of the edit's writes, and this is their error; or the rows are no office's that the
+-- edit meets; or the tables told other tenths.
 abbrev pub EditHasFailed : Edit → ℕ → TableError → State → State → Type 0
 EditHasFailed edit prior error old new =
     MoreFaults old.faults new.faults

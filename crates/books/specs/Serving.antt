@@ -31,8 +31,9 @@ IsGrantedWith at books edit =
 abbrev pub IsDecidedFor : Stamped → Seen → Edit → Type 0
 IsDecidedFor at books edit = IsGrantedWith at books (Some edit)
 
--- What a change left: where it has no edit, nothing was written and a crash leaves nothing new; else
--- its edit was committed, and the tenths that are told of a sale's month are these and its own.
+-- What a change left: where it has no edit, nothing was written and a crash leaves nothing new;
+-- else its edit was committed, and the tenths that are told of a sale's month are these and its
+-- own.
 abbrev pub IsMade : Option Edit → ℕ → Seen → Seen → Type 0
 IsMade None prior old new = ChangesNothing old.state new.state
 IsMade (Some edit) prior old new =

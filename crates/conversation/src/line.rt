@@ -27,7 +27,8 @@ pub trait Line<R: Read, W: Write> {
         ensures bound { WritesAtMost result text.now }
         ensures bytes { WriteAppends (W.contents writer.old) (W.contents writer.new) result
             text.now }
-        ensures told { Grows (uses self.old) (uses self.new) (sent (passed_of text.now result) ∷ []) };
+        ensures told { Grows (uses self.old) (uses self.new)
+            (sent (passed_of text.now result) ∷ []) };
 }
 
 /// The line that tells no use.

@@ -27,7 +27,8 @@ pub enum PageKind {
 /// rules. The reply does not tell the nibbles of the tokens of sales: here they are 0. An error is
 /// want of memory.
 pub fn page_in(alloc: Global, kind: PageKind, body: &[u8]) -> Result<Option<Found>, AllocError>
-    ensures { IfOk result (IsFound (λ page. IsToldPage kind page × (body.now ≡ page_as_read page))) }
+    ensures { IfOk result
+        (IsFound (λ page. IsToldPage kind page × (body.now ≡ page_as_read page))) }
 {
     match kind {
         PageKind::Tariffs => tariffs_in(alloc, body),
@@ -51,7 +52,8 @@ fn tariffs_in(alloc: Global, body: &[u8]) -> Result<Option<Found>, AllocError>
 
 // of meters,
 fn meters_in(alloc: Global, body: &[u8]) -> Result<Option<Found>, AllocError>
-    ensures { IfOk result (IsFound (λ page. IsToldPage Meters page × (body.now ≡ page_as_read page))) }
+    ensures { IfOk result
+        (IsFound (λ page. IsToldPage Meters page × (body.now ≡ page_as_read page))) }
 {
     list_law();
     match read_list(alloc, "{\"meters\":[", body)? {
@@ -62,7 +64,8 @@ fn meters_in(alloc: Global, body: &[u8]) -> Result<Option<Found>, AllocError>
 
 // of shifts,
 fn shifts_in(alloc: Global, body: &[u8]) -> Result<Option<Found>, AllocError>
-    ensures { IfOk result (IsFound (λ page. IsToldPage Shifts page × (body.now ≡ page_as_read page))) }
+    ensures { IfOk result
+        (IsFound (λ page. IsToldPage Shifts page × (body.now ≡ page_as_read page))) }
 {
     list_law();
     match read_list(alloc, "{\"shifts\":[", body)? {
@@ -73,7 +76,8 @@ fn shifts_in(alloc: Global, body: &[u8]) -> Result<Option<Found>, AllocError>
 
 // and of sales.
 fn sales_in(alloc: Global, body: &[u8]) -> Result<Option<Found>, AllocError>
-    ensures { IfOk result (IsFound (λ page. IsToldPage Sales page × (body.now ≡ page_as_read page))) }
+    ensures { IfOk result
+        (IsFound (λ page. IsToldPage Sales page × (body.now ≡ page_as_read page))) }
 {
     list_law();
     match read_list(alloc, "{\"sales\":[", body)? {

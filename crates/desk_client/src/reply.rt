@@ -105,7 +105,8 @@ fn find_refusal(input: &[u8]) -> Option<Head<'_>>
 fn body_in<'b>(head: &Head<'b>, wanted: Wanted) -> Reading<'b>
     requires start { IsStart wanted head.now.start }
     requires len { head.now.len < 2 ^ 64 }
-    ensures { IsReplyReading wanted (head_bytes head.now.start head.now.len head.now.rest.now) result }
+    ensures { IsReplyReading wanted
+        (head_bytes head.now.start head.now.len head.now.rest.now) result }
 {
     let have = head.rest.len() as u64;
     if head.len > MAX_BODY {

@@ -67,7 +67,8 @@ impl Item for Sale {
 
 // The sale that these values are.
 fn sale_of(values: &Values<'_>) -> Option<Sale>
-    ensures { IsFound (λ sale. IsSaleTold sale × (map now values.now.of ≡ sale_values sale)) result }
+    ensures { IsFound
+        (λ sale. IsSaleTold sale × (map now values.now.of ≡ sale_values sale)) result }
 {
     let [
         base,

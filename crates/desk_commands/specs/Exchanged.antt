@@ -74,5 +74,6 @@ pub data IsUnsent (calls : Calls) (desk : Address) (rounds : List Round) (fault 
 -- the desk was sent one message, and this came; or why nothing did
 abbrev pub IsExchanged : {A : Type 0} → (A → Text) → Calls → Address → (message : Text)
     → Result A ExchangeFault → Type 0
-IsExchanged bytes calls desk message (Ok came) = calls.exchanges desk (one_round message (bytes came))
+IsExchanged bytes calls desk message (Ok came) =
+    calls.exchanges desk (one_round message (bytes came))
 IsExchanged bytes calls desk message (Err fault) = IsUnsent calls desk [] fault

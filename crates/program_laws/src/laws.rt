@@ -262,7 +262,8 @@ pub fn at_desk_law()
     ensures read { (question : WhatIsAsked) (moment : ℕ) (old new : Timed Life) (came : Text)
         → IsAskable question → IsMoment moment → IsOffice old.0.opening → IsLife new.0
         → IsAnsweredAt (pos moment) old (question_text question) came new
-        → length came ≤ longest_reply_body → (told : Told) × IsReply (wanted_by question) came told }
+        → length came ≤ longest_reply_body
+        → (told : Told) × IsReply (wanted_by question) came told }
     ensures page_read { (list : Listed) (moment : ℕ) (old new : Timed Life) (came : Text)
         → IsAskable (page_question list) → IsMoment moment
         → IsOffice old.0.opening → IsLife old.0

@@ -84,7 +84,8 @@ pub data IsProgramRun {S D R W : Type 0} (store : Ghosts S) (machine : Machine D
       → IsProgramRun store machine words o end
   bad_word : IsMachineIdle machine → faults_in words ≡ [] → ((asked : Asked) → ¬ AskFor words asked)
       → IsTold o [] bad_word_line BadWords end → IsProgramRun store machine words o end
-  explained : IsMachineIdle machine → (kind : ErrorKind) (text : Text) → IsAmong kind (faults_in words)
-      → text ≢ [] → IsExplained kind text o end → IsProgramRun store machine words o end
+  explained : IsMachineIdle machine → (kind : ErrorKind) (text : Text)
+      → IsAmong kind (faults_in words) → text ≢ [] → IsExplained kind text o end
+      → IsProgramRun store machine words o end
   no_room : IsMachineIdle machine → IsTold o [] (refusal_line Memory) Refused end
       → IsProgramRun store machine words o end

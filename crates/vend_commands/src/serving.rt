@@ -67,7 +67,8 @@ fn readied<H: OfficeFile, E: Write>(
 ) -> Result<Books<FileStore<H::Medium>, Shipped>, OpenFault>
     ensures ready { MatchResult result
         (AreReady seen_in (forward_of transform) books)
-        (AreLost seen_in (IsUnreopened H.Medium.Disk H.Salts.SaltSource (H.lets_go H.Medium)) books) }
+        (AreLost seen_in
+            (IsUnreopened H.Medium.Disk H.Salts.SaltSource (H.lets_go H.Medium)) books) }
     ensures told { MatchResult result
         (λ _. Takes (sink E.contents err.old) (sink E.contents err.new)
         (open_text (seen_in books)))

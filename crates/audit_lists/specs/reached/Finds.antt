@@ -75,7 +75,8 @@ pub record IsFirstSale (o : Office) (f : Finding) : Type 0 where
 
 -- the finding is of the first row that no requests lead to: shifts are looked at before sales
 abbrev pub FindsByRequests : Office → Finding → Type 0
-FindsByRequests o f = IsFirst (closed_first o.shifts) f ⊎ (IsTieKept (closed_first o.shifts) × IsFirstSale o f)
+FindsByRequests o f =
+    IsFirst (closed_first o.shifts) f ⊎ (IsTieKept (closed_first o.shifts) × IsFirstSale o f)
 
 -- that is so of each office of these rows; or there was no memory, of which rows alone take some
 abbrev pub TellsUnreached : OfficeRows → OfficeFault → Type 0

@@ -87,4 +87,5 @@ total_rules_of sales ids months shifts =
     last_id_rules sales ids ++ month_tenths_rules sales months ++ shift_totals_rules sales shifts
 
 abbrev pub total_rules : OfficeRows → List Tie
-total_rules r = total_rules_of r.sales.items r.last_ids.items r.month_tenths.items r.shift_totals.items
+total_rules r =
+    total_rules_of r.sales.items r.last_ids.items r.month_tenths.items r.shift_totals.items

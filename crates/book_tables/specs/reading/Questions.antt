@@ -1,5 +1,5 @@
 -- What the reads ask: each a SELECT over one of the tables.
-use Rattle.std.specs.Prelude.{ℕ, List, [], ◌∷◌, codes}
+use Rattle.std.specs.Prelude.{ℕ, List, [], ◌∷◌, ◌++◌, codes}
 use Rattle.sqlite.specs.Order.{Row}
 use Rattle.sqlite.specs.declared.types.Value.TheVariants.{Text}
 use Rattle.sts_fields.specs.Base.{year_of}
@@ -72,39 +72,39 @@ the_first_day name day =
 abbrev sales_asked : List ℕ → Row → Question Sale
 sales_asked text params = question sales_kept shown_sale AreSaleValues text params
 
+-- the columns that show a sale
+abbrev from_sales : List ℕ
+from_sales = codes "SELECT number, moment, shift, operator, ref, meter, base, tid, rnd, "
+    ++ codes "tenths, price, tender, digits FROM sales"
+
 abbrev pub sale_numbered_text : List ℕ
-sale_numbered_text =
-    codes "SELECT number, moment, shift, operator, ref, meter, base, tid, rnd, tenths, price, tender, digits FROM sales WHERE number = ?1"
+sale_numbered_text = from_sales ++ codes " WHERE number = ?1"
 
 abbrev pub the_sale : ℕ → Question Sale
 the_sale n = sales_asked sale_numbered_text (number n ∷ [])
 
 abbrev pub sale_of_ref_text : List ℕ
-sale_of_ref_text =
-    codes "SELECT number, moment, shift, operator, ref, meter, base, tid, rnd, tenths, price, tender, digits FROM sales WHERE operator = ?1 AND ref = ?2"
+sale_of_ref_text = from_sales ++ codes " WHERE operator = ?1 AND ref = ?2"
 
 abbrev pub the_sale_of_ref : List ℕ → List ℕ → Question Sale
 the_sale_of_ref operator order_ref =
     sales_asked sale_of_ref_text (Text operator ∷ Text order_ref ∷ [])
 
 abbrev pub sale_of_tid_text : List ℕ
-sale_of_tid_text =
-    codes "SELECT number, moment, shift, operator, ref, meter, base, tid, rnd, tenths, price, tender, digits FROM sales WHERE meter = ?1 AND base = ?2 AND tid = ?3"
+sale_of_tid_text = from_sales ++ codes " WHERE meter = ?1 AND base = ?2 AND tid = ?3"
 
 abbrev pub the_sale_of_tid : List ℕ → Base → ℕ → Question Sale
 the_sale_of_tid meter base tid =
     sales_asked sale_of_tid_text (Text meter ∷ number (year_of base) ∷ number tid ∷ [])
 
 abbrev pub sales_after_text : List ℕ
-sales_after_text =
-    codes "SELECT number, moment, shift, operator, ref, meter, base, tid, rnd, tenths, price, tender, digits FROM sales WHERE number > ?1 ORDER BY number LIMIT ?2"
+sales_after_text = from_sales ++ codes " WHERE number > ?1 ORDER BY number LIMIT ?2"
 
 abbrev pub the_sales_after : ℕ → ℕ → Question Sale
 the_sales_after after limit = sales_asked sales_after_text (number after ∷ number limit ∷ [])
 
 abbrev pub sales_of_shift_text : List ℕ
-sales_of_shift_text =
-    codes "SELECT number, moment, shift, operator, ref, meter, base, tid, rnd, tenths, price, tender, digits FROM sales WHERE shift = ?1 ORDER BY number"
+sales_of_shift_text = from_sales ++ codes " WHERE shift = ?1 ORDER BY number"
 
 abbrev pub the_sales_of_shift : ℕ → Question Sale
 the_sales_of_shift shift = sales_asked sales_of_shift_text (number shift ∷ [])
@@ -128,7 +128,8 @@ the_shift n = shifts_asked shift_numbered_text (number n ∷ [])
 
 abbrev pub open_shift_text : List ℕ
 open_shift_text =
-    codes "SELECT number, operator, opened, closed FROM shifts WHERE operator = ?1 AND closed IS NULL ORDER BY number DESC LIMIT 1"
+    codes "SELECT number, operator, opened, closed FROM shifts WHERE operator = ?1 "
+    ++ codes "AND closed IS NULL ORDER BY number DESC LIMIT 1"
 
 abbrev pub the_open_shift : List ℕ → Question Shift
 the_open_shift operator = shifts_asked open_shift_text (Text operator ∷ [])

@@ -43,7 +43,8 @@ AreInOrder names db = AllByRecursion (λ name. IsInOrder (rows_in db name)) name
 -- Each table of the office has the rows that it had but for those of these keys, whatever they are:
 -- with a false row too. Rows that stood in order still do.
 pub record KeepsRows (keys : Keys) (old new : Database) : Type 0 where
-  pub others : AllByRecursion (λ name. others_in keys new name ≡ others_in keys old name) table_names
+  pub others : AllByRecursion
+      (λ name. others_in keys new name ≡ others_in keys old name) table_names
   pub order : AreInOrder table_names old → AreInOrder table_names new
 
 -- ---- the keys of what is written

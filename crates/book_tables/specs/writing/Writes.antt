@@ -62,19 +62,26 @@ shift_closed_text = codes "UPDATE shifts SET closed = ?2 WHERE number = ?1"
 
 abbrev pub new_sale_text : List ℕ
 new_sale_text =
-    codes "INSERT INTO sales (number, moment, month, shift, operator, ref, meter, base, tid, rnd, tenths, price, tender, digits) VALUES (?1, ?2, ?3, ?4, ?5, ?6, ?7, ?8, ?9, ?10, ?11, ?12, ?13, ?14)"
+    codes "INSERT INTO sales (number, moment, month, shift, operator, ref, meter, base, tid, rnd, "
+    ++ codes "tenths, price, tender, digits) VALUES (?1, ?2, ?3, ?4, ?5, ?6, ?7, ?8, ?9, ?10, ?11, "
+    ++ codes "?12, ?13, ?14)"
 
 abbrev pub last_id_set_text : List ℕ
 last_id_set_text =
-    codes "INSERT INTO last_ids (meter, base, tid) VALUES (?1, ?2, ?3) ON CONFLICT (meter, base) DO UPDATE SET tid = excluded.tid RETURNING tid"
+    codes "INSERT INTO last_ids (meter, base, tid) VALUES (?1, ?2, ?3) ON CONFLICT (meter, base) "
+    ++ codes "DO UPDATE SET tid = excluded.tid RETURNING tid"
 
 abbrev pub tenths_added_text : List ℕ
 tenths_added_text =
-    codes "INSERT INTO month_tenths (meter, month, tenths) VALUES (?1, ?2, ?3) ON CONFLICT (meter, month) DO UPDATE SET tenths = tenths + excluded.tenths RETURNING tenths"
+    codes "INSERT INTO month_tenths (meter, month, tenths) VALUES (?1, ?2, ?3) ON CONFLICT (meter, "
+    ++ codes "month) DO UPDATE SET tenths = tenths + excluded.tenths RETURNING tenths"
 
 abbrev pub sale_counted_text : List ℕ
 sale_counted_text =
-    codes "INSERT INTO shift_totals (shift, sales, tenths, cash) VALUES (?1, 1, ?2, ?3) ON CONFLICT (shift) DO UPDATE SET sales = sales + 1, tenths = tenths + excluded.tenths, cash = cash + excluded.cash RETURNING sales, tenths, cash"
+    codes "INSERT INTO shift_totals (shift, sales, tenths, cash) VALUES (?1, 1, ?2, ?3) "
+    ++ codes "ON CONFLICT (shift) DO UPDATE SET sales = sales + 1, "
+    ++ codes "tenths = tenths + excluded.tenths, cash = cash + excluded.cash RETURNING sales, "
+    ++ codes "tenths, cash"
 
 abbrev pub new_last_id_text : List ℕ
 new_last_id_text = codes "INSERT INTO last_ids (meter, base, tid) VALUES (?1, ?2, ?3)"

@@ -336,7 +336,8 @@ AreSaleTotals s sales shown =
     × (totals_of (sales_in_shift sales s.shift) ≡ Some shown.shift)
 
 -- the totals are those with one sale more, and these are told of it
-pub record TellsSaleTotals (s : Sale) (last : ℕ) (shown : SaleTotals) (old new : State) : Type 0 where
+pub record TellsSaleTotals (s : Sale) (last : ℕ) (shown : SaleTotals) (old new : State)
+    : Type 0 where
   pub adds : AddsTotals s last old new
   pub tells : (format : ℕ) (rows : Rows) (sales : List Sale)
       → HoldsOf present_format format old.now rows → AreTotalsOf sales rows

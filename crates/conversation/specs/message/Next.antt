@@ -20,7 +20,8 @@ pub record IsWhole (input : List ℕ) (r : Received) : Type 0 where
 
 -- whatever follows the input, and however that stops, its front is refused for this fault
 abbrev pub IsRefusedEver : List ℕ → MessageFault → Type 0
-IsRefusedEver input fault = (stop : Stop) (more : List ℕ) → IsMessageRefused stop (input ++ more) fault
+IsRefusedEver input fault =
+    (stop : Stop) (more : List ℕ) → IsMessageRefused stop (input ++ more) fault
 
 -- what each answer says
 abbrev pub BeginsAs : List ℕ → Next → Type 0

@@ -44,9 +44,9 @@ shift_names = codes "shift" ∷ codes "operator" ∷ codes "opened" ∷ codes "c
     ∷ codes "tenths" ∷ codes "cash" ∷ []
 
 abbrev pub listed_shift_line : ListedShift → Text
-listed_shift_line l = table_row_of (decimal l.shift.number ∷ l.shift.operator ∷ decimal l.shift.opened
-    ∷ number_or_none l.shift.closed ∷ decimal l.totals.sales ∷ decimal l.totals.tenths
-    ∷ decimal l.totals.cash ∷ [])
+listed_shift_line l = table_row_of (decimal l.shift.number ∷ l.shift.operator
+    ∷ decimal l.shift.opened ∷ number_or_none l.shift.closed ∷ decimal l.totals.sales
+    ∷ decimal l.totals.tenths ∷ decimal l.totals.cash ∷ [])
 
 abbrev pub shift_rows_text : (named : Bool) → List ListedShift → Text
 shift_rows_text named shifts = table_text named shift_names (flat_map listed_shift_line shifts)

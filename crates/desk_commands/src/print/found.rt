@@ -58,7 +58,8 @@ fn put_meter<O: Write>(meter: &MeterSummary, out: &mut Watched<'_, O>)
 
 // Prints what a meter has in each field.
 fn put_values<O: Write>(meter: &MeterSummary, out: &mut Watched<'_, O>)
-    ensures { Takes (sink O.contents out.old) (sink O.contents out.new) (meter_table_row meter.now) }
+    ensures { Takes (sink O.contents out.old) (sink O.contents out.new)
+        (meter_table_row meter.now) }
 {
     let mut base = Buffer::new();
     let mut tenths = Buffer::new();

@@ -63,8 +63,8 @@ pub record FindsRoute (target : List ℕ) (endpoint : Endpoint) : Type 0 where
       ≡ Some endpoint
 
 -- The target names what is looked up: nothing; a meter's number; a shift's; an operator and a ref;
--- or a meter's number and, as its query, a tender in decimal digits without leading zeros. Of a page
--- its query names what the page begins after: a tariff, a meter, or a number; or nothing.
+-- or a meter's number and, as its query, a tender in decimal digits without leading zeros. Of a
+-- page its query names what the page begins after: a tariff, a meter, or a number; or nothing.
 abbrev pub NamesLookup : List ℕ → Lookup → Type 0
 NamesLookup target lookups.SaleCount = ⊤
 NamesLookup target (lookups.Meter meter) =

@@ -22,9 +22,9 @@ use Rattle.office_commands.specs.declared.port.ports.SaltSource as source
 
 module _ {D : Type 0} {g : disk.Ghosts D} where
   -- A connection was closed, and none was made to its files again: one of them cannot be used any
-  -- more, as after a sync that failed, or for a reason that is the database's. A crash leaves of the
-  -- closed files nothing that it could not leave of the connection, and of what is left now what it
-  -- left of those, or what stands for the same.
+  -- more, as after a sync that failed, or for a reason that is the database's. A crash leaves of
+  -- the closed files nothing that it could not leave of the connection, and of what is left now
+  -- what it left of those, or what stands for the same.
   pub record FailsToReconnect (old : Held (FileStore D g)) (error : Error) (left : Leftover D g) :
       Type 0 where
     pub last : FileStore D g

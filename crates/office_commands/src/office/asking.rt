@@ -66,7 +66,8 @@ fn print_answer<O: Write>(
 ) -> Result<(), AllocError>
     ensures { MatchResult result
         (λ _. Takes (sink O.contents out.old) (sink O.contents out.new) (answer_text answer.now))
-        (λ _. TakesAnswerRoom answer.now × Takes (sink O.contents out.old) (sink O.contents out.new) []) }
+        (λ _. TakesAnswerRoom answer.now
+            × Takes (sink O.contents out.old) (sink O.contents out.new) []) }
 {
     match answer {
         Answer::Done => put_line(&[b"done"], out),

@@ -51,7 +51,8 @@ pub fn open_office<H: OfficeFile>(
     ensures opened { IfOk result (IsOpened (H.image office path.now)
         (OpensIn H.Medium.Disk (H.image office path.now)) transform) }
     ensures finds { IfOk result
-        (λ _. (places_of H.Medium.Disk H.Salts.SaltSource H.OfficeFile office path.now wait).finds) }
+        (λ _. (places_of H.Medium.Disk H.Salts.SaltSource H.OfficeFile office path.now
+            wait).finds) }
     ensures fails { IfErr result
         (places_of H.Medium.Disk H.Salts.SaltSource H.OfficeFile office path.now wait).fails }
 {
@@ -129,7 +130,8 @@ fn open_in<H: OfficeFile>(
 
 /// Lets the files go in which no office is open.
 pub(crate) fn let_refused_go<H: OfficeFile>(refused: RefusedFiles<H::Medium>)
-    ensures { (left : Files H.Medium) × AreTakenFrom refused left × H.lets_go H.Medium left.log left.db }
+    ensures { (left : Files H.Medium) × AreTakenFrom refused left
+        × H.lets_go H.Medium left.log left.db }
 {
     let files = refused.into_files();
     H::let_go(files.log, files.db);
@@ -155,7 +157,8 @@ pub(crate) fn let_go_ended<H: OfficeFile>(
     ended: Result<Files<H::Medium>, (Error, FileStore<H::Medium>)>,
 )
     ensures closed { IfOk ended (λ files. H.lets_go H.Medium files.log files.db) }
-    ensures unclosed { IfErr ended (λ e. H.lets_go H.Medium (store_files e.1).0 (store_files e.1).1) }
+    ensures unclosed { IfErr ended
+        (λ e. H.lets_go H.Medium (store_files e.1).0 (store_files e.1).1) }
 {
     match ended {
         Ok(files) => H::let_go(files.log, files.db),

@@ -111,7 +111,8 @@ module _ {P D R W : Type 0} (here : Here P D R W) where
   abbrev pub Follow : (Before : Image → Type 0) → List ProgramRun → Type 0
   Follow Before [] = ⊤
   Follow Before (run ∷ later) =
-      FindsImage (use_of run) Before × IsClean (use_of run) × Follow (MayHold (use_of run) Before) later
+      FindsImage (use_of run) Before × IsClean (use_of run)
+      × Follow (MayHold (use_of run) Before) later
 
   -- what the file may hold after the last
   abbrev pub LeftAfter : (Before : Image → Type 0) → List ProgramRun → Image → Type 0

@@ -151,7 +151,8 @@ pub data RunEnding : Type 1 where
 -- made while the file held this, the office lived so, and the last one ended so.
 pub data RunUse : Type 1 where
   unseen : RunUse
-  unconnected : {D : Type 0} → (g : disk.Ghosts D) → (found : Files D) → (left : Leftover D g) → RunUse
+  unconnected : {D : Type 0} → (g : disk.Ghosts D) → (found : Files D) → (left : Leftover D g)
+      → RunUse
   connected : (image : Image) → (living : Living) → (last : RunEnding) → RunUse
 
 -- where no office was opened
@@ -199,7 +200,8 @@ lives_printing Sales o end old new done = reading_life first_moment (exported do
 
 -- what is done at a moment, if there is one
 abbrev pub use_timed : (Idle : Type 0) → (At : ℕ → Type 0) → (o : Outputs) → (end : CommandEnd)
-    → ((moment : ℕ) → At moment → RunUse) → (moment : Option ℕ) → IsDoneAt Idle At o end moment → RunUse
+    → ((moment : ℕ) → At moment → RunUse) → (moment : Option ℕ) → IsDoneAt Idle At o end moment
+    → RunUse
 use_timed Idle At o end at (Some moment) done = at moment done
 use_timed Idle At o end at None idle = unseen
 

@@ -129,7 +129,8 @@ pub data HasNoReplies {B : Type 0} (see : B → Seen) (forward : BlockFunction)
   no_office : IsUnprepared see fault → HasNoReplies see forward fault
   no_desk : fault ≡ Refused refusal.Memory → HasNoReplies see forward fault
   cut_off : (life : Life) → IsPrepared forward life → (holds : Held) (end : conversation.End)
-      → ConversesWithItself life (Some messages) (Some []) holds end → fault_in_memory end ≡ Some fault
+      → ConversesWithItself life (Some messages) (Some []) holds end
+      → fault_in_memory end ≡ Some fault
       → HasNoReplies see forward fault
 
 module _ {N S : Type 0} (of : loopback.Ghosts N S) (remaining contents : S → Held) (net : N)
@@ -145,7 +146,8 @@ module _ {N S : Type 0} (of : loopback.Ghosts N S) (remaining contents : S → H
     pub sent : IsSent contents messages near
     pub life : Life
     pub prepared : IsPrepared forward life
-    pub converses : ConversesWithItself life (remaining reader) (contents writer) (contents written) end
+    pub converses :
+        ConversesWithItself life (remaining reader) (contents writer) (contents written) end
 
   -- it answered all, and what came back, where that is known, was exactly the replies that it
   -- writes over memory
