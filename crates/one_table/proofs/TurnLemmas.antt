@@ -90,10 +90,15 @@ next_failed texts old mid new f (Err x) failed made first last = record {
   survives = survives_then old mid new _ _ (λ _. ⊥) (λ _ db none. none) (λ _ db none. none) first last.survives;
 }
 
+-- where there are texts, their tables are made
+pub made_some : (texts : List (List ℕ)) (old now : State) → ¬ (texts ≡ []) → HasMadeSo texts old now → HasMade texts old now
+made_some texts old now some (inl none) = absurd (some none.none)
+made_some texts old now some (inr it) = it
+
 pub all_made : (texts : List (List ℕ)) (old now : State) {U E : Type 0} {x : U} → ¬ (texts ≡ [])
     → (HasCleanDisk now → HasMadeSo texts old now) → Survives old now (λ _. ⊥) → KeepsTransaction {E = E} old now (Ok x)
 all_made texts old now some made survives = record {
-  inside = λ clean way. elim (made clean) [ inl none ↦ absurd (some none.none) | inr it ↦ it.shows ];
+  inside = λ clean way. (made_some texts old now some (made clean)).shows;
   kept = λ clean way. (made_keeps texts old now (made clean) way).1;
   survives = survives;
 }

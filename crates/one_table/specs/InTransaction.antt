@@ -1,8 +1,11 @@
 -- What a statement inside a transaction leaves.
+use denote.Triple.Both.{Both}
 use Rattle.std.specs.Prelude.{◌≡◌, ◌≢◌, ◌⊎◌, ℕ, true, false, List, [], None, Err, Ok, OnOk, Option, Result, Some, IsTrue}
+use Rattle.std.specs.Borrow.{MutBor}
 use Rattle.std.specs.List.{AllByRecursion}
 use Rattle.sqlite_value.specs.Order.{Row}
 use Rattle.sqlite_trees.specs.Tree.{put_row}
+use Rattle.sqlite_trees.specs.declared.store.Store.{Ghosts}
 use Rattle.sqlite_schema.specs.declared.schema.Table.{Table}
 use Rattle.sqlite_sql.specs.Query.{Query, IsAnswer}
 use Rattle.sqlite_rules.specs.declared.error.Rowids.TheVariants.{Given}
@@ -10,10 +13,12 @@ use Rattle.sqlite_rules.specs.Calls.{ids_of}
 use Rattle.sqlite_rules.specs.Edit.{edit_of, edited, is_taken, IsNoIndex}
 use Rattle.sqlite.specs.Does.{Does, Tally}
 use Rattle.sqlite.specs.Effect.{IsDatabase, SparesFrozen}
+use Rattle.sqlite.specs.Held.{state}
 use Rattle.sqlite.specs.State.{ExecutesInside, Fails, FailsToQuery, HasCleanDisk, IsTooLate, IsUnchanged, KeepsCommit, Shows, State, Survives, mode_of}
 use Rattle.sqlite.specs.declared.error.Error.{Error}
 use Rattle.sqlite.specs.declared.error.Error.TheVariants.{SqliteFailure}
 use Rattle.sqlite.specs.declared.error.ErrorCode.TheVariants.{TransactionState}
+use Rattle.sqlite.specs.declared.transaction.Transaction.{Transaction}
 use Rattle.sqlite_schema.specs.declared.command.Command.{Command}
 use Rattle.sqlite_schema.specs.declared.command.Returning.{Returning}
 use Rattle.one_table.specs.Reading.{MeansAs}
@@ -32,6 +37,17 @@ pub record KeepsTransaction {T E : Type 0} (old new : State) (result : Result T 
   pub inside : HasCleanDisk new → IsUnderWay old → OnOk result (StaysInside old new)
   pub kept : HasCleanDisk new → IsUnderWay old → KeepsCommit old new
   pub survives : Survives old new (λ _. ⊥)
+
+-- What a function leaves that works inside a transaction, as any statement there does: it is the
+-- transaction of the same connection. And what the function says of the connection's state before
+-- it and after it.
+pub record WorksInside {S T E : Type 0} (g : Ghosts S)
+    (tx : Both (MutBor (Transaction S)) (MutBor (Transaction S))) (result : Result T E)
+    (Says : State → State → Type 0) : Type 0 where
+  pub same_reference : tx.exit.now.conn.ghost_name ≡ tx.entry.now.conn.ghost_name
+  pub transaction : KeepsTransaction (state g tx.entry.now.conn.now) (state g tx.exit.now.conn.now)
+      result
+  pub says : Says (state g tx.entry.now.conn.now) (state g tx.exit.now.conn.now)
 
 -- a failure had ended the transaction, and nothing is run
 pub record HadEnded (old new : State) (e : Error) : Type 0 where

@@ -3,7 +3,7 @@ ghost use Rattle.sqlite_trees.specs.Tree.{Trees};
 ghost use Rattle.sqlite.specs.Effect.{Database};
 ghost use Rattle.sqlite.specs.State.{HasCleanDisk, State, Survives};
 ghost use Rattle.one_table.specs.Over.{Inside, Over};
-ghost use Rattle.one_table.specs.InTransaction.{IsUnderWay, KeepsTransaction};
+ghost use Rattle.one_table.specs.InTransaction.{IsUnderWay, WorksInside};
 ghost use Rattle.one_table.specs.Committing.{FailsInside, IsUndone, HasCommitted, LeavesMade, Risks, TellsCommit, WasMade};
 
 use sqlite::{Alter, Connection, Error, Transaction};
@@ -22,14 +22,12 @@ pub trait Change<S: Alter> {
     ghost fails: { Self → State → State → Self.Fault → Type 0 };
 
     fn make(&self, tx: &mut Transaction<'_, S>) -> Result<(), Self::Fault>
-        ensures same_reference { tx.new.conn.ghost_name ≡ tx.old.conn.ghost_name }
-        ensures made { Inside S.Store tx (λ old new. HasCleanDisk new → IsUnderWay old
+        ensures made { WorksInside S.Store tx result (λ old new. HasCleanDisk new → IsUnderWay old
             → OnOk result (makes self.now old.now new.now)) }
         ensures told { Inside S.Store tx (λ old new. HasCleanDisk new → IsUnderWay old
             → IfErr result (tells self.now old.now)) }
         ensures refused { Inside S.Store tx (λ old new. HasCleanDisk new → IsUnderWay old
-            → IfErr result (fails self.now old new)) }
-        ensures transaction { Inside S.Store tx (λ old new. KeepsTransaction old new result) };
+            → IfErr result (fails self.now old new)) };
 }
 
 /// Why a change is not known to be committed.

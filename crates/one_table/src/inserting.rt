@@ -6,7 +6,7 @@ ghost use Rattle.sqlite.specs.Table.{Table};
 ghost use Rattle.sqlite.specs.Term.{Term};
 ghost use Rattle.one_table.specs.Place.{Has};
 ghost use Rattle.one_table.specs.Inserting.{IsInsert, insert_as, new_row};
-ghost use Rattle.one_table.specs.InTransaction.{CarriesOut, FailsToWrite, KeepsTransaction, PutsRow};
+ghost use Rattle.one_table.specs.InTransaction.{CarriesOut, FailsToWrite, PutsRow, WorksInside};
 ghost use Rattle.one_table.specs.Reading.{is_whole};
 
 use crate::writing::run;
@@ -19,8 +19,7 @@ pub fn insert<S: Alter>(
     sql: &str,
     params: &[ValueRef<'_>],
 ) -> Result<(), Error>
-    ensures same_reference { tx.new.conn.ghost_name ≡ tx.old.conn.ghost_name }
-    ensures added { Inside S.Store tx (λ old new. HasCleanDisk new
+    ensures added { WorksInside S.Store tx result (λ old new. HasCleanDisk new
         → (t : Table) (at : ℕ) (terms : List Term) → IsInsert t terms sql.now
         → (IsTrue old.is_open → Has old.now.schema at t)
         → OnOk result (PutsRow t (new_row t terms (bound params.now) (old.now.trees t.tree)) old
@@ -29,7 +28,6 @@ pub fn insert<S: Alter>(
         → (t : Table) (at : ℕ) (terms : List Term) → IsInsert t terms sql.now
         → (IsTrue old.is_open → Has old.now.schema at t)
         → OnOk result (CarriesOut sql.now (bound params.now) old new)) }
-    ensures transaction { Inside S.Store tx (λ old new. KeepsTransaction old new result) }
     ensures refused { Inside S.Store tx (λ old new. HasCleanDisk new
         → (t : Table) (at : ℕ) (terms : List Term) → IsInsert t terms sql.now
         → is_whole sql.now (length (bound params.now)) ≡ true → (IsTrue old.is_open

@@ -6,7 +6,7 @@ ghost use Rattle.one_table.specs.Over.{Inside};
 ghost use Rattle.sqlite.specs.State.{HasCleanDisk};
 ghost use Rattle.sqlite_resolve.specs.Compile.{table_defined_by};
 ghost use Rattle.sqlite_schema.specs.declared.schema.Table.{Table};
-ghost use Rattle.one_table.specs.InTransaction.{FailsToRun, KeepsTransaction, StaysInside};
+ghost use Rattle.one_table.specs.InTransaction.{FailsToRun, StaysInside, WorksInside};
 ghost use Rattle.one_table.specs.Making.{is_creation, AreDefined, FailsToMake, MakesTable, MakesTables};
 
 use crate::writing::run;
@@ -15,12 +15,10 @@ use sqlite::{Alter, Error, Transaction};
 /// Makes the table that a text defines.
 fn create_table<S: Alter>(tx: &mut Transaction<'_, S>, text: &str) -> Result<(), Error>
     requires { is_creation text.now ≡ true }
-    ensures same_reference { tx.new.conn.ghost_name ≡ tx.old.conn.ghost_name }
-    ensures added { Inside S.Store tx (λ old new. HasCleanDisk new → (t : Table)
+    ensures added { WorksInside S.Store tx result (λ old new. HasCleanDisk new → (t : Table)
         → table_defined_by text.now ≡ Ok t → OnOk result (MakesTable t old.now new.now)) }
     ensures inside { Inside S.Store tx (λ old new. HasCleanDisk new
         → OnOk result (StaysInside old new)) }
-    ensures transaction { Inside S.Store tx (λ old new. KeepsTransaction old new result) }
     ensures refused { Inside S.Store tx (λ old new. HasCleanDisk new
         → IfErr result (FailsToRun text.now [] old new)) }
 {
@@ -37,13 +35,11 @@ fn create_table<S: Alter>(tx: &mut Transaction<'_, S>, text: &str) -> Result<(),
 pub fn create_tables<S: Alter>(tx: &mut Transaction<'_, S>, texts: &[&str]) -> Result<(), Error>
     requires some { 0 < length texts.now }
     requires creations { list_all (λ t. is_creation t.now) texts.now ≡ true }
-    ensures same_reference { tx.new.conn.ghost_name ≡ tx.old.conn.ghost_name }
-    ensures added { Inside S.Store tx (λ old new. HasCleanDisk new → (IsTrue old.is_open
+    ensures added { WorksInside S.Store tx result (λ old new. HasCleanDisk new → (IsTrue old.is_open
         → IsDatabase old.now) → (ts : List Table) → AreDefined (map (λ t. t.now) texts.now) ts
         → OnOk result (MakesTables ts old.now new.now)) }
     ensures inside { Inside S.Store tx (λ old new. HasCleanDisk new
         → OnOk result (StaysInside old new)) }
-    ensures transaction { Inside S.Store tx (λ old new. KeepsTransaction old new result) }
     ensures refused { Inside S.Store tx (λ old new. HasCleanDisk new
         → IfErr result (FailsToMake S.Store (map (λ t. t.now) texts.now) old new)) }
 {

@@ -1,10 +1,10 @@
-ghost use Rattle.std.specs.Prelude.{◌≡◌, Any, IfErr, IfOk};
+ghost use Rattle.std.specs.Prelude.{Any, IfErr, IfOk};
 ghost use Rattle.std.specs.List.{AllZip};
 ghost use Rattle.sqlite.specs.Values.{bound};
 ghost use Rattle.sqlite.specs.State.{HasCleanDisk, IsUnchanged, FailsToQuery, Shown};
 ghost use Rattle.one_table.specs.Over.{Inside, Over};
 ghost use Rattle.one_table.specs.Answer.{OnlyAsks, GivesAll, GivesFirst, FailsToRead};
-ghost use Rattle.one_table.specs.InTransaction.{KeepsTransaction};
+ghost use Rattle.one_table.specs.InTransaction.{WorksInside};
 ghost use Rattle.one_table.specs.ReadFaults.{OnlyWhere};
 ghost use Rattle.one_table.specs.ReadsOnly.{ReadsInside, ReadsOnly};
 
@@ -88,13 +88,11 @@ pub fn read_rows_inside<S: Alter, X: FromRow + Drop>(
     sql: &str,
     params: &[ValueRef<'_>],
 ) -> Result<Vec<X>, ReadFault>
-    ensures same_reference { tx.new.conn.ghost_name ≡ tx.old.conn.ghost_name }
     ensures given { Inside S.Store tx (λ old new. HasCleanDisk new
         → IfOk result (λ found. GivesAll X.FromRow.reads_as sql.now (bound params.now) old new
         found.items)) }
-    ensures reads { Inside S.Store tx (λ old new. ReadsInside (OnlyAsks sql.now) (FailsToRead
-        X.FromRow.is_readable sql.now (bound params.now)) old new result) }
-    ensures transaction { Inside S.Store tx (λ old new. KeepsTransaction old new result) }
+    ensures reads { WorksInside S.Store tx result (λ old new. ReadsInside (OnlyAsks sql.now)
+        (FailsToRead X.FromRow.is_readable sql.now (bound params.now)) old new result) }
 {
     let rows = show(tx, sql, params)?;
     values(alloc, &rows)

@@ -8,7 +8,7 @@ ghost use Rattle.one_table.specs.Place.{Has};
 ghost use Rattle.one_table.specs.Changing.{IsUpdate, update_as};
 ghost use Rattle.one_table.specs.Reading.{is_whole};
 ghost use Rattle.one_table.specs.Referring.{is_left_alone};
-ghost use Rattle.one_table.specs.InTransaction.{CarriesOut, FailsToWrite, KeepsTransaction, SetsRows};
+ghost use Rattle.one_table.specs.InTransaction.{CarriesOut, FailsToWrite, SetsRows, WorksInside};
 
 use crate::writing::run;
 use sqlite::types::ValueRef;
@@ -20,8 +20,7 @@ pub fn update<S: Alter>(
     sql: &str,
     params: &[ValueRef<'_>],
 ) -> Result<(), Error>
-    ensures same_reference { tx.new.conn.ghost_name ≡ tx.old.conn.ghost_name }
-    ensures changed { Inside S.Store tx (λ old new. HasCleanDisk new
+    ensures changed { WorksInside S.Store tx result (λ old new. HasCleanDisk new
         → (t : Table) (at : ℕ) (q : Query) → IsUpdate t q sql.now → (IsTrue old.is_open
         → Has old.now.schema at t × (is_left_alone old.now.schema t.tree ≡ true))
         → OnOk result (SetsRows t q (bound params.now) old new)) }
@@ -29,7 +28,6 @@ pub fn update<S: Alter>(
         → (t : Table) (at : ℕ) (q : Query) → IsUpdate t q sql.now
         → (IsTrue old.is_open → Has old.now.schema at t)
         → OnOk result (CarriesOut sql.now (bound params.now) old new)) }
-    ensures transaction { Inside S.Store tx (λ old new. KeepsTransaction old new result) }
     ensures refused { Inside S.Store tx (λ old new. HasCleanDisk new
         → (t : Table) (at : ℕ) (q : Query) → IsUpdate t q sql.now
         → is_whole sql.now (length (bound params.now)) ≡ true → (IsTrue old.is_open

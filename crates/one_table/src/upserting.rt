@@ -4,7 +4,7 @@ ghost use Rattle.sqlite.specs.State.{HasCleanDisk};
 ghost use Rattle.one_table.specs.Over.{Inside};
 ghost use Rattle.sqlite_value.specs.Order.{Row as Stored};
 ghost use Rattle.sqlite.specs.Table.{Table};
-ghost use Rattle.one_table.specs.InTransaction.{CarriesOut, IsUnderWay, KeepsTransaction};
+ghost use Rattle.one_table.specs.InTransaction.{CarriesOut, IsUnderWay, WorksInside};
 ghost use Rattle.one_table.specs.Merges.{FailsToTouch, FailsToUpsert, StandsForUpserts, TakesUpserts, Touches, Upserts, shown_row};
 ghost use Rattle.one_table.specs.Reading.{is_whole};
 ghost use Rattle.one_table.specs.Upserting.{IsUpsert, Merging};
@@ -26,8 +26,7 @@ pub fn upsert<S: Alter, X: FromRow>(
     sql: &str,
     params: &[ValueRef<'_>],
 ) -> Result<X, ReadFault>
-    ensures same_reference { tx.new.conn.ghost_name ≡ tx.old.conn.ghost_name }
-    ensures merged { Inside S.Store tx (λ old new. HasCleanDisk new → IsUnderWay old
+    ensures merged { WorksInside S.Store tx result (λ old new. HasCleanDisk new → IsUnderWay old
         → (t : Table) (at : ℕ) (m : Merging) → IsUpsert t m sql.now → (IsTrue old.is_open
         → TakesUpserts old.now at t)
         → IfOk result (λ x. (row : Stored) × X.FromRow.reads_as (shown_row t m (bound params.now)
@@ -40,7 +39,6 @@ pub fn upsert<S: Alter, X: FromRow>(
         → (t : Table) (at : ℕ) (m : Merging) → IsUpsert t m sql.now → (IsTrue old.is_open
         → StandsForUpserts old.now.schema at t)
         → OnOk result (CarriesOut sql.now (bound params.now) old new)) }
-    ensures transaction { Inside S.Store tx (λ old new. KeepsTransaction old new result) }
     ensures refused { Inside S.Store tx (λ old new. HasCleanDisk new → IsUnderWay old
         → (t : Table) (at : ℕ) (m : Merging) → IsUpsert t m sql.now
         → is_whole sql.now (length (bound params.now)) ≡ true → (IsTrue old.is_open

@@ -1,8 +1,8 @@
-ghost use Rattle.std.specs.Prelude.{◌≡◌, ℕ, Ok, OnOk, IfOk, IfErr};
+ghost use Rattle.std.specs.Prelude.{ℕ, Ok, OnOk, IfOk, IfErr};
 ghost use Rattle.sqlite.specs.Values.{bound};
 ghost use Rattle.sqlite.specs.State.{HasCleanDisk, ExecutesInside, Shown};
 ghost use Rattle.one_table.specs.Over.{Inside};
-ghost use Rattle.one_table.specs.InTransaction.{FailsToRun, FailsToShow, KeepsTransaction};
+ghost use Rattle.one_table.specs.InTransaction.{FailsToRun, FailsToShow, WorksInside};
 
 use sqlite::types::ValueRef;
 use sqlite::{Alter, Error, Row, Transaction};
@@ -13,11 +13,9 @@ pub(crate) fn run<S: Alter>(
     sql: &str,
     params: &[ValueRef<'_>],
 ) -> Result<(), Error>
-    ensures same_reference { tx.new.conn.ghost_name ≡ tx.old.conn.ghost_name }
-    ensures ran { Inside S.Store tx (λ old new. HasCleanDisk new
+    ensures ran { WorksInside S.Store tx result (λ old new. HasCleanDisk new
         → OnOk result ((count : ℕ) × ExecutesInside 0 sql.now (bound params.now) old new (Ok
         count))) }
-    ensures transaction { Inside S.Store tx (λ old new. KeepsTransaction old new result) }
     ensures refused { Inside S.Store tx (λ old new. HasCleanDisk new
         → IfErr result (FailsToRun sql.now (bound params.now) old new)) }
 {
@@ -31,10 +29,8 @@ pub(crate) fn show<S: Alter>(
     sql: &str,
     params: &[ValueRef<'_>],
 ) -> Result<Vec<Row>, Error>
-    ensures same_reference { tx.new.conn.ghost_name ≡ tx.old.conn.ghost_name }
-    ensures shown { Inside S.Store tx (λ old new. HasCleanDisk new
+    ensures shown { WorksInside S.Store tx result (λ old new. HasCleanDisk new
         → IfOk result (λ rows. Shown sql.now (bound params.now) old new rows.items)) }
-    ensures transaction { Inside S.Store tx (λ old new. KeepsTransaction old new result) }
     ensures refused { Inside S.Store tx (λ old new. HasCleanDisk new
         → IfErr result (FailsToShow sql.now (bound params.now) old new)) }
 {

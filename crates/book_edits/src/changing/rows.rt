@@ -1,10 +1,10 @@
 //! The rows of an import.
 
-ghost use Rattle.std.specs.Prelude.{◌≡◌, ◌≤◌, [], ◌∷◌, length, OnOk};
+ghost use Rattle.std.specs.Prelude.{◌≤◌, [], ◌∷◌, length, OnOk};
 ghost use Rattle.std.specs.List.{flat_map};
 ghost use Rattle.sqlite.specs.State.{HasCleanDisk};
 ghost use Rattle.one_table.specs.Over.{Inside};
-ghost use Rattle.one_table.specs.InTransaction.{IsUnderWay, KeepsTransaction};
+ghost use Rattle.one_table.specs.InTransaction.{IsUnderWay, WorksInside};
 ghost use Rattle.book_tables.specs.writing.Failing.{End, FailsToWriteAll};
 ghost use Rattle.book_tables.specs.writing.Writes.{row_writes};
 ghost use Rattle.book_tables.specs.reading.Reading.{HasAllTables};
@@ -24,13 +24,11 @@ pub(crate) fn add_rows<S: Alter>(
     tx: &mut Transaction<'_, S>,
     rows: &[Row],
 ) -> Result<(), TableError>
-    ensures same_reference { tx.new.conn.ghost_name ≡ tx.old.conn.ghost_name }
-    ensures added { Inside S.Store tx (λ old new. HasCleanDisk new → IsUnderWay old
+    ensures added { WorksInside S.Store tx result (λ old new. HasCleanDisk new → IsUnderWay old
         → HasAllTables old → OnOk result (MakesRows rows.now old.now new.now)) }
     ensures ends { Inside S.Store tx (λ old new. HasCleanDisk new → IsUnderWay old
         → HasAllTables old → 1 ≤ length rows.now
         → End FailsToWriteAll (flat_map row_writes rows.now) old new result) }
-    ensures transaction { Inside S.Store tx (λ old new. KeepsTransaction old new result) }
 {
     let Some((first, others)) = rows.split_first() else {
         return Err(TableError::Database(Error::SqliteFailure(ErrorCode::TransactionState)));
@@ -43,12 +41,10 @@ pub(crate) fn add_rows<S: Alter>(
 }
 
 fn add_row<S: Alter>(tx: &mut Transaction<'_, S>, row: &Row) -> Result<(), TableError>
-    ensures same_reference { tx.new.conn.ghost_name ≡ tx.old.conn.ghost_name }
-    ensures added { Inside S.Store tx (λ old new. HasCleanDisk new → HasAllTables old
+    ensures added { WorksInside S.Store tx result (λ old new. HasCleanDisk new → HasAllTables old
         → OnOk result (MakesRows (row.now ∷ []) old.now new.now)) }
     ensures ends { Inside S.Store tx (λ old new. HasCleanDisk new → IsUnderWay old
         → HasAllTables old → End FailsToWriteAll (row_writes row.now) old new result) }
-    ensures transaction { Inside S.Store tx (λ old new. KeepsTransaction old new result) }
 {
     members_law();
     match row {

@@ -1,9 +1,9 @@
 //! A sale, with the totals that it changes.
 
-ghost use Rattle.std.specs.Prelude.{◌≡◌, IfErr, OnOk};
+ghost use Rattle.std.specs.Prelude.{IfErr, OnOk};
 ghost use Rattle.sqlite.specs.State.{HasCleanDisk};
 ghost use Rattle.one_table.specs.Over.{Inside};
-ghost use Rattle.one_table.specs.InTransaction.{IsUnderWay, KeepsTransaction};
+ghost use Rattle.one_table.specs.InTransaction.{IsUnderWay, WorksInside};
 ghost use Rattle.book_tables.specs.reading.Reading.{HasAllTables};
 ghost use Rattle.office_rules.specs.declared.decision.change.Edit.TheVariants.{AddSale};
 ghost use Rattle.book_states.specs.Changing.{AddsAsComputed};
@@ -22,12 +22,10 @@ pub(crate) fn add_counted<S: Alter>(
     sale: &Sale,
     prior: u64,
 ) -> Result<(), TableError>
-    ensures same_reference { tx.new.conn.ghost_name ≡ tx.old.conn.ghost_name }
-    ensures added { Inside S.Store tx (λ old new. HasCleanDisk new → IsUnderWay old
+    ensures added { WorksInside S.Store tx result (λ old new. HasCleanDisk new → IsUnderWay old
         → HasAllTables old → OnOk result (AddsAsComputed sale.now prior old new)) }
     ensures refused { Inside S.Store tx (λ old new. HasCleanDisk new → IsUnderWay old
         → HasAllTables old → IfErr result (FailsToMakeEdit (AddSale sale.now) prior old new)) }
-    ensures transaction { Inside S.Store tx (λ old new. KeepsTransaction old new result) }
 {
     let totals = add_sold(tx, sale)?;
     let tenths = u64::from(sale.tenths.tenths());

@@ -157,12 +157,12 @@ completes from meters sales old filled new fills tells = record {
 -- so it is once the tables were filled, or it is not filled for a cause
 pub filled_on : (from : ℕ) (meters : List MeterRow) (sales : List Sale) (old filled new : State) (r : Result (Unit {0}) TableError)
     → Fills (IsFilling from meters sales) (FillsMissing from meters sales) old filled (Ok tt)
-    → WritesTables (format_write from) (TellsPresent from) filled new r
+    → KeepsTransaction filled new r → WritesTables (format_write from) (TellsPresent from) filled new r
     → Fills (IsBringing from meters sales) (Completes from meters sales) old new r
-filled_on from meters sales old filled new r first second =
+filled_on from meters sales old filled new r first transaction second =
     fills_then old filled new (kept_names (later from)) r (λ fills. fills.only)
     (λ _ _ fills tells. completes from meters sales old filled new fills tells) (fills_by old filled (Ok tt) (λ w is. inl is) first)
-    (fills_write (format_write from) (inr refl) filled new r second)
+    (fills_write (format_write from) (inr refl) filled new r transaction second)
 
 pub filled_off : (from : ℕ) (meters : List MeterRow) (sales : List Sale) (old new : State) (e : TableError)
     (r : Result (Unit {0}) TableError) → IsErrAnd r (λ x. x ≡ e)

@@ -5,7 +5,7 @@ use Rattle.sqlite.specs.State.{HasCleanDisk, State}
 use Rattle.sqlite.proofs.StateLemmas.{survives_then}
 use Rattle.sqlite_rules.proofs.ListLemmas.{all_from}
 use Rattle.sqlite_schema.specs.declared.schema.Table.{Table}
-use Rattle.one_table.specs.InTransaction.{IsUnderWay, StaysInside}
+use Rattle.one_table.specs.InTransaction.{IsUnderWay, KeepsTransaction, StaysInside}
 use Rattle.one_table.proofs.ChangeLemmas.{if_err, keeps_inside, keeps_then, on_ok, stays_then}
 use Rattle.book_tables.specs.Holds.{HasOffice}
 use Rattle.book_tables.specs.format.Filling.{Fills, IsReady}
@@ -90,17 +90,18 @@ fills_by old new r so step = record {
 
 -- one write
 pub fills_write : {Is : Write → Type 0} {A : State → State → Type 0} (w : Write) → Is w
-    → (old new : State) (r : Result (Unit {0}) TableError) → WritesTables w A old new r → Fills Is A old new r
-fills_write w is old new r write = record {
+    → (old new : State) (r : Result (Unit {0}) TableError) → KeepsTransaction old new r → WritesTables w A old new r
+    → Fills Is A old new r
+fills_write w is old new r transaction write = record {
   made = λ clean ready. write.made clean (λ _. ready.has);
   ends = λ clean ready.
       let it = write.ends clean (λ _. ready.has) in (
         on_ok r (λ written. (w ∷ [], (is, tt), written)) it.0,
         if_err r (λ e why. (w ∷ [], (is, tt), of_store [] old old new (came_here old ready.under_way) w [] e why)) it.1,
       );
-  inside = λ clean way _. write.transaction.inside clean way;
-  kept = λ clean way _. write.transaction.kept clean way;
-  survives = write.transaction.survives;
+  inside = λ clean way _. transaction.inside clean way;
+  kept = λ clean way _. transaction.kept clean way;
+  survives = transaction.survives;
 }
 
 -- none

@@ -148,8 +148,8 @@ module _ {M N : Type 0} (k : Kept) (shown : N → Row) (keeps : N → Type 0) (s
         );
       }
 
--- nothing is answered of one that fails, and the error is given on
-none_of : {A : Type 0} (P : A → Type 0) (e : TableError) (r : Result A TableError) → IsErrAnd r (λ x. x ≡ e) → IfOk r P
+-- nothing is answered by one that fails
+pub none_of : {A : Type 0} (P : A → Type 0) (e : TableError) (r : Result A TableError) → IsErrAnd r (λ x. x ≡ e) → IfOk r P
 none_of P e (Ok y) is = absurd is
 none_of P e (Err x) is = tt
 

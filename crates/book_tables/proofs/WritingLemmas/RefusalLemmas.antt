@@ -1,7 +1,7 @@
 -- Why a write of the office's tables fails.
 use Rattle.std.proofs.Common.{◌≡◌, ℕ, List, IsErrAnd, IsTrue, Some, Result, Ok, Err, ap, subst, sym, ◌∙◌}
 use Rattle.sqlite.specs.Order.{Row}
-use Rattle.sqlite.specs.State.{HasCleanDisk, KeepsCommit, State, Survives}
+use Rattle.sqlite.specs.State.{HasCleanDisk, State}
 use Rattle.sqlite.specs.declared.error.Error.{Error}
 use Rattle.sqlite_schema.specs.declared.command.Command.{Command}
 use Rattle.sqlite_schema.specs.declared.schema.Schema.{Schema}
@@ -12,7 +12,6 @@ use Rattle.one_table.specs.Reading.{Means, MeansAs}
 use Rattle.one_table.specs.Upserting.{IsUpsert, Merging, returning_as, upsert_as}
 use Rattle.one_table.specs.declared.read_fault.ReadFault.{ReadFault}
 use Rattle.one_table.specs.declared.read_fault.ReadFault.TheVariants as fault
-use Rattle.one_table.proofs.ChangeLemmas.{transaction_off}
 use Rattle.one_table.proofs.UpsertTextLemmas.{means_upsert}
 use Rattle.book_tables.specs.reading.Reading.{HasAllTables, told}
 use Rattle.book_tables.specs.writing.Failing.{Ends, FailsToMerge, FailsToStore}
@@ -64,11 +63,10 @@ false_row t m params at IsReadable fault.Row (Err x) is fails known = fails
 
 -- what is left of the tables where a write that answers something fails, and why it does
 pub merge_off : {T : Type 0} {w : Write} {Makes : T → State → State → Type 0} {old new : State} (e : TableError) (r : Result T TableError)
-    → IsErrAnd r (λ x. x ≡ e) → (HasCleanDisk new → IsUnderWay old → KeepsCommit old new) → Survives old new (λ _. ⊥)
-    → (HasCleanDisk new → IsUnderWay old → HasAllTables old → FailsToMerge w old new e) → MergesTables w Makes old new r
-merge_off e (Ok x) is kept survives fails = absurd is
-merge_off {w = w} {old = old} {new = new} e (Err x) is kept survives fails = record {
+    → IsErrAnd r (λ x. x ≡ e) → (HasCleanDisk new → IsUnderWay old → HasAllTables old → FailsToMerge w old new e)
+    → MergesTables w Makes old new r
+merge_off e (Ok x) is fails = absurd is
+merge_off {w = w} {old = old} {new = new} e (Err x) is fails = record {
   made = λ clean way has. tt;
-  transaction = transaction_off e (Err x) is kept survives;
   ends = λ clean way has. (tt, subst (FailsToMerge w old new) (sym is) (fails clean way has));
 }

@@ -16,7 +16,7 @@ use Rattle.office_rules.specs.declared.decision.change.Edit.TheVariants.{AddMete
 use Rattle.office_rules.specs.declared.office.meter.Meter.{Meter}
 use Rattle.sqlite_rules.specs.Edit.{IsNoIndex}
 use Rattle.sqlite_schema.specs.declared.schema.Schema.{Schema}
-use Rattle.one_table.specs.InTransaction.{IsUnderWay, KeepsTransaction}
+use Rattle.one_table.specs.InTransaction.{IsUnderWay}
 use Rattle.one_table.specs.Standing.{tree_in}
 use Rattle.office_rules.specs.Office.{AreNumbered, IsOffice, Office}
 use Rattle.office_rules.specs.declared.office.sale.Sale.{Sale}
@@ -37,12 +37,11 @@ use Rattle.book_tables.specs.declared.error.TableError.TheVariants.{RowOfNoOffic
 use Rattle.book_tables.specs.declared.row.totals.SaleTotals.{SaleTotals}
 use Rattle.book_tables.specs.declared.row.totals.Totals.{Totals}
 
--- A write of the office's tables inside a transaction: what it makes of them, where they are there;
--- what it leaves, like any statement; and how it ends, as this text with these parameters.
+-- A write of the office's tables inside a transaction: what it makes of them, where they are there,
+-- and how it ends, as this text with these parameters.
 pub record WritesTables (w : Write) (Makes : State → State → Type 0) (old new : State)
     (result : Result (Unit {0}) TableError) : Type 0 where
   pub made : HasCleanDisk new → HasAllTables old → OnOk result (Makes old new)
-  pub transaction : KeepsTransaction old new result
   pub ends : HasCleanDisk new → HasAllTables old → Ends FailsToStore w old new result
 
 -- The same of a write that answers something of the rows, while its transaction is under way: one
@@ -51,7 +50,6 @@ pub record MergesTables {T : Type 0} (w : Write) (Makes : T → State → State 
     (old new : State) (result : Result T TableError) : Type 0 where
   pub made : HasCleanDisk new → IsUnderWay old → HasAllTables old
       → IfOk result (λ x. Makes x old new)
-  pub transaction : KeepsTransaction old new result
   pub ends : HasCleanDisk new → IsUnderWay old → HasAllTables old
       → Ends FailsToMerge w old new result
 

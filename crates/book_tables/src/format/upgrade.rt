@@ -1,9 +1,9 @@
 //! The making of the office's tables, where there are none or those of an older format.
 
-ghost use Rattle.std.specs.Prelude.{◌≡◌, ◌<◌, IfErr, OnOk};
+ghost use Rattle.std.specs.Prelude.{◌<◌, IfErr, OnOk};
 ghost use Rattle.sqlite.specs.State.{HasCleanDisk};
 ghost use Rattle.one_table.specs.Over.{Inside};
-ghost use Rattle.one_table.specs.InTransaction.{IsUnderWay, KeepsTransaction, StaysInside};
+ghost use Rattle.one_table.specs.InTransaction.{IsUnderWay, StaysInside, WorksInside};
 ghost use Rattle.book_tables.specs.format.Making.{BringsInside, BringsTables, FailsToBring, FailsToMakeMissing, HandsOver, IsSoundOfFormat, MakesMissing, TellsPresent};
 ghost use Rattle.book_tables.specs.row.Rows.{present_format};
 ghost use Rattle.book_tables.specs.writing.Writes.{format_write};
@@ -23,14 +23,12 @@ use std::alloc::Global;
 // Makes the tables that a format lacks, with nothing in them.
 fn make_missing<S: Alter>(tx: &mut Transaction<'_, S>, from: u32) -> Result<(), TableError>
     requires { from < present_format }
-    ensures same_reference { tx.new.conn.ghost_name ≡ tx.old.conn.ghost_name }
-    ensures made { Inside S.Store tx (λ old new. HasCleanDisk new → IsSoundOfFormat from old
-        → OnOk result (MakesMissing from old.now new.now)) }
+    ensures made { WorksInside S.Store tx result (λ old new. HasCleanDisk new
+        → IsSoundOfFormat from old → OnOk result (MakesMissing from old.now new.now)) }
     ensures refused { Inside S.Store tx (λ old new. HasCleanDisk new
         → IfErr result (FailsToMakeMissing S.Store from old new)) }
     ensures inside { Inside S.Store tx (λ old new. HasCleanDisk new
         → OnOk result (StaysInside old new)) }
-    ensures transaction { Inside S.Store tx (λ old new. KeepsTransaction old new result) }
 {
     create_tables(tx, tables_after(from).texts)?;
     Ok(())
@@ -38,9 +36,8 @@ fn make_missing<S: Alter>(tx: &mut Transaction<'_, S>, from: u32) -> Result<(), 
 
 // Tells the present format in place of an older one, or of none.
 fn tell_present<S: Alter>(tx: &mut Transaction<'_, S>, before: u32) -> Result<(), TableError>
-    ensures same_reference { tx.new.conn.ghost_name ≡ tx.old.conn.ghost_name }
-    ensures writes { Inside S.Store tx (λ old new. WritesTables (format_write before) (TellsPresent
-        before) old new result) }
+    ensures writes { WorksInside S.Store tx result (λ old new. WritesTables (format_write before)
+        (TellsPresent before) old new result) }
 {
     if before == 0 {
         put(tx, NEW_FORMAT, &[])
@@ -66,15 +63,14 @@ pub fn bring<S: Alter>(
     sales: &[Sale],
 ) -> Result<(), TableError>
     requires { from < present_format }
-    ensures same_reference { tx.new.conn.ghost_name ≡ tx.old.conn.ghost_name }
-    ensures brings { Inside S.Store tx (λ old new. HasCleanDisk new → IsSoundOfFormat from old
-        → HandsOver old.now meters.now sales.now → OnOk result (BringsInside from old new)) }
+    ensures brings { WorksInside S.Store tx result (λ old new. HasCleanDisk new
+        → IsSoundOfFormat from old → HandsOver old.now meters.now sales.now
+        → OnOk result (BringsInside from old new)) }
     ensures leaves { Inside S.Store tx (λ old new. HasCleanDisk new → IsSoundOfFormat from old
         → OnOk result (BringsTables from old.now new.now)) }
     ensures refused { Inside S.Store tx (λ old new. HasCleanDisk new → IsUnderWay old
         → IsSoundOfFormat from old
         → IfErr result (FailsToBring S.Store from meters.now sales.now old new)) }
-    ensures transaction { Inside S.Store tx (λ old new. KeepsTransaction old new result) }
 {
     make_missing(tx, from)?;
     fill_missing(alloc, tx, from, meters, sales)?;

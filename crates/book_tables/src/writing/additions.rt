@@ -1,9 +1,9 @@
 //! The statements that add rows to the tables.
 
-ghost use Rattle.std.specs.Prelude.{◌≡◌, ◌≤◌, length, OnOk};
+ghost use Rattle.std.specs.Prelude.{◌≤◌, length, OnOk};
 ghost use Rattle.sqlite.specs.State.{HasCleanDisk};
 ghost use Rattle.one_table.specs.Over.{Inside};
-ghost use Rattle.one_table.specs.InTransaction.{IsUnderWay, KeepsTransaction};
+ghost use Rattle.one_table.specs.InTransaction.{IsUnderWay, WorksInside};
 ghost use Rattle.book_tables.specs.writing.Failing.{End, FailsToWriteAll};
 ghost use Rattle.book_tables.specs.writing.Edited.{step_row};
 ghost use Rattle.book_tables.specs.reading.Reading.{HasAllTables};
@@ -26,9 +26,8 @@ use tariff::Step;
 /// What the database refuses: a number or a ref that is taken, an identifier that the meter has
 /// had, a shift or a meter that is not there; want of memory, and the disk.
 pub fn add_sale<S: Alter>(tx: &mut Transaction<'_, S>, sale: &Sale) -> Result<(), TableError>
-    ensures same_reference { tx.new.conn.ghost_name ≡ tx.old.conn.ghost_name }
-    ensures writes { Inside S.Store tx (λ old new. WritesTables (new_sale sale.now) (AddsSale
-        sale.now) old new result) }
+    ensures writes { WorksInside S.Store tx result (λ old new. WritesTables (new_sale sale.now)
+        (AddsSale sale.now) old new result) }
 {
     put(tx, NEW_SALE, &sale_values(sale))
 }
@@ -38,9 +37,8 @@ pub fn add_sale<S: Alter>(tx: &mut Transaction<'_, S>, sale: &Sale) -> Result<()
 /// # Errors
 /// What the database refuses: a number that is taken; want of memory, and the disk.
 pub fn add_shift<S: Alter>(tx: &mut Transaction<'_, S>, shift: &Shift) -> Result<(), TableError>
-    ensures same_reference { tx.new.conn.ghost_name ≡ tx.old.conn.ghost_name }
-    ensures writes { Inside S.Store tx (λ old new. WritesTables (new_shift shift.now) (AddsShift
-        shift.now) old new result) }
+    ensures writes { WorksInside S.Store tx result (λ old new. WritesTables (new_shift shift.now)
+        (AddsShift shift.now) old new result) }
 {
     put(tx, NEW_SHIFT, &shift_values(shift))
 }
@@ -55,9 +53,8 @@ fn add_meter_row<S: Alter>(
     number: &MeterNo,
     meter: &Meter,
 ) -> Result<(), TableError>
-    ensures same_reference { tx.new.conn.ghost_name ≡ tx.old.conn.ghost_name }
-    ensures writes { Inside S.Store tx (λ old new. WritesTables (new_meter number.now meter.now)
-        (AddsMeterRow number.now meter.now) old new result) }
+    ensures writes { WorksInside S.Store tx result (λ old new. WritesTables
+        (new_meter number.now meter.now) (AddsMeterRow number.now meter.now) old new result) }
 {
     let secret = key_text(meter.key);
     put(tx, NEW_METER, &meter_values(number, meter, &secret))
@@ -75,13 +72,11 @@ pub fn add_meter<S: Alter>(
     number: &MeterNo,
     meter: &Meter,
 ) -> Result<(), TableError>
-    ensures same_reference { tx.new.conn.ghost_name ≡ tx.old.conn.ghost_name }
-    ensures added { Inside S.Store tx (λ old new. HasCleanDisk new → HasAllTables old
+    ensures added { WorksInside S.Store tx result (λ old new. HasCleanDisk new → HasAllTables old
         → OnOk result (AddsMeter number.now meter.now old new)) }
     ensures ends { Inside S.Store tx (λ old new. HasCleanDisk new → IsUnderWay old
         → HasAllTables old
         → End FailsToWriteAll (meter_writes number.now meter.now) old new result) }
-    ensures transaction { Inside S.Store tx (λ old new. KeepsTransaction old new result) }
 {
     add_meter_row(tx, number, meter)?;
     add_base(tx, number, meter.base)
@@ -92,9 +87,8 @@ pub fn add_meter<S: Alter>(
 /// # Errors
 /// What the database refuses: a name that is taken; want of memory, and the disk.
 pub fn add_name<S: Alter>(tx: &mut Transaction<'_, S>, name: &TariffName) -> Result<(), TableError>
-    ensures same_reference { tx.new.conn.ghost_name ≡ tx.old.conn.ghost_name }
-    ensures writes { Inside S.Store tx (λ old new. WritesTables (new_tariff name.now) (AddsName
-        name.now) old new result) }
+    ensures writes { WorksInside S.Store tx result (λ old new. WritesTables (new_tariff name.now)
+        (AddsName name.now) old new result) }
 {
     put(tx, NEW_TARIFF, &tariff_values(name))
 }
@@ -110,9 +104,8 @@ pub fn add_step<S: Alter>(
     place: u32,
     step: Step,
 ) -> Result<(), TableError>
-    ensures same_reference { tx.new.conn.ghost_name ≡ tx.old.conn.ghost_name }
-    ensures writes { let row = step_row name.now place step in Inside S.Store tx (λ old new.
-        WritesTables (new_step row) (AddsStep row) old new result) }
+    ensures writes { let row = step_row name.now place step in WorksInside S.Store tx result
+        (λ old new. WritesTables (new_step row) (AddsStep row) old new result) }
 {
     put(tx, NEW_STEP, &step_values(name, place, step))
 }
@@ -129,13 +122,11 @@ pub fn add_tariff<S: Alter>(
     steps: &[Step],
 ) -> Result<(), TableError>
     requires { length steps.now ≤ 8 }
-    ensures same_reference { tx.new.conn.ghost_name ≡ tx.old.conn.ghost_name }
-    ensures added { Inside S.Store tx (λ old new. HasCleanDisk new → HasAllTables old
+    ensures added { WorksInside S.Store tx result (λ old new. HasCleanDisk new → HasAllTables old
         → OnOk result (AddsTariff name.now steps.now old new)) }
     ensures ends { Inside S.Store tx (λ old new. HasCleanDisk new → IsUnderWay old
         → HasAllTables old
         → End FailsToWriteAll (tariff_writes name.now steps.now) old new result) }
-    ensures transaction { Inside S.Store tx (λ old new. KeepsTransaction old new result) }
 {
     add_name(tx, name)?;
     let mut place = 0;

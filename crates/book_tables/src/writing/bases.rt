@@ -1,9 +1,9 @@
 //! The statements on the bases of meters.
 
-ghost use Rattle.std.specs.Prelude.{◌≡◌, OnOk};
+ghost use Rattle.std.specs.Prelude.{OnOk};
 ghost use Rattle.sqlite.specs.State.{HasCleanDisk};
 ghost use Rattle.one_table.specs.Over.{Inside};
-ghost use Rattle.one_table.specs.InTransaction.{IsUnderWay, KeepsTransaction};
+ghost use Rattle.one_table.specs.InTransaction.{IsUnderWay, WorksInside};
 ghost use Rattle.book_tables.specs.writing.Failing.{End, FailsToWriteAll};
 ghost use Rattle.book_tables.specs.reading.Reading.{HasAllTables};
 ghost use Rattle.book_tables.specs.writing.Writes.{base_set, base_writes, new_base};
@@ -27,9 +27,8 @@ pub fn add_base<S: Alter>(
     number: &MeterNo,
     base: Base,
 ) -> Result<(), TableError>
-    ensures same_reference { tx.new.conn.ghost_name ≡ tx.old.conn.ghost_name }
-    ensures writes { Inside S.Store tx (λ old new. WritesTables (new_base number.now base) (AddsBase
-        number.now base) old new result) }
+    ensures writes { WorksInside S.Store tx result (λ old new. WritesTables
+        (new_base number.now base) (AddsBase number.now base) old new result) }
 {
     put(tx, NEW_BASE, &base_values(number, base))
 }
@@ -43,9 +42,8 @@ pub fn set_base<S: Alter>(
     number: &MeterNo,
     base: Base,
 ) -> Result<(), TableError>
-    ensures same_reference { tx.new.conn.ghost_name ≡ tx.old.conn.ghost_name }
-    ensures writes { Inside S.Store tx (λ old new. WritesTables (base_set number.now base) (SetsBase
-        number.now base) old new result) }
+    ensures writes { WorksInside S.Store tx result (λ old new. WritesTables
+        (base_set number.now base) (SetsBase number.now base) old new result) }
 {
     set(tx, BASE_SET, &base_values(number, base))
 }
@@ -61,12 +59,10 @@ pub fn move_base<S: Alter>(
     number: &MeterNo,
     base: Base,
 ) -> Result<(), TableError>
-    ensures same_reference { tx.new.conn.ghost_name ≡ tx.old.conn.ghost_name }
-    ensures moved { Inside S.Store tx (λ old new. HasCleanDisk new → HasAllTables old
+    ensures moved { WorksInside S.Store tx result (λ old new. HasCleanDisk new → HasAllTables old
         → OnOk result (MovesBase number.now base old new)) }
     ensures ends { Inside S.Store tx (λ old new. HasCleanDisk new → IsUnderWay old
         → HasAllTables old → End FailsToWriteAll (base_writes number.now base) old new result) }
-    ensures transaction { Inside S.Store tx (λ old new. KeepsTransaction old new result) }
 {
     set_base(tx, number, base)?;
     add_base(tx, number, base)

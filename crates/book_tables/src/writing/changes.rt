@@ -1,7 +1,6 @@
 //! The statements that change rows of the tables.
 
-ghost use Rattle.std.specs.Prelude.{◌≡◌};
-ghost use Rattle.one_table.specs.Over.{Inside};
+ghost use Rattle.one_table.specs.InTransaction.{WorksInside};
 ghost use Rattle.book_tables.specs.writing.Writes.{shift_ended, tariff_set};
 ghost use Rattle.book_tables.specs.writing.Writing.{ClosesShift, SetsTariff, WritesTables};
 
@@ -23,9 +22,8 @@ pub fn close_shift<S: Alter>(
     number: u32,
     moment: Moment,
 ) -> Result<(), TableError>
-    ensures same_reference { tx.new.conn.ghost_name ≡ tx.old.conn.ghost_name }
-    ensures writes { Inside S.Store tx (λ old new. WritesTables (shift_ended number moment)
-        (ClosesShift number moment) old new result) }
+    ensures writes { WorksInside S.Store tx result (λ old new. WritesTables
+        (shift_ended number moment) (ClosesShift number moment) old new result) }
 {
     set(tx, SHIFT_CLOSED, &[whole(number), seconds(moment)])
 }
@@ -39,9 +37,8 @@ pub fn set_tariff<S: Alter>(
     number: &MeterNo,
     name: &TariffName,
 ) -> Result<(), TableError>
-    ensures same_reference { tx.new.conn.ghost_name ≡ tx.old.conn.ghost_name }
-    ensures writes { Inside S.Store tx (λ old new. WritesTables (tariff_set number.now name.now)
-        (SetsTariff number.now name.now) old new result) }
+    ensures writes { WorksInside S.Store tx result (λ old new. WritesTables
+        (tariff_set number.now name.now) (SetsTariff number.now name.now) old new result) }
 {
     let values = [
         ValueRef::Text(number.as_bytes()),

@@ -1,7 +1,7 @@
-ghost use Rattle.std.specs.Prelude.{◌≡◌, ◌≤◌, length, OnOk};
+ghost use Rattle.std.specs.Prelude.{◌≤◌, length, OnOk};
 ghost use Rattle.sqlite.specs.State.{HasCleanDisk};
 ghost use Rattle.one_table.specs.Over.{Inside};
-ghost use Rattle.one_table.specs.InTransaction.{IsUnderWay, KeepsTransaction};
+ghost use Rattle.one_table.specs.InTransaction.{IsUnderWay, WorksInside};
 ghost use Rattle.book_tables.specs.writing.Failing.{End, FailsToWriteAll};
 ghost use Rattle.book_tables.specs.writing.Edited.{dated_row};
 ghost use Rattle.book_tables.specs.reading.Reading.{HasAllTables};
@@ -29,9 +29,8 @@ pub fn add_dated_step<S: Alter>(
     place: u32,
     step: Step,
 ) -> Result<(), TableError>
-    ensures same_reference { tx.new.conn.ghost_name ≡ tx.old.conn.ghost_name }
-    ensures writes { let row = dated_row name.now day place step in Inside S.Store tx (λ old new.
-        WritesTables (new_dated row) (AddsDatedStep row) old new result) }
+    ensures writes { let row = dated_row name.now day place step in WorksInside S.Store tx result
+        (λ old new. WritesTables (new_dated row) (AddsDatedStep row) old new result) }
 {
     put(
         tx,
@@ -56,13 +55,11 @@ pub fn add_steps<S: Alter>(
     steps: &[Step],
 ) -> Result<(), TableError>
     requires { length steps.now ≤ 8 }
-    ensures same_reference { tx.new.conn.ghost_name ≡ tx.old.conn.ghost_name }
-    ensures added { Inside S.Store tx (λ old new. HasCleanDisk new → HasAllTables old
+    ensures added { WorksInside S.Store tx result (λ old new. HasCleanDisk new → HasAllTables old
         → OnOk result (AddsSteps name.now day steps.now old new)) }
     ensures ends { Inside S.Store tx (λ old new. HasCleanDisk new → IsUnderWay old
         → HasAllTables old → 1 ≤ length steps.now
         → End FailsToWriteAll (steps_writes name.now day steps.now) old new result) }
-    ensures transaction { Inside S.Store tx (λ old new. KeepsTransaction old new result) }
 {
     let Some((first, others)) = steps.split_first() else {
         return Err(TableError::Database(Error::SqliteFailure(ErrorCode::TransactionState)));

@@ -1,7 +1,7 @@
 //! The statements that put a row of the running totals in, where none of its key is.
 
-ghost use Rattle.std.specs.Prelude.{◌≡◌, List};
-ghost use Rattle.one_table.specs.Over.{Inside};
+ghost use Rattle.std.specs.Prelude.{List};
+ghost use Rattle.one_table.specs.InTransaction.{WorksInside};
 ghost use Rattle.book_tables.specs.row.Rows.{Rows};
 ghost use Rattle.book_tables.specs.writing.Putting.{AreAnyIds, FitMonths, FitShifts, PutsLastId, PutsMonth, PutsNext, PutsTotals, with_last_ids, with_month_tenths, with_shift_totals};
 ghost use Rattle.book_tables.specs.writing.Writes.{Write};
@@ -31,9 +31,8 @@ pub(crate) trait TotalRow: Sized {
     /// # Errors
     /// Want of memory, the disk, and a row of the key.
     fn put<S: Alter>(&self, tx: &mut Transaction<'_, S>) -> Result<(), TableError>
-        ensures same_reference { tx.new.conn.ghost_name ≡ tx.old.conn.ghost_name }
-        ensures writes { Inside S.Store tx (λ old new. (w : Write) × puts self.now w × WritesTables w
-            (PutsNext in_table are self.now) old new result) };
+        ensures writes { WorksInside S.Store tx result (λ old new. (w : Write) × puts self.now w
+            × WritesTables w (PutsNext in_table are self.now) old new result) };
 }
 
 impl TotalRow for ((MeterNo, Base), u32) {

@@ -6,7 +6,7 @@ ghost use Rattle.sqlite.specs.Order.{Row};
 ghost use Rattle.sqlite.specs.State.{HasCleanDisk};
 ghost use Rattle.sqlite.specs.Table.{Table};
 ghost use Rattle.sqlite.specs.Values.{bound};
-ghost use Rattle.one_table.specs.InTransaction.{IsUnderWay, KeepsTransaction};
+ghost use Rattle.one_table.specs.InTransaction.{IsUnderWay, WorksInside};
 ghost use Rattle.one_table.specs.Merges.{StandsForUpserts, TakesUpserts, Touches, Upserts, shown_row};
 ghost use Rattle.one_table.specs.Reading.{is_whole};
 ghost use Rattle.one_table.specs.Upserting.{IsUpsert, Merging};
@@ -26,8 +26,7 @@ pub(crate) fn merge<S: Alter, T: Record>(
     sql: &str,
     params: &[ValueRef<'_>],
 ) -> Result<T, TableError>
-    ensures same_reference { tx.new.conn.ghost_name ≡ tx.old.conn.ghost_name }
-    ensures merged { Inside S.Store tx (λ old new. HasCleanDisk new → IsUnderWay old
+    ensures merged { WorksInside S.Store tx result (λ old new. HasCleanDisk new → IsUnderWay old
         → (t : Table) (at : ℕ) (m : Merging) → IsUpsert t m sql.now → (IsTrue old.is_open
         → TakesUpserts old.now at t)
         → IfOk result (λ x. (row : Row) × IsShown T.Record.shown T.Record.keeps (shown_row t m
@@ -36,7 +35,6 @@ pub(crate) fn merge<S: Alter, T: Record>(
         → (t : Table) (at : ℕ) (m : Merging) → IsUpsert t m sql.now → (IsTrue old.is_open
         → StandsForUpserts old.now.schema at t)
         → OnOk result (Touches t m (bound params.now) old new)) }
-    ensures transaction { Inside S.Store tx (λ old new. KeepsTransaction old new result) }
     ensures ends { Inside S.Store tx (λ old new. HasCleanDisk new → IsUnderWay old
         → (t : Table) (at : ℕ) (m : Merging) → IsUpsert t m sql.now
         → is_whole sql.now (length (bound params.now)) ≡ true → (IsTrue old.is_open

@@ -8,7 +8,7 @@ ghost use Rattle.sqlite.specs.Table.{Table};
 ghost use Rattle.sqlite.specs.Term.{Term};
 ghost use Rattle.sqlite.specs.Values.{bound};
 ghost use Rattle.one_table.specs.Changing.{IsUpdate};
-ghost use Rattle.one_table.specs.InTransaction.{KeepsTransaction, PutsRow, SetsRows};
+ghost use Rattle.one_table.specs.InTransaction.{PutsRow, SetsRows, WorksInside};
 ghost use Rattle.one_table.specs.Inserting.{IsInsert, new_row};
 ghost use Rattle.one_table.specs.Place.{Has};
 ghost use Rattle.one_table.specs.Reading.{is_whole};
@@ -26,14 +26,12 @@ pub(crate) fn put<S: Alter>(
     sql: &str,
     params: &[ValueRef<'_>],
 ) -> Result<(), TableError>
-    ensures same_reference { tx.new.conn.ghost_name ≡ tx.old.conn.ghost_name }
-    ensures added { Inside S.Store tx (λ old new. HasCleanDisk new
+    ensures added { WorksInside S.Store tx result (λ old new. HasCleanDisk new
         → (t : Table) (at : ℕ) (terms : List Term) → IsInsert t terms sql.now
         → (IsTrue old.is_open → Has old.now.schema at t)
         → OnOk result (PutsRow t (new_row t terms (bound params.now) (old.now.trees t.tree)) old
         new)) }
     ensures database { IfErr result (λ e. e ≢ TableError.RowOfNoOffice) }
-    ensures transaction { Inside S.Store tx (λ old new. KeepsTransaction old new result) }
     ensures ends { Inside S.Store tx (λ old new. HasCleanDisk new
         → (t : Table) (at : ℕ) (terms : List Term) → IsInsert t terms sql.now
         → is_whole sql.now (length (bound params.now)) ≡ true → (IsTrue old.is_open
@@ -50,13 +48,11 @@ pub(crate) fn set<S: Alter>(
     sql: &str,
     params: &[ValueRef<'_>],
 ) -> Result<(), TableError>
-    ensures same_reference { tx.new.conn.ghost_name ≡ tx.old.conn.ghost_name }
-    ensures changed { Inside S.Store tx (λ old new. HasCleanDisk new
+    ensures changed { WorksInside S.Store tx result (λ old new. HasCleanDisk new
         → (t : Table) (at : ℕ) (q : Query) → IsUpdate t q sql.now → (IsTrue old.is_open
         → Has old.now.schema at t × (is_left_alone old.now.schema t.tree ≡ true))
         → OnOk result (SetsRows t q (bound params.now) old new)) }
     ensures database { IfErr result (λ e. e ≢ TableError.RowOfNoOffice) }
-    ensures transaction { Inside S.Store tx (λ old new. KeepsTransaction old new result) }
     ensures ends { Inside S.Store tx (λ old new. HasCleanDisk new
         → (t : Table) (at : ℕ) (q : Query) → IsUpdate t q sql.now
         → is_whole sql.now (length (bound params.now)) ≡ true → (IsTrue old.is_open

@@ -1,10 +1,10 @@
 //! The statements that keep the running totals. Each puts the row of its key in, or merges it into
 //! the one that is there.
 
-ghost use Rattle.std.specs.Prelude.{◌≡◌, IfOk};
+ghost use Rattle.std.specs.Prelude.{IfOk};
 ghost use Rattle.one_table.specs.Over.{Inside};
 ghost use Rattle.sqlite.specs.State.{HasCleanDisk};
-ghost use Rattle.one_table.specs.InTransaction.{IsUnderWay, KeepsTransaction};
+ghost use Rattle.one_table.specs.InTransaction.{IsUnderWay, WorksInside};
 ghost use Rattle.book_tables.specs.writing.Failing.{End, FailsToMergeAll};
 ghost use Rattle.book_tables.specs.reading.Reading.{HasAllTables};
 ghost use Rattle.book_tables.specs.writing.Writes.{last_id_set, sale_counted, sale_writes, tenths_added, totals_writes};
@@ -32,9 +32,9 @@ pub fn set_last_id<S: Alter>(
     base: Base,
     tid: u32,
 ) -> Result<(), TableError>
-    ensures same_reference { tx.new.conn.ghost_name ≡ tx.old.conn.ghost_name }
-    ensures merges { Inside S.Store tx (λ old new. MergesTables (last_id_set (meter.now, base) tid)
-        (λ done. SetsLastId (meter.now, base) tid) old new result) }
+    ensures merges { WorksInside S.Store tx result (λ old new. MergesTables
+        (last_id_set (meter.now, base) tid) (λ done. SetsLastId (meter.now, base) tid)
+        old new result) }
     ensures no_false_row { Inside S.Store tx (λ old new. FindsNoFalseRow (MaySetLastId tid) old
         new result) }
 {
@@ -55,9 +55,9 @@ pub fn add_tenths<S: Alter>(
     month: u32,
     tenths: u32,
 ) -> Result<u64, TableError>
-    ensures same_reference { tx.new.conn.ghost_name ≡ tx.old.conn.ghost_name }
-    ensures merges { Inside S.Store tx (λ old new. MergesTables (tenths_added (meter.now, month)
-        tenths) (AddsTenths (meter.now, month) tenths) old new result) }
+    ensures merges { WorksInside S.Store tx result (λ old new. MergesTables
+        (tenths_added (meter.now, month) tenths) (AddsTenths (meter.now, month) tenths)
+        old new result) }
     ensures no_false_row { Inside S.Store tx (λ old new. FindsNoFalseRow (MayAddTenths (
       meter.now,
       month,
@@ -77,9 +77,8 @@ pub fn add_to_shift<S: Alter>(
     tenths: u32,
     price: u32,
 ) -> Result<Totals, TableError>
-    ensures same_reference { tx.new.conn.ghost_name ≡ tx.old.conn.ghost_name }
-    ensures merges { Inside S.Store tx (λ old new. MergesTables (sale_counted shift tenths price)
-        (AddsToShift shift tenths price) old new result) }
+    ensures merges { WorksInside S.Store tx result (λ old new. MergesTables
+        (sale_counted shift tenths price) (AddsToShift shift tenths price) old new result) }
     ensures no_false_row { Inside S.Store tx (λ old new. FindsNoFalseRow (MayAddToShift shift
         tenths price) old new result) }
 {
@@ -99,12 +98,10 @@ pub fn add_totals<S: Alter>(
     sale: &Sale,
     last: u32,
 ) -> Result<SaleTotals, TableError>
-    ensures same_reference { tx.new.conn.ghost_name ≡ tx.old.conn.ghost_name }
-    ensures adds { Inside S.Store tx (λ old new. HasCleanDisk new → IsUnderWay old
+    ensures adds { WorksInside S.Store tx result (λ old new. HasCleanDisk new → IsUnderWay old
         → HasAllTables old → IfOk result (λ shown. TellsSaleTotals sale.now last shown old new)) }
     ensures ends { Inside S.Store tx (λ old new. HasCleanDisk new → IsUnderWay old
         → HasAllTables old → End FailsToMergeAll (totals_writes sale.now last) old new result) }
-    ensures transaction { Inside S.Store tx (λ old new. KeepsTransaction old new result) }
     ensures no_false_row { Inside S.Store tx (λ old new. FindsNoFalseRow (MayAddTotals sale.now
         last) old new result) }
 {
@@ -129,12 +126,10 @@ pub fn add_sold<S: Alter>(
     tx: &mut Transaction<'_, S>,
     sale: &Sale,
 ) -> Result<SaleTotals, TableError>
-    ensures same_reference { tx.new.conn.ghost_name ≡ tx.old.conn.ghost_name }
-    ensures adds { Inside S.Store tx (λ old new. HasCleanDisk new → IsUnderWay old
+    ensures adds { WorksInside S.Store tx result (λ old new. HasCleanDisk new → IsUnderWay old
         → HasAllTables old → IfOk result (λ shown. TellsSold sale.now shown old new)) }
     ensures ends { Inside S.Store tx (λ old new. HasCleanDisk new → IsUnderWay old
         → HasAllTables old → End FailsToMergeAll (sale_writes sale.now) old new result) }
-    ensures transaction { Inside S.Store tx (λ old new. KeepsTransaction old new result) }
     ensures no_false_row { Inside S.Store tx (λ old new. FindsNoFalseRow (MayAddSold sale.now) old
         new result) }
 {

@@ -55,8 +55,9 @@ returns-in-Err-commit-clause-doubted g c clean =
     let begun = c.transaction-tx.ensures.begun in
     let way = subst (λ (h : Held _). h.in_transaction ≡ true) (sym begun) refl in
     let early : HasCleanDisk (state g.S.Store held) = search rules in
+    let made = c.in_default.ensures.made in
     failed_after g.S.Store (g.C.Change.makes c.args.change.now) c.args.conn.now held _ c.in-Err-commit.error
-    (subst (λ (h : Held _). StaysInside (state g.S.Store h) (state g.S.Store held)) begun (c.in_default.ensures.transaction.inside early way))
-    (subst (λ (h : Held _). Survives (state g.S.Store h) (state g.S.Store held) (λ _. ⊥)) begun c.in_default.ensures.transaction.survives)
-    (subst (λ (h : Held _). g.C.Change.makes c.args.change.now (state g.S.Store h).now (state g.S.Store held).now) begun (c.in_default.ensures.made early way))
+    (subst (λ (h : Held _). StaysInside (state g.S.Store h) (state g.S.Store held)) begun (made.transaction.inside early way))
+    (subst (λ (h : Held _). Survives (state g.S.Store h) (state g.S.Store held) (λ _. ⊥)) begun made.transaction.survives)
+    (subst (λ (h : Held _). g.C.Change.makes c.args.change.now (state g.S.Store h).now (state g.S.Store held).now) begun (made.says early way))
     (search rules)

@@ -9,9 +9,13 @@ use Rattle.one_table.proofs.RefusalLemmas.{fails_to_write, update_changes}
 use Rattle.one_table.proofs.updating.update.Goals as goal
 
 pub returns-clause-changed : goal.returns-clause-changed
-returns-clause-changed g c clean t at q is has =
-    on_ok c.run.result (λ ran. sets_rows c.args.sql.now (bound c.args.params.now) (state g.S.Store c.args.tx.now.conn.now)
-    (state g.S.Store c.run.new.tx.conn.now) t at q is has ran.0 ran.1) (c.run.ensures.ran clean)
+returns-clause-changed g c = record {
+  same_reference = c.run.ensures.ran.same_reference;
+  transaction = c.run.ensures.ran.transaction;
+  says = λ clean t at q is has.
+      on_ok c.run.result (λ ran. sets_rows c.args.sql.now (bound c.args.params.now) (state g.S.Store c.args.tx.now.conn.now)
+      (state g.S.Store c.run.new.tx.conn.now) t at q is has ran.0 ran.1) (c.run.ensures.ran.says clean);
+}
 
 pub returns-clause-refused : goal.returns-clause-refused
 returns-clause-refused g c clean t at q is whole has =
@@ -29,4 +33,4 @@ returns-clause-ran g c clean t at q is has =
     on_ok c.run.result (λ ran. let it = ran_inside c.args.sql.now (bound c.args.params.now) old new (update_as at q)
     (λ runs. updates old.now.schema at t (has runs) q c.args.sql.now is) ran.0 ran.1 in
     record { command = update_as at q; shows = None; means = it.0; tally = it.1.tally; does = it.1.changed })
-    (c.run.ensures.ran clean)
+    (c.run.ensures.ran.says clean)

@@ -13,97 +13,134 @@ use Rattle.book_edits.proofs.ChangeLemmas.{edit_refused, told_where, refused_by,
 use Rattle.book_edits.proofs.changing.EditingChange.make.Goals as goal
 
 pub returns-in-AddTariff-clause-made : goal.returns-in-AddTariff-clause-made
-returns-in-AddTariff-clause-made g c clean way =
-    let old = state g.S.Store c.args.tx.now.conn.now in
-    let new = state g.S.Store c.add_tariff.new.tx.conn.now in
-    let name = c.in-AddTariff.name in
-    made_by c.add_tariff.result c.args.self.now.edit.now (edits.AddTariff name c.in-AddTariff.steps) c.args.self.now.prior old new
-    c.in-AddTariff.is (c.add_tariff.ensures.added clean)
-    (λ adds. (
-      makes_tariff c.members_law.ensures.edited old new name c.in-AddTariff.steps
-          (subst (λ (l : List Step). AddsTariff name l old new) c.as_slice.ensures.view adds),
-      tt,
-    ))
+returns-in-AddTariff-clause-made g c = record {
+  same_reference = c.add_tariff.ensures.added.same_reference;
+  transaction = c.add_tariff.ensures.added.transaction;
+  says = λ clean way.
+      let old = state g.S.Store c.args.tx.now.conn.now in
+      let new = state g.S.Store c.add_tariff.new.tx.conn.now in
+      let name = c.in-AddTariff.name in
+      made_by c.add_tariff.result c.args.self.now.edit.now (edits.AddTariff name c.in-AddTariff.steps) c.args.self.now.prior old new
+      c.in-AddTariff.is (c.add_tariff.ensures.added.says clean)
+      (λ adds. (
+        makes_tariff c.members_law.ensures.edited old new name c.in-AddTariff.steps
+            (subst (λ (l : List Step). AddsTariff name l old new) c.as_slice.ensures.view adds),
+        tt,
+      ));
+}
 
 pub returns-in-AddMeter-clause-made : goal.returns-in-AddMeter-clause-made
-returns-in-AddMeter-clause-made g c clean way =
-    let old = state g.S.Store c.args.tx.now.conn.now in
-    let new = state g.S.Store c.add_meter.new.tx.conn.now in
-    let number = c.in-AddMeter.number in
-    let meter = c.in-AddMeter.meter in
-    made_by c.add_meter.result c.args.self.now.edit.now (edits.AddMeter number meter) c.args.self.now.prior old new c.in-AddMeter.is
-    (c.add_meter.ensures.added clean)
-    (λ adds. (makes_meter c.members_law.ensures.edited old new number meter adds, tt))
+returns-in-AddMeter-clause-made g c = record {
+  same_reference = c.add_meter.ensures.added.same_reference;
+  transaction = c.add_meter.ensures.added.transaction;
+  says = λ clean way.
+      let old = state g.S.Store c.args.tx.now.conn.now in
+      let new = state g.S.Store c.add_meter.new.tx.conn.now in
+      let number = c.in-AddMeter.number in
+      let meter = c.in-AddMeter.meter in
+      made_by c.add_meter.result c.args.self.now.edit.now (edits.AddMeter number meter) c.args.self.now.prior old new c.in-AddMeter.is
+      (c.add_meter.ensures.added.says clean)
+      (λ adds. (makes_meter c.members_law.ensures.edited old new number meter adds, tt));
+}
 
 pub returns-in-AddRows-clause-made : goal.returns-in-AddRows-clause-made
-returns-in-AddRows-clause-made g c clean way =
-    let old = state g.S.Store c.args.tx.now.conn.now in
-    let new = state g.S.Store c.add_rows.new.tx.conn.now in
-    let rows = c.in-AddRows.rows in
-    made_by c.add_rows.result c.args.self.now.edit.now (edits.AddRows rows) c.args.self.now.prior old new c.in-AddRows.is (c.add_rows.ensures.added clean way)
-    (λ made. (makes_import rows old.now new.now (subst (λ (l : List Row). MakesRows l old.now new.now) c.as_slice-in-AddRows.ensures.view made), tt))
+returns-in-AddRows-clause-made g c = record {
+  same_reference = c.add_rows.ensures.added.same_reference;
+  transaction = c.add_rows.ensures.added.transaction;
+  says = λ clean way.
+      let old = state g.S.Store c.args.tx.now.conn.now in
+      let new = state g.S.Store c.add_rows.new.tx.conn.now in
+      let rows = c.in-AddRows.rows in
+      made_by c.add_rows.result c.args.self.now.edit.now (edits.AddRows rows) c.args.self.now.prior old new c.in-AddRows.is
+      (c.add_rows.ensures.added.says clean way)
+      (λ made. (makes_import rows old.now new.now (subst (λ (l : List Row). MakesRows l old.now new.now) c.as_slice-in-AddRows.ensures.view made), tt));
+}
 
 pub returns-in-SetTariff-clause-made : goal.returns-in-SetTariff-clause-made
-returns-in-SetTariff-clause-made g c clean way =
-    let old = state g.S.Store c.args.tx.now.conn.now in
-    let new = state g.S.Store c.set_tariff.new.tx.conn.now in
-    let number = c.in-SetTariff.number in
-    let name = c.in-SetTariff.name in
-    made_by c.set_tariff.result c.args.self.now.edit.now (edits.SetTariff number name) c.args.self.now.prior old new c.in-SetTariff.is
-    (c.set_tariff.ensures.writes.made clean)
-    (λ sets. (makes_setting c.members_law.ensures.edited old new number name sets, tt))
+returns-in-SetTariff-clause-made g c = record {
+  same_reference = c.set_tariff.ensures.writes.same_reference;
+  transaction = c.set_tariff.ensures.writes.transaction;
+  says = λ clean way.
+      let old = state g.S.Store c.args.tx.now.conn.now in
+      let new = state g.S.Store c.set_tariff.new.tx.conn.now in
+      let number = c.in-SetTariff.number in
+      let name = c.in-SetTariff.name in
+      made_by c.set_tariff.result c.args.self.now.edit.now (edits.SetTariff number name) c.args.self.now.prior old new c.in-SetTariff.is
+      (c.set_tariff.ensures.writes.says.made clean)
+      (λ sets. (makes_setting c.members_law.ensures.edited old new number name sets, tt));
+}
 
 pub returns-in-OpenShift-clause-made : goal.returns-in-OpenShift-clause-made
-returns-in-OpenShift-clause-made g c clean way =
-    let old = state g.S.Store c.args.tx.now.conn.now in
-    let new = state g.S.Store c.add_shift.new.tx.conn.now in
-    let shift = c.in-OpenShift.shift in
-    made_by c.add_shift.result c.args.self.now.edit.now (edits.OpenShift shift) c.args.self.now.prior old new c.in-OpenShift.is
-    (c.add_shift.ensures.writes.made clean)
-    (λ adds. (makes_shift c.members_law.ensures.edited old new shift adds, tt))
+returns-in-OpenShift-clause-made g c = record {
+  same_reference = c.add_shift.ensures.writes.same_reference;
+  transaction = c.add_shift.ensures.writes.transaction;
+  says = λ clean way.
+      let old = state g.S.Store c.args.tx.now.conn.now in
+      let new = state g.S.Store c.add_shift.new.tx.conn.now in
+      let shift = c.in-OpenShift.shift in
+      made_by c.add_shift.result c.args.self.now.edit.now (edits.OpenShift shift) c.args.self.now.prior old new c.in-OpenShift.is
+      (c.add_shift.ensures.writes.says.made clean)
+      (λ adds. (makes_shift c.members_law.ensures.edited old new shift adds, tt));
+}
 
 pub returns-in-CloseShift-clause-made : goal.returns-in-CloseShift-clause-made
-returns-in-CloseShift-clause-made g c clean way =
-    let old = state g.S.Store c.args.tx.now.conn.now in
-    let new = state g.S.Store c.close_shift.new.tx.conn.now in
-    let number = c.in-CloseShift.number in
-    let moment = c.in-CloseShift.moment in
-    made_by c.close_shift.result c.args.self.now.edit.now (edits.CloseShift number moment) c.args.self.now.prior old new c.in-CloseShift.is
-    (c.close_shift.ensures.writes.made clean)
-    (λ closes. (makes_closing c.members_law.ensures.edited old new number moment closes, tt))
+returns-in-CloseShift-clause-made g c = record {
+  same_reference = c.close_shift.ensures.writes.same_reference;
+  transaction = c.close_shift.ensures.writes.transaction;
+  says = λ clean way.
+      let old = state g.S.Store c.args.tx.now.conn.now in
+      let new = state g.S.Store c.close_shift.new.tx.conn.now in
+      let number = c.in-CloseShift.number in
+      let moment = c.in-CloseShift.moment in
+      made_by c.close_shift.result c.args.self.now.edit.now (edits.CloseShift number moment) c.args.self.now.prior old new c.in-CloseShift.is
+      (c.close_shift.ensures.writes.says.made clean)
+      (λ closes. (makes_closing c.members_law.ensures.edited old new number moment closes, tt));
+}
 
 pub returns-in-AddSteps-clause-made : goal.returns-in-AddSteps-clause-made
-returns-in-AddSteps-clause-made g c clean way =
-    let old = state g.S.Store c.args.tx.now.conn.now in
-    let new = state g.S.Store c.add_steps.new.tx.conn.now in
-    let name = c.in-AddSteps.name in
-    let day = c.in-AddSteps.day in
-    made_by c.add_steps.result c.args.self.now.edit.now (edits.AddSteps name day c.in-AddSteps.steps) c.args.self.now.prior old new
-    c.in-AddSteps.is (c.add_steps.ensures.added clean)
-    (λ adds. (
-      makes_steps c.members_law.ensures.edited old new name day c.in-AddSteps.steps
-          (subst (λ (l : List Step). AddsSteps name day l old new) c.as_slice-in-AddSteps.ensures.view adds),
-      tt,
-    ))
+returns-in-AddSteps-clause-made g c = record {
+  same_reference = c.add_steps.ensures.added.same_reference;
+  transaction = c.add_steps.ensures.added.transaction;
+  says = λ clean way.
+      let old = state g.S.Store c.args.tx.now.conn.now in
+      let new = state g.S.Store c.add_steps.new.tx.conn.now in
+      let name = c.in-AddSteps.name in
+      let day = c.in-AddSteps.day in
+      made_by c.add_steps.result c.args.self.now.edit.now (edits.AddSteps name day c.in-AddSteps.steps) c.args.self.now.prior old new
+      c.in-AddSteps.is (c.add_steps.ensures.added.says clean)
+      (λ adds. (
+        makes_steps c.members_law.ensures.edited old new name day c.in-AddSteps.steps
+            (subst (λ (l : List Step). AddsSteps name day l old new) c.as_slice-in-AddSteps.ensures.view adds),
+        tt,
+      ));
+}
 
 pub returns-in-MoveBase-clause-made : goal.returns-in-MoveBase-clause-made
-returns-in-MoveBase-clause-made g c clean way =
-    let old = state g.S.Store c.args.tx.now.conn.now in
-    let new = state g.S.Store c.move_base.new.tx.conn.now in
-    let number = c.in-MoveBase.number in
-    let base = c.in-MoveBase.base in
-    made_by c.move_base.result c.args.self.now.edit.now (edits.MoveBase number base) c.args.self.now.prior old new c.in-MoveBase.is
-    (c.move_base.ensures.moved clean)
-    (λ moves. (makes_moving c.members_law.ensures.edited old new number base moves, tt))
+returns-in-MoveBase-clause-made g c = record {
+  same_reference = c.move_base.ensures.moved.same_reference;
+  transaction = c.move_base.ensures.moved.transaction;
+  says = λ clean way.
+      let old = state g.S.Store c.args.tx.now.conn.now in
+      let new = state g.S.Store c.move_base.new.tx.conn.now in
+      let number = c.in-MoveBase.number in
+      let base = c.in-MoveBase.base in
+      made_by c.move_base.result c.args.self.now.edit.now (edits.MoveBase number base) c.args.self.now.prior old new c.in-MoveBase.is
+      (c.move_base.ensures.moved.says clean)
+      (λ moves. (makes_moving c.members_law.ensures.edited old new number base moves, tt));
+}
 
 pub returns-in-AddSale-clause-made : goal.returns-in-AddSale-clause-made
-returns-in-AddSale-clause-made g c clean way =
-    let old = state g.S.Store c.args.tx.now.conn.now in
-    let new = state g.S.Store c.add_counted.new.tx.conn.now in
-    let sale = c.in-AddSale.sale in
-    made_by c.add_counted.result c.args.self.now.edit.now (edits.AddSale sale) c.args.self.now.prior old new c.in-AddSale.is
-    (c.add_counted.ensures.added clean way)
-    (λ adds. (makes_sale c.members_law.ensures.edited old new sale adds.tells.adds, (adds.shown, adds.tells.tells, adds.month)))
+returns-in-AddSale-clause-made g c = record {
+  same_reference = c.add_counted.ensures.added.same_reference;
+  transaction = c.add_counted.ensures.added.transaction;
+  says = λ clean way.
+      let old = state g.S.Store c.args.tx.now.conn.now in
+      let new = state g.S.Store c.add_counted.new.tx.conn.now in
+      let sale = c.in-AddSale.sale in
+      made_by c.add_counted.result c.args.self.now.edit.now (edits.AddSale sale) c.args.self.now.prior old new c.in-AddSale.is
+      (c.add_counted.ensures.added.says clean way)
+      (λ adds. (makes_sale c.members_law.ensures.edited old new sale adds.tells.adds, (adds.shown, adds.tells.tells, adds.month)));
+}
 
 pub returns-in-AddTariff-clause-refused : goal.returns-in-AddTariff-clause-refused
 returns-in-AddTariff-clause-refused g c clean way =
@@ -147,7 +184,7 @@ returns-in-SetTariff-clause-refused g c clean way =
     let it = c.in-SetTariff in
     edit_refused c.set_tariff.result c.args.self.now.edit.now (edits.SetTariff it.number it.name) c.args.self.now.prior old new it.is
     (λ has. if_err c.set_tariff.result (of_store [] old old new (came_here old way) (tariff_set it.number it.name) [])
-    (c.set_tariff.ensures.writes.ends clean has).1)
+    (c.set_tariff.ensures.writes.says.ends clean has).1)
 
 pub returns-in-OpenShift-clause-refused : goal.returns-in-OpenShift-clause-refused
 returns-in-OpenShift-clause-refused g c clean way =
@@ -155,7 +192,7 @@ returns-in-OpenShift-clause-refused g c clean way =
     let new = state g.S.Store c.add_shift.new.tx.conn.now in
     let it = c.in-OpenShift in
     edit_refused c.add_shift.result c.args.self.now.edit.now (edits.OpenShift it.shift) c.args.self.now.prior old new it.is
-    (λ has. if_err c.add_shift.result (of_store [] old old new (came_here old way) (new_shift it.shift) []) (c.add_shift.ensures.writes.ends clean has).1)
+    (λ has. if_err c.add_shift.result (of_store [] old old new (came_here old way) (new_shift it.shift) []) (c.add_shift.ensures.writes.says.ends clean has).1)
 
 pub returns-in-CloseShift-clause-refused : goal.returns-in-CloseShift-clause-refused
 returns-in-CloseShift-clause-refused g c clean way =
@@ -164,7 +201,7 @@ returns-in-CloseShift-clause-refused g c clean way =
     let it = c.in-CloseShift in
     edit_refused c.close_shift.result c.args.self.now.edit.now (edits.CloseShift it.number it.moment) c.args.self.now.prior old new it.is
     (λ has. if_err c.close_shift.result (of_store [] old old new (came_here old way) (shift_ended it.number it.moment) [])
-    (c.close_shift.ensures.writes.ends clean has).1)
+    (c.close_shift.ensures.writes.says.ends clean has).1)
 
 pub returns-in-AddRows-clause-refused : goal.returns-in-AddRows-clause-refused
 returns-in-AddRows-clause-refused g c clean way =

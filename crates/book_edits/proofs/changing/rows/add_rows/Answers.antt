@@ -11,6 +11,7 @@ use Rattle.book_tables.proofs.WritingLemmas.TurnLemmas.{rest_after, with_next}
 use Rattle.office_rules.specs.declared.office.row.Row.{Row}
 use Rattle.book_states.specs.Changing.{MakesRows}
 use Rattle.book_edits.proofs.ChangeLemmas.{makes_more, still_has, writes_more}
+use Rattle.book_tables.proofs.ReadingLemmas.SeenLemmas.{none_of}
 use Rattle.book_edits.proofs.changing.rows.add_rows.Goals as goal
 
 pub others-init : goal.others-init
@@ -21,8 +22,8 @@ others-init g c =
     let all : c.args.rows.now ≡ first ∷ c.in-Some.others.now = search rules in
     record {
       same = search rules;
-      transaction = transaction_on c.in_ok-add_row.ensures.transaction;
-      added = λ clean way has. (first, all, c.in_ok-add_row.ensures.added clean has);
+      transaction = transaction_on c.in_ok-add_row.ensures.added.transaction;
+      added = λ clean way has. (first, all, c.in_ok-add_row.ensures.added.says clean has);
       written = λ clean way has. (
         first,
         all,
@@ -40,12 +41,12 @@ others-preserved g c =
     let row = c.row-item.result in
     record {
       same = search rules;
-      transaction = transaction_then old mid new (Ok tt) c.others.invariant.transaction (transaction_on c.in_ok-add_row-2.ensures.transaction);
+      transaction = transaction_then old mid new (Ok tt) c.others.invariant.transaction (transaction_on c.in_ok-add_row-2.ensures.added.transaction);
       added = λ clean way has.
-          let early : HasCleanDisk mid = omega (arith, c.add_row-in-others.ensures.transaction.survives.clean) in
+          let early : HasCleanDisk mid = omega (arith, c.add_row-in-others.ensures.added.transaction.survives.clean) in
           let so_far = c.others.invariant.added early way has in
           let first = so_far.0 in
-          let last = c.in_ok-add_row-2.ensures.added clean (still_has (first ∷ take c.others.row-index others) old mid so_far.2
+          let last = c.in_ok-add_row-2.ensures.added.says clean (still_has (first ∷ take c.others.row-index others) old mid so_far.2
           (c.others.invariant.transaction.inside early way) has) in
           let it = get_or others c.others.row-index row in
           let more = makes_more (first ∷ take c.others.row-index others) it old.now mid.now new.now so_far.2
@@ -57,7 +58,7 @@ others-preserved g c =
           );
       written = λ clean way has.
           let i = c.others.row-index in
-          let early : HasCleanDisk mid = omega (arith, c.add_row-in-others.ensures.transaction.survives.clean) in
+          let early : HasCleanDisk mid = omega (arith, c.add_row-in-others.ensures.added.transaction.survives.clean) in
           let so_far = c.others.invariant.added early way has in
           let inside = c.others.invariant.transaction.inside early way in
           let it = c.others.invariant.written early way has in
@@ -69,21 +70,34 @@ others-preserved g c =
           (it.0, it.1, subst (λ (l : List Write). AreCarriedOut l old new) all (written_then before (row_writes (get_or others i row)) old mid new came here));
     }
 
-pub returns-in_default-clause-transaction : goal.returns-in_default-clause-transaction
-returns-in_default-clause-transaction g c = record { inside = λ _ _. tt; kept = λ clean way. search rules; survives = search rules }
+pub returns-in_default-clause-added : goal.returns-in_default-clause-added
+returns-in_default-clause-added g c = record {
+  same_reference = search rules;
+  transaction = record { inside = λ _ _. tt; kept = λ clean way. search rules; survives = search rules };
+  says = search rules;
+}
 
-pub returns-in_err-add_row-clause-transaction : goal.returns-in_err-add_row-clause-transaction
-returns-in_err-add_row-clause-transaction g c =
-    transaction_off _ c.from_residual.result c.from_residual.ensures.1 c.in_err-add_row.ensures.transaction.kept c.in_err-add_row.ensures.transaction.survives
+pub returns-in_err-add_row-clause-added : goal.returns-in_err-add_row-clause-added
+returns-in_err-add_row-clause-added g c = record {
+  same_reference = search rules;
+  transaction = transaction_off _ c.from_residual.result c.from_residual.ensures.1 c.in_err-add_row.ensures.added.transaction.kept
+      c.in_err-add_row.ensures.added.transaction.survives;
+  says = search rules;
+}
 
-pub returns-in_err-add_row-2-clause-transaction : goal.returns-in_err-add_row-2-clause-transaction
-returns-in_err-add_row-2-clause-transaction g c =
-    let old = state g.S.Store c.args.tx.now.conn.now in
-    let mid = state g.S.Store c.others.tx.conn.now in
-    let new = state g.S.Store c.add_row-in-others.new.tx.conn.now in
-    let r = c.from_residual-in_err-add_row-2.result in
-    let failed = c.in_err-add_row-2.ensures.transaction in
-    transaction_then old mid new r c.others.invariant.transaction (transaction_off _ r c.from_residual-in_err-add_row-2.ensures.1 failed.kept failed.survives)
+pub returns-in_err-add_row-2-clause-added : goal.returns-in_err-add_row-2-clause-added
+returns-in_err-add_row-2-clause-added g c = record {
+  same_reference = search rules;
+  transaction =
+      let old = state g.S.Store c.args.tx.now.conn.now in
+      let mid = state g.S.Store c.others.tx.conn.now in
+      let new = state g.S.Store c.add_row-in-others.new.tx.conn.now in
+      let r = c.from_residual-in_err-add_row-2.result in
+      let failed = c.in_err-add_row-2.ensures.added.transaction in
+      transaction_then old mid new r c.others.invariant.transaction
+      (transaction_off _ r c.from_residual-in_err-add_row-2.ensures.1 failed.kept failed.survives);
+  says = λ clean way has. none_of _ _ c.from_residual-in_err-add_row-2.result c.from_residual-in_err-add_row-2.ensures.1;
+}
 
 pub returns-in_err-add_row-clause-ends : goal.returns-in_err-add_row-clause-ends
 returns-in_err-add_row-clause-ends g c clean way has some =
@@ -105,7 +119,7 @@ returns-in_err-add_row-2-clause-ends g c clean way has some =
     let others = c.in-Some.others.now in
     let row = c.row-item.result in
     let i = c.others.row-index in
-    let early : HasCleanDisk mid = omega (arith, c.add_row-in-others.ensures.transaction.survives.clean) in
+    let early : HasCleanDisk mid = omega (arith, c.add_row-in-others.ensures.added.transaction.survives.clean) in
     let so_far = c.others.invariant.added early way has in
     let inside = c.others.invariant.transaction.inside early way in
     let it = c.others.invariant.written early way has in
@@ -127,3 +141,13 @@ returns-clause-ends g c clean way has some =
           (state g.S.Store c.others.tx.conn.now)) all it.2,
       tt,
     )
+
+pub returns-clause-added : goal.returns-clause-added
+returns-clause-added g c = record {
+  same_reference = search rules;
+  transaction = c.others.invariant.transaction;
+  says = λ clean way has.
+      let it = c.others.invariant.added clean way has in
+      let all = ap (λ (l : List Row). it.0 ∷ l) (take_all c.others.row-index c.in-Some.others.now c.others-test.false) ∙ sym it.1 in
+      subst (λ (l : List Row). MakesRows l (state g.S.Store c.args.tx.now.conn.now).now (state g.S.Store c.others.tx.conn.now).now) all it.2;
+}

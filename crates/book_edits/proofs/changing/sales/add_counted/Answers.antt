@@ -1,4 +1,4 @@
-use Rattle.std.proofs.Common.{arith, inr}
+use Rattle.std.proofs.Common.{rules, arith, inr}
 use Rattle.sqlite.specs.Held.{state}
 use Rattle.one_table.proofs.ChangeLemmas.{told_as, transaction_off}
 use Rattle.office_rules.specs.declared.decision.change.Edit.TheVariants.{AddSale}
@@ -14,20 +14,24 @@ returns-in_err-totals-clause-refused g c clean way has =
     told_as (FailsToMakeEdit (AddSale c.args.sale.now) c.args.prior old new) c.from_residual.result e c.from_residual.ensures.1
     (sold_refused c.args.sale.now c.args.prior old new e way clean (c.in_err-totals.ensures.ends clean way has).1 c.in_err-totals.ensures.no_false_row)
 
-pub returns-in_err-totals-clause-transaction : goal.returns-in_err-totals-clause-transaction
-returns-in_err-totals-clause-transaction g c =
-    transaction_off _ c.from_residual.result c.from_residual.ensures.1 c.in_err-totals.ensures.transaction.kept c.in_err-totals.ensures.transaction.survives
+pub returns-in_err-totals-clause-added : goal.returns-in_err-totals-clause-added
+returns-in_err-totals-clause-added g c = record {
+  same_reference = search rules;
+  transaction = transaction_off _ c.from_residual.result c.from_residual.ensures.1 c.in_err-totals.ensures.adds.transaction.kept
+      c.in_err-totals.ensures.adds.transaction.survives;
+  says = search rules;
+}
 
 -- the month's tenths are fewer than the sale's
 pub returns-then-totals-tenths-clause-refused : goal.returns-then-totals-tenths-clause-refused
 returns-then-totals-tenths-clause-refused g c clean way has =
-    let told = c.in_ok-totals.ensures.adds clean way has in
+    let told = c.in_ok-totals.ensures.adds.says clean way has in
     inr (inr (c.in_ok-totals.totals, told.tells, λ same. omega (arith, c.if-totals-tenths.true, same, c.tenths.ensures.value, c.from-tenths.ensures)))
 
 -- they are not those before it and the sale's
 pub returns-then-totals-tenths-2-clause-refused : goal.returns-then-totals-tenths-2-clause-refused
 returns-then-totals-tenths-2-clause-refused g c clean way has =
-    let told = c.in_ok-totals.ensures.adds clean way has in
+    let told = c.in_ok-totals.ensures.adds.says clean way has in
     inr (inr (
       c.in_ok-totals.totals,
       told.tells,

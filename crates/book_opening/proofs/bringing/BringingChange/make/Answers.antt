@@ -3,10 +3,14 @@ use Rattle.book_opening.proofs.BringingLemmas.{brought_inside, refused_inside, t
 use Rattle.book_opening.proofs.bringing.BringingChange.make.Goals as goal
 
 pub returns-clause-made : goal.returns-clause-made
-returns-clause-made g c clean way =
+returns-clause-made g c =
     let change = c.args.self.now in
-    brought_inside change.from change.meters.now change.sales.now (state g.S.Store c.args.tx.now.conn.now)
-    (state g.S.Store c.bring.new.tx.conn.now) c.bring.result (c.bring.ensures.brings clean)
+    record {
+      same_reference = c.bring.ensures.brings.same_reference;
+      transaction = c.bring.ensures.brings.transaction;
+      says = λ clean way. brought_inside change.from change.meters.now change.sales.now (state g.S.Store c.args.tx.now.conn.now)
+          (state g.S.Store c.bring.new.tx.conn.now) c.bring.result (c.bring.ensures.brings.says clean);
+    }
 
 pub returns-clause-refused : goal.returns-clause-refused
 returns-clause-refused g c clean way =

@@ -27,7 +27,8 @@ bases-preserved g c =
       fills = subst (λ (l : List MeterRow). Fills (IsBaseWrite items) (FillsBases l) old new (Ok tt)) (sym next)
           (fills_then old mid new (codes "meter_bases" ∷ []) (Ok tt) (λ first. first.only)
           (λ _ _ first second. bases_more (take i items) m old mid new first second) c.bases.invariant.fills
-          (fills_write _ (m, there, refl) mid new (Ok tt) c.in_ok-add_base.ensures.writes));
+          (fills_write _ (m, there, refl) mid new (Ok tt) c.in_ok-add_base.ensures.writes.transaction
+          c.in_ok-add_base.ensures.writes.says));
     }
 
 pub returns-in_err-add_base-clause-fills : goal.returns-in_err-add_base-clause-fills
@@ -40,7 +41,8 @@ returns-in_err-add_base-clause-fills g c =
     let there = subst (Contains c.args.meters.now) (sym c.present-item.is) (Contains-get_or c.args.meters.now c.bases.present-index m c.bases-test.true) in
     fills_off old new e c.from_residual.result c.from_residual.ensures.1
     (fills_then {C = λ _ _. Unit {0}} old mid new (codes "meter_bases" ∷ []) (Err e) (λ first. first.only) (λ _ _ _ _. tt)
-    c.bases.invariant.fills (fills_write _ (m, there, refl) mid new (Err e) c.in_err-add_base.ensures.writes))
+    c.bases.invariant.fills (fills_write _ (m, there, refl) mid new (Err e) c.in_err-add_base.ensures.writes.transaction
+    c.in_err-add_base.ensures.writes.says))
 
 pub returns-clause-fills : goal.returns-clause-fills
 returns-clause-fills g c =

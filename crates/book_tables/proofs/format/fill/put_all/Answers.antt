@@ -35,7 +35,8 @@ rows-preserved g c =
       split = append_assoc before (r ∷ []) c.next.new.self ∙ ap (λ l. before ++ l) (sym step) ∙ c.rows.invariant.split;
       puts = fills_then old mid new totals_names (Ok tt) (λ first. first.only)
           (λ _ _ first second. puts_more g.T.TotalRow.in_table g.T.TotalRow.are before r old mid new first second) c.rows.invariant.puts
-          (fills_write _ (r, there, c.in_ok-put.ensures.writes.1) mid new (Ok tt) c.in_ok-put.ensures.writes.2);
+          (fills_write _ (r, there, c.in_ok-put.ensures.writes.says.1) mid new (Ok tt) c.in_ok-put.ensures.writes.transaction
+          c.in_ok-put.ensures.writes.says.2);
     }
 
 pub returns-in_err-put-clause-fills : goal.returns-in_err-put-clause-fills
@@ -48,7 +49,8 @@ returns-in_err-put-clause-fills g c =
     c.rows.invariant.split in
     fills_off old new e c.from_residual.result c.from_residual.ensures.1
     (fills_then {C = λ _ _. Unit {0}} old mid new totals_names (Err e) (λ first. first.only) (λ _ _ _ _. tt) c.rows.invariant.puts
-    (fills_write _ (c.in-Some.row.now, there, c.in_err-put.ensures.writes.1) mid new (Err e) c.in_err-put.ensures.writes.2))
+    (fills_write _ (c.in-Some.row.now, there, c.in_err-put.ensures.writes.says.1) mid new (Err e) c.in_err-put.ensures.writes.transaction
+    c.in_err-put.ensures.writes.says.2))
 
 pub returns-clause-fills : goal.returns-clause-fills
 returns-clause-fills g c =

@@ -1,4 +1,4 @@
-use Rattle.std.proofs.Common.{◌≡◌, ◌∙◌, ◌<◌, Bor, ℕ, List, length, ap, subst, sym}
+use Rattle.std.proofs.Common.{rules, ◌≡◌, ◌∙◌, ◌<◌, Bor, ℕ, List, length, ap, subst, sym}
 use Rattle.std.proofs.lemmas.List.{length-map}
 use Rattle.std.proofs.lemmas.List.Folds.{list_all-map}
 use Rattle.std.specs.List.{list_all}
@@ -21,20 +21,24 @@ create_tables-requires-clause-creations g c =
     sym (list_all-map is_creation (λ (t : Bor (List ℕ)). t.now) c.tables_after.result.texts.now)
     ∙ ap (λ l. list_all is_creation l) c.tables_after.ensures.texts ∙ are_creations (later c.args.from) (later_texts c.args.from)
 
-pub returns-in_err-create_tables-clause-transaction : goal.returns-in_err-create_tables-clause-transaction
-returns-in_err-create_tables-clause-transaction g c =
-    transaction_off _ c.from_residual.result c.from_residual.ensures.1 c.in_err-create_tables.ensures.transaction.kept
-    c.in_err-create_tables.ensures.transaction.survives
+pub returns-in_err-create_tables-clause-made : goal.returns-in_err-create_tables-clause-made
+returns-in_err-create_tables-clause-made g c = record {
+  same_reference = search rules;
+  transaction = transaction_off _ c.from_residual.result c.from_residual.ensures.1 c.in_err-create_tables.ensures.added.transaction.kept
+      c.in_err-create_tables.ensures.added.transaction.survives;
+  says = search rules;
+}
 
 pub returns-clause-made : goal.returns-clause-made
-returns-clause-made g c clean has =
-    let old = state g.S.Store c.args.tx.now.conn.now in
-    let new = state g.S.Store c.create_tables.new.tx.conn.now in
-    let from = c.args.from in
-    let texts = subst (λ l. AreDefined l (kept_tables (later from))) (sym c.tables_after.ensures.texts) (are_defined (later from) (later_texts from)) in
-    let inside = c.in_ok-create_tables.ensures.inside clean in
-    let made = c.in_ok-create_tables.ensures.added clean (λ runs. (has runs).0) (kept_tables (later from)) texts in
-    makes_missing from c.requires old.now new.now (has inside.was_open).1 made
-
-pub returns-clause-transaction : goal.returns-clause-transaction
-returns-clause-transaction g c = transaction_on c.in_ok-create_tables.ensures.transaction
+returns-clause-made g c = record {
+  same_reference = search rules;
+  transaction = transaction_on c.in_ok-create_tables.ensures.added.transaction;
+  says = λ clean has.
+      let old = state g.S.Store c.args.tx.now.conn.now in
+      let new = state g.S.Store c.create_tables.new.tx.conn.now in
+      let from = c.args.from in
+      let texts = subst (λ l. AreDefined l (kept_tables (later from))) (sym c.tables_after.ensures.texts) (are_defined (later from) (later_texts from)) in
+      let inside = c.in_ok-create_tables.ensures.inside clean in
+      let made = c.in_ok-create_tables.ensures.added.says clean (λ runs. (has runs).0) (kept_tables (later from)) texts in
+      makes_missing from c.requires old.now new.now (has inside.was_open).1 made;
+}

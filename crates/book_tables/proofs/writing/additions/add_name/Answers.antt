@@ -12,20 +12,25 @@ use Rattle.book_tables.proofs.WritingLemmas.HiddenWriteLemmas.{adds_name}
 use Rattle.book_tables.proofs.WritingLemmas.WriteTexts.{new_tariff_means, one_term, new_tariff_whole}
 use Rattle.book_tables.proofs.writing.additions.add_name.Goals as goal
 
-pub returns-clause-writes : goal.returns-clause-writes
-returns-clause-writes g c =
+pub returns : goal.returns
+returns g c =
     let s = c.args.tx.now.conn.now.schema in
     let tree = tree_in s (codes "tariffs") in
     record {
-      made = λ clean has.
-          on_ok c.put.result (adds_name (state g.S.Store c.args.tx.now.conn.now) (state g.S.Store c.put.new.tx.conn.now) has
-          c.args.name.now _ c.tariff_values.ensures)
-          (c.put.ensures.added clean (tariffs_table tree) (place_in s (codes "tariffs")) one_term (new_tariff_means tree)
-          (λ runs. (has runs).tables.1.0.0.has));
-      transaction = c.put.ensures.transaction;
-      ends = λ clean has.
-          subst (λ (ps : Values). Ends FailsToStore (record { sql = new_tariff_text; params = ps })
-          (state g.S.Store c.args.tx.now.conn.now) (state g.S.Store c.put.new.tx.conn.now) c.put.result) c.tariff_values.ensures
-          (c.put.ensures.ends clean (tariffs_table tree) (place_in s (codes "tariffs")) one_term (new_tariff_means tree)
-          (subst (λ ps. is_whole new_tariff_text (length ps) ≡ true) (sym c.tariff_values.ensures) new_tariff_whole) (λ runs. (has runs).tables.1.0.0.has));
+      writes = record {
+        same_reference = c.put.ensures.added.same_reference;
+        transaction = c.put.ensures.added.transaction;
+        says = record {
+          made = λ clean has.
+              on_ok c.put.result (adds_name (state g.S.Store c.args.tx.now.conn.now) (state g.S.Store c.put.new.tx.conn.now) has
+              c.args.name.now _ c.tariff_values.ensures)
+              (c.put.ensures.added.says clean (tariffs_table tree) (place_in s (codes "tariffs")) one_term (new_tariff_means tree)
+              (λ runs. (has runs).tables.1.0.0.has));
+          ends = λ clean has.
+              subst (λ (ps : Values). Ends FailsToStore (record { sql = new_tariff_text; params = ps })
+              (state g.S.Store c.args.tx.now.conn.now) (state g.S.Store c.put.new.tx.conn.now) c.put.result) c.tariff_values.ensures
+              (c.put.ensures.ends clean (tariffs_table tree) (place_in s (codes "tariffs")) one_term (new_tariff_means tree)
+              (subst (λ ps. is_whole new_tariff_text (length ps) ≡ true) (sym c.tariff_values.ensures) new_tariff_whole) (λ runs. (has runs).tables.1.0.0.has));
+        };
+      };
     }

@@ -12,21 +12,26 @@ use Rattle.book_tables.proofs.WritingLemmas.WriteLemmas.{adds_shift}
 use Rattle.book_tables.proofs.WritingLemmas.WriteTexts.{new_shift_means, new_shift_terms, new_shift_whole}
 use Rattle.book_tables.proofs.writing.additions.add_shift.Goals as goal
 
-pub returns-clause-writes : goal.returns-clause-writes
-returns-clause-writes g c =
+pub returns : goal.returns
+returns g c =
     let s = c.args.tx.now.conn.now.schema in
     let tree = tree_in s (codes "shifts") in
     record {
-      made = λ clean has.
-          on_ok c.put.result (adds_shift (state g.S.Store c.args.tx.now.conn.now) (state g.S.Store c.put.new.tx.conn.now) has
-          c.args.shift.now _ c.shift_values.ensures)
-          (c.put.ensures.added clean (shifts_table tree) (place_in s (codes "shifts")) new_shift_terms (new_shift_means tree)
-          (λ runs. (has runs).tables.1.1.1.1.0.0.has));
-      transaction = c.put.ensures.transaction;
-      ends = λ clean has.
-          subst (λ (ps : Values). Ends FailsToStore (record { sql = new_shift_text; params = ps }) (state g.S.Store c.args.tx.now.conn.now)
-          (state g.S.Store c.put.new.tx.conn.now) c.put.result) c.shift_values.ensures
-          (c.put.ensures.ends clean (shifts_table tree) (place_in s (codes "shifts")) new_shift_terms (new_shift_means tree)
-          (subst (λ ps. is_whole new_shift_text (length ps) ≡ true) (sym c.shift_values.ensures) new_shift_whole)
-          (λ runs. (has runs).tables.1.1.1.1.0.0.has));
+      writes = record {
+        same_reference = c.put.ensures.added.same_reference;
+        transaction = c.put.ensures.added.transaction;
+        says = record {
+          made = λ clean has.
+              on_ok c.put.result (adds_shift (state g.S.Store c.args.tx.now.conn.now) (state g.S.Store c.put.new.tx.conn.now) has
+              c.args.shift.now _ c.shift_values.ensures)
+              (c.put.ensures.added.says clean (shifts_table tree) (place_in s (codes "shifts")) new_shift_terms (new_shift_means tree)
+              (λ runs. (has runs).tables.1.1.1.1.0.0.has));
+          ends = λ clean has.
+              subst (λ (ps : Values). Ends FailsToStore (record { sql = new_shift_text; params = ps }) (state g.S.Store c.args.tx.now.conn.now)
+              (state g.S.Store c.put.new.tx.conn.now) c.put.result) c.shift_values.ensures
+              (c.put.ensures.ends clean (shifts_table tree) (place_in s (codes "shifts")) new_shift_terms (new_shift_means tree)
+              (subst (λ ps. is_whole new_shift_text (length ps) ≡ true) (sym c.shift_values.ensures) new_shift_whole)
+              (λ runs. (has runs).tables.1.1.1.1.0.0.has));
+        };
+      };
     }

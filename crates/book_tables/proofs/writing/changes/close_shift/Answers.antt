@@ -11,20 +11,25 @@ use Rattle.book_tables.proofs.WritingLemmas.WriteLemmas.{closes_shift}
 use Rattle.book_tables.proofs.WritingLemmas.WriteTexts.{shift_closed_means, shift_closed_query, shift_closed_whole}
 use Rattle.book_tables.proofs.writing.changes.close_shift.Goals as goal
 
-pub returns-clause-writes : goal.returns-clause-writes
-returns-clause-writes g c =
+pub returns : goal.returns
+returns g c =
     let s = c.args.tx.now.conn.now.schema in
     let tree = tree_in s (codes "shifts") in
     record {
-      made = λ clean has.
-          on_ok c.set.result (closes_shift (state g.S.Store c.args.tx.now.conn.now) (state g.S.Store c.set.new.tx.conn.now) has
-          c.args.number c.args.moment _ (rw (c.whole.ensures, c.seconds.ensures) refl))
-          (c.set.ensures.changed clean (shifts_table tree) (place_in s (codes "shifts")) (shift_closed_query tree)
-          (shift_closed_means tree) (λ runs. ((has runs).tables.1.1.1.1.0.0.has, (has runs).tables.1.1.1.1.0.1)));
-      transaction = c.set.ensures.transaction;
-      ends = λ clean has.
-          subst (λ (ps : Values). Ends FailsToStore (record { sql = shift_closed_text; params = ps })
-          (state g.S.Store c.args.tx.now.conn.now) (state g.S.Store c.set.new.tx.conn.now) c.set.result) (rw (c.whole.ensures, c.seconds.ensures) refl)
-          (c.set.ensures.ends clean (shifts_table tree) (place_in s (codes "shifts")) (shift_closed_query tree) (shift_closed_means tree)
-          shift_closed_whole (λ runs. (has runs).tables.1.1.1.1.0.0.has));
+      writes = record {
+        same_reference = c.set.ensures.changed.same_reference;
+        transaction = c.set.ensures.changed.transaction;
+        says = record {
+          made = λ clean has.
+              on_ok c.set.result (closes_shift (state g.S.Store c.args.tx.now.conn.now) (state g.S.Store c.set.new.tx.conn.now) has
+              c.args.number c.args.moment _ (rw (c.whole.ensures, c.seconds.ensures) refl))
+              (c.set.ensures.changed.says clean (shifts_table tree) (place_in s (codes "shifts")) (shift_closed_query tree)
+              (shift_closed_means tree) (λ runs. ((has runs).tables.1.1.1.1.0.0.has, (has runs).tables.1.1.1.1.0.1)));
+          ends = λ clean has.
+              subst (λ (ps : Values). Ends FailsToStore (record { sql = shift_closed_text; params = ps })
+              (state g.S.Store c.args.tx.now.conn.now) (state g.S.Store c.set.new.tx.conn.now) c.set.result) (rw (c.whole.ensures, c.seconds.ensures) refl)
+              (c.set.ensures.ends clean (shifts_table tree) (place_in s (codes "shifts")) (shift_closed_query tree) (shift_closed_means tree)
+              shift_closed_whole (λ runs. (has runs).tables.1.1.1.1.0.0.has));
+        };
+      };
     }

@@ -11,21 +11,26 @@ use Rattle.book_tables.proofs.WritingLemmas.HiddenWriteLemmas.{sets_tariff}
 use Rattle.book_tables.proofs.WritingLemmas.WriteTexts.{tariff_set_means, tariff_set_query, tariff_set_whole}
 use Rattle.book_tables.proofs.writing.changes.set_tariff.Goals as goal
 
-pub returns-clause-writes : goal.returns-clause-writes
-returns-clause-writes g c =
+pub returns : goal.returns
+returns g c =
     let s = c.args.tx.now.conn.now.schema in
     let tree = tree_in s (codes "meters") in
     record {
-      made = λ clean has.
-          on_ok c.set.result (sets_tariff (state g.S.Store c.args.tx.now.conn.now) (state g.S.Store c.set.new.tx.conn.now) has
-          c.args.number.now c.args.name.now _ (rw (c.as_bytes.ensures.view, c.as_bytes-2.ensures.view) refl))
-          (c.set.ensures.changed clean (meters_table tree) (place_in s (codes "meters")) (tariff_set_query tree) (tariff_set_means tree)
-          (λ runs. ((has runs).tables.1.1.1.0.0.has, (has runs).tables.1.1.1.0.1)));
-      transaction = c.set.ensures.transaction;
-      ends = λ clean has.
-          subst (λ (ps : Values). Ends FailsToStore (record { sql = tariff_set_text; params = ps })
-          (state g.S.Store c.args.tx.now.conn.now) (state g.S.Store c.set.new.tx.conn.now) c.set.result)
-          (rw (c.as_bytes.ensures.view, c.as_bytes-2.ensures.view) refl)
-          (c.set.ensures.ends clean (meters_table tree) (place_in s (codes "meters")) (tariff_set_query tree) (tariff_set_means tree)
-          tariff_set_whole (λ runs. (has runs).tables.1.1.1.0.0.has));
+      writes = record {
+        same_reference = c.set.ensures.changed.same_reference;
+        transaction = c.set.ensures.changed.transaction;
+        says = record {
+          made = λ clean has.
+              on_ok c.set.result (sets_tariff (state g.S.Store c.args.tx.now.conn.now) (state g.S.Store c.set.new.tx.conn.now) has
+              c.args.number.now c.args.name.now _ (rw (c.as_bytes.ensures.view, c.as_bytes-2.ensures.view) refl))
+              (c.set.ensures.changed.says clean (meters_table tree) (place_in s (codes "meters")) (tariff_set_query tree) (tariff_set_means tree)
+              (λ runs. ((has runs).tables.1.1.1.0.0.has, (has runs).tables.1.1.1.0.1)));
+          ends = λ clean has.
+              subst (λ (ps : Values). Ends FailsToStore (record { sql = tariff_set_text; params = ps })
+              (state g.S.Store c.args.tx.now.conn.now) (state g.S.Store c.set.new.tx.conn.now) c.set.result)
+              (rw (c.as_bytes.ensures.view, c.as_bytes-2.ensures.view) refl)
+              (c.set.ensures.ends clean (meters_table tree) (place_in s (codes "meters")) (tariff_set_query tree) (tariff_set_means tree)
+              tariff_set_whole (λ runs. (has runs).tables.1.1.1.0.0.has));
+        };
+      };
     }

@@ -1,3 +1,4 @@
+use Rattle.std.proofs.Common.{rules}
 use Rattle.sqlite.specs.Held.{state}
 use Rattle.sqlite.specs.Values.{bound}
 use Rattle.book_tables.specs.reading.Reading.{ShowsRecord}
@@ -6,9 +7,13 @@ use Rattle.book_tables.proofs.WritingLemmas.CauseLemmas.{one_written}
 use Rattle.book_tables.proofs.WritingLemmas.RefusalLemmas.{false_row, fails_to_merge, means_merging}
 use Rattle.book_tables.proofs.writing.merge.merge.Goals as goal
 
-pub returns-in_err-shown-clause-transaction : goal.returns-in_err-shown-clause-transaction
-returns-in_err-shown-clause-transaction g c =
-    transaction_off _ c.from_residual.result c.from_residual.ensures.1 c.in_err-shown.ensures.transaction.kept c.in_err-shown.ensures.transaction.survives
+pub returns-in_err-shown-clause-merged : goal.returns-in_err-shown-clause-merged
+returns-in_err-shown-clause-merged g c = record {
+  same_reference = search rules;
+  transaction = transaction_off _ c.from_residual.result c.from_residual.ensures.1 c.in_err-shown.ensures.merged.transaction.kept
+      c.in_err-shown.ensures.merged.transaction.survives;
+  says = search rules;
+}
 
 pub returns-in_err-shown-clause-ends : goal.returns-in_err-shown-clause-ends
 returns-in_err-shown-clause-ends g c clean way t at m is whole stands =
@@ -30,5 +35,9 @@ returns-in_err-shown-clause-false_row g c clean way t at m is whole takes told_s
     false_row t m (bound c.args.params.now) at (ShowsRecord g.T.Record.shown g.T.Record.keeps) c.in_err-shown.field-0.0
     c.from_residual.result c.from_residual.ensures.1 (c.in_err-shown.ensures.refused clean way t at m is whole takes) told_so
 
-pub returns-clause-transaction : goal.returns-clause-transaction
-returns-clause-transaction g c = transaction_on c.in_ok-shown.ensures.transaction
+pub returns-clause-merged : goal.returns-clause-merged
+returns-clause-merged g c = record {
+  same_reference = search rules;
+  transaction = transaction_on c.in_ok-shown.ensures.merged.transaction;
+  says = c.in_ok-shown.ensures.merged.says;
+}

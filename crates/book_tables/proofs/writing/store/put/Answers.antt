@@ -1,3 +1,4 @@
+use Rattle.std.proofs.Common.{rules}
 use Rattle.sqlite.specs.Held.{state}
 use Rattle.sqlite.specs.Values.{bound}
 use Rattle.one_table.proofs.InsertTextLemmas.{inserts}
@@ -7,9 +8,13 @@ use Rattle.book_tables.proofs.WritingLemmas.CauseLemmas.{one_written}
 use Rattle.book_tables.proofs.WritingLemmas.RefusalLemmas.{fails_to_store}
 use Rattle.book_tables.proofs.writing.store.put.Goals as goal
 
-pub returns-in_err-insert-clause-transaction : goal.returns-in_err-insert-clause-transaction
-returns-in_err-insert-clause-transaction g c =
-    transaction_off _ c.from_residual.result c.from_residual.ensures.1 c.in_err-insert.ensures.transaction.kept c.in_err-insert.ensures.transaction.survives
+pub returns-in_err-insert-clause-added : goal.returns-in_err-insert-clause-added
+returns-in_err-insert-clause-added g c = record {
+  same_reference = search rules;
+  transaction = transaction_off _ c.from_residual.result c.from_residual.ensures.1 c.in_err-insert.ensures.added.transaction.kept
+      c.in_err-insert.ensures.added.transaction.survives;
+  says = search rules;
+}
 
 pub returns-in_err-insert-clause-ends : goal.returns-in_err-insert-clause-ends
 returns-in_err-insert-clause-ends g c clean t at terms is whole has =
@@ -25,5 +30,9 @@ returns-clause-ends g c clean t at terms is whole has = (
   tt,
 )
 
-pub returns-clause-transaction : goal.returns-clause-transaction
-returns-clause-transaction g c = transaction_on c.in_ok-insert.ensures.transaction
+pub returns-clause-added : goal.returns-clause-added
+returns-clause-added g c = record {
+  same_reference = search rules;
+  transaction = transaction_on c.in_ok-insert.ensures.added.transaction;
+  says = c.in_ok-insert.ensures.added.says;
+}

@@ -1,3 +1,4 @@
+use Rattle.std.proofs.Common.{rules}
 use Rattle.sqlite.specs.Held.{state}
 use Rattle.sqlite.specs.Values.{bound}
 use Rattle.one_table.proofs.UpdateTextLemmas.{updates}
@@ -7,9 +8,13 @@ use Rattle.book_tables.proofs.WritingLemmas.CauseLemmas.{one_written}
 use Rattle.book_tables.proofs.WritingLemmas.RefusalLemmas.{fails_to_store}
 use Rattle.book_tables.proofs.writing.store.set.Goals as goal
 
-pub returns-in_err-update-clause-transaction : goal.returns-in_err-update-clause-transaction
-returns-in_err-update-clause-transaction g c =
-    transaction_off _ c.from_residual.result c.from_residual.ensures.1 c.in_err-update.ensures.transaction.kept c.in_err-update.ensures.transaction.survives
+pub returns-in_err-update-clause-changed : goal.returns-in_err-update-clause-changed
+returns-in_err-update-clause-changed g c = record {
+  same_reference = search rules;
+  transaction = transaction_off _ c.from_residual.result c.from_residual.ensures.1 c.in_err-update.ensures.changed.transaction.kept
+      c.in_err-update.ensures.changed.transaction.survives;
+  says = search rules;
+}
 
 pub returns-in_err-update-clause-ends : goal.returns-in_err-update-clause-ends
 returns-in_err-update-clause-ends g c clean t at q is whole has =
@@ -25,5 +30,9 @@ returns-clause-ends g c clean t at q is whole has = (
   tt,
 )
 
-pub returns-clause-transaction : goal.returns-clause-transaction
-returns-clause-transaction g c = transaction_on c.in_ok-update.ensures.transaction
+pub returns-clause-changed : goal.returns-clause-changed
+returns-clause-changed g c = record {
+  same_reference = search rules;
+  transaction = transaction_on c.in_ok-update.ensures.changed.transaction;
+  says = c.in_ok-update.ensures.changed.says;
+}

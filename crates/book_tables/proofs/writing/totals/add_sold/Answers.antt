@@ -1,4 +1,4 @@
-use Rattle.std.proofs.Common.{arith, codes, [], ◌∷◌, inl, subst}
+use Rattle.std.proofs.Common.{rules, arith, codes, [], ◌∷◌, inl, subst}
 use Rattle.sqlite.specs.Held.{state}
 use Rattle.sqlite.specs.State.{HasCleanDisk}
 use Rattle.one_table.proofs.ChangeLemmas.{transaction_off, transaction_on, transaction_then}
@@ -8,43 +8,53 @@ use Rattle.book_tables.proofs.WritingLemmas.RefusalLemmas.{handed_on, same_error
 use Rattle.book_tables.specs.writing.Failing.{FailsToMergeAll, FailsToStore}
 use Rattle.book_tables.specs.writing.Writes.{new_sale, sale_writes, totals_writes}
 use Rattle.book_tables.proofs.WritingLemmas.CauseLemmas.{came_by, came_here, ends_off, of_later_merge, of_store, written_then}
+use Rattle.book_tables.proofs.ReadingLemmas.SeenLemmas.{none_of}
 use Rattle.book_tables.proofs.writing.totals.add_sold.Goals as goal
 
-pub returns-in_err-add_sale-clause-transaction : goal.returns-in_err-add_sale-clause-transaction
-returns-in_err-add_sale-clause-transaction g c =
-    let failed = c.in_err-add_sale.ensures.writes.transaction in
-    transaction_off _ c.from_residual.result c.from_residual.ensures.1 failed.kept failed.survives
+pub returns-in_err-add_sale-clause-adds : goal.returns-in_err-add_sale-clause-adds
+returns-in_err-add_sale-clause-adds g c = record {
+  same_reference = search rules;
+  transaction =
+      let failed = c.in_err-add_sale.ensures.writes.transaction in
+      transaction_off _ c.from_residual.result c.from_residual.ensures.1 failed.kept failed.survives;
+  says = search rules;
+}
 
-pub returns-in_err-totals-clause-transaction : goal.returns-in_err-totals-clause-transaction
-returns-in_err-totals-clause-transaction g c =
-    let r = c.from_residual-in_err-totals.result in
-    let failed = c.in_err-totals.ensures.transaction in
-    transaction_then (state g.S.Store c.args.tx.now.conn.now) (state g.S.Store c.add_sale.new.tx.conn.now)
-    (state g.S.Store c.add_totals.new.tx.conn.now) r c.in_ok-add_sale.ensures.writes.transaction
-    (transaction_off _ r c.from_residual-in_err-totals.ensures.1 failed.kept failed.survives)
-
-pub returns-clause-transaction : goal.returns-clause-transaction
-returns-clause-transaction g c =
-    transaction_then (state g.S.Store c.args.tx.now.conn.now) (state g.S.Store c.add_sale.new.tx.conn.now)
-    (state g.S.Store c.add_totals.new.tx.conn.now) _ c.in_ok-add_sale.ensures.writes.transaction
-    (transaction_on c.in_ok-totals.ensures.transaction)
+pub returns-in_err-totals-clause-adds : goal.returns-in_err-totals-clause-adds
+returns-in_err-totals-clause-adds g c = record {
+  same_reference = search rules;
+  transaction =
+      let r = c.from_residual-in_err-totals.result in
+      let failed = c.in_err-totals.ensures.adds.transaction in
+      transaction_then (state g.S.Store c.args.tx.now.conn.now) (state g.S.Store c.add_sale.new.tx.conn.now)
+      (state g.S.Store c.add_totals.new.tx.conn.now) r c.in_ok-add_sale.ensures.writes.transaction
+      (transaction_off _ r c.from_residual-in_err-totals.ensures.1 failed.kept failed.survives);
+  says = λ clean way has. none_of _ _ c.from_residual-in_err-totals.result c.from_residual-in_err-totals.ensures.1;
+}
 
 pub returns-clause-adds : goal.returns-clause-adds
-returns-clause-adds g c clean way has =
-    let old = state g.S.Store c.args.tx.now.conn.now in
-    let mid = state g.S.Store c.add_sale.new.tx.conn.now in
-    let new = state g.S.Store c.add_totals.new.tx.conn.now in
-    let early : HasCleanDisk mid = omega (arith, c.add_totals.ensures.transaction.survives.clean) in
-    let first = c.in_ok-add_sale.ensures.writes.made early has in
-    let second = c.in_ok-totals.ensures.adds clean first.only.inside.mode (tables_stay (codes "sales" ∷ []) old mid first.only has) in
-    tells_sold c.amount_law.ensures.greatest c.args.sale.now c.in_ok-totals.totals old mid new first second has
+returns-clause-adds g c = record {
+  same_reference = search rules;
+  transaction =
+      transaction_then (state g.S.Store c.args.tx.now.conn.now) (state g.S.Store c.add_sale.new.tx.conn.now)
+      (state g.S.Store c.add_totals.new.tx.conn.now) _ c.in_ok-add_sale.ensures.writes.transaction
+      (transaction_on c.in_ok-totals.ensures.adds.transaction);
+  says = λ clean way has.
+      let old = state g.S.Store c.args.tx.now.conn.now in
+      let mid = state g.S.Store c.add_sale.new.tx.conn.now in
+      let new = state g.S.Store c.add_totals.new.tx.conn.now in
+      let early : HasCleanDisk mid = omega (arith, c.add_totals.ensures.adds.transaction.survives.clean) in
+      let first = c.in_ok-add_sale.ensures.writes.says.made early has in
+      let second = c.in_ok-totals.ensures.adds.says clean first.only.inside.mode (tables_stay (codes "sales" ∷ []) old mid first.only has) in
+      tells_sold c.amount_law.ensures.greatest c.args.sale.now c.in_ok-totals.totals old mid new first second has;
+}
 
 pub returns-in_err-add_sale-clause-no_false_row : goal.returns-in_err-add_sale-clause-no_false_row
 returns-in_err-add_sale-clause-no_false_row g c clean way format rows held known told_so =
     let old = state g.S.Store c.args.tx.now.conn.now in
     let new = state g.S.Store c.add_sale.new.tx.conn.now in
     let e = c.in_err-add_sale.field-0.0 in
-    let fails : FailsToStore (new_sale c.args.sale.now) old new e = (c.in_err-add_sale.ensures.writes.ends clean (λ runs. (held runs).has)).1 in
+    let fails : FailsToStore (new_sale c.args.sale.now) old new e = (c.in_err-add_sale.ensures.writes.says.ends clean (λ runs. (held runs).has)).1 in
     subst (FailsToStore (new_sale c.args.sale.now) old new)
     (same_error {A = Unit {0}} e RowOfNoOffice (handed_on e RowOfNoOffice c.from_residual.result c.from_residual.ensures.1 told_so)) fails
 
@@ -53,8 +63,8 @@ returns-in_err-totals-clause-no_false_row g c clean way format rows held known t
     let sale = c.args.sale.now in
     let old = state g.S.Store c.args.tx.now.conn.now in
     let mid = state g.S.Store c.add_sale.new.tx.conn.now in
-    let early : HasCleanDisk mid = omega (arith, c.add_totals.ensures.transaction.survives.clean) in
-    let first = c.in_ok-add_sale.ensures.writes.made early (λ runs. (held runs).has) in
+    let early : HasCleanDisk mid = omega (arith, c.add_totals.ensures.adds.transaction.survives.clean) in
+    let first = c.in_ok-add_sale.ensures.writes.says.made early (λ runs. (held runs).has) in
     let after = may_add_totals sale c.amount_law.ensures.greatest old mid first format rows (held first.only.inside.was_open) known in
     c.in_err-totals.ensures.no_false_row clean first.only.inside.mode format after.0 (λ _. after.1) after.2
     (handed_on c.in_err-totals.field-0.0 RowOfNoOffice c.from_residual-in_err-totals.result c.from_residual-in_err-totals.ensures.1 told_so)
@@ -66,7 +76,7 @@ returns-in_err-add_sale-clause-ends g c clean way has =
     let new = state g.S.Store c.add_sale.new.tx.conn.now in
     let e = c.in_err-add_sale.field-0.0 in
     ends_off FailsToMergeAll (sale_writes sale) old new e c.from_residual.result c.from_residual.ensures.1
-    (inl (of_store [] old old new (came_here old way) (new_sale sale) (totals_writes sale sale.tid) e (c.in_err-add_sale.ensures.writes.ends clean has).1))
+    (inl (of_store [] old old new (came_here old way) (new_sale sale) (totals_writes sale sale.tid) e (c.in_err-add_sale.ensures.writes.says.ends clean has).1))
 
 pub returns-in_err-totals-clause-ends : goal.returns-in_err-totals-clause-ends
 returns-in_err-totals-clause-ends g c clean way has =
@@ -74,10 +84,10 @@ returns-in_err-totals-clause-ends g c clean way has =
     let old = state g.S.Store c.args.tx.now.conn.now in
     let mid = state g.S.Store c.add_sale.new.tx.conn.now in
     let new = state g.S.Store c.add_totals.new.tx.conn.now in
-    let early : HasCleanDisk mid = omega (arith, c.add_totals.ensures.transaction.survives.clean) in
+    let early : HasCleanDisk mid = omega (arith, c.add_totals.ensures.adds.transaction.survives.clean) in
     let done = c.in_ok-add_sale.ensures.writes in
-    let first = done.made early has in
-    let came = came_by (new_sale sale ∷ []) old mid (done.ends early has).0 first.only.inside done.transaction.survives in
+    let first = done.says.made early has in
+    let came = came_by (new_sale sale ∷ []) old mid (done.says.ends early has).0 first.only.inside done.transaction.survives in
     let e = c.in_err-totals.field-0.0 in
     let fails = (c.in_err-totals.ensures.ends clean first.only.inside.mode (tables_stay (codes "sales" ∷ []) old mid first.only has)).1 in
     ends_off FailsToMergeAll (sale_writes sale) old new e c.from_residual-in_err-totals.result c.from_residual-in_err-totals.ensures.1
@@ -89,9 +99,9 @@ returns-clause-ends g c clean way has =
     let old = state g.S.Store c.args.tx.now.conn.now in
     let mid = state g.S.Store c.add_sale.new.tx.conn.now in
     let new = state g.S.Store c.add_totals.new.tx.conn.now in
-    let early : HasCleanDisk mid = omega (arith, c.add_totals.ensures.transaction.survives.clean) in
+    let early : HasCleanDisk mid = omega (arith, c.add_totals.ensures.adds.transaction.survives.clean) in
     let done = c.in_ok-add_sale.ensures.writes in
-    let first = done.made early has in
-    let came = came_by (new_sale sale ∷ []) old mid (done.ends early has).0 first.only.inside done.transaction.survives in
+    let first = done.says.made early has in
+    let came = came_by (new_sale sale ∷ []) old mid (done.says.ends early has).0 first.only.inside done.transaction.survives in
     let then = (c.in_ok-totals.ensures.ends clean first.only.inside.mode (tables_stay (codes "sales" ∷ []) old mid first.only has)).0 in
     (written_then (new_sale sale ∷ []) (totals_writes sale sale.tid) old mid new came then, tt)

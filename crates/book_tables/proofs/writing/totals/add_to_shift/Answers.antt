@@ -2,7 +2,7 @@ use Rattle.std.proofs.Common.{◌≡◌, ◌∷◌, [], length, subst, sym, true
 use Rattle.sqlite.specs.Held.{state}
 use Rattle.sqlite.specs.Order.{Row as Values}
 use Rattle.sqlite.specs.Values.{bound}
-use Rattle.one_table.proofs.ChangeLemmas.{transaction_on}
+use Rattle.one_table.proofs.ChangeLemmas.{transaction_off, transaction_on}
 use Rattle.one_table.specs.Reading.{is_whole}
 use Rattle.book_tables.specs.Kept.{shift_totals_kept}
 use Rattle.book_tables.specs.declared.error.TableError.TheVariants.{RowOfNoOffice}
@@ -20,11 +20,16 @@ returns-in_err-all-clause-merges g c =
     let new = state g.S.Store c.merge.new.tx.conn.now in
     let e = c.in_err-all.field-0.0 in
     let failed = c.in_err-all.ensures in
-    merge_off e c.from_residual.result c.from_residual.ensures.1 failed.transaction.kept failed.transaction.survives
-    (λ clean way has. subst (λ (ps : Values). FailsToMerge (record { sql = sale_counted_text; params = ps }) old new e) c.sale_total_values.ensures
-    (failed.ends clean way (shift_totals old new) (shift_totals_at old new) totals_merging (sale_counted_means (shift_totals old new).tree)
-    (subst (λ ps. is_whole sale_counted_text (length ps) ≡ true) (sym c.sale_total_values.ensures) sale_counted_whole)
-    (λ runs. stands_for shift_totals_kept old.now.schema (shift_totals_in.there old.now.schema (has runs)))).1)
+    record {
+      same_reference = failed.merged.same_reference;
+      transaction = transaction_off e c.from_residual.result c.from_residual.ensures.1 failed.merged.transaction.kept
+          failed.merged.transaction.survives;
+      says = merge_off e c.from_residual.result c.from_residual.ensures.1
+          (λ clean way has. subst (λ (ps : Values). FailsToMerge (record { sql = sale_counted_text; params = ps }) old new e) c.sale_total_values.ensures
+          (failed.ends clean way (shift_totals old new) (shift_totals_at old new) totals_merging (sale_counted_means (shift_totals old new).tree)
+          (subst (λ ps. is_whole sale_counted_text (length ps) ≡ true) (sym c.sale_total_values.ensures) sale_counted_whole)
+          (λ runs. stands_for shift_totals_kept old.now.schema (shift_totals_in.there old.now.schema (has runs)))).1);
+    }
 
 pub returns-clause-merges : goal.returns-clause-merges
 returns-clause-merges g c =
@@ -32,21 +37,24 @@ returns-clause-merges g c =
     let new = state g.S.Store c.merge.new.tx.conn.now in
     let done = c.in_ok-all.ensures in
     record {
-      made = λ clean way has.
-          adds_to_shift old new c.args.shift c.args.tenths c.args.price has c.in_ok-all.all (bound c.sale_total_values.result) c.sale_total_values.ensures
-          (done.touched clean way (shift_totals old new) (shift_totals_at old new) totals_merging
-          (sale_counted_means (shift_totals old new).tree) (λ runs. stands_for shift_totals_kept old.now.schema
-          (shift_totals_in.there old.now.schema (has runs))))
-          (λ takes. let it = done.merged clean way (shift_totals old new) (shift_totals_at old new) totals_merging
-          (sale_counted_means (shift_totals old new).tree) takes in it);
-      transaction = transaction_on done.transaction;
-      ends = λ clean way has. (
-        subst (λ (ps : Values). AreCarriedOut (record { sql = sale_counted_text; params = ps } ∷ []) old new) c.sale_total_values.ensures
-            (done.ends clean way (shift_totals old new) (shift_totals_at old new) totals_merging (sale_counted_means (shift_totals old new).tree)
-            (subst (λ ps. is_whole sale_counted_text (length ps) ≡ true) (sym c.sale_total_values.ensures) sale_counted_whole)
-            (λ runs. stands_for shift_totals_kept old.now.schema (shift_totals_in.there old.now.schema (has runs)))).0,
-        tt,
-      );
+      same_reference = done.merged.same_reference;
+      transaction = transaction_on done.merged.transaction;
+      says = record {
+        made = λ clean way has.
+            adds_to_shift old new c.args.shift c.args.tenths c.args.price has c.in_ok-all.all (bound c.sale_total_values.result) c.sale_total_values.ensures
+            (done.touched clean way (shift_totals old new) (shift_totals_at old new) totals_merging
+            (sale_counted_means (shift_totals old new).tree) (λ runs. stands_for shift_totals_kept old.now.schema
+            (shift_totals_in.there old.now.schema (has runs))))
+            (λ takes. let it = done.merged.says clean way (shift_totals old new) (shift_totals_at old new) totals_merging
+            (sale_counted_means (shift_totals old new).tree) takes in it);
+        ends = λ clean way has. (
+          subst (λ (ps : Values). AreCarriedOut (record { sql = sale_counted_text; params = ps } ∷ []) old new) c.sale_total_values.ensures
+              (done.ends clean way (shift_totals old new) (shift_totals_at old new) totals_merging (sale_counted_means (shift_totals old new).tree)
+              (subst (λ ps. is_whole sale_counted_text (length ps) ≡ true) (sym c.sale_total_values.ensures) sale_counted_whole)
+              (λ runs. stands_for shift_totals_kept old.now.schema (shift_totals_in.there old.now.schema (has runs)))).0,
+          tt,
+        );
+      };
     }
 
 pub returns-in_err-all-clause-no_false_row : goal.returns-in_err-all-clause-no_false_row

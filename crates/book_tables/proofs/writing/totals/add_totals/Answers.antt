@@ -1,4 +1,4 @@
-use Rattle.std.proofs.Common.{◌≡◌, ℕ, arith, codes, [], ◌∷◌, map, sym, subst}
+use Rattle.std.proofs.Common.{rules, ◌≡◌, ℕ, arith, codes, [], ◌∷◌, map, sym, subst}
 use Rattle.sqlite.specs.Held.{state}
 use Rattle.sqlite.specs.State.{HasCleanDisk, State}
 use Rattle.one_table.proofs.ChangeLemmas.{transaction_off, transaction_on, transaction_then}
@@ -13,62 +13,76 @@ use Rattle.book_tables.proofs.WritingLemmas.RefusalLemmas.{handed_on}
 use Rattle.book_tables.specs.writing.Failing.{FailsToMerge, FailsToMergeAll}
 use Rattle.book_tables.specs.writing.Writes.{AreCarriedOut, last_id_set, sale_counted, tenths_added, totals_writes}
 use Rattle.book_tables.proofs.WritingLemmas.CauseLemmas.{Came, came_by, came_here, came_later, ends_off, of_merge, written_then}
+use Rattle.book_tables.proofs.ReadingLemmas.SeenLemmas.{none_of}
 use Rattle.book_tables.proofs.writing.totals.add_totals.Goals as goal
 
-pub returns-in_err-set_last_id-clause-transaction : goal.returns-in_err-set_last_id-clause-transaction
-returns-in_err-set_last_id-clause-transaction g c =
-    let failed = c.in_err-set_last_id.ensures.merges.transaction in
-    transaction_off _ c.from_residual.result c.from_residual.ensures.1 failed.kept failed.survives
+pub returns-in_err-set_last_id-clause-adds : goal.returns-in_err-set_last_id-clause-adds
+returns-in_err-set_last_id-clause-adds g c = record {
+  same_reference = search rules;
+  transaction =
+      let failed = c.in_err-set_last_id.ensures.merges.transaction in
+      transaction_off _ c.from_residual.result c.from_residual.ensures.1 failed.kept failed.survives;
+  says = search rules;
+}
 
-pub returns-in_err-month_tenths-clause-transaction : goal.returns-in_err-month_tenths-clause-transaction
-returns-in_err-month_tenths-clause-transaction g c =
-    let r = c.from_residual-in_err-month_tenths.result in
-    let failed = c.in_err-month_tenths.ensures.merges.transaction in
-    transaction_then (state g.S.Store c.args.tx.now.conn.now) (state g.S.Store c.set_last_id.new.tx.conn.now)
-    (state g.S.Store c.add_tenths.new.tx.conn.now) r c.in_ok-set_last_id.ensures.merges.transaction
-    (transaction_off _ r c.from_residual-in_err-month_tenths.ensures.1 failed.kept failed.survives)
+pub returns-in_err-month_tenths-clause-adds : goal.returns-in_err-month_tenths-clause-adds
+returns-in_err-month_tenths-clause-adds g c = record {
+  same_reference = search rules;
+  transaction =
+      let r = c.from_residual-in_err-month_tenths.result in
+      let failed = c.in_err-month_tenths.ensures.merges.transaction in
+      transaction_then (state g.S.Store c.args.tx.now.conn.now) (state g.S.Store c.set_last_id.new.tx.conn.now)
+      (state g.S.Store c.add_tenths.new.tx.conn.now) r c.in_ok-set_last_id.ensures.merges.transaction
+      (transaction_off _ r c.from_residual-in_err-month_tenths.ensures.1 failed.kept failed.survives);
+  says = λ clean way has. none_of _ _ c.from_residual-in_err-month_tenths.result c.from_residual-in_err-month_tenths.ensures.1;
+}
 
-pub returns-in_err-shift-clause-transaction : goal.returns-in_err-shift-clause-transaction
-returns-in_err-shift-clause-transaction g c =
-    let old = state g.S.Store c.args.tx.now.conn.now in
-    let one = state g.S.Store c.set_last_id.new.tx.conn.now in
-    let two = state g.S.Store c.add_tenths.new.tx.conn.now in
-    let new = state g.S.Store c.add_to_shift.new.tx.conn.now in
-    let r = c.from_residual-in_err-shift.result in
-    let failed = c.in_err-shift.ensures.merges.transaction in
-    transaction_then old one new r c.in_ok-set_last_id.ensures.merges.transaction
-    (transaction_then one two new r c.in_ok-month_tenths.ensures.merges.transaction
-    (transaction_off _ r c.from_residual-in_err-shift.ensures.1 failed.kept failed.survives))
-
-pub returns-clause-transaction : goal.returns-clause-transaction
-returns-clause-transaction g c =
-    let old = state g.S.Store c.args.tx.now.conn.now in
-    let one = state g.S.Store c.set_last_id.new.tx.conn.now in
-    let two = state g.S.Store c.add_tenths.new.tx.conn.now in
-    let new = state g.S.Store c.add_to_shift.new.tx.conn.now in
-    transaction_then old one new _ c.in_ok-set_last_id.ensures.merges.transaction
-    (transaction_then one two new _ c.in_ok-month_tenths.ensures.merges.transaction (transaction_on c.in_ok-shift.ensures.merges.transaction))
+pub returns-in_err-shift-clause-adds : goal.returns-in_err-shift-clause-adds
+returns-in_err-shift-clause-adds g c = record {
+  same_reference = search rules;
+  transaction =
+      let old = state g.S.Store c.args.tx.now.conn.now in
+      let one = state g.S.Store c.set_last_id.new.tx.conn.now in
+      let two = state g.S.Store c.add_tenths.new.tx.conn.now in
+      let new = state g.S.Store c.add_to_shift.new.tx.conn.now in
+      let r = c.from_residual-in_err-shift.result in
+      let failed = c.in_err-shift.ensures.merges.transaction in
+      transaction_then old one new r c.in_ok-set_last_id.ensures.merges.transaction
+      (transaction_then one two new r c.in_ok-month_tenths.ensures.merges.transaction
+      (transaction_off _ r c.from_residual-in_err-shift.ensures.1 failed.kept failed.survives));
+  says = λ clean way has. none_of _ _ c.from_residual-in_err-shift.result c.from_residual-in_err-shift.ensures.1;
+}
 
 pub returns-clause-adds : goal.returns-clause-adds
-returns-clause-adds g c clean way has =
-    let sale = c.args.sale.now in
-    let old = state g.S.Store c.args.tx.now.conn.now in
-    let one = state g.S.Store c.set_last_id.new.tx.conn.now in
-    let two = state g.S.Store c.add_tenths.new.tx.conn.now in
-    let new = state g.S.Store c.add_to_shift.new.tx.conn.now in
-    let sum = c.in_ok-month_tenths.month_tenths in
-    let shift = c.in_ok-shift.shift in
-    let clean_two : HasCleanDisk two = omega (arith, c.add_to_shift.ensures.merges.transaction.survives.clean) in
-    let clean_one : HasCleanDisk one = omega (arith, c.add_tenths.ensures.merges.transaction.survives.clean) in
-    let first = c.in_ok-set_last_id.ensures.merges.made clean_one way has in
-    let has_one = tables_stay (codes "last_ids" ∷ []) old one first.only has in
-    let second = c.in_ok-month_tenths.ensures.merges.made clean_two first.only.inside.mode has_one in
-    let has_two = tables_stay (codes "month_tenths" ∷ []) one two second.only has_one in
-    let third = c.in_ok-shift.ensures.merges.made clean second.only.inside.mode has_two in
-    tells_totals sale c.args.last (record { month_tenths = sum; shift = shift }) old one two new first
-    (subst (λ (n : ℕ). AddsTenths (sale.meter, month_at sale.moment) n sum one two) c.tenths-tenths.ensures.value
-    (subst (λ (n : ℕ). AddsTenths (sale.meter, n) c.tenths-tenths.result sum one two) c.month_of_sale-month.ensures second))
-    (subst (λ (n : ℕ). AddsToShift sale.shift n sale.price shift two new) c.tenths-tenths.ensures.value third) has
+returns-clause-adds g c = record {
+  same_reference = search rules;
+  transaction =
+      let old = state g.S.Store c.args.tx.now.conn.now in
+      let one = state g.S.Store c.set_last_id.new.tx.conn.now in
+      let two = state g.S.Store c.add_tenths.new.tx.conn.now in
+      let new = state g.S.Store c.add_to_shift.new.tx.conn.now in
+      transaction_then old one new _ c.in_ok-set_last_id.ensures.merges.transaction
+      (transaction_then one two new _ c.in_ok-month_tenths.ensures.merges.transaction (transaction_on c.in_ok-shift.ensures.merges.transaction));
+  says = λ clean way has.
+      let sale = c.args.sale.now in
+      let old = state g.S.Store c.args.tx.now.conn.now in
+      let one = state g.S.Store c.set_last_id.new.tx.conn.now in
+      let two = state g.S.Store c.add_tenths.new.tx.conn.now in
+      let new = state g.S.Store c.add_to_shift.new.tx.conn.now in
+      let sum = c.in_ok-month_tenths.month_tenths in
+      let shift = c.in_ok-shift.shift in
+      let clean_two : HasCleanDisk two = omega (arith, c.add_to_shift.ensures.merges.transaction.survives.clean) in
+      let clean_one : HasCleanDisk one = omega (arith, c.add_tenths.ensures.merges.transaction.survives.clean) in
+      let first = c.in_ok-set_last_id.ensures.merges.says.made clean_one way has in
+      let has_one = tables_stay (codes "last_ids" ∷ []) old one first.only has in
+      let second = c.in_ok-month_tenths.ensures.merges.says.made clean_two first.only.inside.mode has_one in
+      let has_two = tables_stay (codes "month_tenths" ∷ []) one two second.only has_one in
+      let third = c.in_ok-shift.ensures.merges.says.made clean second.only.inside.mode has_two in
+      tells_totals sale c.args.last (record { month_tenths = sum; shift = shift }) old one two new first
+      (subst (λ (n : ℕ). AddsTenths (sale.meter, month_at sale.moment) n sum one two) c.tenths-tenths.ensures.value
+      (subst (λ (n : ℕ). AddsTenths (sale.meter, n) c.tenths-tenths.result sum one two) c.month_of_sale-month.ensures second))
+      (subst (λ (n : ℕ). AddsToShift sale.shift n sale.price shift two new) c.tenths-tenths.ensures.value third) has;
+}
 
 pub returns-in_err-set_last_id-clause-no_false_row : goal.returns-in_err-set_last_id-clause-no_false_row
 returns-in_err-set_last_id-clause-no_false_row g c clean way format rows held known told_so =
@@ -84,7 +98,7 @@ returns-in_err-month_tenths-clause-no_false_row g c clean way format rows held k
     let one = state g.S.Store c.set_last_id.new.tx.conn.now in
     let two = state g.S.Store c.add_tenths.new.tx.conn.now in
     let clean_one : HasCleanDisk one = omega (arith, c.add_tenths.ensures.merges.transaction.survives.clean) in
-    let first = c.in_ok-set_last_id.ensures.merges.made clean_one way (λ runs. (held runs).has) in
+    let first = c.in_ok-set_last_id.ensures.merges.says.made clean_one way (λ runs. (held runs).has) in
     let mid = may_add_tenths sale c.args.last old one format rows (held first.only.inside.was_open) first known in
     c.in_err-month_tenths.ensures.no_false_row clean first.only.inside.mode format mid.0 (λ _. mid.1)
     (subst (λ (n : ℕ). MayAddTenths (sale.meter, n) c.tenths-tenths.result format mid.0) (sym c.month_of_sale-month.ensures)
@@ -100,9 +114,9 @@ returns-in_err-shift-clause-no_false_row g c clean way format rows held known to
     let sum = c.in_ok-month_tenths.month_tenths in
     let clean_two : HasCleanDisk two = omega (arith, c.add_to_shift.ensures.merges.transaction.survives.clean) in
     let clean_one : HasCleanDisk one = omega (arith, c.add_tenths.ensures.merges.transaction.survives.clean) in
-    let first = c.in_ok-set_last_id.ensures.merges.made clean_one way (λ runs. (held runs).has) in
+    let first = c.in_ok-set_last_id.ensures.merges.says.made clean_one way (λ runs. (held runs).has) in
     let mid = may_add_tenths sale c.args.last old one format rows (held first.only.inside.was_open) first known in
-    let second = c.in_ok-month_tenths.ensures.merges.made clean_two first.only.inside.mode (λ _. mid.1.has) in
+    let second = c.in_ok-month_tenths.ensures.merges.says.made clean_two first.only.inside.mode (λ _. mid.1.has) in
     let adds = subst (λ (n : ℕ). AddsTenths (sale.meter, month_at sale.moment) n sum one two) c.tenths-tenths.ensures.value
     (subst (λ (n : ℕ). AddsTenths (sale.meter, n) c.tenths-tenths.result sum one two) c.month_of_sale-month.ensures second) in
     let then = may_add_to_shift sale c.args.last one two format mid.0 mid.1 sum adds mid.2 mid.3 in
@@ -119,7 +133,7 @@ returns-in_err-set_last_id-clause-ends g c clean way has =
     ends_off FailsToMergeAll (totals_writes sale c.args.last) old new e c.from_residual.result c.from_residual.ensures.1
     (of_merge [] old old new (came_here old way) (last_id_set (sale.meter, sale.base) c.args.last)
     (tenths_added (sale.meter, month_at sale.moment) sale.tenths ∷ sale_counted sale.shift sale.tenths sale.price ∷ []) e
-    (c.in_err-set_last_id.ensures.merges.ends clean way has).1)
+    (c.in_err-set_last_id.ensures.merges.says.ends clean way has).1)
 
 pub returns-in_err-month_tenths-clause-ends : goal.returns-in_err-month_tenths-clause-ends
 returns-in_err-month_tenths-clause-ends g c clean way has =
@@ -129,11 +143,11 @@ returns-in_err-month_tenths-clause-ends g c clean way has =
     let new = state g.S.Store c.add_tenths.new.tx.conn.now in
     let clean_one : HasCleanDisk one = omega (arith, c.add_tenths.ensures.merges.transaction.survives.clean) in
     let done = c.in_ok-set_last_id.ensures.merges in
-    let first = done.made clean_one way has in
+    let first = done.says.made clean_one way has in
     let id = last_id_set (sale.meter, sale.base) c.args.last in
-    let came = came_by (id ∷ []) old one (done.ends clean_one way has).0 first.only.inside done.transaction.survives in
+    let came = came_by (id ∷ []) old one (done.says.ends clean_one way has).0 first.only.inside done.transaction.survives in
     let e = c.in_err-month_tenths.field-0.0 in
-    let fails = (c.in_err-month_tenths.ensures.merges.ends clean first.only.inside.mode (tables_stay (codes "last_ids" ∷ []) old one first.only has)).1 in
+    let fails = (c.in_err-month_tenths.ensures.merges.says.ends clean first.only.inside.mode (tables_stay (codes "last_ids" ∷ []) old one first.only has)).1 in
     let tenths = tenths_added (sale.meter, month_at sale.moment) sale.tenths in
     let here = subst (λ (n : ℕ). FailsToMerge (tenths_added (sale.meter, month_at sale.moment) n) one new e) c.tenths-tenths.ensures.value
     (subst (λ (n : ℕ). FailsToMerge (tenths_added (sale.meter, n) c.tenths-tenths.result) one new e) c.month_of_sale-month.ensures fails) in
@@ -162,17 +176,17 @@ returns-in_err-shift-clause-ends g c clean way has =
     let id = last_id_set (sale.meter, sale.base) c.args.last in
     let tenths = tenths_added (sale.meter, month_at sale.moment) sale.tenths in
     let done = c.in_ok-set_last_id.ensures.merges in
-    let first = done.made clean_one way has in
+    let first = done.says.made clean_one way has in
     let has_one = tables_stay (codes "last_ids" ∷ []) old one first.only has in
     let then = c.in_ok-month_tenths.ensures.merges in
-    let second = then.made clean_two first.only.inside.mode has_one in
+    let second = then.says.made clean_two first.only.inside.mode has_one in
     let has_two = tables_stay (codes "month_tenths" ∷ []) one two second.only has_one in
-    let came_one = came_by (id ∷ []) old one (done.ends clean_one way has).0 first.only.inside done.transaction.survives in
+    let came_one = came_by (id ∷ []) old one (done.says.ends clean_one way has).0 first.only.inside done.transaction.survives in
     let both = two_written sale c.args.last c.month_of_sale-month.result c.tenths-tenths.result old one two c.month_of_sale-month.ensures
-    c.tenths-tenths.ensures.value came_one (then.ends clean_two first.only.inside.mode has_one).0 in
+    c.tenths-tenths.ensures.value came_one (then.says.ends clean_two first.only.inside.mode has_one).0 in
     let came = came_later (id ∷ tenths ∷ []) old one two came_one both second.only.inside then.transaction.survives in
     let e = c.in_err-shift.field-0.0 in
-    let fails = (c.in_err-shift.ensures.merges.ends clean second.only.inside.mode has_two).1 in
+    let fails = (c.in_err-shift.ensures.merges.says.ends clean second.only.inside.mode has_two).1 in
     let here = subst (λ (n : ℕ). FailsToMerge (sale_counted sale.shift n sale.price) two new e) c.tenths-tenths.ensures.value fails in
     ends_off FailsToMergeAll (totals_writes sale c.args.last) old new e c.from_residual-in_err-shift.result
     c.from_residual-in_err-shift.ensures.1 (of_merge (id ∷ tenths ∷ []) old two new came (sale_counted sale.shift sale.tenths sale.price) [] e here)
@@ -189,15 +203,15 @@ returns-clause-ends g c clean way has =
     let id = last_id_set (sale.meter, sale.base) c.args.last in
     let tenths = tenths_added (sale.meter, month_at sale.moment) sale.tenths in
     let done = c.in_ok-set_last_id.ensures.merges in
-    let first = done.made clean_one way has in
+    let first = done.says.made clean_one way has in
     let has_one = tables_stay (codes "last_ids" ∷ []) old one first.only has in
     let then = c.in_ok-month_tenths.ensures.merges in
-    let second = then.made clean_two first.only.inside.mode has_one in
+    let second = then.says.made clean_two first.only.inside.mode has_one in
     let has_two = tables_stay (codes "month_tenths" ∷ []) one two second.only has_one in
-    let came_one = came_by (id ∷ []) old one (done.ends clean_one way has).0 first.only.inside done.transaction.survives in
+    let came_one = came_by (id ∷ []) old one (done.says.ends clean_one way has).0 first.only.inside done.transaction.survives in
     let both = two_written sale c.args.last c.month_of_sale-month.result c.tenths-tenths.result old one two c.month_of_sale-month.ensures
-    c.tenths-tenths.ensures.value came_one (then.ends clean_two first.only.inside.mode has_one).0 in
+    c.tenths-tenths.ensures.value came_one (then.says.ends clean_two first.only.inside.mode has_one).0 in
     let came = came_later (id ∷ tenths ∷ []) old one two came_one both second.only.inside then.transaction.survives in
-    let last = (c.in_ok-shift.ensures.merges.ends clean second.only.inside.mode has_two).0 in
+    let last = (c.in_ok-shift.ensures.merges.says.ends clean second.only.inside.mode has_two).0 in
     let here = subst (λ (n : ℕ). AreCarriedOut (sale_counted sale.shift n sale.price ∷ []) two new) c.tenths-tenths.ensures.value last in
     (written_then (id ∷ tenths ∷ []) (sale_counted sale.shift sale.tenths sale.price ∷ []) old two new came here, tt)

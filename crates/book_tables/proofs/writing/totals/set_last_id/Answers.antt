@@ -22,11 +22,16 @@ returns-in_err-last-clause-merges g c =
     let new = state g.S.Store c.merge.new.tx.conn.now in
     let e = c.in_err-last.field-0.0 in
     let failed = c.in_err-last.ensures in
-    merge_off e c.from_residual.result c.from_residual.ensures.1 failed.transaction.kept failed.transaction.survives
-    (λ clean way has. subst (λ (ps : Values). FailsToMerge (record { sql = last_id_set_text; params = ps }) old new e) c.last_id_values.ensures
-    (failed.ends clean way (last_ids old new) (last_ids_at old new) last_id_merging (last_id_set_means (last_ids old new).tree)
-    (subst (λ ps. is_whole last_id_set_text (length ps) ≡ true) (sym c.last_id_values.ensures) last_id_set_whole)
-    (λ runs. stands_for last_ids_kept old.now.schema (last_ids_in.there old.now.schema (has runs)))).1)
+    record {
+      same_reference = failed.merged.same_reference;
+      transaction = transaction_off e c.from_residual.result c.from_residual.ensures.1 failed.merged.transaction.kept
+          failed.merged.transaction.survives;
+      says = merge_off e c.from_residual.result c.from_residual.ensures.1
+          (λ clean way has. subst (λ (ps : Values). FailsToMerge (record { sql = last_id_set_text; params = ps }) old new e) c.last_id_values.ensures
+          (failed.ends clean way (last_ids old new) (last_ids_at old new) last_id_merging (last_id_set_means (last_ids old new).tree)
+          (subst (λ ps. is_whole last_id_set_text (length ps) ≡ true) (sym c.last_id_values.ensures) last_id_set_whole)
+          (λ runs. stands_for last_ids_kept old.now.schema (last_ids_in.there old.now.schema (has runs)))).1);
+    }
 
 pub returns-clause-merges : goal.returns-clause-merges
 returns-clause-merges g c =
@@ -34,20 +39,23 @@ returns-clause-merges g c =
     let new = state g.S.Store c.merge.new.tx.conn.now in
     let done = c.in_ok-last.ensures in
     record {
-      made = λ clean way has.
-          sets_last_id old new c.args.meter.now c.args.base c.args.tid has (bound c.last_id_values.result) c.last_id_values.ensures
-          (done.touched clean way (last_ids old new) (last_ids_at old new) last_id_merging (last_id_set_means (last_ids old new).tree)
-          (λ runs. stands_for last_ids_kept old.now.schema (last_ids_in.there old.now.schema (has runs))))
-          (λ takes. let it = done.merged clean way (last_ids old new) (last_ids_at old new) last_id_merging
-          (last_id_set_means (last_ids old new).tree) takes in (it.0, it.2));
-      transaction = transaction_on done.transaction;
-      ends = λ clean way has. (
-        subst (λ (ps : Values). AreCarriedOut (record { sql = last_id_set_text; params = ps } ∷ []) old new) c.last_id_values.ensures
-            (done.ends clean way (last_ids old new) (last_ids_at old new) last_id_merging (last_id_set_means (last_ids old new).tree)
-            (subst (λ ps. is_whole last_id_set_text (length ps) ≡ true) (sym c.last_id_values.ensures) last_id_set_whole)
-            (λ runs. stands_for last_ids_kept old.now.schema (last_ids_in.there old.now.schema (has runs)))).0,
-        tt,
-      );
+      same_reference = done.merged.same_reference;
+      transaction = transaction_on done.merged.transaction;
+      says = record {
+        made = λ clean way has.
+            sets_last_id old new c.args.meter.now c.args.base c.args.tid has (bound c.last_id_values.result) c.last_id_values.ensures
+            (done.touched clean way (last_ids old new) (last_ids_at old new) last_id_merging (last_id_set_means (last_ids old new).tree)
+            (λ runs. stands_for last_ids_kept old.now.schema (last_ids_in.there old.now.schema (has runs))))
+            (λ takes. let it = done.merged.says clean way (last_ids old new) (last_ids_at old new) last_id_merging
+            (last_id_set_means (last_ids old new).tree) takes in (it.0, it.2));
+        ends = λ clean way has. (
+          subst (λ (ps : Values). AreCarriedOut (record { sql = last_id_set_text; params = ps } ∷ []) old new) c.last_id_values.ensures
+              (done.ends clean way (last_ids old new) (last_ids_at old new) last_id_merging (last_id_set_means (last_ids old new).tree)
+              (subst (λ ps. is_whole last_id_set_text (length ps) ≡ true) (sym c.last_id_values.ensures) last_id_set_whole)
+              (λ runs. stands_for last_ids_kept old.now.schema (last_ids_in.there old.now.schema (has runs)))).0,
+          tt,
+        );
+      };
     }
 
 pub returns-in_err-last-clause-no_false_row : goal.returns-in_err-last-clause-no_false_row
@@ -69,20 +77,23 @@ returns-then-last-tid-clause-merges g c =
     let new = state g.S.Store c.merge.new.tx.conn.now in
     let done = c.in_ok-last.ensures in
     record {
-      made = λ clean way has. tt;
-      transaction = transaction_off RowOfNoOffice (Err RowOfNoOffice) refl done.transaction.kept done.transaction.survives;
-      ends = λ clean way has.
-          let stands = λ (runs : IsTrue old.is_open). stands_for last_ids_kept old.now.schema (last_ids_in.there old.now.schema (has runs)) in (
-            tt,
-            subst (λ (ps : Values). FailsToTell (record { sql = last_id_set_text; params = ps }) old new Row) c.last_id_values.ensures (record {
-              table = last_ids old new;
-              merging = last_id_merging;
-              at = last_ids_at old new;
-              means = λ runs. means_merging last_id_set_text old.now.schema (last_ids old new) (last_ids_at old new) last_id_merging
-                  (last_id_set_means (last_ids old new).tree) (stands runs);
-              fails = done.touched clean way (last_ids old new) (last_ids_at old new) last_id_merging (last_id_set_means (last_ids old new).tree) stands;
-            }),
-          );
+      same_reference = done.merged.same_reference;
+      transaction = transaction_off RowOfNoOffice (Err RowOfNoOffice) refl done.merged.transaction.kept done.merged.transaction.survives;
+      says = record {
+        made = λ clean way has. tt;
+        ends = λ clean way has.
+            let stands = λ (runs : IsTrue old.is_open). stands_for last_ids_kept old.now.schema (last_ids_in.there old.now.schema (has runs)) in (
+              tt,
+              subst (λ (ps : Values). FailsToTell (record { sql = last_id_set_text; params = ps }) old new Row) c.last_id_values.ensures (record {
+                table = last_ids old new;
+                merging = last_id_merging;
+                at = last_ids_at old new;
+                means = λ runs. means_merging last_id_set_text old.now.schema (last_ids old new) (last_ids_at old new) last_id_merging
+                    (last_id_set_means (last_ids old new).tree) (stands runs);
+                fails = done.touched clean way (last_ids old new) (last_ids_at old new) last_id_merging (last_id_set_means (last_ids old new).tree) stands;
+              }),
+            );
+      };
     }
 
 -- it is what comes back
@@ -92,7 +103,7 @@ returns-then-last-tid-clause-no_false_row g c clean way format rows held known t
     let new = state g.S.Store c.merge.new.tx.conn.now in
     let meter = c.args.meter.now in
     let values = bound c.last_id_values.result in
-    let it = c.in_ok-last.ensures.merged clean way (last_ids old new) (last_ids_at old new) last_id_merging (last_id_set_means (last_ids old new).tree)
+    let it = c.in_ok-last.ensures.merged.says clean way (last_ids old new) (last_ids_at old new) last_id_merging (last_id_set_means (last_ids old new).tree)
     (takes_last_id old new meter c.args.base c.args.tid values c.last_id_values.ensures format rows held known.1.0 known.1.1) in
     let same : c.in_ok-last.last.number ≡ c.args.tid =
     one_number c.in_ok-last.last.number c.args.tid (it.1.0

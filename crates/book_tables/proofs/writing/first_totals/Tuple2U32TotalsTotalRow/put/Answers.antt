@@ -11,21 +11,27 @@ use Rattle.book_tables.proofs.OfficeTableLemmas.{shift_totals_in}
 use Rattle.book_tables.proofs.WritingLemmas.PuttingLemmas.{new_totals_means, new_totals_whole, puts_shift_totals, totals_terms}
 use Rattle.book_tables.proofs.writing.first_totals.Tuple2U32TotalsTotalRow.put.Goals as goal
 
-pub returns-clause-writes : goal.returns-clause-writes
-returns-clause-writes g c =
+pub returns : goal.returns
+returns g c =
     let s = c.args.tx.now.conn.now.schema in
-    let tree = tree_in s (codes "shift_totals") in (
-      _,
-      (λ fits. ap (λ (p : Row). let w : Write = record { sql = new_totals_text; params = p } in w) (c.shift_total_values.ensures.bound fits)),
-      record {
-        made = λ clean has.
-            on_ok c.put.result (puts_shift_totals (state g.S.Store c.args.tx.now.conn.now) (state g.S.Store c.put.new.tx.conn.now)
-            c.args.self.now _ c.shift_total_values.ensures.bound)
-            (c.put.ensures.added clean (shift_totals_table tree) (place_in s (codes "shift_totals")) totals_terms (new_totals_means tree)
-            (λ runs. (shift_totals_in.there s (has runs)).0.has));
-        transaction = c.put.ensures.transaction;
-        ends = λ clean has. c.put.ensures.ends clean (shift_totals_table tree) (place_in s (codes "shift_totals")) totals_terms
-            (new_totals_means tree) (subst (λ n. is_whole new_totals_text n ≡ true) (sym c.shift_total_values.ensures.count)
-            new_totals_whole) (λ runs. (shift_totals_in.there s (has runs)).0.has);
-      },
-    )
+    let tree = tree_in s (codes "shift_totals") in
+    record {
+      writes = record {
+        same_reference = c.put.ensures.added.same_reference;
+        transaction = c.put.ensures.added.transaction;
+        says = (
+          _,
+          (λ fits. ap (λ (p : Row). let w : Write = record { sql = new_totals_text; params = p } in w) (c.shift_total_values.ensures.bound fits)),
+          record {
+            made = λ clean has.
+                on_ok c.put.result (puts_shift_totals (state g.S.Store c.args.tx.now.conn.now) (state g.S.Store c.put.new.tx.conn.now)
+                c.args.self.now _ c.shift_total_values.ensures.bound)
+                (c.put.ensures.added.says clean (shift_totals_table tree) (place_in s (codes "shift_totals")) totals_terms (new_totals_means tree)
+                (λ runs. (shift_totals_in.there s (has runs)).0.has));
+            ends = λ clean has. c.put.ensures.ends clean (shift_totals_table tree) (place_in s (codes "shift_totals")) totals_terms
+                (new_totals_means tree) (subst (λ n. is_whole new_totals_text n ≡ true) (sym c.shift_total_values.ensures.count)
+                new_totals_whole) (λ runs. (shift_totals_in.there s (has runs)).0.has);
+          },
+        );
+      };
+    }
