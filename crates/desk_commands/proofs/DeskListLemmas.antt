@@ -15,7 +15,8 @@ use Rattle.desk_commands.specs.Exchanged.IsUnsent.{no_room, unreached, unsent}
 use Rattle.desk_commands.specs.print.Pages.{list_behind, most_pages}
 use Rattle.desk_commands.specs.print.ListTexts.{page_text, pages_text}
 use Rattle.vend_ports.specs.print.Printed.{net_line}
-use Rattle.vend_ports.specs.print.Told.{Held, Sink, Takes, outputs}
+use Rattle.vend_ports.specs.print.Sink.{Held, Sink}
+use Rattle.vend_ports.specs.print.Told.{Takes, outputs}
 use Rattle.vend_ports.specs.declared.command_end.CommandEnd.TheVariants as how
 use Rattle.desk_commands.specs.declared.list_at_desk.PageFault.{PageFault}
 use Rattle.desk_commands.specs.declared.list_at_desk.PageFault.TheVariants as faults

@@ -3,7 +3,7 @@ use Rattle.std.specs.Prelude.{◌≡◌, ⊤, ℕ, Bool, true, false, List, [], 
 use Rattle.std.specs.Io.KnownBytes.{Appends, Consumes, Keeps}
 use Rattle.command_line.specs.declared.address.Address.{Address}
 use Rattle.sts_fields.specs.Text.{Text}
-use Rattle.vend_ports.specs.print.Told.{Held}
+use Rattle.vend_ports.specs.print.Sink.{Held}
 use Rattle.vend_ports.specs.declared.port.loopback.Loopback as loopback
 use Rattle.desk_commands.specs.declared.exchange.ExchangeFault.{ExchangeFault}
 use Rattle.desk_commands.specs.declared.exchange.ExchangeFault.TheVariants.{Net, Memory}

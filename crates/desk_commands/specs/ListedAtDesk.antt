@@ -23,7 +23,8 @@ use Rattle.desk_commands.specs.Exchanged.{Calls, IsRound, IsUnsent, Round}
 use Rattle.desk_commands.specs.print.ListTexts.{pages_text}
 use Rattle.desk_commands.specs.print.Pages.{IsPagePut, list_behind, most_pages}
 use Rattle.vend_ports.specs.print.Printed.{clock_line, net_line, refusal_line}
-use Rattle.vend_ports.specs.print.Told.{Held, IsTold, Outputs, Sink, Takes}
+use Rattle.vend_ports.specs.print.Sink.{Held, Sink}
+use Rattle.vend_ports.specs.print.Told.{IsTold, Outputs, Takes}
 use Rattle.vend_ports.specs.declared.command_end.CommandEnd.{CommandEnd}
 use Rattle.vend_ports.specs.declared.command_end.CommandEnd.TheVariants.{Done, Refused}
 use Rattle.desk_commands.specs.declared.list_at_desk.PageFault.{PageFault}

@@ -10,7 +10,7 @@ ghost use Rattle.desk_commands.specs.AskedOfDesk.{question_of, rows_fault_line};
 ghost use Rattle.desk_commands.specs.AskedOfDesk.{shown_question, told_sale_text};
 ghost use Rattle.desk_commands.specs.Exchanged.{calls_of};
 ghost use Rattle.vend_ports.specs.port.Texts.{texts_of};
-ghost use Rattle.vend_ports.specs.print.Told.{Takes, outputs, sink};
+ghost use Rattle.vend_ports.specs.print.Told.{Takes, outputs};
 
 use crate::exchange::{exchange, told_in};
 use crate::list_at_desk::{list, page_question, put_exchange_fault};
@@ -49,8 +49,7 @@ pub fn run<F: TextFiles, L: Loopback, O: Write, E: Write>(
 ) -> CommandEnd
     ensures { IsAskedOfDesk (texts_of F.TextFiles texts)
         (calls_of L.Loopback L.Stream.remaining L.Stream.contents loopback) (L.leaves L loopback)
-        words.now (outputs (sink O.contents out.old) (sink O.contents out.new)
-        (sink E.contents err.old) (sink E.contents err.new)) result }
+        words.now (outputs out.old out.new err.old err.new) result }
 {
     match &words.question {
         DeskQuestion::List { listed, json } => {
@@ -73,8 +72,7 @@ fn ask_once<F: TextFiles, L: Loopback, O: Write, E: Write>(
 ) -> CommandEnd
     ensures { IsAskedOnce (texts_of F.TextFiles texts)
         (calls_of L.Loopback L.Stream.remaining L.Stream.contents loopback) (L.leaves L loopback)
-        desk asked.now (outputs (sink O.contents out.old) (sink O.contents out.new)
-        (sink E.contents err.old) (sink E.contents err.new)) result }
+        desk asked.now (outputs out.old out.new err.old err.new) result }
 {
     match rows_for(asked, alloc, texts) {
         Ok(rows) => {
@@ -164,8 +162,7 @@ fn ask<L: Loopback, O: Write, E: Write>(
 ) -> CommandEnd
     ensures { IsAsked (calls_of L.Loopback L.Stream.remaining L.Stream.contents loopback)
         (L.leaves L loopback) desk json question.now
-        (outputs (sink O.contents out.old) (sink O.contents out.new)
-        (sink E.contents err.old) (sink E.contents err.new)) result }
+        (outputs out.old out.new err.old err.new) result }
 {
     let Ok(message) = question.message(alloc) else {
         L::leave(loopback);
@@ -197,8 +194,7 @@ fn tell<O: Write, E: Write>(
     err: &mut Watched<'_, E>,
 ) -> CommandEnd
     ensures { TellsTold json question.now told.now
-        (outputs (sink O.contents out.old) (sink O.contents out.new)
-        (sink E.contents err.old) (sink E.contents err.new)) result }
+        (outputs out.old out.new err.old err.new) result }
 {
     match told {
         Told::Granted(granted) => tell_granted(alloc, question, json, granted, out, err),
@@ -223,8 +219,7 @@ fn tell_granted<O: Write, E: Write>(
     err: &mut Watched<'_, E>,
 ) -> CommandEnd
     ensures { TellsGranted json question.now granted.now
-        (outputs (sink O.contents out.old) (sink O.contents out.new)
-        (sink E.contents err.old) (sink E.contents err.new)) result }
+        (outputs out.old out.new err.old err.new) result }
 {
     match put_granted(alloc, question, json, granted, out) {
         Ok(()) => CommandEnd::Done,
@@ -244,10 +239,9 @@ fn put_granted<O: Write>(
     out: &mut Watched<'_, O>,
 ) -> Result<(), AllocError>
     ensures { MatchResult result
-        (λ _. Takes (sink O.contents out.old) (sink O.contents out.new)
-        (granted_output json question.now granted.now))
+        (λ _. Takes out.old out.new (granted_output json question.now granted.now))
         (λ _. NeedsRoom json question.now granted.now
-        × Takes (sink O.contents out.old) (sink O.contents out.new) []) }
+        × Takes out.old out.new []) }
 {
     match granted {
         Granted::Done => put_line(&[b"done"], out),
@@ -277,10 +271,9 @@ fn put_told_sale<O: Write>(
     out: &mut Watched<'_, O>,
 ) -> Result<(), AllocError>
     ensures { MatchResult result
-        (λ _. Takes (sink O.contents out.old) (sink O.contents out.new)
-        (told_sale_text json question.now sale.now))
+        (λ _. Takes out.old out.new (told_sale_text json question.now sale.now))
         (λ _. SaleNeedsRoom json question.now sale.now
-        × Takes (sink O.contents out.old) (sink O.contents out.new) []) }
+        × Takes out.old out.new []) }
 {
     match question {
         Question::SaleOfRef(operator, order_ref) => {
@@ -296,7 +289,7 @@ fn put_told_sale<O: Write>(
 
 // Tells why a desk is not asked to add rows.
 fn put_rows_fault<E: Write>(fault: RowsFault, err: &mut Watched<'_, E>)
-    ensures { Takes (sink E.contents err.old) (sink E.contents err.new) (rows_fault_line fault) }
+    ensures { Takes err.old err.new (rows_fault_line fault) }
 {
     match fault {
         RowsFault::Unread(fault) => put_read_fault(fault, err),

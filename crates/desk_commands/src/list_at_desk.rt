@@ -6,7 +6,7 @@ ghost use Rattle.desk_commands.specs.ListedAtDesk.{IsListedAtDesk, IsPageAsked, 
 ghost use Rattle.desk_commands.specs.ListedAtDesk.{IsPagePrinted, page_fault_line, page_kind};
 ghost use Rattle.desk_commands.specs.ListedAtDesk.{exchange_fault_line, page_question};
 ghost use Rattle.desk_commands.specs.Exchanged.{calls_of};
-ghost use Rattle.vend_ports.specs.print.Told.{Takes, outputs, sink};
+ghost use Rattle.vend_ports.specs.print.Told.{Takes, outputs};
 
 use crate::exchange::{ExchangeFault, exchange_on, told_in};
 use crate::print::pages::put_page;
@@ -45,8 +45,7 @@ pub(crate) fn list<L: Loopback, O: Write, E: Write>(
     err: &mut Watched<'_, E>,
 ) -> CommandEnd
     ensures { IsListedAtDesk (calls_of L.Loopback L.Stream.remaining L.Stream.contents loopback)
-        desk list json (outputs (sink O.contents out.old) (sink O.contents out.new)
-        (sink E.contents err.old) (sink E.contents err.new)) result }
+        desk list json (outputs out.old out.new err.old err.new) result }
 {
     let mut stream = match loopback.call(desk) {
         Ok(stream) => stream,
@@ -81,7 +80,7 @@ fn print_page<S: Read + Write, O: Write>(
     out: &mut Watched<'_, O>,
 ) -> Result<Option<Listed>, PageFault>
     ensures { IsPagePrinted S.remaining S.contents list json is_first stream.old stream.new
-        (sink O.contents out.old) (sink O.contents out.new) result }
+        out.old out.new result }
 {
     let page = match ask_page(alloc, stream, list) {
         Ok(page) => page,
@@ -160,7 +159,7 @@ fn page_kind(list: Listed) -> PageKind
 
 // Tells why a page is not printed.
 fn put_page_fault<E: Write>(fault: PageFault, err: &mut Watched<'_, E>)
-    ensures { Takes (sink E.contents err.old) (sink E.contents err.new) (page_fault_line fault) }
+    ensures { Takes err.old err.new (page_fault_line fault) }
 {
     match fault {
         PageFault::Unsent(fault) => put_exchange_fault(fault, err),
@@ -173,8 +172,7 @@ fn put_page_fault<E: Write>(fault: PageFault, err: &mut Watched<'_, E>)
 
 /// Tells why nothing came of a message.
 pub(crate) fn put_exchange_fault<E: Write>(fault: ExchangeFault, err: &mut Watched<'_, E>)
-    ensures { Takes (sink E.contents err.old) (sink E.contents err.new)
-        (exchange_fault_line fault) }
+    ensures { Takes err.old err.new (exchange_fault_line fault) }
 {
     match fault {
         ExchangeFault::Net => put_line(&[b"net"], err),

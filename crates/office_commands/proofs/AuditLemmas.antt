@@ -9,7 +9,8 @@ use Rattle.sqlite_value.specs.declared.value.ValueRef.TheVariants as lent
 use Rattle.sts_fields.specs.Text.{Text}
 use Rattle.office_commands.specs.print.AuditLines.{TellsValue, sound_line}
 use Rattle.vend_ports.specs.print.Printed.{line_of}
-use Rattle.vend_ports.specs.print.Told.{Sink, Takes}
+use Rattle.vend_ports.specs.print.Sink.{Sink}
+use Rattle.vend_ports.specs.print.Told.{Takes}
 
 -- the line of what a file keeps, by the texts of its numbers
 pub takes_sound : (old new : Sink) (a : Audited) (format tariffs meters shifts sales : Text)

@@ -14,7 +14,8 @@ use Rattle.vend_ports.proofs.TakeLemmas.{takes_last, takes_next, takes_none}
 use Rattle.office_commands.specs.office.OnlyRead.{AreOnlyRead}
 use Rattle.office_commands.specs.print.Exported.{IsExported, IsPage, page_of}
 use Rattle.vend_ports.specs.print.Printed.{refusal_line}
-use Rattle.vend_ports.specs.print.Told.{Sink, Takes, outputs}
+use Rattle.vend_ports.specs.print.Sink.{Sink}
+use Rattle.vend_ports.specs.print.Told.{Takes, outputs}
 use Rattle.vend_ports.specs.declared.command_end.CommandEnd.TheVariants as how
 
 -- the export from a page on

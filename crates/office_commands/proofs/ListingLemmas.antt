@@ -24,7 +24,8 @@ use Rattle.office_commands.specs.print.Listing.{IsListPage, IsListed}
 use Rattle.desk_commands.specs.print.Pages.{ArePages, list_behind, most_pages, page_lookup}
 use Rattle.desk_commands.specs.print.ListTexts.{page_text, pages_text}
 use Rattle.vend_ports.specs.print.Printed.{refusal_line}
-use Rattle.vend_ports.specs.print.Told.{Sink, Takes, outputs}
+use Rattle.vend_ports.specs.print.Sink.{Sink}
+use Rattle.vend_ports.specs.print.Told.{Takes, outputs}
 use Rattle.vend_ports.specs.declared.command_end.CommandEnd.TheVariants as how
 
 -- ---- what is found

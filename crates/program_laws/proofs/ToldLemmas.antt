@@ -57,7 +57,8 @@ use Rattle.office_commands.specs.port.Places.{IsUnopened, Place, where_present}
 use Rattle.vend_commands.specs.port.Machines.{Machine, Way}
 use Rattle.office_commands.specs.port.Places.IsUnopened.{unfound, unopened as found_unopened}
 use Rattle.office_commands.specs.port.Places.IsUnopenedIn.{refused, unsalted}
-use Rattle.vend_ports.specs.print.Told.{Outputs, Sink}
+use Rattle.vend_ports.specs.print.Sink.{Sink}
+use Rattle.vend_ports.specs.print.Told.{Outputs}
 use Rattle.program_laws.specs.runs.Follow.{Here, ProgramRun, use_of}
 use Rattle.program_laws.specs.runs.OneOffice.{AreLivedBy, AreOneOffice, AreSoldFor, Asks, AsksIn, AsksSo, TellAlong, Gets, IsAmong, IsToldIn, IsUnlessFailed, LivesIn, TellsIn}
 use Rattle.program_laws.specs.runs.Readings.{reading_of}

@@ -6,7 +6,8 @@ use Rattle.sts_token.specs.Token.{BlockFunction}
 use Rattle.vend_commands.specs.serving.Connections.{AreHeld, AreReady, IsHeld, Service, open_text, service, stopped_text}
 use Rattle.vend_commands.specs.port.Machines.{Way}
 use Rattle.vend_ports.specs.print.Printed.{open_line, stopped_line}
-use Rattle.vend_ports.specs.print.Told.{Sink, Takes}
+use Rattle.vend_ports.specs.print.Sink.{Sink}
+use Rattle.vend_ports.specs.print.Told.{Takes}
 use Rattle.vend_ports.proofs.TakeLemmas.{takes_next}
 
 -- what is printed of books that are stopped, or are not

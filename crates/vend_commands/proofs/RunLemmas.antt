@@ -62,7 +62,8 @@ use Rattle.vend_commands.specs.commands.Selfchecked.IsSelfchecked.{agreed, faile
 use Rattle.office_commands.specs.office.Served.{TellsReply}
 use Rattle.vend_ports.specs.Status.{exit_status_of, status_of}
 use Rattle.vend_ports.specs.commands.Timed.{IsDoneAt, IsTimed}
-use Rattle.vend_ports.specs.print.Told.{IsTold, Outputs, Sink}
+use Rattle.vend_ports.specs.print.Sink.{Sink}
+use Rattle.vend_ports.specs.print.Told.{IsTold, Outputs}
 use Rattle.office_commands.specs.print.Totalled.{TellsTotals}
 use Rattle.vend_ports.specs.commands.Tried.{trial_end}
 use Rattle.office_commands.specs.office.Visited.{IsVisited, seen_in}

@@ -57,7 +57,8 @@ use Rattle.vend_commands.specs.Run.IsProgramRun.{answered, bad_word, explained, 
 use Rattle.vend_commands.specs.commands.Selfchecked.IsSelfchecked.{agreed, failed}
 use Rattle.office_commands.specs.office.Served.{TellsReply}
 use Rattle.vend_ports.specs.commands.Timed.{IsDoneAt, IsTimed}
-use Rattle.vend_ports.specs.print.Told.{IsTold, Outputs, Sink}
+use Rattle.vend_ports.specs.print.Sink.{Sink}
+use Rattle.vend_ports.specs.print.Told.{IsTold, Outputs}
 use Rattle.office_commands.specs.print.Totalled.{TellsTotals}
 use Rattle.office_commands.specs.office.Visited.{IsVisited, seen_in}
 use Rattle.office_commands.specs.office.Visited.IsVisited.{unopened, visited}

@@ -18,7 +18,7 @@ use Rattle.office_rules.specs.declared.decision.refusal.Refusal.TheVariants as r
 use Rattle.sts_fields.specs.Text.{Text}
 use Rattle.vend_ports.specs.declared.port.loopback.Loopback as loopback
 use Rattle.sts_token.specs.Token.{BlockFunction}
-use Rattle.vend_ports.specs.print.Told.{Held}
+use Rattle.vend_ports.specs.print.Sink.{Held}
 use Rattle.vend_commands.specs.declared.selfcheck.fault.SelfcheckFault.{SelfcheckFault}
 use Rattle.vend_commands.specs.declared.selfcheck.fault.SelfcheckFault.TheVariants.{Net, Refused}
 

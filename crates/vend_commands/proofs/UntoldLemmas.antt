@@ -22,7 +22,8 @@ use Rattle.vend_commands.specs.port.Machines.{Loop, Machine, Way, machine, untol
 use Rattle.vend_commands.specs.Run.{IsCarriedOut, IsProgramRun}
 use Rattle.vend_commands.specs.Run.IsProgramRun.{answered, bad_word, explained, no_room}
 use Rattle.vend_commands.specs.commands.Selfchecked.{HasReplies}
-use Rattle.vend_ports.specs.print.Told.{Held, Outputs, Sink}
+use Rattle.vend_ports.specs.print.Sink.{Held, Sink}
+use Rattle.vend_ports.specs.print.Told.{Outputs}
 use Rattle.vend_commands.proofs.RunLemmas.{selfcheck_done}
 use Rattle.desk_commands.specs.AskedOfDesk.{IsAnswered, IsAsked, IsAskedOnce}
 use Rattle.desk_commands.specs.AskedOfDesk.IsAsked.{broken, no_room as desk_full, replied, unsent as message_unsent}

@@ -11,7 +11,8 @@ ghost use Rattle.vend_ports.specs.port.Texts.{texts_of};
 ghost use Rattle.vend_ports.specs.print.Printed.{refusal_line};
 ghost use Rattle.vend_commands.specs.Run.{IsCarriedOut, IsExplained, IsProgramRun};
 ghost use Rattle.vend_ports.specs.Status.{status_of};
-ghost use Rattle.vend_ports.specs.print.Told.{IsTold, Takes, outputs, sink, writer};
+ghost use Rattle.vend_ports.specs.print.Sink.{writer};
+ghost use Rattle.vend_ports.specs.print.Told.{IsTold, Takes, outputs};
 ghost use Rattle.vend_commands.specs.commands.Unread.{bad_words_end, bad_words_line};
 ghost use Rattle.command_line.specs.declared.asked.Asked.{Asked};
 ghost use Rattle.vend_ports.specs.declared.command_end.CommandEnd.{CommandEnd};
@@ -74,7 +75,11 @@ pub fn run<B: Start, T: TimeSource, O: Write, E: Write>(
     let mut out = Watched::new(out);
     let mut err = Watched::new(err);
     let end = run_over(rt.alloc(), ports, words, &mut out, &mut err);
-    status(end, out.has_failed())
+    let failed = out.has_failed();
+    // What the watches held is the writers' again.
+    out.into_inner();
+    err.into_inner();
+    status(end, failed)
 }
 
 /// The exit status, where the output failed or not.
@@ -111,8 +116,7 @@ pub fn run_over<
         (way D.Door D.Reader.remaining D.Writer.contents) ports.door
         (loop_of L.Loopback L.Stream.remaining L.Stream.contents ports.loopback))
         (map (λ w. w.now) words.now)
-        (outputs (sink O.contents out.old) (sink O.contents out.new)
-        (sink E.contents err.old) (sink E.contents err.new)) result }
+        (outputs out.old out.new err.old err.new) result }
 {
     let Ok(line) = meant(alloc, words) else {
         leave_all(ports.office, ports.texts, ports.door, ports.loopback);
@@ -192,8 +196,7 @@ fn answer<
         (texts_of F.TextFiles ports.texts) (dial_of C.Clock ports.clock)
         (way D.Door D.Reader.remaining D.Writer.contents) ports.door
         (loop_of L.Loopback L.Stream.remaining L.Stream.contents ports.loopback))
-        asked.entry (outputs (sink O.contents out.old) (sink O.contents out.new)
-        (sink E.contents err.old) (sink E.contents err.new)) result }
+        asked.entry (outputs out.old out.new err.old err.new) result }
 {
     let mut clock = ports.clock;
     match asked {
@@ -269,8 +272,7 @@ fn answer<
 
 /// Tells why words were not read.
 pub fn refuse<E: Write>(fault: BadWords, err: &mut Watched<'_, E>) -> CommandEnd
-    ensures told { Takes (sink E.contents err.old) (sink E.contents err.new)
-        (bad_words_line fault) }
+    ensures told { Takes err.old err.new (bad_words_line fault) }
     ensures end { result ≡ bad_words_end fault }
 {
     match fault {
@@ -292,8 +294,7 @@ fn explain<X: Explanation, O: Write, E: Write>(
     out: &mut Watched<'_, O>,
     err: &mut Watched<'_, E>,
 ) -> CommandEnd
-    ensures { let o = outputs (sink O.contents out.old) (sink O.contents out.new)
-        (sink E.contents err.old) (sink E.contents err.new) in
+    ensures { let o = outputs out.old out.new err.old err.new in
         IsTold o [] (refusal_line Memory) CommandEnd.Refused result
         ⊎ ((text : Text) × X.says error.now text × (text ≢ [])
         × IsExplained (X.kind error.now) text o result) }

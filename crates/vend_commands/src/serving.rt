@@ -8,7 +8,7 @@ ghost use Rattle.vend_commands.specs.serving.Connections.{AreLost, AreReady, Are
 ghost use Rattle.office_commands.specs.office.Lost.{IsUnreopened};
 ghost use Rattle.vend_commands.specs.port.Machines.{way};
 ghost use Rattle.office_commands.specs.office.Visited.{seen_in};
-ghost use Rattle.vend_ports.specs.print.Told.{Takes, sink};
+ghost use Rattle.vend_ports.specs.print.Told.{Takes};
 
 use books::{Books, OpenFault};
 use command_line::{ServeWords, Shipped};
@@ -41,7 +41,7 @@ pub fn serve<H: OfficeFile, D: Door, C: Clock, E: Write>(
         (forward_of words.now.transform) seen_in
         (IsUnreopened H.Medium.Disk H.Salts.SaltSource (H.lets_go H.Medium)) words.now.connections
         (service door.old books (C.answers clock.old)) door.new (C.answers clock.new) result printed
-        × Takes (sink E.contents err.old) (sink E.contents err.new) printed }
+        × Takes err.old err.new printed }
 {
     let mut books = books;
     for _connection in 0..words.connections {
@@ -70,9 +70,7 @@ fn readied<H: OfficeFile, E: Write>(
         (AreLost seen_in
             (IsUnreopened H.Medium.Disk H.Salts.SaltSource (H.lets_go H.Medium)) books) }
     ensures told { MatchResult result
-        (λ _. Takes (sink E.contents err.old) (sink E.contents err.new)
-        (open_text (seen_in books)))
-        (λ _. Takes (sink E.contents err.old) (sink E.contents err.new) []) }
+        (λ _. Takes err.old err.new (open_text (seen_in books))) (λ _. Takes err.old err.new []) }
 {
     if !books.is_stopped() {
         return Ok(books);
@@ -88,8 +86,7 @@ fn readied<H: OfficeFile, E: Write>(
 
 // Tells that books are stopped, if they are.
 fn tell_stop<S: Alter, E: Write>(books: &Books<S, Shipped>, err: &mut Watched<'_, E>)
-    ensures { Takes (sink E.contents err.old) (sink E.contents err.new)
-        (stopped_text (seen_in books.now)) }
+    ensures { Takes err.old err.new (stopped_text (seen_in books.now)) }
 {
     if books.is_stopped() {
         put_stopped(err);

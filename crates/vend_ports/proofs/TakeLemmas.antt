@@ -11,7 +11,8 @@ use Rattle.papers.specs.declared.fault.TextFault.{TextFault}
 use Rattle.papers.specs.declared.fault.TextFault.TheVariants.{Memory, Write}
 use Rattle.sts_fields.specs.Text.{Text}
 use Rattle.vend_ports.specs.print.Printed.{token_line}
-use Rattle.vend_ports.specs.print.Told.{Held, IsPutOn, IsTaken, Sink, Takes}
+use Rattle.vend_ports.specs.print.Sink.{Held, Sink}
+use Rattle.vend_ports.specs.print.Told.{IsPutOn, IsTaken, Takes}
 use Rattle.vend_ports.specs.commands.Tried.{token_lines}
 
 -- ---- nothing, and one text more

@@ -10,7 +10,8 @@ use Rattle.command_line.specs.declared.commands.list.Listed.{Listed}
 use Rattle.command_line.specs.declared.commands.list.Listed.TheVariants as listed
 use Rattle.office_rules.specs.Office.{Office}
 use Rattle.desk_commands.specs.print.ListTexts.{page_text}
-use Rattle.vend_ports.specs.print.Told.{Sink, Takes}
+use Rattle.vend_ports.specs.print.Sink.{Sink}
+use Rattle.vend_ports.specs.print.Told.{Takes}
 
 -- what is looked up for the first page of a list
 abbrev pub page_lookup : Listed → Lookup

@@ -4,7 +4,7 @@ ghost use Rattle.std.specs.Prelude.{◌≡◌, ◌++◌, [], false, MatchResult}
 ghost use Rattle.desk_commands.specs.print.FoundTexts.{IsMadeWhole, found_text, meter_header};
 ghost use Rattle.desk_commands.specs.print.FoundTexts.{meter_table_row, number_or_none, purchase_in};
 ghost use Rattle.desk_commands.specs.print.FoundTexts.{sale_lines};
-ghost use Rattle.vend_ports.specs.print.Told.{Takes, sink};
+ghost use Rattle.vend_ports.specs.print.Told.{Takes};
 ghost use Rattle.book_states.specs.declared.lookup.Found.TheVariants.{Sale as FoundSale};
 
 use crate::print::page::json_line;
@@ -27,10 +27,9 @@ pub fn put_found<O: Write>(
     out: &mut Watched<'_, O>,
 ) -> Result<(), AllocError>
     ensures { MatchResult result
-        (λ _. Takes (sink O.contents out.old) (sink O.contents out.new)
-        (found_text json lookup.now found.now))
+        (λ _. Takes out.old out.new (found_text json lookup.now found.now))
         (λ _. IsMadeWhole json lookup.now found.now
-        × Takes (sink O.contents out.old) (sink O.contents out.new) []) }
+        × Takes out.old out.new []) }
 {
     if json {
         let text = json_line(alloc, found)?;
@@ -49,8 +48,7 @@ pub fn put_found<O: Write>(
 
 // Prints a meter, below the names of its fields.
 fn put_meter<O: Write>(meter: &MeterSummary, out: &mut Watched<'_, O>)
-    ensures { Takes (sink O.contents out.old) (sink O.contents out.new)
-        (meter_header ++ meter_table_row meter.now) }
+    ensures { Takes out.old out.new (meter_header ++ meter_table_row meter.now) }
 {
     put_row(&[b"meter", b"base", b"tariff", b"tenths", b"sale"], out);
     put_values(meter, out);
@@ -58,8 +56,7 @@ fn put_meter<O: Write>(meter: &MeterSummary, out: &mut Watched<'_, O>)
 
 // Prints what a meter has in each field.
 fn put_values<O: Write>(meter: &MeterSummary, out: &mut Watched<'_, O>)
-    ensures { Takes (sink O.contents out.old) (sink O.contents out.new)
-        (meter_table_row meter.now) }
+    ensures { Takes out.old out.new (meter_table_row meter.now) }
 {
     let mut base = Buffer::new();
     let mut tenths = Buffer::new();
@@ -90,10 +87,9 @@ fn put_sale<O: Write>(
     out: &mut Watched<'_, O>,
 ) -> Result<(), AllocError>
     ensures { MatchResult result
-        (λ _. Takes (sink O.contents out.old) (sink O.contents out.new)
-        (sale_lines lookup.now sale.now))
+        (λ _. Takes out.old out.new (sale_lines lookup.now sale.now))
         (λ _. IsMadeWhole false lookup.now (FoundSale sale.now)
-        × Takes (sink O.contents out.old) (sink O.contents out.new) []) }
+        × Takes out.old out.new []) }
 {
     match lookup {
         Lookup::LastSale(_) => out.put(&receipt_in_place(sale)),

@@ -3,7 +3,7 @@
 ghost use Rattle.std.specs.Prelude.{◌≡◌, [], MatchResult};
 ghost use Rattle.std.specs.Option.{option_copied};
 ghost use Rattle.desk_commands.specs.print.Pages.{IsPagePut, last_of_full, list_behind};
-ghost use Rattle.vend_ports.specs.print.Told.{Takes, sink};
+ghost use Rattle.vend_ports.specs.print.Told.{Takes};
 
 use crate::print::page::page_text;
 use book_lists::PAGE;
@@ -23,8 +23,7 @@ pub fn put_page<O: Write>(
     out: &mut Watched<'_, O>,
 ) -> Result<Option<Listed>, AllocError>
     ensures { MatchResult result
-        (IsPagePut page.now json is_first (sink O.contents out.old) (sink O.contents out.new))
-        (λ _. Takes (sink O.contents out.old) (sink O.contents out.new) []) }
+        (IsPagePut page.now json is_first out.old out.new) (λ _. Takes out.old out.new []) }
 {
     let Ok(text) = page_text(alloc, page, json, is_first) else {
         return Err(AllocError);

@@ -1,5 +1,5 @@
 ghost use Rattle.desk_commands.specs.print.TotalsLine.{totals_line};
-ghost use Rattle.vend_ports.specs.print.Told.{Takes, sink};
+ghost use Rattle.vend_ports.specs.print.Told.{Takes};
 
 use book_tables::Totals;
 use itoa::Buffer;
@@ -8,8 +8,7 @@ use vend_ports::{Watched, put_line};
 
 /// Prints the totals of a shift on a line.
 pub fn put_totals<O: Write>(number: u32, totals: Totals, out: &mut Watched<'_, O>)
-    ensures { Takes (sink O.contents out.old) (sink O.contents out.new)
-        (totals_line number totals) }
+    ensures { Takes out.old out.new (totals_line number totals) }
 {
     let mut shift = Buffer::new();
     let mut sales = Buffer::new();

@@ -11,7 +11,8 @@ use Rattle.office_rules.specs.declared.office.sale.Sale.{Sale}
 use Rattle.vend_ports.specs.print.Printed.{refusal_line}
 use Rattle.office_commands.specs.office.OnlyRead.{AreOnlyRead}
 use Rattle.office_commands.specs.office.Refused.{RefusesToRead, TellsStopped}
-use Rattle.vend_ports.specs.print.Told.{IsTold, Outputs, Sink, Takes}
+use Rattle.vend_ports.specs.print.Sink.{Sink}
+use Rattle.vend_ports.specs.print.Told.{IsTold, Outputs, Takes}
 use Rattle.vend_ports.specs.declared.command_end.CommandEnd.{CommandEnd}
 use Rattle.vend_ports.specs.declared.command_end.CommandEnd.TheVariants as how
 

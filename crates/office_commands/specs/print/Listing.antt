@@ -12,7 +12,8 @@ use Rattle.office_commands.specs.office.Refused.{TellsStopped}
 use Rattle.office_commands.specs.print.Exported.{IsPageRefusal, export_stop_end, stop_errors}
 use Rattle.desk_commands.specs.print.ListTexts.{page_text, pages_text}
 use Rattle.desk_commands.specs.print.Pages.{ArePages, list_behind, most_pages, page_lookup}
-use Rattle.vend_ports.specs.print.Told.{IsTold, Outputs, Sink, Takes}
+use Rattle.vend_ports.specs.print.Sink.{Sink}
+use Rattle.vend_ports.specs.print.Told.{IsTold, Outputs, Takes}
 use Rattle.vend_ports.specs.declared.command_end.CommandEnd.{CommandEnd}
 
 -- ---- a page

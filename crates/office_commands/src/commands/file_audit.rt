@@ -2,7 +2,7 @@ ghost use Rattle.std.specs.Prelude.{option_map};
 ghost use Rattle.command_line.specs.Transform.{forward_of};
 ghost use Rattle.office_commands.specs.commands.Audited.{IsAudited, TellsAudit};
 ghost use Rattle.office_commands.specs.port.Places.{places_of};
-ghost use Rattle.vend_ports.specs.print.Told.{outputs, sink};
+ghost use Rattle.vend_ports.specs.print.Told.{outputs};
 
 use crate::office::auditing::{audit_files, connect, end_audit};
 use crate::port::ports::OfficeFile;
@@ -31,8 +31,7 @@ pub fn run<H: OfficeFile, P: Progress, O: Write, E: Write>(
     ensures { IsAudited
         (places_of H.Medium.Disk H.Salts.SaltSource H.OfficeFile office words.now.file.now
         words.now.wait) (option_map forward_of words.now.transform)
-        (outputs (sink O.contents out.old) (sink O.contents out.new)
-        (sink E.contents err.old) (sink E.contents err.new)) result }
+        (outputs out.old out.new err.old err.new) result }
 {
     let salts = office.salts();
     match connect(alloc, office, &salts, words.file, words.wait) {
@@ -59,8 +58,7 @@ fn tell<O: Write, E: Write>(
     out: &mut Watched<'_, O>,
     err: &mut Watched<'_, E>,
 ) -> CommandEnd
-    ensures { TellsAudit answer (outputs (sink O.contents out.old) (sink O.contents out.new)
-        (sink E.contents err.old) (sink E.contents err.new)) result }
+    ensures { TellsAudit answer (outputs out.old out.new err.old err.new) result }
 {
     match answer {
         Ok(audited) => {

@@ -6,7 +6,7 @@ ghost use Rattle.vend_ports.specs.port.Dial.{dial_of};
 ghost use Rattle.office_commands.specs.port.Places.{places_of};
 ghost use Rattle.vend_ports.specs.port.Texts.{texts_of};
 ghost use Rattle.vend_ports.specs.commands.Timed.{IsTimed};
-ghost use Rattle.vend_ports.specs.print.Told.{outputs, sink};
+ghost use Rattle.vend_ports.specs.print.Told.{outputs};
 
 use crate::commands::request::ask_at;
 use crate::port::ports::OfficeFile;
@@ -34,8 +34,7 @@ pub fn run<H: OfficeFile, F: TextFiles, C: Clock, O: Write, E: Write>(
     out: &mut Watched<'_, O>,
     err: &mut Watched<'_, E>,
 ) -> CommandEnd
-    ensures { let o = outputs (sink O.contents out.old) (sink O.contents out.new)
-        (sink E.contents err.old) (sink E.contents err.new) in
+    ensures { let o = outputs out.old out.new err.old err.new in
         IsTimed (H.leaves H office × F.leaves F texts) words.now.at (dial_of C.Clock clock.old)
         (λ moment. IsFileImported ⟦<FileStore<H::Medium> as Store>⟧
         (places_of H.Medium.Disk H.Salts.SaltSource H.OfficeFile office)
@@ -65,8 +64,7 @@ fn import_at<H: OfficeFile, F: TextFiles, O: Write, E: Write>(
     ensures { IsFileImported ⟦<FileStore<H::Medium> as Store>⟧
         (places_of H.Medium.Disk H.Salts.SaltSource H.OfficeFile office)
         (H.leaves H office) (texts_of F.TextFiles texts) words.now moment
-        (outputs (sink O.contents out.old) (sink O.contents out.new)
-        (sink E.contents err.old) (sink E.contents err.new)) result }
+        (outputs out.old out.new err.old err.new) result }
 {
     match texts.read(words.csv) {
         Ok(bytes) => add(words, alloc, office, moment, &bytes, out, err),
@@ -91,8 +89,7 @@ fn add<H: OfficeFile, O: Write, E: Write>(
     ensures { IsImported ⟦<FileStore<H::Medium> as Store>⟧
         (places_of H.Medium.Disk H.Salts.SaltSource H.OfficeFile office)
         (H.leaves H office) words.now moment bytes.now
-        (outputs (sink O.contents out.old) (sink O.contents out.new)
-        (sink E.contents err.old) (sink E.contents err.new)) result }
+        (outputs out.old out.new err.old err.new) result }
 {
     match rows_of(words, alloc, bytes) {
         Ok(rows) => {

@@ -3,7 +3,7 @@
 ghost use Rattle.office_commands.specs.commands.LookedUp.{IsShown, IsShownAt};
 ghost use Rattle.vend_ports.specs.port.Dial.{dial_of};
 ghost use Rattle.office_commands.specs.port.Places.{places_of};
-ghost use Rattle.vend_ports.specs.print.Told.{outputs, sink};
+ghost use Rattle.vend_ports.specs.print.Told.{outputs};
 
 use crate::office::looking::read;
 use crate::office::opening::{close_office, open_present_office};
@@ -44,8 +44,7 @@ pub(crate) fn run<H: OfficeFile, C: Clock, O: Write, E: Write>(
         (places_of H.Medium.Disk H.Salts.SaltSource H.OfficeFile office)
         (H.leaves H office) (dial_of C.Clock clock.old)
         asked.now.at asked.now.file.now asked.now.wait asked.now.wanted
-        (outputs (sink O.contents out.old) (sink O.contents out.new)
-        (sink E.contents err.old) (sink E.contents err.new)) result }
+        (outputs out.old out.new err.old err.new) result }
 {
     match moment_or_now(asked.at, clock) {
         Some(moment) => run_at(asked, alloc, office, moment, out, err),
@@ -70,8 +69,7 @@ fn run_at<H: OfficeFile, O: Write, E: Write>(
     ensures { IsShownAt ⟦<FileStore<H::Medium> as Store>⟧
         (places_of H.Medium.Disk H.Salts.SaltSource H.OfficeFile office)
         asked.now.file.now asked.now.wait moment asked.now.wanted
-        (outputs (sink O.contents out.old) (sink O.contents out.new)
-        (sink E.contents err.old) (sink E.contents err.new)) result }
+        (outputs out.old out.new err.old err.new) result }
 {
     let salts = office.salts();
     match open_present_office(

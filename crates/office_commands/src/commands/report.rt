@@ -2,7 +2,7 @@ ghost use Rattle.std.specs.Prelude.{◌≡◌};
 ghost use Rattle.sts_fields.specs.Moment.{first_moment};
 ghost use Rattle.office_commands.specs.port.Places.{places_of};
 ghost use Rattle.office_commands.specs.commands.Reported.{IsReported, PrintsPaper};
-ghost use Rattle.vend_ports.specs.print.Told.{outputs, sink};
+ghost use Rattle.vend_ports.specs.print.Told.{outputs};
 ghost use Rattle.office_commands.specs.office.Visited.{seen_in};
 
 use crate::office::asking::ask;
@@ -34,8 +34,7 @@ pub fn run<H: OfficeFile, P: Progress, O: Write, E: Write>(
 ) -> CommandEnd
     ensures { IsReported ⟦<FileStore<H::Medium> as Store>⟧
         (places_of H.Medium.Disk H.Salts.SaltSource H.OfficeFile office) words.now
-        (outputs (sink O.contents out.old) (sink O.contents out.new)
-        (sink E.contents err.old) (sink E.contents err.new)) result }
+        (outputs out.old out.new err.old err.new) result }
 {
     let salts = office.salts();
     match open_present_office(
@@ -72,8 +71,7 @@ fn print<S: Alter, P: Progress, O: Write, E: Write>(
     err: &mut Watched<'_, E>,
 ) -> CommandEnd
     ensures { PrintsPaper paper (seen_in books.old) (seen_in books.new)
-        (outputs (sink O.contents out.old) (sink O.contents out.new)
-        (sink E.contents err.old) (sink E.contents err.new)) result }
+        (outputs out.old out.new err.old err.new) result }
 {
     match paper {
         Paper::Shift(number) => {

@@ -2,7 +2,7 @@ ghost use Rattle.office_commands.specs.commands.Asked.{IsAskedAt};
 ghost use Rattle.vend_ports.specs.port.Dial.{dial_of};
 ghost use Rattle.office_commands.specs.port.Places.{places_of};
 ghost use Rattle.vend_ports.specs.commands.Timed.{IsTimed};
-ghost use Rattle.vend_ports.specs.print.Told.{outputs, sink};
+ghost use Rattle.vend_ports.specs.print.Told.{outputs};
 
 use crate::office::asking::ask;
 use crate::office::opening::{close_office, open_office};
@@ -27,8 +27,7 @@ pub fn run<H: OfficeFile, C: Clock, O: Write, E: Write>(
     out: &mut Watched<'_, O>,
     err: &mut Watched<'_, E>,
 ) -> CommandEnd
-    ensures { let o = outputs (sink O.contents out.old) (sink O.contents out.new)
-        (sink E.contents err.old) (sink E.contents err.new) in
+    ensures { let o = outputs out.old out.new err.old err.new in
         IsTimed (H.leaves H office) words.entry.at (dial_of C.Clock clock.old)
         (λ moment. IsAskedAt ⟦<FileStore<H::Medium> as Store>⟧
         (places_of H.Medium.Disk H.Salts.SaltSource H.OfficeFile office)
@@ -58,8 +57,7 @@ pub(crate) fn ask_at<H: OfficeFile, O: Write, E: Write>(
     ensures { IsAskedAt ⟦<FileStore<H::Medium> as Store>⟧
         (places_of H.Medium.Disk H.Salts.SaltSource H.OfficeFile office)
         words.entry.transform words.entry.file.now words.entry.wait moment words.entry.request
-        (outputs (sink O.contents out.old) (sink O.contents out.new)
-        (sink E.contents err.old) (sink E.contents err.new)) result }
+        (outputs out.old out.new err.old err.new) result }
 {
     let salts = office.salts();
     match open_office(

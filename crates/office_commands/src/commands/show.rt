@@ -2,7 +2,7 @@ ghost use Rattle.std.specs.Prelude.{◌≡◌};
 ghost use Rattle.office_commands.specs.commands.LookedUp.{IsShown, lookup_of};
 ghost use Rattle.vend_ports.specs.port.Dial.{dial_of};
 ghost use Rattle.office_commands.specs.port.Places.{places_of};
-ghost use Rattle.vend_ports.specs.print.Told.{outputs, sink};
+ghost use Rattle.vend_ports.specs.print.Told.{outputs};
 
 use crate::commands::look_up::{self, FileLookup};
 use crate::office::wanted::Wanted;
@@ -30,8 +30,7 @@ pub fn run<H: OfficeFile, C: Clock, O: Write, E: Write>(
         (H.leaves H office) (dial_of C.Clock clock.old)
         words.now.at words.now.file.now words.now.wait
         (Wanted.One (lookup_of words.now.shown) words.now.json)
-        (outputs (sink O.contents out.old) (sink O.contents out.new)
-        (sink E.contents err.old) (sink E.contents err.new)) result }
+        (outputs out.old out.new err.old err.new) result }
 {
     let asked = FileLookup {
         file: words.file,

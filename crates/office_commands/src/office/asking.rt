@@ -3,7 +3,7 @@
 ghost use Rattle.std.specs.Prelude.{[], MatchResult};
 ghost use Rattle.books.specs.Keeps.{seen};
 ghost use Rattle.office_commands.specs.office.Served.{IsServedAndTold, TakesAnswerRoom, TellsAnswer, answer_text};
-ghost use Rattle.vend_ports.specs.print.Told.{Takes, outputs, sink};
+ghost use Rattle.vend_ports.specs.print.Told.{Takes, outputs};
 
 use books::Books;
 use office_rules::{Answer, Moment, Refusal, Request};
@@ -27,8 +27,7 @@ pub(crate) fn ask<S: Alter, T: BlockTransform, O: Write, E: Write>(
     err: &mut Watched<'_, E>,
 ) -> CommandEnd
     ensures { IsServedAndTold moment request (seen books.old) (seen books.new)
-        (outputs (sink O.contents out.old) (sink O.contents out.new)
-        (sink E.contents err.old) (sink E.contents err.new)) result }
+        (outputs out.old out.new err.old err.new) result }
 {
     match books.ask(moment, request) {
         Ok(answer) => tell_answer(alloc, &answer, out, err),
@@ -46,8 +45,7 @@ fn tell_answer<O: Write, E: Write>(
     out: &mut Watched<'_, O>,
     err: &mut Watched<'_, E>,
 ) -> CommandEnd
-    ensures { TellsAnswer answer.now (outputs (sink O.contents out.old) (sink O.contents out.new)
-        (sink E.contents err.old) (sink E.contents err.new)) result }
+    ensures { TellsAnswer answer.now (outputs out.old out.new err.old err.new) result }
 {
     match print_answer(alloc, answer, out) {
         Ok(()) => CommandEnd::Done,
@@ -65,9 +63,8 @@ fn print_answer<O: Write>(
     out: &mut Watched<'_, O>,
 ) -> Result<(), AllocError>
     ensures { MatchResult result
-        (λ _. Takes (sink O.contents out.old) (sink O.contents out.new) (answer_text answer.now))
-        (λ _. TakesAnswerRoom answer.now
-            × Takes (sink O.contents out.old) (sink O.contents out.new) []) }
+        (λ _. Takes out.old out.new (answer_text answer.now))
+        (λ _. TakesAnswerRoom answer.now × Takes out.old out.new []) }
 {
     match answer {
         Answer::Done => put_line(&[b"done"], out),

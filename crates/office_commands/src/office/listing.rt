@@ -5,7 +5,7 @@ ghost use Rattle.books.specs.Keeps.{seen};
 ghost use Rattle.office_commands.specs.office.OnlyRead.{AreOnlyRead};
 ghost use Rattle.office_commands.specs.print.Listing.{IsListPage, IsListed};
 ghost use Rattle.desk_commands.specs.print.Pages.{page_lookup};
-ghost use Rattle.vend_ports.specs.print.Told.{outputs, sink};
+ghost use Rattle.vend_ports.specs.print.Told.{outputs};
 
 use books::{Books, Lookup};
 use command_line::Listed;
@@ -29,8 +29,7 @@ pub(crate) fn list<S: Alter, T: BlockTransform, O: Write, E: Write>(
     err: &mut Watched<'_, E>,
 ) -> CommandEnd
     ensures { IsListed moment list json (seen books.old) (seen books.new)
-        (outputs (sink O.contents out.old) (sink O.contents out.new)
-        (sink E.contents err.old) (sink E.contents err.new)) result }
+        (outputs out.old out.new err.old err.new) result }
 {
     let mut next = list;
     // No file has so many pages.
@@ -59,7 +58,7 @@ fn print_page<S: Alter, T: BlockTransform, O: Write>(
     out: &mut Watched<'_, O>,
 ) -> Result<Option<Listed>, Refusal>
     ensures page { IsListPage moment list json is_first (seen books.old) (seen books.new)
-        (sink O.contents out.old) (sink O.contents out.new) result }
+        out.old out.new result }
     ensures reads { AreOnlyRead (seen books.old) (seen books.new) }
 {
     let page = match books.look_up(moment, &page_lookup(list)) {

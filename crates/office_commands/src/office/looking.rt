@@ -2,7 +2,7 @@
 
 ghost use Rattle.books.specs.Keeps.{seen};
 ghost use Rattle.office_commands.specs.commands.LookedUp.{IsLookedUp, IsRead, TellsText};
-ghost use Rattle.vend_ports.specs.print.Told.{outputs, sink};
+ghost use Rattle.vend_ports.specs.print.Told.{outputs};
 
 use crate::office::listing::list;
 use crate::office::wanted::Wanted;
@@ -25,8 +25,7 @@ pub(crate) fn read<S: Alter, T: BlockTransform, O: Write, E: Write>(
     err: &mut Watched<'_, E>,
 ) -> CommandEnd
     ensures { IsRead moment wanted.now (seen books.old) (seen books.new)
-        (outputs (sink O.contents out.old) (sink O.contents out.new)
-        (sink E.contents err.old) (sink E.contents err.new)) result }
+        (outputs out.old out.new err.old err.new) result }
 {
     match wanted {
         Wanted::One(lookup, json) => look_up(alloc, books, moment, lookup, *json, out, err),
@@ -45,8 +44,7 @@ fn look_up<S: Alter, T: BlockTransform, O: Write, E: Write>(
     err: &mut Watched<'_, E>,
 ) -> CommandEnd
     ensures { IsLookedUp moment lookup.now json (seen books.old) (seen books.new)
-        (outputs (sink O.contents out.old) (sink O.contents out.new)
-        (sink E.contents err.old) (sink E.contents err.new)) result }
+        (outputs out.old out.new err.old err.new) result }
 {
     match books.look_up(moment, lookup) {
         Ok(found) => tell_found(alloc, lookup, &found, json, out, err),
@@ -67,8 +65,7 @@ fn tell_found<O: Write, E: Write>(
     err: &mut Watched<'_, E>,
 ) -> CommandEnd
     ensures { TellsText json lookup.now found.now
-        (outputs (sink O.contents out.old) (sink O.contents out.new)
-        (sink E.contents err.old) (sink E.contents err.new)) result }
+        (outputs out.old out.new err.old err.new) result }
 {
     match put_found(alloc, lookup, found, json, out) {
         Ok(()) => CommandEnd::Done,

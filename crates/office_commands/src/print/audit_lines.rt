@@ -6,7 +6,7 @@ ghost use Rattle.sqlite_value.specs.Value.{owned};
 ghost use Rattle.sts_fields.specs.Text.{Text};
 ghost use Rattle.office_commands.specs.print.AuditLines.{TellsRow, TellsValue, broken_line};
 ghost use Rattle.office_commands.specs.print.AuditLines.{part_text, passed_line, rule_text, sound_line};
-ghost use Rattle.vend_ports.specs.print.Told.{Takes, sink};
+ghost use Rattle.vend_ports.specs.print.Told.{Takes};
 
 use audit::{Audited, Finding, Part, RowKey, Rule};
 use itoa::Buffer;
@@ -18,7 +18,7 @@ use vend_ports::{Watched, put_line};
 
 /// Prints what a file keeps.
 pub(crate) fn put_sound<W: Write>(audited: Audited, out: &mut Watched<'_, W>)
-    ensures { Takes (sink W.contents out.old) (sink W.contents out.new) (sound_line audited) }
+    ensures { Takes out.old out.new (sound_line audited) }
 {
     let mut format = Buffer::new();
     let mut tariffs = Buffer::new();
@@ -41,7 +41,7 @@ pub(crate) fn put_sound<W: Write>(audited: Audited, out: &mut Watched<'_, W>)
 
 /// Prints which part of an audit has passed.
 pub(crate) fn put_passed<W: Write>(part: Part, out: &mut Watched<'_, W>)
-    ensures { Takes (sink W.contents out.old) (sink W.contents out.new) (passed_line part) }
+    ensures { Takes out.old out.new (passed_line part) }
 {
     put_line(&[part_name(part)], out);
 }
@@ -50,7 +50,7 @@ pub(crate) fn put_passed<W: Write>(part: Part, out: &mut Watched<'_, W>)
 /// first column.
 pub(crate) fn put_broken<W: Write>(finding: &Finding, out: &mut Watched<'_, W>)
     ensures { (row : List Text) × TellsRow finding.now.row row
-        × Takes (sink W.contents out.old) (sink W.contents out.new) (broken_line finding.now row) }
+        × Takes out.old out.new (broken_line finding.now row) }
 {
     let table = finding.table.name().as_bytes();
     let rule = rule_name(finding.rule);
@@ -97,7 +97,7 @@ pub(crate) fn put_broken<W: Write>(finding: &Finding, out: &mut Watched<'_, W>)
 // The same of a row by one value: a number, a name, or `?` for whatever else.
 fn put_value<W: Write>(finding: &Finding, value: ValueRef<'_>, out: &mut Watched<'_, W>)
     ensures { (told : Text) × TellsValue (owned value.entry) told
-        × Takes (sink W.contents out.old) (sink W.contents out.new)
+        × Takes out.old out.new
         (broken_line finding.now (told ∷ [])) }
 {
     let table = finding.table.name().as_bytes();

@@ -1,5 +1,5 @@
 ghost use Rattle.office_commands.specs.print.Opening.{opening_line};
-ghost use Rattle.vend_ports.specs.print.Told.{Takes, sink};
+ghost use Rattle.vend_ports.specs.print.Told.{Takes};
 
 use books::OpenFault;
 use itoa::Buffer;
@@ -8,7 +8,7 @@ use vend_ports::{Watched, put_line};
 
 /// Tells why an office is not opened.
 pub fn put_opening<W: Write>(fault: OpenFault, out: &mut Watched<'_, W>)
-    ensures { Takes (sink W.contents out.old) (sink W.contents out.new) (opening_line fault) }
+    ensures { Takes out.old out.new (opening_line fault) }
 {
     let mut number = Buffer::new();
     let number = number.format(fault.number()).as_bytes();

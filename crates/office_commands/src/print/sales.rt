@@ -4,7 +4,7 @@ ghost use Rattle.std.specs.Prelude.{◌≤◌};
 ghost use Rattle.books.specs.Keeps.{seen};
 ghost use Rattle.office_commands.specs.office.OnlyRead.{AreOnlyRead};
 ghost use Rattle.office_commands.specs.print.Exported.{IsExported, IsPage};
-ghost use Rattle.vend_ports.specs.print.Told.{outputs, sink};
+ghost use Rattle.vend_ports.specs.print.Told.{outputs};
 
 use crate::port::progress::Progress;
 use books::Books;
@@ -33,8 +33,7 @@ pub(crate) fn print_sales<S: Alter, T: BlockTransform, P: Progress, O: Write, E:
     err: &mut Watched<'_, E>,
 ) -> CommandEnd
     ensures { IsExported (seen books.old) (seen books.new)
-        (outputs (sink O.contents out.old) (sink O.contents out.new)
-        (sink E.contents err.old) (sink E.contents err.new)) result }
+        (outputs out.old out.new err.old err.new) result }
 {
     export_law();
     life_law();
@@ -62,7 +61,7 @@ fn print_page<S: Alter, T: BlockTransform, O: Write>(
 ) -> Result<bool, Refusal>
     requires { page ≤ 1000000 }
     ensures page { IsPage (seen books.old) (seen books.new)
-        page (sink O.contents out.old) (sink O.contents out.new) result }
+        page out.old out.new result }
     ensures reads { AreOnlyRead (seen books.old) (seen books.new) }
 {
     life_law();

@@ -1,7 +1,7 @@
 //! The totals of a shift of an open office, printed.
 
 ghost use Rattle.books.specs.Keeps.{seen};
-ghost use Rattle.vend_ports.specs.print.Told.{outputs, sink};
+ghost use Rattle.vend_ports.specs.print.Told.{outputs};
 ghost use Rattle.office_commands.specs.print.Totalled.{IsTotalled};
 
 use books::Books;
@@ -19,8 +19,7 @@ pub(crate) fn print_totals<S: Alter, T: BlockTransform, O: Write, E: Write>(
     err: &mut Watched<'_, E>,
 ) -> CommandEnd
     ensures { IsTotalled number (seen books.old) (seen books.new)
-        (outputs (sink O.contents out.old) (sink O.contents out.new)
-        (sink E.contents err.old) (sink E.contents err.new)) result }
+        (outputs out.old out.new err.old err.new) result }
 {
     match books.shift_totals(number) {
         Ok(totals) => {

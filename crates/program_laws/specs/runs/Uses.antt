@@ -59,7 +59,8 @@ use Rattle.office_commands.specs.port.Places.{IsUnopened, Place, places_of, wher
 use Rattle.vend_commands.specs.port.Machines.{Machine, Way}
 use Rattle.office_commands.specs.port.Places.IsUnopened.{unfound, unopened as found_unopened}
 use Rattle.office_commands.specs.port.Places.IsUnopenedIn.{refused, unsalted}
-use Rattle.vend_ports.specs.print.Told.{Outputs, Sink}
+use Rattle.vend_ports.specs.print.Sink.{Sink}
+use Rattle.vend_ports.specs.print.Told.{Outputs}
 use Rattle.program_laws.specs.runs.Readings.{IsReadIn, IsSaleRead, Reading, exported, reading_of}
 use Rattle.vend_commands.specs.serving.Connections.{AreServed, Service, service}
 use Rattle.program_laws.specs.Courses.{AreLived, Course, IsNext, course}

@@ -24,7 +24,8 @@ use Rattle.office_rules.specs.declared.decision.request.Stamped.{Stamped}
 use Rattle.vend_ports.specs.print.Printed.{net_line, refusal_line, selfcheck_line}
 use Rattle.office_commands.specs.print.Opening.{opening_line}
 use Rattle.vend_ports.specs.port.Sent.{IsSent}
-use Rattle.vend_ports.specs.print.Told.{Held, IsTold, Outputs}
+use Rattle.vend_ports.specs.print.Sink.{Held}
+use Rattle.vend_ports.specs.print.Told.{IsTold, Outputs}
 use Rattle.command_line.specs.Transform.{forward_of}
 use Rattle.vend_ports.specs.declared.command_end.CommandEnd.{CommandEnd}
 use Rattle.vend_ports.specs.declared.command_end.CommandEnd.TheVariants.{Done, Refused as IsRefused}

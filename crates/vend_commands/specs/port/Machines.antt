@@ -14,7 +14,7 @@ use Rattle.office_commands.specs.office.Opened.{OpensIn}
 use Rattle.office_commands.specs.port.Places.{Places, untold_place}
 use Rattle.vend_ports.specs.port.Dial.{Dial}
 use Rattle.vend_ports.specs.port.Texts.{Texts}
-use Rattle.vend_ports.specs.print.Told.{Held}
+use Rattle.vend_ports.specs.print.Sink.{Held}
 use Rattle.vend_ports.specs.declared.port.door.Door as doors
 use Rattle.vend_ports.specs.declared.port.loopback.Loopback as loopback
 use Rattle.vend_commands.specs.commands.Selfchecked.{AgreesOver, Disagrees, HasReplies}

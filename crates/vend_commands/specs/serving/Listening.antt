@@ -11,7 +11,8 @@ use Rattle.vend_commands.specs.port.Machines.{Way}
 use Rattle.vend_ports.specs.port.Port.{IsPortFor}
 use Rattle.vend_ports.specs.print.Printed.{listening_line, net_line, refusal_line}
 use Rattle.office_commands.specs.print.Opening.{opening_line}
-use Rattle.vend_ports.specs.print.Told.{Outputs, Sink, Takes}
+use Rattle.vend_ports.specs.print.Sink.{Sink}
+use Rattle.vend_ports.specs.print.Told.{Outputs, Takes}
 use Rattle.office_commands.specs.office.Visited.{IsOpenedAt, seen_in}
 use Rattle.command_line.specs.Transform.{forward_of, shipped}
 use Rattle.command_line.specs.declared.address.Address.{Address}

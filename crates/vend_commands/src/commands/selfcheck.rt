@@ -3,7 +3,7 @@ ghost use Rattle.books.specs.Keeps.{seen};
 ghost use Rattle.command_line.specs.Transform.{forward_of, shipped};
 ghost use Rattle.vend_commands.specs.commands.Selfchecked.{AgreesOver, Disagrees, IsSelfchecked};
 ghost use Rattle.vend_commands.specs.commands.Selfchecked.{selfcheck_fault_line};
-ghost use Rattle.vend_ports.specs.print.Told.{Takes, outputs, sink};
+ghost use Rattle.vend_ports.specs.print.Told.{Takes, outputs};
 
 use crate::selfcheck::fault::SelfcheckFault;
 use crate::selfcheck::selfcheck;
@@ -25,8 +25,7 @@ pub fn run_selfcheck<L: Loopback, O: Write, E: Write>(
         (forward_of words.now.transform))
         (Disagrees L.Loopback L.Stream.remaining L.Stream.contents loopback
         (forward_of words.now.transform) (seen {g = over_memory} {h = shipped}))
-        (outputs (sink O.contents out.old) (sink O.contents out.new)
-        (sink E.contents err.old) (sink E.contents err.new)) result }
+        (outputs out.old out.new err.old err.new) result }
 {
     match selfcheck(alloc, loopback, words.transform) {
         Ok(()) => {
@@ -42,8 +41,7 @@ pub fn run_selfcheck<L: Loopback, O: Write, E: Write>(
 
 // Tells why the same replies did not come.
 fn put_selfcheck_fault<E: Write>(fault: SelfcheckFault, err: &mut Watched<'_, E>)
-    ensures { Takes (sink E.contents err.old) (sink E.contents err.new)
-        (selfcheck_fault_line fault) }
+    ensures { Takes err.old err.new (selfcheck_fault_line fault) }
 {
     match fault {
         SelfcheckFault::Net => put_line(&[b"net"], err),

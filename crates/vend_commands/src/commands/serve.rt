@@ -4,7 +4,7 @@ ghost use Rattle.vend_commands.specs.serving.Listening.{IsClosedAfter, IsDeaf, I
 ghost use Rattle.office_commands.specs.port.Places.{places_of};
 ghost use Rattle.vend_commands.specs.port.Machines.{way};
 ghost use Rattle.vend_ports.specs.print.Printed.{net_line, refusal_line};
-ghost use Rattle.vend_ports.specs.print.Told.{Takes, sink};
+ghost use Rattle.vend_ports.specs.print.Told.{Takes};
 ghost use Rattle.office_commands.specs.office.Visited.{seen_in};
 
 use crate::serving::serve;
@@ -33,7 +33,7 @@ pub(crate) fn run<H: OfficeFile, D: Door, C: Clock, E: Write>(
         (way D.Door D.Reader.remaining D.Writer.contents)
         (places_of H.Medium.Disk H.Salts.SaltSource H.OfficeFile office)
         door (C.answers clock.old) words.now
-        (sink E.contents err.old) (sink E.contents err.new) result }
+        err.old err.new result }
 {
     let mut door = door;
     let salts = office.salts();
@@ -77,9 +77,9 @@ fn listen<D: Door, E: Write>(
 ) -> Option<Desk>
     ensures { MatchOption result
         (IsDeaf (way D.Door D.Reader.remaining D.Writer.contents)
-        address door.old door.new (sink E.contents err.old) (sink E.contents err.new))
+        address door.old door.new err.old err.new)
         (λ _. Listens (way D.Door D.Reader.remaining D.Writer.contents)
-        address door.old door.new (sink E.contents err.old) (sink E.contents err.new)) }
+        address door.old door.new err.old err.new) }
 {
     let Ok(desk) = Desk::new(alloc) else {
         put_refusal(Refusal::Memory, err);
@@ -107,7 +107,7 @@ fn end_with<H: OfficeFile, E: Write>(
 ) -> CommandEnd
     ensures closed { IsClosedAfter
         (λ books. IsClosed H.Medium.Disk (H.lets_go H.Medium) (seen_in books)) served }
-    ensures told { Takes (sink E.contents err.old) (sink E.contents err.new) (last_line served) }
+    ensures told { Takes err.old err.new (last_line served) }
     ensures end { result ≡ serving_end served }
 {
     match served {

@@ -1,30 +1,9 @@
 -- What a command leaves on its output and its error output.
-use Rattle.std.specs.Prelude.{◌≡◌, ℕ, ◌<◌, Bool, true, false, List, ◌++◌, length, take, Option}
+use Rattle.std.specs.Prelude.{◌≡◌, ℕ, ◌<◌, Bool, true, false, ◌++◌, length, take}
 use Rattle.std.specs.Io.KnownBytes.{Appends, Keeps}
 use Rattle.sts_fields.specs.Text.{Text}
 use Rattle.vend_ports.specs.declared.command_end.CommandEnd.{CommandEnd}
-use Rattle.vend_ports.specs.declared.print.watched.Watched.{Watched}
-
--- the bytes that a writer holds, where they are known
-abbrev pub Held : Type 0
-Held = Option (List ℕ)
-
--- a writer: what it holds, whether a write to it has failed, and which one it is
-pub record Sink : Type 0 where
-  pub held : Held
-  pub failed : Bool
-  pub name : ℕ
-
-abbrev pub sink : {W : Type 0} → (W → Held) → Watched W → Sink
-sink contents writer = record {
-  held = contents writer.inner.now;
-  failed = writer.failed;
-  name = writer.inner.ghost_name;
-}
-
--- a writer that is not watched, of which this is known
-abbrev pub writer : Held → (failed : Bool) → (name : ℕ) → Sink
-writer held failed name = record { held = held; failed = failed; name = name }
+use Rattle.vend_ports.specs.print.Sink.{Held, Sink}
 
 -- behind what the writer held stands a part of the text that lacks its end
 abbrev pub IsCut : Held → Held → Text → Type 0

@@ -3,7 +3,7 @@ ghost use Rattle.sim_meter.specs.Meter.{ComesFrom};
 ghost use Rattle.sts_token.specs.Meter.{Entry, Reader};
 ghost use Rattle.sts_token.specs.Reading.{reading_of};
 ghost use Rattle.vend_ports.specs.commands.Metered.{entry_of, metering, metering_of, word_line};
-ghost use Rattle.vend_ports.specs.print.Told.{Takes, sink};
+ghost use Rattle.vend_ports.specs.print.Told.{Takes};
 
 use crate::command_end::CommandEnd;
 use crate::print::lines::{put_answer, put_credit, put_line};
@@ -15,8 +15,7 @@ use sts_token::BlockTransform;
 
 /// Prints what the meter answers to each token, and then its credit.
 pub fn run<O: Write>(words: &MeterWords, out: &mut Watched<'_, O>) -> CommandEnd
-    ensures told { Takes (sink O.contents out.old) (sink O.contents out.new)
-        (metering_of words.now) }
+    ensures told { Takes out.old out.new (metering_of words.now) }
     ensures end { result ≡ CommandEnd.Done }
 {
     enter_all(words.transform, words.key, words.tokens, out);
@@ -30,7 +29,7 @@ fn enter_all<T: BlockTransform + Drop, O: Write>(
     tokens: &[&str],
     out: &mut Watched<'_, O>,
 )
-    ensures { Takes (sink O.contents out.old) (sink O.contents out.new)
+    ensures { Takes out.old out.new
         (metering (reading_of (T.inverses transform) key) (map (λ w. w.now) tokens.now)) }
 {
     let mut meter = Meter::new(transform, key);
@@ -47,7 +46,7 @@ fn enter<T: BlockTransform, O: Write>(meter: &mut Meter<T>, word: &str, out: &mu
         → ComesFrom T.inverses reader (history ++ entry_of word.now ∷ []) meter.new }
     ensures told { (reader : Reader) (history : List Entry)
         → ComesFrom T.inverses reader history meter.old
-        → Takes (sink O.contents out.old) (sink O.contents out.new)
+        → Takes out.old out.new
         (word_line reader history word.now) }
 {
     match word {

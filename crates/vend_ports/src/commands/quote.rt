@@ -1,5 +1,5 @@
 ghost use Rattle.vend_ports.specs.commands.Quoted.{PrintsQuote};
-ghost use Rattle.vend_ports.specs.print.Told.{outputs, sink};
+ghost use Rattle.vend_ports.specs.print.Told.{outputs};
 
 use crate::command_end::CommandEnd;
 use crate::print::lines::{put_quote, put_refusal};
@@ -15,8 +15,7 @@ pub fn run<O: Write, E: Write>(
     out: &mut Watched<'_, O>,
     err: &mut Watched<'_, E>,
 ) -> CommandEnd
-    ensures { PrintsQuote words.now (outputs (sink O.contents out.old) (sink O.contents out.new)
-        (sink E.contents err.old) (sink E.contents err.new)) result }
+    ensures { PrintsQuote words.now (outputs out.old out.new err.old err.new) result }
 {
     match buy(&words.steps, words.prior, words.tender) {
         Some(bought) => {

@@ -2,7 +2,7 @@ ghost use Rattle.std.specs.Prelude.{⊤, ℕ, List};
 ghost use Rattle.command_line.specs.Transform.{forward_of};
 ghost use Rattle.vend_ports.specs.commands.Timed.{IsTimed};
 ghost use Rattle.vend_ports.specs.port.Dial.{dial_of};
-ghost use Rattle.vend_ports.specs.print.Told.{Takes, outputs, sink};
+ghost use Rattle.vend_ports.specs.print.Told.{Takes, outputs};
 ghost use Rattle.vend_ports.specs.commands.Trial.{IsTrial};
 ghost use Rattle.vend_ports.specs.commands.Tried.{IsTried, token_lines, trial_fault_line};
 
@@ -27,8 +27,7 @@ pub fn run<C: Clock, O: Write, E: Write>(
     out: &mut Watched<'_, O>,
     err: &mut Watched<'_, E>,
 ) -> CommandEnd
-    ensures { let o = outputs (sink O.contents out.old) (sink O.contents out.new)
-        (sink E.contents err.old) (sink E.contents err.new) in
+    ensures { let o = outputs out.old out.new err.old err.new in
         IsTimed ⊤ words.now.at (dial_of C.Clock clock.old)
         (λ moment. IsTried words.now moment o result) o result }
 {
@@ -49,8 +48,7 @@ fn try_at<O: Write, E: Write>(
     out: &mut Watched<'_, O>,
     err: &mut Watched<'_, E>,
 ) -> CommandEnd
-    ensures { IsTried words.now moment (outputs (sink O.contents out.old) (sink O.contents out.new)
-        (sink E.contents err.old) (sink E.contents err.new)) result }
+    ensures { IsTried words.now moment (outputs out.old out.new err.old err.new) result }
 {
     let (tokens, fault) = trial(
         alloc,
@@ -72,7 +70,7 @@ fn try_at<O: Write, E: Write>(
 
 // Prints each token on a line.
 fn put_tokens<O: Write>(tokens: &[[u8; 20]], out: &mut Watched<'_, O>)
-    ensures { Takes (sink O.contents out.old) (sink O.contents out.new) (token_lines tokens.now) }
+    ensures { Takes out.old out.new (token_lines tokens.now) }
 {
     for token in tokens {
         put_token(token, out);
@@ -81,7 +79,7 @@ fn put_tokens<O: Write>(tokens: &[[u8; 20]], out: &mut Watched<'_, O>)
 
 // Tells why no more was sold.
 fn put_fault<E: Write>(fault: TrialFault, err: &mut Watched<'_, E>)
-    ensures { Takes (sink E.contents err.old) (sink E.contents err.new) (trial_fault_line fault) }
+    ensures { Takes err.old err.new (trial_fault_line fault) }
 {
     match fault {
         TrialFault::Amount => put_line(&[b"refused", b"amount"], err),

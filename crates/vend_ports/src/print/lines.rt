@@ -6,7 +6,7 @@ ghost use Rattle.vend_ports.specs.print.Printed.{credit_line, host_text, joined_
 ghost use Rattle.vend_ports.specs.print.Printed.{opened_line, pair_text, progress_line, quote_line};
 ghost use Rattle.vend_ports.specs.print.Printed.{read_fault_line, refusal_line, table_row_of, shift_line};
 ghost use Rattle.vend_ports.specs.print.Printed.{stopped_line, token_line};
-ghost use Rattle.vend_ports.specs.print.Told.{IsPutOn, Takes, sink};
+ghost use Rattle.vend_ports.specs.print.Told.{IsPutOn, Takes};
 
 use crate::port::file_fault::FileFault;
 use crate::print::watched::Watched;
@@ -25,24 +25,21 @@ const LINE_ROOM: usize = 128;
 /// Prints words on a line of their own, with a space between them: by one write, where the writer
 /// takes it whole, so that the lines of programs that share a log stay whole.
 pub fn put_line<W: Write>(words: &[&[u8]], out: &mut Watched<'_, W>)
-    ensures { Takes (sink W.contents out.old) (sink W.contents out.new)
-        (line_of (map (λ word. word.now) words.now)) }
+    ensures { Takes out.old out.new (line_of (map (λ word. word.now) words.now)) }
 {
     put_joined(b' ', words, out);
 }
 
 /// The same of fields, with a tab between them.
 pub fn put_row<W: Write>(fields: &[&[u8]], out: &mut Watched<'_, W>)
-    ensures { Takes (sink W.contents out.old) (sink W.contents out.new)
-        (table_row_of (map (λ field. field.now) fields.now)) }
+    ensures { Takes out.old out.new (table_row_of (map (λ field. field.now) fields.now)) }
 {
     put_joined(b'\t', fields, out);
 }
 
 // Prints words on a line, with this byte between them.
 fn put_joined<W: Write>(byte: u8, words: &[&[u8]], out: &mut Watched<'_, W>)
-    ensures { Takes (sink W.contents out.old) (sink W.contents out.new)
-        (joined_line byte (map (λ word. word.now) words.now)) }
+    ensures { Takes out.old out.new (joined_line byte (map (λ word. word.now) words.now)) }
 {
     let between: &[u8] = &[byte];
     let mut line = ArrayVec::new();
@@ -59,8 +56,7 @@ fn put_joined<W: Write>(byte: u8, words: &[&[u8]], out: &mut Watched<'_, W>)
 // Adds a piece to the part of a line that is not written yet. Where there is no room for it, that
 // part and the piece are written.
 fn add<W: Write>(piece: &[u8], line: &mut ArrayVec<u8, LINE_ROOM>, out: &mut Watched<'_, W>)
-    ensures { IsPutOn (sink W.contents out.old) (sink W.contents out.new)
-        line.old.items line.new.items piece.now }
+    ensures { IsPutOn out.old out.new line.old.items line.new.items piece.now }
 {
     match line.try_extend_from_slice(piece) {
         Ok(()) => {}
@@ -74,14 +70,14 @@ fn add<W: Write>(piece: &[u8], line: &mut ArrayVec<u8, LINE_ROOM>, out: &mut Wat
 
 /// Prints a token.
 pub(crate) fn put_token<W: Write>(token: &[u8; 20], out: &mut Watched<'_, W>)
-    ensures { Takes (sink W.contents out.old) (sink W.contents out.new) (token_line token.now) }
+    ensures { Takes out.old out.new (token_line token.now) }
 {
     put_line(&[token], out);
 }
 
 /// Prints what a meter answers to a token.
 pub(crate) fn put_answer<W: Write>(answer: Answer, out: &mut Watched<'_, W>)
-    ensures { Takes (sink W.contents out.old) (sink W.contents out.new) (answer_line answer) }
+    ensures { Takes out.old out.new (answer_line answer) }
 {
     let mut number = Buffer::new();
     match answer {
@@ -100,7 +96,7 @@ pub(crate) fn put_answer<W: Write>(answer: Answer, out: &mut Watched<'_, W>)
 
 /// Prints the credit of a meter, in tenths of a kWh.
 pub(crate) fn put_credit<W: Write>(tenths: u64, out: &mut Watched<'_, W>)
-    ensures { Takes (sink W.contents out.old) (sink W.contents out.new) (credit_line tenths) }
+    ensures { Takes out.old out.new (credit_line tenths) }
 {
     let mut number = Buffer::new();
     put_line(&[b"credit", number.format(tenths).as_bytes()], out);
@@ -108,7 +104,7 @@ pub(crate) fn put_credit<W: Write>(tenths: u64, out: &mut Watched<'_, W>)
 
 /// Prints what a tender buys.
 pub fn put_quote<W: Write>(bought: &Buy, out: &mut Watched<'_, W>)
-    ensures { Takes (sink W.contents out.old) (sink W.contents out.new) (quote_line bought.now) }
+    ensures { Takes out.old out.new (quote_line bought.now) }
 {
     let mut tenths = Buffer::new();
     let mut price = Buffer::new();
@@ -121,7 +117,7 @@ pub fn put_quote<W: Write>(bought: &Buy, out: &mut Watched<'_, W>)
 
 /// Prints how many rows an import added.
 pub fn put_added<W: Write>(count: u32, out: &mut Watched<'_, W>)
-    ensures { Takes (sink W.contents out.old) (sink W.contents out.new) (added_line count) }
+    ensures { Takes out.old out.new (added_line count) }
 {
     let mut number = Buffer::new();
     put_line(&[b"added", number.format(count).as_bytes()], out);
@@ -129,8 +125,7 @@ pub fn put_added<W: Write>(count: u32, out: &mut Watched<'_, W>)
 
 /// Prints how far an export is.
 pub fn put_progress<W: Write>(printed: u64, all: u64, out: &mut Watched<'_, W>)
-    ensures { Takes (sink W.contents out.old) (sink W.contents out.new)
-        (progress_line printed all) }
+    ensures { Takes out.old out.new (progress_line printed all) }
 {
     let mut some = Buffer::new();
     let mut whole = Buffer::new();
@@ -141,14 +136,14 @@ pub fn put_progress<W: Write>(printed: u64, all: u64, out: &mut Watched<'_, W>)
 
 /// Prints that a file is open.
 pub fn put_opened<W: Write>(out: &mut Watched<'_, W>)
-    ensures { Takes (sink W.contents out.old) (sink W.contents out.new) opened_line }
+    ensures { Takes out.old out.new opened_line }
 {
     put_line(&[b"opened"], out);
 }
 
 /// Prints the number of a shift.
 pub fn put_shift<W: Write>(shift: u32, out: &mut Watched<'_, W>)
-    ensures { Takes (sink W.contents out.old) (sink W.contents out.new) (shift_line shift) }
+    ensures { Takes out.old out.new (shift_line shift) }
 {
     let mut number = Buffer::new();
     put_line(&[b"shift", number.format(shift).as_bytes()], out);
@@ -180,7 +175,7 @@ fn pair_text(alloc: Global, one: u8, next: u8) -> Result<String, AllocError>
 
 /// Tells that the clock has no moment.
 pub fn put_no_moment<W: Write>(out: &mut Watched<'_, W>)
-    ensures { Takes (sink W.contents out.old) (sink W.contents out.new) clock_line }
+    ensures { Takes out.old out.new clock_line }
 {
     put_line(&[b"refused", b"clock"], out);
 }
@@ -188,7 +183,7 @@ pub fn put_no_moment<W: Write>(out: &mut Watched<'_, W>)
 /// Tells that the books have stopped: a request was refused for the store, and none is answered
 /// until they are opened again.
 pub fn put_stopped<W: Write>(out: &mut Watched<'_, W>)
-    ensures { Takes (sink W.contents out.old) (sink W.contents out.new) stopped_line }
+    ensures { Takes out.old out.new stopped_line }
 {
     let mut number = Buffer::new();
     let number = number.format(Refusal::Store.number()).as_bytes();
@@ -197,14 +192,14 @@ pub fn put_stopped<W: Write>(out: &mut Watched<'_, W>)
 
 /// Tells that books that had stopped are open again.
 pub fn put_open<W: Write>(out: &mut Watched<'_, W>)
-    ensures { Takes (sink W.contents out.old) (sink W.contents out.new) open_line }
+    ensures { Takes out.old out.new open_line }
 {
     put_line(&[b"open"], out);
 }
 
 /// Tells a refusal of the office.
 pub fn put_refusal<W: Write>(refusal: Refusal, out: &mut Watched<'_, W>)
-    ensures { Takes (sink W.contents out.old) (sink W.contents out.new) (refusal_line refusal) }
+    ensures { Takes out.old out.new (refusal_line refusal) }
 {
     let mut number = Buffer::new();
     let number = number.format(refusal.number()).as_bytes();
@@ -228,7 +223,7 @@ pub fn put_refusal<W: Write>(refusal: Refusal, out: &mut Watched<'_, W>)
 
 /// Tells why a file is not read.
 pub fn put_read_fault<E: Write>(fault: FileFault, err: &mut Watched<'_, E>)
-    ensures { Takes (sink E.contents err.old) (sink E.contents err.new) (read_fault_line fault) }
+    ensures { Takes err.old err.new (read_fault_line fault) }
 {
     match fault {
         FileFault::Unreadable => put_line(&[b"file"], err),

@@ -1,21 +1,28 @@
 ghost use Rattle.std.specs.Prelude.{◌≡◌, false};
-ghost use Rattle.vend_ports.specs.print.Told.{Takes, sink};
+ghost use Rattle.vend_ports.specs.print.Sink.{Sink, writer};
+ghost use Rattle.vend_ports.specs.print.Told.{Takes};
 
 use papers::write_whole;
 use std::io::Write;
+use std::marker::Model;
 
 /// A writer that remembers whether a write to it has failed. From then on it is given nothing more.
+/// In contracts it is what the writer holds, whether a write has failed, and which one it is.
 #[derive(Drop)]
-pub struct Watched<'a, W> {
+pub struct Watched<'a, W: Write> {
     inner: &'a mut W,
     failed: bool,
 }
 
+impl<'a, W: Write> Model for Watched<'a, W> {
+    ghost Value = { Sink };
+
+    ghost view = { λ w. writer (W.contents w.inner.now) w.failed w.inner.ghost_name };
+}
+
 impl<'a, W: Write> Watched<'a, W> {
     pub fn new(inner: &'a mut W) -> Watched<'a, W>
-        ensures same_reference { result.inner.ghost_name ≡ inner.entry.ghost_name }
-        ensures held { result.inner.now ≡ inner.old }
-        ensures sound { result.failed ≡ false }
+        ensures { result ≡ writer (W.contents inner.old) false inner.entry.ghost_name }
     {
         Watched {
             inner,
@@ -25,7 +32,7 @@ impl<'a, W: Write> Watched<'a, W> {
 
     /// Hands a whole text to the writer.
     pub fn put(&mut self, text: &[u8])
-        ensures { Takes (sink W.contents self.old) (sink W.contents self.new) text.now }
+        ensures { Takes self.old self.new text.now }
     {
         if self.failed {
             return;
@@ -38,5 +45,13 @@ impl<'a, W: Write> Watched<'a, W> {
         ensures { result ≡ self.now.failed }
     {
         self.failed
+    }
+
+    /// Gives the writer back.
+    pub fn into_inner(self) -> &'a mut W
+        ensures held { W.contents result.now ≡ self.entry.held }
+        ensures same_reference { result.ghost_name ≡ self.entry.name }
+    {
+        self.inner
     }
 }

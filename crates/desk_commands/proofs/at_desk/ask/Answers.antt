@@ -1,6 +1,5 @@
 use Rattle.std.proofs.Common.{◌∙◌, refl}
 use Rattle.desk_commands.specs.AskedOfDesk.IsAsked.{broken, replied, unsent}
-use Rattle.vend_ports.specs.print.Told.{sink}
 use Rattle.vend_ports.proofs.TakeLemmas.{takes_none}
 use Rattle.desk_commands.proofs.at_desk.ask.Goals as goal
 
@@ -13,11 +12,11 @@ returns-in-Some g c =
 pub returns-in-Ok-exchange : goal.returns-in-Ok-exchange
 returns-in-Ok-exchange g c =
     let sent = rw (c.deref.ensures.value ∙ c.in-Ok.ensures) at c.in-Ok-exchange.ensures in
-    let out = sink g.O.Write.contents c.args.out.now in
+    let out = c.args.out.now in
     broken c.in-Ok-exchange.came.items sent (rw c.wanted-in-Ok-exchange.ensures at
     (rw c.deref-in-Ok-exchange.ensures.value at c.in-None.ensures)) (takes_none out, c.put_line.ensures, refl)
 
 pub returns : goal.returns
 returns g c =
-    let out = sink g.O.Write.contents c.args.out.now in
+    let out = c.args.out.now in
     unsent c.in-Err.fault c.in-Err.ensures (takes_none out, c.put_exchange_fault.ensures, refl)

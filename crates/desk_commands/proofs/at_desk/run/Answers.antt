@@ -6,7 +6,7 @@ use Rattle.command_line.specs.declared.commands.list.Listed.{Listed}
 use Rattle.desk_commands.specs.AskedOfDesk.{IsAnswered, IsAskedOnce}
 use Rattle.desk_commands.specs.Exchanged.{Calls, calls_of}
 use Rattle.vend_ports.specs.port.Texts.{Texts, texts_of}
-use Rattle.vend_ports.specs.print.Told.{Outputs, outputs, sink}
+use Rattle.vend_ports.specs.print.Told.{Outputs, outputs}
 use Rattle.vend_ports.specs.declared.command_end.CommandEnd.{CommandEnd}
 use Rattle.desk_commands.proofs.at_desk.run.Goals as goal
 
@@ -28,8 +28,8 @@ answered_once texts calls uncalled desk (asks.List list json) o end none it = ab
 pub returns-in-List : goal.returns-in-List
 returns-in-List g c =
     let calls = calls_of g.L.Loopback g.L.Stream.Read.remaining g.L.Stream.Write.contents c.args.loopback in
-    let o = outputs (sink g.O.Write.contents c.args.out.now) (sink g.O.Write.contents c.list.new.out)
-    (sink g.E.Write.contents c.args.err.now) (sink g.E.Write.contents c.list.new.err) in
+    let o = outputs c.args.out.now c.list.new.out
+    c.args.err.now c.list.new.err in
     subst (λ (q : DeskQuestion). IsAnswered (texts_of g.F.TextFiles c.args.texts) calls (g.L.Loopback.leaves _ c.args.loopback)
     c.args.words.now.desk q o c.list.result) (sym c.in-List.is) (c.leave.ensures, c.list.ensures)
 

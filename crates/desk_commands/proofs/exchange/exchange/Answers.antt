@@ -3,7 +3,7 @@ use Rattle.sts_fields.specs.Text.{Text}
 use Rattle.command_line.specs.declared.address.Address.{Address}
 use Rattle.desk_commands.specs.Exchanged.{Exchanges, IsExchanged, IsRound, calls_of}
 use Rattle.desk_commands.specs.Exchanged.IsUnsent.{no_room, unsent}
-use Rattle.vend_ports.specs.print.Told.{Held}
+use Rattle.vend_ports.specs.print.Sink.{Held}
 use Rattle.desk_commands.specs.declared.exchange.ExchangeFault.{ExchangeFault}
 use Rattle.desk_commands.specs.declared.exchange.ExchangeFault.TheVariants.{Net, Memory}
 use Rattle.vend_ports.specs.declared.port.loopback.Loopback as loopback

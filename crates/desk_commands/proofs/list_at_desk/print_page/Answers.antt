@@ -1,9 +1,8 @@
-use Rattle.vend_ports.specs.print.Told.{sink}
 use Rattle.vend_ports.proofs.TakeLemmas.{takes_none}
 use Rattle.desk_commands.proofs.list_at_desk.print_page.Goals as goal
 
 pub returns-in-Err : goal.returns-in-Err
-returns-in-Err g c = (c.in-Err.ensures, takes_none (sink g.O.Write.contents c.args.out.now))
+returns-in-Err g c = (c.in-Err.ensures, takes_none c.args.out.now)
 
 pub returns-in-Ok-put_page : goal.returns-in-Ok-put_page
 returns-in-Ok-put_page g c = (c.in-Ok.page, c.in-Ok.ensures, c.in-Ok-put_page.ensures)

@@ -5,7 +5,7 @@ use Rattle.vend_ports.specs.port.Dial.{dial_of}
 use Rattle.vend_ports.specs.port.Texts.{texts_of}
 use Rattle.office_commands.specs.port.Places.{places_of}
 use Rattle.vend_commands.specs.port.Machines.{loop_of, machine, way}
-use Rattle.vend_ports.specs.print.Told.{outputs, sink}
+use Rattle.vend_ports.specs.print.Told.{outputs}
 use Rattle.vend_commands.proofs.RunLemmas.{done_so}
 use Rattle.vend_ports.proofs.TakeLemmas.{takes_none}
 use Rattle.vend_commands.proofs.running.answer.Goals as goal
@@ -19,8 +19,8 @@ returns-in-Serve g c =
     let m = machine at (H.leaves _ c.args.ports.office) (texts_of g.F.TextFiles c.args.ports.texts) (dial_of g.C.Clock c.args.ports.clock)
     (way D g.D.Reader.Read.remaining g.D.Writer.Write.contents) c.args.ports.door
     (loop_of g.L.Loopback g.L.Stream.Read.remaining g.L.Stream.Write.contents c.args.ports.loopback) in
-    let out = sink g.O.Write.contents c.args.out.now in
-    let o = outputs out out (sink g.E.Write.contents c.args.err.now) (sink g.E.Write.contents c.run-in-Serve.new.err) in
+    let out = c.args.out.now in
+    let o = outputs out out c.args.err.now c.run-in-Serve.new.err in
     done_so store m c.args.asked (asks.Serve c.in-Serve.words) o c.run-in-Serve.result c.in-Serve.is
     ((c.leave-in-Serve.ensures, c.leave.ensures), (refl, c.run-in-Serve.ensures))
 
@@ -33,8 +33,8 @@ returns-in-Report g c =
     let m = machine at (H.leaves _ c.args.ports.office) (texts_of g.F.TextFiles c.args.ports.texts) (dial_of g.C.Clock c.args.ports.clock)
     (way D g.D.Reader.Read.remaining g.D.Writer.Write.contents) c.args.ports.door
     (loop_of g.L.Loopback g.L.Stream.Read.remaining g.L.Stream.Write.contents c.args.ports.loopback) in
-    let o = outputs (sink g.O.Write.contents c.args.out.now) (sink g.O.Write.contents c.run-in-Report.new.out)
-    (sink g.E.Write.contents c.args.err.now) (sink g.E.Write.contents c.run-in-Report.new.err) in
+    let o = outputs c.args.out.now c.run-in-Report.new.out
+    c.args.err.now c.run-in-Report.new.err in
     done_so store m c.args.asked (asks.Report c.in-Report.words) o c.run-in-Report.result c.in-Report.is
     (((c.be_alone-in-Report.ensures.door, c.be_alone-in-Report.ensures.loopback), c.be_alone-in-Report.ensures.texts), c.run-in-Report.ensures)
 
@@ -47,8 +47,8 @@ returns-in-Meter g c =
     let m = machine at (H.leaves _ c.args.ports.office) (texts_of g.F.TextFiles c.args.ports.texts) (dial_of g.C.Clock c.args.ports.clock)
     (way D g.D.Reader.Read.remaining g.D.Writer.Write.contents) c.args.ports.door
     (loop_of g.L.Loopback g.L.Stream.Read.remaining g.L.Stream.Write.contents c.args.ports.loopback) in
-    let err = sink g.E.Write.contents c.args.err.now in
-    let o = outputs (sink g.O.Write.contents c.args.out.now) (sink g.O.Write.contents c.run-in-Meter.new.out) err err in
+    let err = c.args.err.now in
+    let o = outputs c.args.out.now c.run-in-Meter.new.out err err in
     done_so store m c.args.asked (asks.Meter c.in-Meter.words) o c.run-in-Meter.result c.in-Meter.is (
       (
         c.leave_all-in-Meter.ensures.office,
@@ -69,8 +69,8 @@ returns-in-Selfcheck g c =
     let m = machine at (H.leaves _ c.args.ports.office) (texts_of g.F.TextFiles c.args.ports.texts) (dial_of g.C.Clock c.args.ports.clock)
     (way D g.D.Reader.Read.remaining g.D.Writer.Write.contents) c.args.ports.door
     (loop_of g.L.Loopback g.L.Stream.Read.remaining g.L.Stream.Write.contents c.args.ports.loopback) in
-    let o = outputs (sink g.O.Write.contents c.args.out.now) (sink g.O.Write.contents c.run_selfcheck.new.out)
-    (sink g.E.Write.contents c.args.err.now) (sink g.E.Write.contents c.run_selfcheck.new.err) in
+    let o = outputs c.args.out.now c.run_selfcheck.new.out
+    c.args.err.now c.run_selfcheck.new.err in
     done_so store m c.args.asked (asks.Selfcheck c.in-Selfcheck.words) o c.run_selfcheck.result c.in-Selfcheck.is
     (c.leave-in-Selfcheck.ensures, (c.leave-in-Selfcheck-3.ensures, c.leave-in-Selfcheck-2.ensures), c.run_selfcheck.ensures)
 
@@ -83,8 +83,8 @@ returns-in-Audit g c =
     let m = machine at (H.leaves _ c.args.ports.office) (texts_of g.F.TextFiles c.args.ports.texts) (dial_of g.C.Clock c.args.ports.clock)
     (way D g.D.Reader.Read.remaining g.D.Writer.Write.contents) c.args.ports.door
     (loop_of g.L.Loopback g.L.Stream.Read.remaining g.L.Stream.Write.contents c.args.ports.loopback) in
-    let o = outputs (sink g.O.Write.contents c.args.out.now) (sink g.O.Write.contents c.run-in-Audit.new.out)
-    (sink g.E.Write.contents c.args.err.now) (sink g.E.Write.contents c.run-in-Audit.new.err) in
+    let o = outputs c.args.out.now c.run-in-Audit.new.out
+    c.args.err.now c.run-in-Audit.new.err in
     done_so store m c.args.asked (asks.Audit c.in-Audit.words) o c.run-in-Audit.result c.in-Audit.is
     (((c.be_alone-in-Audit.ensures.door, c.be_alone-in-Audit.ensures.loopback), c.be_alone-in-Audit.ensures.texts), c.run-in-Audit.ensures)
 
@@ -97,7 +97,7 @@ returns-in-Desk g c =
     let m = machine at (H.leaves _ c.args.ports.office) (texts_of g.F.TextFiles c.args.ports.texts) (dial_of g.C.Clock c.args.ports.clock)
     (way D g.D.Reader.Read.remaining g.D.Writer.Write.contents) c.args.ports.door
     (loop_of g.L.Loopback g.L.Stream.Read.remaining g.L.Stream.Write.contents c.args.ports.loopback) in
-    let o = outputs (sink g.O.Write.contents c.args.out.now) (sink g.O.Write.contents c.run-in-Desk.new.out)
-    (sink g.E.Write.contents c.args.err.now) (sink g.E.Write.contents c.run-in-Desk.new.err) in
+    let o = outputs c.args.out.now c.run-in-Desk.new.out
+    c.args.err.now c.run-in-Desk.new.err in
     done_so store m c.args.asked (asks.Desk c.in-Desk.words) o c.run-in-Desk.result c.in-Desk.is
     (c.leave-in-Desk.ensures, c.leave-in-Desk-2.ensures, c.run-in-Desk.ensures)

@@ -2,7 +2,6 @@ use Rattle.command_line.specs.Transform.{forward_of}
 use Rattle.vend_commands.specs.serving.Connections.{service}
 use Rattle.vend_commands.specs.port.Machines.{way}
 use Rattle.office_commands.specs.office.Visited.{seen_in}
-use Rattle.vend_ports.specs.print.Told.{sink}
 use Rattle.vend_commands.proofs.ConnectionLemmas.{AreHeldTelling}
 use Rattle.vend_commands.proofs.serving.serve.Given as goal
 
@@ -15,4 +14,4 @@ invariant-loop-connection g l =
     let ways = way D g.D.Reader.Read.remaining g.D.Writer.Write.contents in
     AreHeldTelling ways (forward_of l.words.transform) seen_in l._connection
     (service l.fn.door l.fn.books (C.answers l.fn.clock)) (service l.door l.books (C.answers l.clock))
-    (sink g.E.Write.contents l.fn.err) (sink g.E.Write.contents l.err)
+    l.fn.err l.err

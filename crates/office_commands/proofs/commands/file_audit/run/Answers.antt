@@ -5,7 +5,6 @@ use Rattle.sqlite.specs.State.{HasCleanDisk}
 use Rattle.command_line.specs.Transform.{forward_of}
 use Rattle.office_commands.specs.commands.Audited.IsAudited.{looked, unopened}
 use Rattle.office_commands.specs.port.Places.{places_of}
-use Rattle.vend_ports.specs.print.Told.{sink}
 use Rattle.office_commands.proofs.FileAuditLemmas.{audit_of_file}
 use Rattle.vend_ports.proofs.TakeLemmas.{takes_none}
 use Rattle.office_commands.proofs.commands.file_audit.run.Goals as goal
@@ -27,4 +26,4 @@ returns-in-Ok-Some g c =
     }) c.tell.ensures
 
 pub returns : goal.returns
-returns g c = unopened c.in-Err.fault c.in-Err.ensures.refuses (takes_none (sink g.O.Write.contents c.args.out.now), c.put_opening.ensures, refl)
+returns g c = unopened c.in-Err.fault c.in-Err.ensures.refuses (takes_none c.args.out.now, c.put_opening.ensures, refl)

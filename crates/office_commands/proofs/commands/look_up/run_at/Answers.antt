@@ -3,7 +3,6 @@ use Rattle.office_commands.specs.office.Opened.{OpensIn}
 use Rattle.office_commands.specs.office.Visited.{IsOpened}
 use Rattle.office_commands.specs.office.Visited.IsVisited.{unopened, visited}
 use Rattle.office_commands.specs.port.Places.{places_of}
-use Rattle.vend_ports.specs.print.Told.{sink}
 use Rattle.command_line.specs.declared.transform.Shipped.TheVariants.{Plain}
 use Rattle.office_commands.specs.commands.LookedUp.IsShownAt.{present}
 use Rattle.vend_ports.proofs.TakeLemmas.{takes_none}
@@ -18,4 +17,4 @@ returns-in-Ok-Some g c =
     present (visited c.in-Ok-Some.books c.read-end.new.books opened meets c.read-end.ensures c.close_office.ensures)
 
 pub returns : goal.returns
-returns g c = present (unopened c.in-Err.fault c.in-Err.ensures.refuses (takes_none (sink g.O.Write.contents c.args.out.now), c.put_opening.ensures, refl))
+returns g c = present (unopened c.in-Err.fault c.in-Err.ensures.refuses (takes_none c.args.out.now, c.put_opening.ensures, refl))

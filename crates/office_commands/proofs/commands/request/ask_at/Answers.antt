@@ -1,5 +1,4 @@
 use Rattle.std.proofs.Common.{refl}
-use Rattle.vend_ports.specs.print.Told.{sink}
 use Rattle.office_commands.specs.office.Visited.IsVisited.{unopened, visited}
 use Rattle.vend_ports.proofs.TakeLemmas.{takes_none}
 use Rattle.office_commands.proofs.commands.request.ask_at.Goals as goal
@@ -8,4 +7,4 @@ pub returns-in-Ok : goal.returns-in-Ok
 returns-in-Ok g c = visited c.in-Ok.books c.ask-end.new.books c.in-Ok.ensures.opened c.in-Ok.ensures.finds c.ask-end.ensures c.close_office.ensures
 
 pub returns-in-Err : goal.returns-in-Err
-returns-in-Err g c = unopened c.in-Err.fault c.in-Err.ensures.fails (takes_none (sink g.O.Write.contents c.args.out.now), c.put_opening.ensures, refl)
+returns-in-Err g c = unopened c.in-Err.fault c.in-Err.ensures.fails (takes_none c.args.out.now, c.put_opening.ensures, refl)

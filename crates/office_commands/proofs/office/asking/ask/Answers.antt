@@ -1,5 +1,4 @@
 use Rattle.std.proofs.Common.{Err, refl}
-use Rattle.vend_ports.specs.print.Told.{sink}
 use Rattle.vend_ports.proofs.TakeLemmas.{takes_none}
 use Rattle.office_commands.proofs.office.asking.ask.Goals as goal
 
@@ -7,5 +6,5 @@ pub returns-in-Err : goal.returns-in-Err
 returns-in-Err g c = record {
   reply = Err c.in-Err.refusal;
   replied = c.in-Err.ensures.replies;
-  told = (takes_none (sink g.O.Write.contents c.args.out.now), c.put_refusal.ensures, refl);
+  told = (takes_none c.args.out.now, c.put_refusal.ensures, refl);
 }

@@ -3,7 +3,6 @@ use Rattle.book_states.specs.declared.lookup.Lookup.{Lookup}
 use Rattle.books.specs.Keeps.{seen}
 use Rattle.books.specs.Looking.{IsFoundAt}
 use Rattle.desk_commands.specs.print.Pages.{page_lookup}
-use Rattle.vend_ports.specs.print.Told.{sink}
 use Rattle.office_commands.proofs.ListingLemmas.{page_found, page_refusal}
 use Rattle.office_commands.proofs.OnlyReadLemmas.{read_once}
 use Rattle.office_commands.proofs.RefusedLemmas.{stopped_as_before, tells_no_memory, tells_refusal}
@@ -14,7 +13,7 @@ pub returns-in-Err-clause-page : goal.returns-in-Err-clause-page
 returns-in-Err-clause-page g c =
     let old = seen c.args.books.now in
     let new = seen c.look_up.new.self in (
-      takes_none (sink g.O.Write.contents c.args.out.now),
+      takes_none c.args.out.now,
       λ clean life kept.
           let found = subst (λ (lookup : Lookup). IsFoundAt life c.args.moment lookup (Err c.in-Err.refusal)) {y = page_lookup c.args.list}
           c.page_lookup.ensures (c.in-Err.ensures.found clean life kept) in

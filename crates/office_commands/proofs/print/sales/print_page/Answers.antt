@@ -2,7 +2,7 @@ use Rattle.std.proofs.Common.{◌≡◌, ◌≢◌, ◌⊎◌, ◌∙◌, ◌*�
 use Rattle.std.proofs.lemmas.Bool.{ne_eqb}
 use Rattle.papers.specs.Export.{export_of}
 use Rattle.vend_core.specs.Law.Life.{present}
-use Rattle.vend_ports.specs.print.Told.{Takes, sink}
+use Rattle.vend_ports.specs.print.Told.{Takes}
 use Rattle.books.specs.Keeps.{seen}
 use Rattle.office_commands.proofs.OnlyReadLemmas.{read_once}
 use Rattle.office_commands.proofs.RefusedLemmas.{stopped_as_before, tells_no_memory, tells_refusal}
@@ -19,7 +19,7 @@ pub returns-in_default-clause-page : goal.returns-in_default-clause-page
 returns-in_default-clause-page g c =
     let old = seen c.args.books.now in
     let new = seen c.sales_after.new.self in (
-      takes_none (sink g.O.Write.contents c.args.out.now),
+      takes_none c.args.out.now,
       inl refl,
       record {
         tells = tells_no_memory old new c.in-Ok.sales (c.in-Ok.ensures.reads.stopped, c.in-Ok.ensures.reads.stops);
@@ -31,7 +31,7 @@ pub returns-in-Err-clause-page : goal.returns-in-Err-clause-page
 returns-in-Err-clause-page g c =
     let old = seen c.args.books.now in
     let new = seen c.sales_after.new.self in (
-      takes_none (sink g.O.Write.contents c.args.out.now),
+      takes_none c.args.out.now,
       not_own c.in-Err.ensures.reads.refusals,
       record {
         tells = tells_refusal old new c.in-Err.refusal (c.in-Err.ensures.reads.stopped, c.in-Err.ensures.reads.stops);
@@ -49,8 +49,8 @@ short_page n len failed more same short is = rw (ne_eqb n 1000 (λ e. short (sym
 
 pub returns-clause-page : goal.returns-clause-page
 returns-clause-page g c =
-    let before = sink g.O.Write.contents c.args.out.now in
-    let after = sink g.O.Write.contents c.put.new.self in
+    let before = c.args.out.now in
+    let after = c.put.new.self in
     let text = c.deref-2.ensures.value ∙ c.in-Ok-export.ensures ∙ ap (export_of (c.args.page == 0)) c.deref.ensures.value in
     let count : length c.in-Ok.sales.items ≡ c.len.result = sym (ap length c.deref.ensures.value) ∙ c.deref.ensures.len ∙ sym c.len.ensures in (
       c.in-Ok.sales.items,

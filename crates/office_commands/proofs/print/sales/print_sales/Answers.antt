@@ -3,38 +3,38 @@ use Rattle.books.specs.Keeps.{seen}
 use Rattle.vend_core.specs.Law.Life.{present}
 use Rattle.office_commands.specs.print.Exported.{IsPage}
 use Rattle.vend_ports.specs.print.Printed.{refusal_line}
-use Rattle.vend_ports.specs.print.Told.{Takes, sink}
+use Rattle.vend_ports.specs.print.Told.{Takes}
 use Rattle.office_commands.proofs.ExportLemmas.{all_pages, no_pages, page_last, page_more, page_refused}
 use Rattle.office_commands.proofs.print.sales.print_sales.Goals as goal
 
 pub loop-page-init : goal.loop-page-init
-loop-page-init g c = ([], no_pages (seen c.args.books.now) (sink g.O.Write.contents c.args.out.now), refl)
+loop-page-init g c = ([], no_pages (seen c.args.books.now) c.args.out.now, refl)
 
 pub returns-in-Ok-false : goal.returns-in-Ok-false
 returns-in-Ok-false g c =
     let so_far = c.loop-page.invariant in
     rw so_far.2 (page_last (seen c.args.books.now) (seen c.loop-page.books) (seen c.print_page.new.books)
-    (sink g.O.Write.contents c.args.out.now) (sink g.O.Write.contents c.loop-page.out) (sink g.O.Write.contents c.print_page.new.out)
-    c.loop-page.page so_far.0 c.export_law.ensures.pages so_far.1 c.in-Ok-false.ensures.reads (sink g.E.Write.contents c.args.err.now)
+    c.args.out.now c.loop-page.out c.print_page.new.out
+    c.loop-page.page so_far.0 c.export_law.ensures.pages so_far.1 c.in-Ok-false.ensures.reads c.args.err.now
     _ c.in-Ok-false.field-0-test c.in-Ok-false.ensures.page)
 
 pub returns-in-Err : goal.returns-in-Err
 returns-in-Err g c =
     let so_far = c.loop-page.invariant in
-    let told = subst (λ e. Takes e (sink g.E.Write.contents c.put_refusal.new.out) (refusal_line c.in-Err.refusal)) so_far.2 c.put_refusal.ensures in
-    page_refused (seen c.args.books.now) (seen c.loop-page.books) (seen c.print_page.new.books) (sink g.O.Write.contents c.args.out.now)
-    (sink g.O.Write.contents c.loop-page.out) (sink g.O.Write.contents c.print_page.new.out) c.loop-page.page so_far.0
-    c.export_law.ensures.pages so_far.1 c.in-Err.ensures.reads (sink g.E.Write.contents c.args.err.now)
-    (sink g.E.Write.contents c.put_refusal.new.out) c.in-Err.refusal c.in-Err.ensures.page told
+    let told = subst (λ e. Takes e c.put_refusal.new.out (refusal_line c.in-Err.refusal)) so_far.2 c.put_refusal.ensures in
+    page_refused (seen c.args.books.now) (seen c.loop-page.books) (seen c.print_page.new.books) c.args.out.now
+    c.loop-page.out c.print_page.new.out c.loop-page.page so_far.0
+    c.export_law.ensures.pages so_far.1 c.in-Err.ensures.reads c.args.err.now
+    c.put_refusal.new.out c.in-Err.refusal c.in-Err.ensures.page told
 
 pub loop-page-preserved : goal.loop-page-preserved
 loop-page-preserved g c =
     let old = seen c.args.books.now in
     let mid = seen c.loop-page.books in
     let new = seen c.print_page.new.books in
-    let before = sink g.O.Write.contents c.args.out.now in
-    let part = sink g.O.Write.contents c.loop-page.out in
-    let after = sink g.O.Write.contents c.print_page.new.out in
+    let before = c.args.out.now in
+    let part = c.loop-page.out in
+    let after = c.print_page.new.out in
     let so_far = c.loop-page.invariant in
     let put = subst (λ full. IsPage mid new c.loop-page.page part after (Ok full)) c.in-Ok-true.field-0-test c.in-Ok-true.ensures.page in
     (_, page_more old mid new before part after c.loop-page.page so_far.0 c.export_law.ensures.pages so_far.1 c.in-Ok-true.ensures.reads put, so_far.2)
@@ -42,8 +42,8 @@ loop-page-preserved g c =
 pub returns : goal.returns
 returns g c =
     let so_far = c.loop-page.invariant in
-    rw so_far.2 (all_pages (seen c.args.books.now) (seen c.loop-page.books) (sink g.O.Write.contents c.args.out.now)
-    (sink g.O.Write.contents c.loop-page.out) (sink g.E.Write.contents c.args.err.now) c.loop-page.page so_far.0
+    rw so_far.2 (all_pages (seen c.args.books.now) (seen c.loop-page.books) c.args.out.now
+    c.loop-page.out c.args.err.now c.loop-page.page so_far.0
     (omega (arith, c.loop-page-test.false)) so_far.1
     (λ clean life kept.
     let here = kept clean in

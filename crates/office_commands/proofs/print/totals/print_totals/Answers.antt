@@ -1,6 +1,5 @@
 use Rattle.std.proofs.Common.{Err, Ok, ap, refl}
 use Rattle.books.specs.Keeps.{seen}
-use Rattle.vend_ports.specs.print.Told.{sink}
 use Rattle.office_commands.proofs.OnlyReadLemmas.{read_once}
 use Rattle.office_commands.proofs.RefusedLemmas.{tells_refusal}
 use Rattle.vend_ports.proofs.TakeLemmas.{takes_none}
@@ -10,7 +9,7 @@ pub returns-in-Ok : goal.returns-in-Ok
 returns-in-Ok g c = record {
   totals = Ok c.in-Ok.totals;
   are_totals = c.in-Ok.ensures.given;
-  told = (c.put_totals.ensures, takes_none (sink g.E.Write.contents c.args.err.now), refl);
+  told = (c.put_totals.ensures, takes_none c.args.err.now, refl);
   reads = read_once _ _ c.in-Ok.ensures.reads;
 }
 
@@ -25,6 +24,6 @@ returns-in-Err g c = record {
       failures = c.in-Err.ensures.reads.failures;
     };
   };
-  told = (takes_none (sink g.O.Write.contents c.args.out.now), c.put_refusal.ensures, refl);
+  told = (takes_none c.args.out.now, c.put_refusal.ensures, refl);
   reads = read_once _ _ c.in-Err.ensures.reads;
 }

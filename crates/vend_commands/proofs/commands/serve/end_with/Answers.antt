@@ -1,7 +1,7 @@
 use Rattle.std.proofs.Common.{◌∙◌, Ok, ap, subst, sym}
 use Rattle.office_commands.specs.office.Closed.{IsClosed}
 use Rattle.vend_commands.specs.serving.Listening.{IsClosedAfter, last_line}
-use Rattle.vend_ports.specs.print.Told.{Takes, sink}
+use Rattle.vend_ports.specs.print.Told.{Takes}
 use Rattle.office_commands.specs.office.Visited.{seen_in}
 use Rattle.vend_ports.proofs.TakeLemmas.{takes_none}
 use Rattle.vend_commands.proofs.commands.serve.end_with.Goals as goal
@@ -12,7 +12,7 @@ returns-then-all-clause-closed g c =
 
 pub returns-then-all-clause-told : goal.returns-then-all-clause-told
 returns-then-all-clause-told g c =
-    let held = sink g.E.Write.contents c.args.err.now in
+    let held = c.args.err.now in
     subst (λ served. Takes held held (last_line served)) (sym (c.in-Ok.is ∙ ap (λ all. Ok (c.in-Ok.books, all)) c.if-all.true)) (takes_none held)
 
 pub returns-else-all-clause-closed : goal.returns-else-all-clause-closed

@@ -1,13 +1,12 @@
 use Rattle.std.proofs.Common.{refl}
 use Rattle.vend_commands.specs.serving.Listening.IsServing.{unheard, unopened, was_open}
-use Rattle.vend_ports.specs.print.Told.{sink}
 use Rattle.vend_ports.proofs.TakeLemmas.{takes_next}
 use Rattle.vend_commands.proofs.commands.serve.run.Goals as goal
 
 pub returns-in-Some : goal.returns-in-Some
 returns-in-Some g c = was_open c.in-Ok.books c.in-Ok.ensures.opened c.in-Ok.ensures.finds (record {
   listening = c.listen.new.door;
-  mid = sink g.E.Write.contents c.listen.new.err;
+  mid = c.listen.new.err;
   listens = c.in-Some.ensures;
   last = c.serve-served.new.door;
   left = g.C.Clock.answers c.serve-served.new.clock;

@@ -2,7 +2,6 @@ use Rattle.std.proofs.Common.{◌∙◌, ◌++◌, [], ap, sym, subst}
 use Rattle.sim_meter.specs.Meter.{ComesFrom}
 use Rattle.sts_token.specs.Reading.{reading_of}
 use Rattle.vend_ports.specs.print.Printed.{credit_line}
-use Rattle.vend_ports.specs.print.Told.{sink}
 use Rattle.vend_ports.proofs.MeteringLemmas.{all_lines, history, history-more, last_line, next_line}
 use Rattle.vend_ports.proofs.TakeLemmas.{takes_last, takes_more, takes_none}
 use Rattle.vend_ports.proofs.commands.meter.enter_all.Goals as goal
@@ -10,7 +9,7 @@ use Rattle.vend_ports.proofs.commands.meter.enter_all.Goals as goal
 pub loop-token-init : goal.loop-token-init
 loop-token-init g c =
     let read = reading_of (g.T.BlockTransform.inverses c.args.transform) c.args.key in
-    ([], record { from = c.new-meter.ensures; put = takes_none (sink g.O.Write.contents c.args.out.now); left = all_lines read c.args.tokens.now })
+    ([], record { from = c.new-meter.ensures; put = takes_none c.args.out.now; left = all_lines read c.args.tokens.now })
 
 pub loop-token-preserved : goal.loop-token-preserved
 loop-token-preserved g c =

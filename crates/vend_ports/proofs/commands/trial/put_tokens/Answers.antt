@@ -1,12 +1,11 @@
 use Rattle.std.proofs.Common.{◌∙◌, ◌++◌, [], ap, append-nil, sym, refl}
 use Rattle.std.proofs.lemmas.List.{drop_all}
-use Rattle.vend_ports.specs.print.Told.{sink}
 use Rattle.vend_ports.specs.commands.Tried.{token_lines}
 use Rattle.vend_ports.proofs.TakeLemmas.{next_token, takes_as, takes_more, takes_none}
 use Rattle.vend_ports.proofs.commands.trial.put_tokens.Goals as goal
 
 pub loop-token-init : goal.loop-token-init
-loop-token-init g c = ([], record { put = takes_none (sink g.O.Write.contents c.args.out.now); left = refl })
+loop-token-init g c = ([], record { put = takes_none c.args.out.now; left = refl })
 
 pub loop-token-preserved : goal.loop-token-preserved
 loop-token-preserved g c =

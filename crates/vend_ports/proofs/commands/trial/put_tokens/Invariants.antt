@@ -1,5 +1,5 @@
 use Rattle.std.proofs.Common.{◌≡◌, ℕ, List, ◌++◌, drop}
-use Rattle.vend_ports.specs.print.Told.{Takes, sink}
+use Rattle.vend_ports.specs.print.Told.{Takes}
 use Rattle.vend_ports.specs.commands.Tried.{token_lines}
 use Rattle.vend_ports.proofs.commands.trial.put_tokens.Given as goal
 
@@ -7,6 +7,6 @@ use Rattle.vend_ports.proofs.commands.trial.put_tokens.Given as goal
 abbrev pub invariant-loop-token : goal.invariant-loop-token
 invariant-loop-token g l =
     (front : List ℕ) × record {
-      put : Takes (sink g.O.Write.contents l.fn.out) (sink g.O.Write.contents l.out) front;
+      put : Takes l.fn.out l.out front;
       left : token_lines l.tokens ≡ front ++ token_lines (drop l.token-index l.tokens);
     }

@@ -1,6 +1,5 @@
 use Rattle.std.proofs.Common.{◌≡◌, ◌∙◌, [], ◌∷◌, ◌++◌, map, drop, sym, ap}
 use Rattle.std.proofs.lemmas.List.{drop_all}
-use Rattle.vend_ports.specs.print.Told.{sink}
 use Rattle.vend_ports.proofs.TakeLemmas.{puts_last, puts_more, spaced, spaced-join, spaced-next, takes_none}
 use Rattle.vend_ports.proofs.print.lines.put_joined.Goals as goal
 
@@ -8,7 +7,7 @@ pub loop-word-init : goal.loop-word-init
 loop-word-init g c = (
   [],
   record {
-    put = takes_none (sink g.W.Write.contents c.args.out.now);
+    put = takes_none c.args.out.now;
     left = rw c.new-line.ensures (sym (ap (λ l. l ++ 10 ∷ []) (spaced-join c.args.byte (map (λ w. w.now) c.args.words.now))));
   },
 )
