@@ -1,24 +1,21 @@
 -- The command line is one of which `clap` states what it makes of the words.
-use Rattle.std.proofs.Common.{◌≡◌, ◌∙◌, List, [], ◌∷◌, ◌++◌, append_assoc, option_map, Option, Some, None, Result, Ok, Err, refl, true, ap, ap₂, subst}
+use Rattle.std.proofs.Common.{◌≡◌, ◌∙◌, List, [], option_map, Option, Some, None, Result, Ok, Err, refl, true, ap, subst}
 use Rattle.std.specs.Box.{box_value}
 use Rattle.std.specs.Borrow.{Bor}
 use Rattle.std.specs.Prelude.{Box, IfOk, MatchResult}
-use Rattle.std.specs.declared.alloc.AllocError.{AllocError}
 use Rattle.clap.proofs.OnLiterals.{clap_on_literals}
 use Rattle.clap.specs.Faults.{fault_of, is_simple_and_free}
 use Rattle.clap.specs.Kinds.{FailsBy, HasKind}
-use Rattle.clap.specs.Built.{AddsSubcommand}
 use Rattle.clap.specs.Matches.{found_of, subcommand_name_of}
-use Rattle.clap.specs.declared.builder.command.Command.{Command}
 use Rattle.clap.specs.declared.parser.matches.SubCommand.{SubCommand}
 use Rattle.clap.specs.declared.parser.matches.ArgMatches.TheViews.{out-ArgMatches, out-SubCommand}
-use Rattle.clap.specs.Simple.{App, HasMatchesOf, Shape, app_of, is_simple, subcommand_of, subcommand_rows, subcommand_rows_of, with_subcommand}
+use Rattle.clap.specs.Simple.{App, HasMatchesOf, is_simple, subcommand_of, subcommand_rows, subcommand_rows_of}
 use Rattle.clap.specs.Walk.{Row, rows_of}
 use Rattle.clap.specs.declared.error.Error.{Error}
 use Rattle.clap.specs.declared.parser.matches.ArgMatches.{ArgMatches}
 use Rattle.sts_fields.specs.Text.{Text}
 use Rattle.command_line.specs.Line.{trial_command, import_command, base_command, shift_command, sell_command, report_command, show_command, list_command, offer_command, meter_command, quote_command, serve_command, selfcheck_command, audit_command, desk_import_command, desk_shift_command, desk_sell_command, desk_report_command, desk_show_command, desk_list_command, desk_quote_command, desk_base_command}
-use Rattle.command_line.specs.Line.{IsDescribed, command_in, faults_in, line_of_commands, meant_by, vend_line}
+use Rattle.command_line.specs.Line.{command_in, faults_in, meant_by, vend_line}
 use Rattle.command_line.specs.Said.{argument_rows}
 
 pub is_simple_line : is_simple vend_line ≡ true
@@ -46,43 +43,6 @@ parsed (Ok m) app meant words means is kinds matches =
 parsed (Err e) app meant words means is kinds matches =
     let same = subst (λ (a : App). HasKind (fault_of a meant) e) is (kinds (ap is_simple_and_free is ∙ is_free_line)) in
     subst (λ (texts : List Text). HasKind (fault_of vend_line texts) e) means same
-
--- a command more
-pub one_more : (before : List Shape) (shape : Shape) (line sub : Command) (r : Result Command AllocError) → app_of line
-    ≡ line_of_commands before → IsDescribed shape sub → IfOk r (λ new. AddsSubcommand line sub new)
-    → IfOk r (λ new. app_of new ≡ line_of_commands (before ++ shape ∷ []))
-one_more before shape line sub (Err e) is described adds = tt
-one_more [] shape line sub (Ok new) is described adds = adds.shape described.no_globals ∙ ap₂ with_subcommand is (ap (λ (a : App). a.top) described.app)
-one_more (first ∷ rest) shape line sub (Ok new) is described adds =
-    adds.shape described.no_globals ∙ ap₂ with_subcommand is (ap (λ (a : App). a.top) described.app)
-
--- commands that were added one after another
-three_joined : (before : List Shape) (a b c : Shape) → ((before ++ a ∷ []) ++ b ∷ []) ++ c ∷ [] ≡ before ++ a ∷ b ∷ c ∷ []
-three_joined [] a b c = refl
-three_joined (s ∷ before) a b c = ap (λ (rest : List Shape). s ∷ rest) (three_joined before a b c)
-
-four_joined : (before : List Shape) (a b c d : Shape) → (((before ++ a ∷ []) ++ b ∷ []) ++ c ∷ []) ++ d ∷ [] ≡ before ++ a ∷ b ∷ c ∷ d ∷ []
-four_joined [] a b c d = refl
-four_joined (s ∷ before) a b c d = ap (λ (rest : List Shape). s ∷ rest) (four_joined before a b c d)
-
-pub three_more : (before : List Shape) (a b c : Shape) (r : Result Command AllocError)
-    → IfOk r (λ line. app_of line ≡ line_of_commands (((before ++ a ∷ []) ++ b ∷ []) ++ c ∷ []))
-    → IfOk r (λ line. app_of line ≡ line_of_commands (before ++ a ∷ b ∷ c ∷ []))
-three_more before a b c r is = subst (λ (shapes : List Shape). IfOk r (λ line. app_of line ≡ line_of_commands shapes)) (three_joined before a b c) is
-
-pub four_more : (before : List Shape) (a b c d : Shape) (r : Result Command AllocError)
-    → IfOk r (λ line. app_of line ≡ line_of_commands ((((before ++ a ∷ []) ++ b ∷ []) ++ c ∷ []) ++ d ∷ []))
-    → IfOk r (λ line. app_of line ≡ line_of_commands (before ++ a ∷ b ∷ c ∷ d ∷ []))
-four_more before a b c d r is = subst (λ (shapes : List Shape). IfOk r (λ line. app_of line ≡ line_of_commands shapes)) (four_joined before a b c d) is
-
--- the groups of the line, added one after another, are its commands
-in_order_joined : (a b c d e f g : List Shape) → (((((a ++ b) ++ c) ++ d) ++ e) ++ f) ++ g ≡ a ++ (b ++ (c ++ (d ++ (e ++ (f ++ g)))))
-in_order_joined a b c d e f g = simp append_assoc
-
-pub in_order : (a b c d e f g : List Shape) (r : Result Command AllocError)
-    → IfOk r (λ line. app_of line ≡ line_of_commands ((((((([] ++ a) ++ b) ++ c) ++ d) ++ e) ++ f) ++ g))
-    → IfOk r (λ line. app_of line ≡ line_of_commands (a ++ (b ++ (c ++ (d ++ (e ++ (f ++ g)))))))
-in_order a b c d e f g r is = subst (λ (shapes : List Shape). IfOk r (λ line. app_of line ≡ line_of_commands shapes)) (in_order_joined a b c d e f g) is
 
 -- the name and the rows of the command that was met
 module _ {Z : Type 0} where

@@ -24,8 +24,10 @@ pub use transform::Shipped;
 pub use words::BadWords;
 
 mod address;
+mod argument;
 mod asked;
 mod commands;
+mod description;
 mod line;
 mod options;
 mod request_words;

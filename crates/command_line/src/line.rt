@@ -1,18 +1,15 @@
-ghost use Rattle.std.specs.Prelude.{◌≡◌, List, [], ◌∷◌, ◌++◌, IfOk, MatchResult, map};
+ghost use Rattle.std.specs.Prelude.{◌≡◌, List, [], ◌++◌, IfOk, MatchResult, map};
 ghost use Rattle.clap.specs.Kinds.{HasKind};
 ghost use Rattle.clap.specs.Simple.{Shape, app_of, subcommand_rows_of};
-ghost use Rattle.command_line.specs.Line.{IsDescribed, command_in, faults_in, line_of_commands, vend_line};
+ghost use Rattle.command_line.specs.Description.{shape_of_description};
+ghost use Rattle.command_line.specs.Line.{command_in, faults_in, line_of_commands, vend_line};
 ghost use Rattle.command_line.specs.Line.{is_base_option, is_file_option, meant_by};
 ghost use Rattle.command_line.specs.Line.{asks_desk, desk_name, is_desk_option};
 ghost use Rattle.command_line.specs.Line.{quotes_by_file, sells_by_base};
-ghost use Rattle.command_line.specs.Line.{care_commands, desk_reading_commands, desk_shop_commands};
-ghost use Rattle.command_line.specs.Line.{officeless_commands, reading_commands, shop_commands};
 ghost use Rattle.sts_fields.specs.Text.{Text};
 
-use crate::commands::{
-    at_desk, audit, base, import, list, meter, offer, quote, report, selfcheck, sell, serve, shift,
-    show, trial,
-};
+use crate::commands;
+use crate::description::Description;
 use clap::{ArgMatches, Command, Error};
 use std::alloc::{AllocError, Global};
 
@@ -135,77 +132,14 @@ fn describe<'a>(alloc: Global) -> Result<Command<'a>, AllocError>
 {
     let line = start(alloc)?;
     // In the order in which a shop needs them.
-    let line = with_shop(alloc, line)?;
-    let line = with_reading(alloc, line)?;
-    let line = with_care(alloc, line)?;
-    let line = with_officeless(alloc, line)?;
+    let line = with(alloc, line, commands::shop())?;
+    let line = with(alloc, line, commands::reading())?;
+    let line = with(alloc, line, commands::care())?;
+    let line = with(alloc, line, commands::officeless())?;
     // These are meant by others, and hidden.
-    let line = with_desk_shop(alloc, line)?;
-    let line = with_desk_reading(alloc, line)?;
-    with(line, at_desk::describe_base(alloc)?)
-}
-
-// The line with the commands by which a shop sells, after those that it has.
-fn with_shop<'a>(alloc: Global, line: Command<'a>) -> Result<Command<'a>, AllocError>
-    ensures { (before : List Shape) → app_of line.entry ≡ line_of_commands before
-        → IfOk result (λ line. app_of line ≡ line_of_commands (before ++ shop_commands)) }
-{
-    let line = with(line, import::describe(alloc)?)?;
-    let line = with(line, shift::describe(alloc)?)?;
-    with(line, sell::describe(alloc)?)
-}
-
-// The line with those that print what an office has.
-fn with_reading<'a>(alloc: Global, line: Command<'a>) -> Result<Command<'a>, AllocError>
-    ensures { (before : List Shape) → app_of line.entry ≡ line_of_commands before
-        → IfOk result (λ line. app_of line ≡ line_of_commands (before ++ reading_commands)) }
-{
-    let line = with(line, report::describe(alloc)?)?;
-    let line = with(line, show::describe(alloc)?)?;
-    let line = with(line, list::describe(alloc)?)?;
-    with(line, offer::describe(alloc)?)
-}
-
-// The line with those that move a meter, check a file and serve it.
-fn with_care<'a>(alloc: Global, line: Command<'a>) -> Result<Command<'a>, AllocError>
-    ensures { (before : List Shape) → app_of line.entry ≡ line_of_commands before
-        → IfOk result (λ line. app_of line ≡ line_of_commands (before ++ care_commands)) }
-{
-    let line = with(line, base::describe(alloc)?)?;
-    let line = with(line, audit::describe(alloc)?)?;
-    with(line, serve::describe(alloc)?)
-}
-
-// The line with those that need no office.
-fn with_officeless<'a>(alloc: Global, line: Command<'a>) -> Result<Command<'a>, AllocError>
-    ensures { (before : List Shape) → app_of line.entry ≡ line_of_commands before
-        → IfOk result (λ line. app_of line ≡ line_of_commands (before ++ officeless_commands)) }
-{
-    let line = with(line, quote::describe(alloc)?)?;
-    let line = with(line, meter::describe(alloc)?)?;
-    let line = with(line, trial::describe(alloc)?)?;
-    with(line, selfcheck::describe(alloc)?)
-}
-
-// The line with those by which a shop sells at a desk.
-fn with_desk_shop<'a>(alloc: Global, line: Command<'a>) -> Result<Command<'a>, AllocError>
-    ensures { (before : List Shape) → app_of line.entry ≡ line_of_commands before
-        → IfOk result (λ line. app_of line ≡ line_of_commands (before ++ desk_shop_commands)) }
-{
-    let line = with(line, at_desk::describe_import(alloc)?)?;
-    let line = with(line, at_desk::describe_shift(alloc)?)?;
-    with(line, at_desk::describe_sell(alloc)?)
-}
-
-// The line with those that print what a desk has.
-fn with_desk_reading<'a>(alloc: Global, line: Command<'a>) -> Result<Command<'a>, AllocError>
-    ensures { (before : List Shape) → app_of line.entry ≡ line_of_commands before
-        → IfOk result (λ line. app_of line ≡ line_of_commands (before ++ desk_reading_commands)) }
-{
-    let line = with(line, at_desk::describe_report(alloc)?)?;
-    let line = with(line, at_desk::describe_show(alloc)?)?;
-    let line = with(line, at_desk::describe_list(alloc)?)?;
-    with(line, at_desk::describe_quote(alloc)?)
+    let line = with(alloc, line, commands::desk_shop())?;
+    let line = with(alloc, line, commands::desk_reading())?;
+    with(alloc, line, commands::desk_care())
 }
 
 // The line without its commands.
@@ -222,11 +156,18 @@ fn start<'a>(alloc: Global) -> Result<Command<'a>, AllocError>
         .bin_name("vend")
 }
 
-// The line with one more command, the last.
-fn with<'a>(line: Command<'a>, command: Command<'a>) -> Result<Command<'a>, AllocError>
-    ensures { (before : List Shape) (shape : Shape)
-        → app_of line.entry ≡ line_of_commands before → IsDescribed shape command.entry
-        → IfOk result (λ line. app_of line ≡ line_of_commands (before ++ shape ∷ [])) }
+// The line with these commands after those that it has.
+fn with<'a>(
+    alloc: Global,
+    mut line: Command<'a>,
+    descriptions: &[Description],
+) -> Result<Command<'a>, AllocError>
+    ensures { (before : List Shape) → app_of line.entry ≡ line_of_commands before
+        → IfOk result (λ line. app_of line
+        ≡ line_of_commands (before ++ map shape_of_description descriptions.now)) }
 {
-    line.subcommand(command)
+    for description in descriptions {
+        line = line.subcommand(description.command(alloc)?)?;
+    }
+    Ok(line)
 }

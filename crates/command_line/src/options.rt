@@ -1,97 +1,27 @@
-//! What commands are described by, and the options that they share, each with its reader.
-ghost use Rattle.std.specs.Prelude.{◌≡◌, ◌∷◌, ◌++◌, [], false, codes, IfOk};
-ghost use Rattle.clap.specs.Walk.{Rule, rule_of};
-ghost use Rattle.clap.specs.Simple.{Shape};
+//! The options that commands share, each with its reader.
+ghost use Rattle.std.specs.Prelude.{codes};
 ghost use Rattle.command_line.specs.Address.{SaysAddress};
-ghost use Rattle.command_line.specs.Line.{IsDescribed, command_named};
-ghost use Rattle.command_line.specs.Line.{at_option, json_option, needed, option_named};
-ghost use Rattle.command_line.specs.Line.{tested_transform_option, transform_option, wait_option};
-ghost use Rattle.command_line.specs.Line.{word_named, words_named};
 ghost use Rattle.command_line.specs.Said.{IsArgument, IsOptionalArgument, ReadsWhat, argument_rows, parsed_argument};
 ghost use Rattle.command_line.specs.Values.{SaysBase, SaysFlag, SaysKey, SaysMeterNo, SaysMoment};
 ghost use Rattle.command_line.specs.Values.{SaysOperator, SaysRef};
 ghost use Rattle.command_line.specs.Values.{SaysTender, SaysText, SaysTransform, SaysWait};
 
 use crate::address::Address;
+use crate::argument::{Argument, Form};
 use crate::transform::Shipped;
 use crate::{said, values};
-use clap::{Arg, ArgAction, ArgMatches, Command};
+use clap::ArgMatches;
 use office_rules::{MeterNo, Operator, Ref};
-use std::alloc::{AllocError, Global};
 use sts_fields::{Base, Moment};
 use sts_token::read_key;
 use tariff::Tender;
 
-/// A command with a line on what it does and an example below its options, and no words yet.
-pub(crate) fn command<'a>(
-    alloc: Global,
-    name: &'a str,
-    about: &'a str,
-    example: &'a str,
-) -> Command<'a>
-    ensures { IsDescribed (command_named name.entry.now []) result }
-{
-    Command::new(alloc, name).about(about).after_help(example)
-}
-
-/// The command with one more argument, the last.
-pub(crate) fn with<'a>(command: Command<'a>, arg: Arg<'a>) -> Result<Command<'a>, AllocError>
-    requires { arg.global ≡ false }
-    ensures { (shape : Shape) (rule : Rule)
-        → IsDescribed shape command.entry → rule_of arg.entry ≡ rule
-        → IfOk result (IsDescribed (record shape { rules = shape.rules ++ rule ∷ [] })) }
-{
-    command.arg(arg)
-}
-
-/// `--NAME VALUE`, which may be left out.
-pub(crate) fn option<'a>(alloc: Global, name: &'a str, value: &'a str, help: &'a str) -> Arg<'a>
-    ensures rule { rule_of result ≡ option_named name.entry.now }
-    ensures own { result.global ≡ false }
-{
-    Arg::new(alloc, name)
-        .long(name)
-        .value_name(value)
-        .help(help)
-}
-
-/// `--NAME VALUE`, which has to be there.
-pub(crate) fn needed<'a>(alloc: Global, name: &'a str, value: &'a str, help: &'a str) -> Arg<'a>
-    ensures rule { rule_of result ≡ needed name.entry.now }
-    ensures own { result.global ≡ false }
-{
-    option(alloc, name, value, help).required(true)
-}
-
-/// A word at its place.
-pub(crate) fn word<'a>(alloc: Global, name: &'a str, value: &'a str, help: &'a str) -> Arg<'a>
-    ensures rule { rule_of result ≡ word_named name.entry.now }
-    ensures own { result.global ≡ false }
-{
-    Arg::new(alloc, name)
-        .value_name(value)
-        .required(true)
-        .help(help)
-}
-
-/// One word or more, up to the end.
-pub(crate) fn words<'a>(alloc: Global, name: &'a str, value: &'a str, help: &'a str) -> Arg<'a>
-    ensures rule { rule_of result ≡ words_named name.entry.now }
-    ensures own { result.global ≡ false }
-{
-    word(alloc, name, value, help).num_args(1..)
-}
-
-// ---- the options that commands share
-
 /// `--transform`, which is `plain` where it is left out.
-pub(crate) fn transform<'a>(alloc: Global) -> Arg<'a>
-    ensures rule { rule_of result ≡ transform_option }
-    ensures own { result.global ≡ false }
-{
-    let help = "How the meter's tokens are mixed with its key: plain or demo";
-    option(alloc, "transform", "NAME", help).default_value("plain")
-}
+pub(crate) const TRANSFORM: Argument = Argument {
+    name: "transform",
+    form: Form::Default("NAME", "plain"),
+    help: "How the meter's tokens are mixed with its key: plain or demo",
+};
 
 pub(crate) fn read_transform(matches: &ArgMatches) -> Option<Shipped>
     ensures { ReadsWhat result (IsArgument SaysTransform
@@ -101,14 +31,12 @@ pub(crate) fn read_transform(matches: &ArgMatches) -> Option<Shipped>
 }
 
 /// `--transform`, of a command that tests tokens only where it is given.
-pub(crate) fn tested_transform<'a>(alloc: Global) -> Arg<'a>
-    ensures rule { rule_of result ≡ tested_transform_option }
-    ensures own { result.global ≡ false }
-{
-    let help = "Also check that each token was made with its meter's key and this transform: \
-        plain or demo";
-    option(alloc, "transform", "NAME", help)
-}
+pub(crate) const TESTED_TRANSFORM: Argument = Argument {
+    name: "transform",
+    form: Form::Optional("NAME"),
+    help: "Also check that each token was made with its meter's key and this transform: \
+        plain or demo",
+};
 
 /// The transform that is given, or `None` within where none is.
 pub(crate) fn read_tested_transform(matches: &ArgMatches) -> Option<Option<Shipped>>
@@ -122,14 +50,12 @@ pub(crate) fn read_tested_transform(matches: &ArgMatches) -> Option<Option<Shipp
 }
 
 /// `--at`, which may be left out.
-pub(crate) fn at<'a>(alloc: Global) -> Arg<'a>
-    ensures rule { rule_of result ≡ at_option }
-    ensures own { result.global ≡ false }
-{
-    let help = "The moment in Unix seconds, 725846400 to 4102444799 (1993 to 2099, UTC); \
-        default: the computer's clock";
-    option(alloc, "at", "SECONDS", help)
-}
+pub(crate) const AT: Argument = Argument {
+    name: "at",
+    form: Form::Optional("SECONDS"),
+    help: "The moment in Unix seconds, 725846400 to 4102444799 (1993 to 2099, UTC); \
+        default: the computer's clock",
+};
 
 /// The moment that is given, or `None` within where none is.
 pub(crate) fn read_at(matches: &ArgMatches) -> Option<Option<Moment>>
@@ -143,42 +69,34 @@ pub(crate) fn read_at(matches: &ArgMatches) -> Option<Option<Moment>>
 }
 
 /// `--file`.
-pub(crate) fn file<'a>(alloc: Global) -> Arg<'a>
-    ensures rule { rule_of result ≡ needed (codes "file") }
-    ensures own { result.global ≡ false }
-{
-    let help = "The office's file, created if it does not exist";
-    needed(alloc, "file", "FILE", help)
-}
+pub(crate) const FILE: Argument = Argument {
+    name: "file",
+    form: Form::Needed("FILE"),
+    help: "The office's file, created if it does not exist",
+};
 
 /// `--file`, of a command that makes no file.
-pub(crate) fn present_file<'a>(alloc: Global) -> Arg<'a>
-    ensures rule { rule_of result ≡ needed (codes "file") }
-    ensures own { result.global ≡ false }
-{
-    let help = "The office's file, which has to exist";
-    needed(alloc, "file", "FILE", help)
-}
+pub(crate) const PRESENT_FILE: Argument = Argument {
+    name: "file",
+    form: Form::Needed("FILE"),
+    help: "The office's file, which has to exist",
+};
 
 /// `--file`, of a command that a running desk can be asked too.
-pub(crate) fn file_or_desk<'a>(alloc: Global) -> Arg<'a>
-    ensures rule { rule_of result ≡ needed (codes "file") }
-    ensures own { result.global ≡ false }
-{
-    let help = "The office's file, created if it does not exist; --desk ADDRESS in its place asks \
-        a running desk";
-    needed(alloc, "file", "FILE", help)
-}
+pub(crate) const FILE_OR_DESK: Argument = Argument {
+    name: "file",
+    form: Form::Needed("FILE"),
+    help: "The office's file, created if it does not exist; --desk ADDRESS in its place asks \
+        a running desk",
+};
 
 /// The same, of a command that makes no file.
-pub(crate) fn present_file_or_desk<'a>(alloc: Global) -> Arg<'a>
-    ensures rule { rule_of result ≡ needed (codes "file") }
-    ensures own { result.global ≡ false }
-{
-    let help = "The office's file, which has to exist; --desk ADDRESS in its place asks a running \
-        desk";
-    needed(alloc, "file", "FILE", help)
-}
+pub(crate) const PRESENT_FILE_OR_DESK: Argument = Argument {
+    name: "file",
+    form: Form::Needed("FILE"),
+    help: "The office's file, which has to exist; --desk ADDRESS in its place asks a running \
+        desk",
+};
 
 pub(crate) fn read_file<'a>(matches: &ArgMatches<'a>) -> Option<&'a str>
     ensures { ReadsWhat result (IsArgument SaysText
@@ -188,13 +106,11 @@ pub(crate) fn read_file<'a>(matches: &ArgMatches<'a>) -> Option<&'a str>
 }
 
 /// `--wait`, which is 5 where it is left out.
-pub(crate) fn wait<'a>(alloc: Global) -> Arg<'a>
-    ensures rule { rule_of result ≡ wait_option }
-    ensures own { result.global ≡ false }
-{
-    let help = "Wait up to this many seconds while another program uses the file, 0 to 3600";
-    option(alloc, "wait", "SECONDS", help).default_value("5")
-}
+pub(crate) const WAIT: Argument = Argument {
+    name: "wait",
+    form: Form::Default("SECONDS", "5"),
+    help: "Wait up to this many seconds while another program uses the file, 0 to 3600",
+};
 
 pub(crate) fn read_wait(matches: &ArgMatches) -> Option<u32>
     ensures { ReadsWhat result (IsArgument SaysWait
@@ -204,13 +120,11 @@ pub(crate) fn read_wait(matches: &ArgMatches) -> Option<u32>
 }
 
 /// `--desk`, of a command that asks a running desk.
-pub(crate) fn desk<'a>(alloc: Global) -> Arg<'a>
-    ensures rule { rule_of result ≡ needed (codes "desk") }
-    ensures own { result.global ≡ false }
-{
-    let help = "Where a desk runs ('vend serve'): four numbers and a port, e.g. 127.0.0.1:8080";
-    needed(alloc, "desk", "ADDRESS", help)
-}
+pub(crate) const DESK: Argument = Argument {
+    name: "desk",
+    form: Form::Needed("ADDRESS"),
+    help: "Where a desk runs ('vend serve'): four numbers and a port, e.g. 127.0.0.1:8080",
+};
 
 pub(crate) fn read_desk(matches: &ArgMatches) -> Option<Address>
     ensures { ReadsWhat result (IsArgument SaysAddress
@@ -220,13 +134,11 @@ pub(crate) fn read_desk(matches: &ArgMatches) -> Option<Address>
 }
 
 /// `--operator`.
-pub(crate) fn operator<'a>(alloc: Global) -> Arg<'a>
-    ensures rule { rule_of result ≡ needed (codes "operator") }
-    ensures own { result.global ≡ false }
-{
-    let help = "The cashier, 1 to 16 ASCII letters or digits";
-    needed(alloc, "operator", "NAME", help)
-}
+pub(crate) const OPERATOR: Argument = Argument {
+    name: "operator",
+    form: Form::Needed("NAME"),
+    help: "The cashier, 1 to 16 ASCII letters or digits",
+};
 
 pub(crate) fn read_operator(matches: &ArgMatches) -> Option<Operator>
     ensures { ReadsWhat result (IsArgument SaysOperator
@@ -242,17 +154,6 @@ pub(crate) fn read_ref(matches: &ArgMatches) -> Option<Ref>
     Ref::read(said::text(matches, "ref")?.as_bytes())
 }
 
-/// `--json`, of a command that prints what it looks up as lines where this is left out.
-pub(crate) fn json<'a>(alloc: Global, help: &'a str) -> Arg<'a>
-    ensures rule { rule_of result ≡ json_option }
-    ensures own { result.global ≡ false }
-{
-    Arg::new(alloc, "json")
-        .long("json")
-        .action(ArgAction::SetTrue)
-        .help(help)
-}
-
 pub(crate) fn read_json(matches: &ArgMatches) -> Option<bool>
     ensures { ReadsWhat result (IsArgument SaysFlag
         (parsed_argument (codes "json") (argument_rows matches.now))) }
@@ -261,13 +162,11 @@ pub(crate) fn read_json(matches: &ArgMatches) -> Option<bool>
 }
 
 /// `--meter`.
-pub(crate) fn meter<'a>(alloc: Global) -> Arg<'a>
-    ensures rule { rule_of result ≡ needed (codes "meter") }
-    ensures own { result.global ≡ false }
-{
-    let help = "The meter's number, eleven digits of which the last is a Luhn check";
-    needed(alloc, "meter", "NUMBER", help)
-}
+pub(crate) const METER: Argument = Argument {
+    name: "meter",
+    form: Form::Needed("NUMBER"),
+    help: "The meter's number, eleven digits of which the last is a Luhn check",
+};
 
 pub(crate) fn read_meter(matches: &ArgMatches) -> Option<MeterNo>
     ensures { ReadsWhat result (IsArgument SaysMeterNo
@@ -277,14 +176,11 @@ pub(crate) fn read_meter(matches: &ArgMatches) -> Option<MeterNo>
 }
 
 /// `--base`.
-pub(crate) fn base<'a>(alloc: Global) -> Arg<'a>
-    ensures rule { rule_of result ≡ needed (codes "base") }
-    ensures own { result.global ≡ false }
-{
-    let help =
-        "The year of the base date that the meter's identifiers count from: 1993, 2014 or 2035";
-    needed(alloc, "base", "YEAR", help)
-}
+pub(crate) const BASE: Argument = Argument {
+    name: "base",
+    form: Form::Needed("YEAR"),
+    help: "The year of the base date that the meter's identifiers count from: 1993, 2014 or 2035",
+};
 
 pub(crate) fn read_base(matches: &ArgMatches) -> Option<Base>
     ensures { ReadsWhat result (IsArgument SaysBase
@@ -294,13 +190,11 @@ pub(crate) fn read_base(matches: &ArgMatches) -> Option<Base>
 }
 
 /// `--key`.
-pub(crate) fn key<'a>(alloc: Global) -> Arg<'a>
-    ensures rule { rule_of result ≡ needed (codes "key") }
-    ensures own { result.global ≡ false }
-{
-    let help = "The meter's key, sixteen lower-case hexadecimal digits";
-    needed(alloc, "key", "KEY", help)
-}
+pub(crate) const KEY: Argument = Argument {
+    name: "key",
+    form: Form::Needed("KEY"),
+    help: "The meter's key, sixteen lower-case hexadecimal digits",
+};
 
 pub(crate) fn read_key_of(matches: &ArgMatches) -> Option<u64>
     ensures { ReadsWhat result (IsArgument SaysKey

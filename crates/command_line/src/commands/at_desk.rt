@@ -1,12 +1,8 @@
 //! Commands that ask a running desk: those right after which `--desk ADDRESS` stands in place of
 //! `--file F`. They open no file, write no token and have no clock: the desk has all three.
 
-ghost use Rattle.std.specs.Prelude.{[], IfOk, codes};
+ghost use Rattle.std.specs.Prelude.{codes};
 ghost use Rattle.command_line.specs.Commands.{SaysDeskQuestion, SaysDeskWords};
-ghost use Rattle.command_line.specs.Line.{IsDescribed, desk_base_command, desk_command};
-ghost use Rattle.command_line.specs.Line.{desk_import_command, desk_list_command, desk_quote_command};
-ghost use Rattle.command_line.specs.Line.{desk_report_command, desk_sell_command, desk_shift_command};
-ghost use Rattle.command_line.specs.Line.{desk_show_command};
 ghost use Rattle.command_line.specs.Said.{ReadsWhat, argument_rows};
 
 use crate::address::Address;
@@ -15,12 +11,11 @@ use crate::commands::list::{self, Listed, read_listed};
 use crate::commands::report::{self, Paper, read_paper};
 use crate::commands::show::{self, Shown, read_shown};
 use crate::commands::{base, offer, sell, shift};
-use crate::options::{self, with};
-use crate::said;
-use clap::{ArgMatches, Command};
+use crate::description::Description;
+use crate::{options, said};
+use clap::ArgMatches;
 use office_rules::{MeterNo, Operator, Order};
 use papers::FileKind;
-use std::alloc::{AllocError, Global};
 use sts_fields::Base;
 use tariff::Tender;
 
@@ -66,108 +61,91 @@ pub struct DeskWords<'a> {
 }
 
 /// `import --desk A tariffs|meters CSV`.
-pub(crate) fn describe_import<'a>(alloc: Global) -> Result<Command<'a>, AllocError>
-    ensures { IfOk result (IsDescribed desk_import_command) }
-{
-    let example = "Example: vend import --desk 127.0.0.1:8080 tariffs tariffs.csv";
-    let command = command(alloc, "desk-import", import::ABOUT, example)?;
-    let command = with(command, import::kind(alloc))?;
-    with(command, import::csv(alloc))
-}
+pub(crate) const IMPORT: Description = Description {
+    name: "desk-import",
+    about: import::ABOUT,
+    example: "Example: vend import --desk 127.0.0.1:8080 tariffs tariffs.csv",
+    is_hidden: true,
+    arguments: &[options::DESK, import::KIND, import::CSV],
+};
 
 /// `shift --desk A --operator O open|close`.
-pub(crate) fn describe_shift<'a>(alloc: Global) -> Result<Command<'a>, AllocError>
-    ensures { IfOk result (IsDescribed desk_shift_command) }
-{
-    let example = "Example: vend shift --desk 127.0.0.1:8080 --operator ann open";
-    let command = command(alloc, "desk-shift", shift::ABOUT, example)?;
-    let command = with(command, options::operator(alloc))?;
-    with(command, shift::act(alloc))
-}
+pub(crate) const SHIFT: Description = Description {
+    name: "desk-shift",
+    about: shift::ABOUT,
+    example: "Example: vend shift --desk 127.0.0.1:8080 --operator ann open",
+    is_hidden: true,
+    arguments: &[options::DESK, options::OPERATOR, shift::ACT],
+};
 
 /// `sell --desk A --operator O --ref R --meter M --tender C`.
-pub(crate) fn describe_sell<'a>(alloc: Global) -> Result<Command<'a>, AllocError>
-    ensures { IfOk result (IsDescribed desk_sell_command) }
-{
-    let example =
-        "Example: vend sell --desk 127.0.0.1:8080 --operator ann --ref A-1 --meter 12345678903 \
-        --tender 1000";
-    let command = command(alloc, "desk-sell", sell::ABOUT, example)?;
-    let command = with(command, options::operator(alloc))?;
-    let command = with(command, sell::order_ref(alloc))?;
-    let command = with(command, options::meter(alloc))?;
-    with(command, sell::tender(alloc))
-}
+pub(crate) const SELL: Description = Description {
+    name: "desk-sell",
+    about: sell::ABOUT,
+    example: "Example: vend sell --desk 127.0.0.1:8080 --operator ann --ref A-1 --meter \
+        12345678903 --tender 1000",
+    is_hidden: true,
+    arguments: &[
+        options::DESK,
+        options::OPERATOR,
+        sell::ORDER_REF,
+        options::METER,
+        sell::TENDER,
+    ],
+};
 
 /// `report --desk A --kind shift|receipt|totals|sales [--number N]`.
-pub(crate) fn describe_report<'a>(alloc: Global) -> Result<Command<'a>, AllocError>
-    ensures { IfOk result (IsDescribed desk_report_command) }
-{
-    let example = "Example: vend report --desk 127.0.0.1:8080 --kind receipt --number 7";
-    let command = command(alloc, "desk-report", report::ABOUT, example)?;
-    let command = with(command, report::kind(alloc))?;
-    with(command, report::number(alloc))
-}
+pub(crate) const REPORT: Description = Description {
+    name: "desk-report",
+    about: report::ABOUT,
+    example: "Example: vend report --desk 127.0.0.1:8080 --kind receipt --number 7",
+    is_hidden: true,
+    arguments: &[options::DESK, report::KIND, report::NUMBER],
+};
 
 /// `show --desk A [--json] meter --meter M`, the same with `sale --operator O --ref R`, and
 /// `show --desk A last --meter M`.
-pub(crate) fn describe_show<'a>(alloc: Global) -> Result<Command<'a>, AllocError>
-    ensures { IfOk result (IsDescribed desk_show_command) }
-{
-    let example = "Example: vend show --desk 127.0.0.1:8080 meter --meter 12345678903";
-    let command = command(alloc, "desk-show", show::ABOUT, example)?;
-    let command = with(command, show::meter(alloc))?;
-    let command = with(command, show::operator(alloc))?;
-    let command = with(command, show::order_ref(alloc))?;
-    let command = with(command, show::json(alloc))?;
-    with(command, show::what(alloc))
-}
+pub(crate) const SHOW: Description = Description {
+    name: "desk-show",
+    about: show::ABOUT,
+    example: "Example: vend show --desk 127.0.0.1:8080 meter --meter 12345678903",
+    is_hidden: true,
+    arguments: &[
+        options::DESK,
+        show::METER,
+        show::OPERATOR,
+        show::ORDER_REF,
+        show::JSON,
+        show::WHAT,
+    ],
+};
 
 /// `list --desk A [--after KEY] [--json] tariffs|meters|shifts|sales`.
-pub(crate) fn describe_list<'a>(alloc: Global) -> Result<Command<'a>, AllocError>
-    ensures { IfOk result (IsDescribed desk_list_command) }
-{
-    let example = "Example: vend list --desk 127.0.0.1:8080 meters";
-    let command = command(alloc, "desk-list", list::ABOUT, example)?;
-    let command = with(command, list::after(alloc))?;
-    let command = with(command, list::json(alloc))?;
-    with(command, list::what(alloc))
-}
+pub(crate) const LIST: Description = Description {
+    name: "desk-list",
+    about: list::ABOUT,
+    example: "Example: vend list --desk 127.0.0.1:8080 meters",
+    is_hidden: true,
+    arguments: &[options::DESK, list::AFTER, list::JSON, list::WHAT],
+};
 
 /// `quote --desk A --meter M [--json] TENDER`.
-pub(crate) fn describe_quote<'a>(alloc: Global) -> Result<Command<'a>, AllocError>
-    ensures { IfOk result (IsDescribed desk_quote_command) }
-{
-    let example = "Example: vend quote --desk 127.0.0.1:8080 --meter 12345678903 1000";
-    let command = command(alloc, "desk-quote", offer::ABOUT, example)?;
-    let command = with(command, options::meter(alloc))?;
-    let command = with(command, offer::json(alloc))?;
-    with(command, offer::tender(alloc))
-}
+pub(crate) const QUOTE: Description = Description {
+    name: "desk-quote",
+    about: offer::ABOUT,
+    example: "Example: vend quote --desk 127.0.0.1:8080 --meter 12345678903 1000",
+    is_hidden: true,
+    arguments: &[options::DESK, options::METER, offer::JSON, offer::TENDER],
+};
 
 /// `base --desk A --meter M --base Y`.
-pub(crate) fn describe_base<'a>(alloc: Global) -> Result<Command<'a>, AllocError>
-    ensures { IfOk result (IsDescribed desk_base_command) }
-{
-    let example = "Example: vend base --desk 127.0.0.1:8080 --meter 12345678903 --base 2035";
-    let command = command(alloc, "desk-base", base::ABOUT, example)?;
-    let command = with(command, options::meter(alloc))?;
-    with(command, options::base(alloc))
-}
-
-// A command that asks a desk, which the list of commands leaves out: it is meant by another one,
-// right after which `--desk` stands.
-fn command<'a>(
-    alloc: Global,
-    name: &'a str,
-    about: &'a str,
-    example: &'a str,
-) -> Result<Command<'a>, AllocError>
-    ensures { IfOk result (IsDescribed (desk_command name.entry.now [])) }
-{
-    let command = options::command(alloc, name, about, example).hide(true);
-    with(command, options::desk(alloc))
-}
+pub(crate) const BASE: Description = Description {
+    name: "desk-base",
+    about: base::ABOUT,
+    example: "Example: vend base --desk 127.0.0.1:8080 --meter 12345678903 --base 2035",
+    is_hidden: true,
+    arguments: &[options::DESK, options::METER, options::BASE],
+};
 
 impl<'a> DeskWords<'a> {
     /// Reads the words of the command of a name; `None` too where it asks no desk.

@@ -1,11 +1,9 @@
-ghost use Rattle.std.specs.Prelude.{IfOk};
-ghost use Rattle.command_line.specs.Line.{IsDescribed, audit_command};
 ghost use Rattle.command_line.specs.Said.{ReadsWhat, argument_rows};
 
-use crate::options::{self, with};
+use crate::description::Description;
+use crate::options;
 use crate::transform::Shipped;
-use clap::{ArgMatches, Command};
-use std::alloc::{AllocError, Global};
+use clap::ArgMatches;
 
 /// What `audit` is asked: whether a file keeps an office.
 #[derive(Clone, Copy)]
@@ -19,18 +17,18 @@ pub struct AuditWords<'a> {
 }
 
 /// `audit --file F [--wait S] [--transform T]`.
-pub(crate) fn describe<'a>(alloc: Global) -> Result<Command<'a>, AllocError>
-    ensures { IfOk result (IsDescribed audit_command) }
-{
-    let about =
-        "Checks every row of a file, changes none, and prints what the file has, or the first \
-        row that breaks a rule";
-    let example = "Example: vend audit --file office.db";
-    let command = options::command(alloc, "audit", about, example);
-    let command = with(command, options::present_file(alloc))?;
-    let command = with(command, options::wait(alloc))?;
-    with(command, options::tested_transform(alloc))
-}
+pub(crate) const COMMAND: Description = Description {
+    name: "audit",
+    about: "Checks every row of a file, changes none, and prints what the file has, or the first \
+        row that breaks a rule",
+    example: "Example: vend audit --file office.db",
+    is_hidden: false,
+    arguments: &[
+        options::PRESENT_FILE,
+        options::WAIT,
+        options::TESTED_TRANSFORM,
+    ],
+};
 
 impl<'a> AuditWords<'a> {
     ghost use Rattle.command_line.specs.Commands.{SaysAudit};

@@ -1,16 +1,14 @@
-ghost use Rattle.std.specs.Prelude.{◌≡◌, codes, false, IfOk};
-ghost use Rattle.clap.specs.Walk.{rule_of};
+ghost use Rattle.std.specs.Prelude.{codes};
 ghost use Rattle.command_line.specs.Commands.{SaysImport, SaysKind};
-ghost use Rattle.command_line.specs.Line.{IsDescribed, import_command, word_named};
 ghost use Rattle.command_line.specs.Said.{IsArgument, ReadsWhat, argument_rows, parsed_argument};
 ghost use Rattle.command_line.specs.Values.{SaysText};
 
-use crate::options::{self, with};
-use crate::said;
+use crate::argument::{Argument, Form};
+use crate::description::Description;
 use crate::transform::Shipped;
-use clap::{Arg, ArgMatches, Command};
+use crate::{options, said};
+use clap::ArgMatches;
 use papers::FileKind;
-use std::alloc::{AllocError, Global};
 use sts_fields::Moment;
 
 /// What it does, in its help.
@@ -33,38 +31,35 @@ pub struct ImportWords<'a> {
 }
 
 /// `import --file F [--wait S] [--at S] [--transform X] tariffs|meters CSV`.
-pub(crate) fn describe<'a>(alloc: Global) -> Result<Command<'a>, AllocError>
-    ensures { IfOk result (IsDescribed import_command) }
-{
-    let example = "Example: vend import --file office.db tariffs tariffs.csv";
-    let command = options::command(alloc, "import", ABOUT, example);
-    let command = with(command, options::transform(alloc))?;
-    let command = with(command, options::file_or_desk(alloc))?;
-    let command = with(command, options::wait(alloc))?;
-    let command = with(command, options::at(alloc))?;
-    let command = with(command, kind(alloc))?;
-    with(command, csv(alloc))
-}
+pub(crate) const COMMAND: Description = Description {
+    name: "import",
+    about: ABOUT,
+    example: "Example: vend import --file office.db tariffs tariffs.csv",
+    is_hidden: false,
+    arguments: &[
+        options::TRANSFORM,
+        options::FILE_OR_DESK,
+        options::WAIT,
+        options::AT,
+        KIND,
+        CSV,
+    ],
+};
 
 /// The kind of the rows.
-pub(crate) fn kind<'a>(alloc: Global) -> Arg<'a>
-    ensures rule { rule_of result ≡ word_named (codes "kind") }
-    ensures own { result.global ≡ false }
-{
-    let help = "What the rows are: tariffs or meters";
-    options::word(alloc, "kind", "KIND", help)
-}
+pub(crate) const KIND: Argument = Argument {
+    name: "kind",
+    form: Form::Word("KIND"),
+    help: "What the rows are: tariffs or meters",
+};
 
 /// The file of the rows.
-pub(crate) fn csv<'a>(alloc: Global) -> Arg<'a>
-    ensures rule { rule_of result ≡ word_named (codes "csv") }
-    ensures own { result.global ≡ false }
-{
-    let help =
-        "A CSV file of at most 10000 rows under the header name,steps or name,steps,from, or \
-        meter,base,tariff,key";
-    options::word(alloc, "csv", "CSV", help)
-}
+pub(crate) const CSV: Argument = Argument {
+    name: "csv",
+    form: Form::Word("CSV"),
+    help: "A CSV file of at most 10000 rows under the header name,steps or name,steps,from, or \
+        meter,base,tariff,key",
+};
 
 impl<'a> ImportWords<'a> {
     pub(crate) fn read(matches: &ArgMatches<'a>) -> Option<ImportWords<'a>>

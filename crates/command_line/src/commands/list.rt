@@ -1,16 +1,13 @@
-ghost use Rattle.std.specs.Prelude.{◌≡◌, codes, false, IfOk};
-ghost use Rattle.clap.specs.Walk.{rule_of};
+ghost use Rattle.std.specs.Prelude.{codes};
 ghost use Rattle.command_line.specs.Commands.{IsNumberOrNone, SaysList, SaysListed};
-ghost use Rattle.command_line.specs.Line.{IsDescribed, json_option, list_command, option_named};
-ghost use Rattle.command_line.specs.Line.{word_named};
 ghost use Rattle.command_line.specs.Said.{IsOptionalArgument, ReadsWhat, argument_rows, parsed_argument};
 ghost use Rattle.command_line.specs.Values.{SaysMeterNo, SaysTariff};
 
-use crate::options::{self, option, with};
-use crate::{said, values};
-use clap::{Arg, ArgMatches, Command};
+use crate::argument::{Argument, Form};
+use crate::description::Description;
+use crate::{options, said, values};
+use clap::ArgMatches;
 use office_rules::{MeterNo, TariffName};
-use std::alloc::{AllocError, Global};
 use sts_fields::Moment;
 
 /// What it does, in its help.
@@ -47,46 +44,42 @@ pub struct ListWords<'a> {
 }
 
 /// `list --file F [--wait S] [--at S] [--after KEY] [--json] tariffs|meters|shifts|sales`.
-pub(crate) fn describe<'a>(alloc: Global) -> Result<Command<'a>, AllocError>
-    ensures { IfOk result (IsDescribed list_command) }
-{
-    let example = "Example: vend list --file office.db meters";
-    let command = options::command(alloc, "list", ABOUT, example);
-    let command = with(command, options::present_file_or_desk(alloc))?;
-    let command = with(command, options::wait(alloc))?;
-    let command = with(command, options::at(alloc))?;
-    let command = with(command, after(alloc))?;
-    let command = with(command, json(alloc))?;
-    with(command, what(alloc))
-}
+pub(crate) const COMMAND: Description = Description {
+    name: "list",
+    about: ABOUT,
+    example: "Example: vend list --file office.db meters",
+    is_hidden: false,
+    arguments: &[
+        options::PRESENT_FILE_OR_DESK,
+        options::WAIT,
+        options::AT,
+        AFTER,
+        JSON,
+        WHAT,
+    ],
+};
 
 /// `--after`, which may be left out.
-pub(crate) fn after<'a>(alloc: Global) -> Arg<'a>
-    ensures rule { rule_of result ≡ option_named (codes "after") }
-    ensures own { result.global ≡ false }
-{
-    let help = "Print only what comes after this: with tariffs a name, with meters a number of \
-        eleven digits, with shifts and sales a number from 0 to 1000000000";
-    option(alloc, "after", "KEY", help)
-}
+pub(crate) const AFTER: Argument = Argument {
+    name: "after",
+    form: Form::Optional("KEY"),
+    help: "Print only what comes after this: with tariffs a name, with meters a number of \
+        eleven digits, with shifts and sales a number from 0 to 1000000000",
+};
 
 /// `--json`.
-pub(crate) fn json<'a>(alloc: Global) -> Arg<'a>
-    ensures rule { rule_of result ≡ json_option }
-    ensures own { result.global ≡ false }
-{
-    let help = "Print the JSON that 'vend serve' replies, a line for each page of at most 100";
-    options::json(alloc, help)
-}
+pub(crate) const JSON: Argument = Argument {
+    name: "json",
+    form: Form::Flag,
+    help: "Print the JSON that 'vend serve' replies, a line for each page of at most 100",
+};
 
 /// What is listed.
-pub(crate) fn what<'a>(alloc: Global) -> Arg<'a>
-    ensures rule { rule_of result ≡ word_named (codes "what") }
-    ensures own { result.global ≡ false }
-{
-    let help = "What to print: tariffs, meters, shifts or sales";
-    options::word(alloc, "what", "WHAT", help)
-}
+pub(crate) const WHAT: Argument = Argument {
+    name: "what",
+    form: Form::Word("WHAT"),
+    help: "What to print: tariffs, meters, shifts or sales",
+};
 
 impl<'a> ListWords<'a> {
     pub(crate) fn read(matches: &ArgMatches<'a>) -> Option<ListWords<'a>>

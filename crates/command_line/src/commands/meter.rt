@@ -1,13 +1,11 @@
-ghost use Rattle.std.specs.Prelude.{IfOk};
 ghost use Rattle.command_line.specs.Commands.{SaysMeterCommand};
-ghost use Rattle.command_line.specs.Line.{IsDescribed, meter_command};
 ghost use Rattle.command_line.specs.Said.{ReadsWhat, argument_rows};
 
-use crate::options::{self, with};
-use crate::said;
+use crate::argument::{Argument, Form};
+use crate::description::Description;
 use crate::transform::Shipped;
-use clap::{ArgMatches, Command};
-use std::alloc::{AllocError, Global};
+use crate::{options, said};
+use clap::ArgMatches;
 
 /// What `meter` is asked to do: tokens, entered into a new meter with this key.
 #[derive(Clone, Copy)]
@@ -18,19 +16,21 @@ pub struct MeterWords<'m, 'a> {
 }
 
 /// `meter --key K [--transform X] TOKEN..`.
-pub(crate) fn describe<'a>(alloc: Global) -> Result<Command<'a>, AllocError>
-    ensures { IfOk result (IsDescribed meter_command) }
-{
-    let about = "Enters tokens into a new simulated meter, and prints its answer to each and its \
-        credit";
-    let help = "A token of twenty digits; or clear, which has the meter forget its identifiers and \
-        keep its credit";
-    let example = "Example: vend meter --key 0000000000000000 00072057602627981690";
-    let command = options::command(alloc, "meter", about, example);
-    let command = with(command, options::transform(alloc))?;
-    let command = with(command, options::key(alloc))?;
-    with(command, options::words(alloc, "tokens", "TOKEN", help))
-}
+pub(crate) const COMMAND: Description = Description {
+    name: "meter",
+    about: "Enters tokens into a new simulated meter, and prints its answer to each and its \
+        credit",
+    example: "Example: vend meter --key 0000000000000000 00072057602627981690",
+    is_hidden: false,
+    arguments: &[options::TRANSFORM, options::KEY, TOKENS],
+};
+
+const TOKENS: Argument = Argument {
+    name: "tokens",
+    form: Form::Words("TOKEN"),
+    help: "A token of twenty digits; or clear, which has the meter forget its identifiers and \
+        keep its credit",
+};
 
 impl<'m, 'a> MeterWords<'m, 'a> {
     pub(crate) fn read(matches: &'m ArgMatches<'a>) -> Option<MeterWords<'m, 'a>>

@@ -1,13 +1,11 @@
-ghost use Rattle.std.specs.Prelude.{◌≡◌, codes, false, IfOk};
-ghost use Rattle.clap.specs.Walk.{rule_of};
 ghost use Rattle.command_line.specs.Commands.{SaysOffer};
-ghost use Rattle.command_line.specs.Line.{IsDescribed, json_option, offer_command, word_named};
 ghost use Rattle.command_line.specs.Said.{ReadsWhat, argument_rows};
 
-use crate::options::{self, with};
-use clap::{Arg, ArgMatches, Command};
+use crate::argument::{Argument, Form};
+use crate::description::Description;
+use crate::options;
+use clap::ArgMatches;
 use office_rules::MeterNo;
-use std::alloc::{AllocError, Global};
 use sts_fields::Moment;
 use tariff::Tender;
 
@@ -32,35 +30,34 @@ pub struct OfferWords<'a> {
 }
 
 /// `offer --file F [--wait S] [--at S] --meter M [--json] TENDER`.
-pub(crate) fn describe<'a>(alloc: Global) -> Result<Command<'a>, AllocError>
-    ensures { IfOk result (IsDescribed offer_command) }
-{
-    let example = "Example: vend quote --file office.db --meter 12345678903 1000";
-    let command = options::command(alloc, "offer", ABOUT, example);
-    let command = with(command, options::present_file_or_desk(alloc))?;
-    let command = with(command, options::wait(alloc))?;
-    let command = with(command, options::at(alloc))?;
-    let command = with(command, options::meter(alloc))?;
-    let command = with(command, json(alloc))?;
-    with(command, tender(alloc))
-}
+pub(crate) const COMMAND: Description = Description {
+    name: "offer",
+    about: ABOUT,
+    example: "Example: vend quote --file office.db --meter 12345678903 1000",
+    is_hidden: false,
+    arguments: &[
+        options::PRESENT_FILE_OR_DESK,
+        options::WAIT,
+        options::AT,
+        options::METER,
+        JSON,
+        TENDER,
+    ],
+};
 
 /// `--json`.
-pub(crate) fn json<'a>(alloc: Global) -> Arg<'a>
-    ensures rule { rule_of result ≡ json_option }
-    ensures own { result.global ≡ false }
-{
-    options::json(alloc, "Print the JSON that 'vend serve' replies")
-}
+pub(crate) const JSON: Argument = Argument {
+    name: "json",
+    form: Form::Flag,
+    help: "Print the JSON that 'vend serve' replies",
+};
 
 /// The tender.
-pub(crate) fn tender<'a>(alloc: Global) -> Arg<'a>
-    ensures rule { rule_of result ≡ word_named (codes "tender") }
-    ensures own { result.global ≡ false }
-{
-    let help = "The money in whole cents, 1 to 100000000";
-    options::word(alloc, "tender", "TENDER", help)
-}
+pub(crate) const TENDER: Argument = Argument {
+    name: "tender",
+    form: Form::Word("TENDER"),
+    help: "The money in whole cents, 1 to 100000000",
+};
 
 impl<'a> OfferWords<'a> {
     pub(crate) fn read(matches: &ArgMatches<'a>) -> Option<OfferWords<'a>>

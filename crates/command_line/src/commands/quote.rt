@@ -1,15 +1,15 @@
-ghost use Rattle.std.specs.Prelude.{◌≤◌, codes, IfOk};
+ghost use Rattle.std.specs.Prelude.{◌≤◌, codes};
 ghost use Rattle.tariff.specs.Cost.{greatest_prior};
-ghost use Rattle.command_line.specs.Line.{IsDescribed, quote_command};
 ghost use Rattle.command_line.specs.Said.{IsArgument, ReadsOrFull, ReadsWhat, argument_rows, parsed_argument};
 ghost use Rattle.command_line.specs.Values.{SaysPrior, SaysSteps};
 
-use crate::options::{self, with};
+use crate::argument::{Argument, Form};
+use crate::description::Description;
 use crate::transform::Shipped;
 use crate::words::BadWords;
-use crate::{said, values};
-use clap::{ArgMatches, Command};
-use std::alloc::{AllocError, Global};
+use crate::{options, said, values};
+use clap::ArgMatches;
+use std::alloc::Global;
 use tariff::{Steps, StepsFault, Tender};
 
 /// What `quote` is asked: what a tender buys of some steps after the tenths that the month had
@@ -25,22 +25,32 @@ pub struct QuoteWords {
 }
 
 /// `quote [--transform X] STEPS PRIOR TENDER`.
-pub(crate) fn describe<'a>(alloc: Global) -> Result<Command<'a>, AllocError>
-    ensures { IfOk result (IsDescribed quote_command) }
-{
-    let about = "Prints what a tender buys: tenths of a kWh, price and change in cents";
-    let steps =
-        "The steps of a tariff as END:PRICE with ';' between them: ends in tenths of a kWh a \
-        month, prices in cents per kWh, the last without an end";
-    let prior = "Tenths of a kWh that the meter had in the month before, 0 to 100000000000000000";
-    let tender = "The money in whole cents, 1 to 100000000";
-    let example = "Example: vend quote '500:100;:200' 490 200";
-    let command = options::command(alloc, "quote", about, example);
-    let command = with(command, options::transform(alloc))?;
-    let command = with(command, options::word(alloc, "steps", "STEPS", steps))?;
-    let command = with(command, options::word(alloc, "prior", "PRIOR", prior))?;
-    with(command, options::word(alloc, "tender", "TENDER", tender))
-}
+pub(crate) const COMMAND: Description = Description {
+    name: "quote",
+    about: "Prints what a tender buys: tenths of a kWh, price and change in cents",
+    example: "Example: vend quote '500:100;:200' 490 200",
+    is_hidden: false,
+    arguments: &[options::TRANSFORM, STEPS, PRIOR, TENDER],
+};
+
+const STEPS: Argument = Argument {
+    name: "steps",
+    form: Form::Word("STEPS"),
+    help: "The steps of a tariff as END:PRICE with ';' between them: ends in tenths of a kWh a \
+        month, prices in cents per kWh, the last without an end",
+};
+
+const PRIOR: Argument = Argument {
+    name: "prior",
+    form: Form::Word("PRIOR"),
+    help: "Tenths of a kWh that the meter had in the month before, 0 to 100000000000000000",
+};
+
+const TENDER: Argument = Argument {
+    name: "tender",
+    form: Form::Word("TENDER"),
+    help: "The money in whole cents, 1 to 100000000",
+};
 
 impl QuoteWords {
     ghost use Rattle.command_line.specs.Commands.{SaysQuote};

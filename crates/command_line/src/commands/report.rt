@@ -1,14 +1,12 @@
-ghost use Rattle.std.specs.Prelude.{◌≡◌, codes, false, IfOk};
-ghost use Rattle.clap.specs.Walk.{rule_of};
+ghost use Rattle.std.specs.Prelude.{codes};
 ghost use Rattle.command_line.specs.Commands.{SaysPaper, SaysReport};
-ghost use Rattle.command_line.specs.Line.{IsDescribed, needed, report_command, with_default};
 ghost use Rattle.command_line.specs.Said.{IsArgument, ReadsWhat, argument_rows, parsed_argument};
 ghost use Rattle.command_line.specs.Values.{SaysItem};
 
-use crate::options::{self, with};
-use crate::{said, values};
-use clap::{Arg, ArgMatches, Command};
-use std::alloc::{AllocError, Global};
+use crate::argument::{Argument, Form};
+use crate::description::Description;
+use crate::{options, said, values};
+use clap::ArgMatches;
 
 /// What it does, in its help.
 pub(crate) const ABOUT: &str =
@@ -38,34 +36,27 @@ pub struct ReportWords<'a> {
 }
 
 /// `report --file F [--wait S] --kind shift|receipt|totals|sales [--number N]`.
-pub(crate) fn describe<'a>(alloc: Global) -> Result<Command<'a>, AllocError>
-    ensures { IfOk result (IsDescribed report_command) }
-{
-    let example = "Example: vend report --file office.db --kind receipt --number 7";
-    let command = options::command(alloc, "report", ABOUT, example);
-    let command = with(command, options::present_file_or_desk(alloc))?;
-    let command = with(command, options::wait(alloc))?;
-    let command = with(command, kind(alloc))?;
-    with(command, number(alloc))
-}
+pub(crate) const COMMAND: Description = Description {
+    name: "report",
+    about: ABOUT,
+    example: "Example: vend report --file office.db --kind receipt --number 7",
+    is_hidden: false,
+    arguments: &[options::PRESENT_FILE_OR_DESK, options::WAIT, KIND, NUMBER],
+};
 
 /// `--kind`.
-pub(crate) fn kind<'a>(alloc: Global) -> Arg<'a>
-    ensures rule { rule_of result ≡ needed (codes "kind") }
-    ensures own { result.global ≡ false }
-{
-    let help = "What to print: shift, receipt, totals or sales";
-    options::needed(alloc, "kind", "KIND", help)
-}
+pub(crate) const KIND: Argument = Argument {
+    name: "kind",
+    form: Form::Needed("KIND"),
+    help: "What to print: shift, receipt, totals or sales",
+};
 
 /// `--number`, which is 1 where it is left out.
-pub(crate) fn number<'a>(alloc: Global) -> Arg<'a>
-    ensures rule { rule_of result ≡ with_default (codes "number") (codes "1") }
-    ensures own { result.global ≡ false }
-{
-    let help = "The number of the shift or the sale, 1 to 1000000000; ignored with sales";
-    options::option(alloc, "number", "N", help).default_value("1")
-}
+pub(crate) const NUMBER: Argument = Argument {
+    name: "number",
+    form: Form::Default("N", "1"),
+    help: "The number of the shift or the sale, 1 to 1000000000; ignored with sales",
+};
 
 impl<'a> ReportWords<'a> {
     pub(crate) fn read(matches: &ArgMatches<'a>) -> Option<ReportWords<'a>>

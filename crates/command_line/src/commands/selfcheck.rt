@@ -1,11 +1,9 @@
-ghost use Rattle.std.specs.Prelude.{IfOk};
-ghost use Rattle.command_line.specs.Line.{IsDescribed, selfcheck_command};
 ghost use Rattle.command_line.specs.Said.{ReadsWhat, argument_rows};
 
-use crate::options::{self, with};
+use crate::description::Description;
+use crate::options;
 use crate::transform::Shipped;
-use clap::{ArgMatches, Command};
-use std::alloc::{AllocError, Global};
+use clap::ArgMatches;
 
 /// What `selfcheck` is asked: under which transform the offices write their token.
 #[derive(Clone, Copy)]
@@ -14,16 +12,14 @@ pub struct SelfcheckWords {
 }
 
 /// `selfcheck [--transform X]`.
-pub(crate) fn describe<'a>(alloc: Global) -> Result<Command<'a>, AllocError>
-    ensures { IfOk result (IsDescribed selfcheck_command) }
-{
-    let about =
-        "Tests the HTTP server over loopback with an office in memory, and prints 'selfcheck \
-        ok'";
-    let example = "Example: vend selfcheck";
-    let command = options::command(alloc, "selfcheck", about, example);
-    with(command, options::transform(alloc))
-}
+pub(crate) const COMMAND: Description = Description {
+    name: "selfcheck",
+    about: "Tests the HTTP server over loopback with an office in memory, and prints 'selfcheck \
+        ok'",
+    example: "Example: vend selfcheck",
+    is_hidden: false,
+    arguments: &[options::TRANSFORM],
+};
 
 impl SelfcheckWords {
     ghost use Rattle.command_line.specs.Commands.{SaysSelfcheck};

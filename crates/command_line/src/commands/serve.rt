@@ -1,16 +1,15 @@
-ghost use Rattle.std.specs.Prelude.{codes, IfOk};
+ghost use Rattle.std.specs.Prelude.{codes};
 ghost use Rattle.command_line.specs.Address.{SaysAddress};
 ghost use Rattle.command_line.specs.Commands.{SaysServe};
-ghost use Rattle.command_line.specs.Line.{IsDescribed, serve_command};
 ghost use Rattle.command_line.specs.Said.{IsArgument, ReadsWhat, argument_rows, parsed_argument};
 ghost use Rattle.command_line.specs.Values.{SaysConnections};
 
 use crate::address::Address;
-use crate::options::{self, needed, with};
+use crate::argument::{Argument, Form};
+use crate::description::Description;
 use crate::transform::Shipped;
-use crate::{said, values};
-use clap::{ArgMatches, Command};
-use std::alloc::{AllocError, Global};
+use crate::{options, said, values};
+use clap::ArgMatches;
 
 /// What `serve` is asked to do: the desk of an office, open to so many connections.
 #[derive(Clone, Copy)]
@@ -26,24 +25,33 @@ pub struct ServeWords<'a> {
 }
 
 /// `serve --file F [--wait S] --listen ADDR --connections N [--transform X]`.
-pub(crate) fn describe<'a>(alloc: Global) -> Result<Command<'a>, AllocError>
-    ensures { IfOk result (IsDescribed serve_command) }
-{
-    let about =
-        "Answers HTTP/1.1 requests, one connection after another, and prints on standard error \
-        where it listens";
-    let listen = "Where to listen: four numbers and a port, e.g. 127.0.0.1:8080; with port 0 the \
-        system chooses one";
-    let connections = "How many connections to serve before it exits, 1 to 1000000";
-    let example =
-        "Example: vend serve --file office.db --listen 127.0.0.1:8080 --connections 1000000";
-    let command = options::command(alloc, "serve", about, example);
-    let command = with(command, options::transform(alloc))?;
-    let command = with(command, options::file(alloc))?;
-    let command = with(command, options::wait(alloc))?;
-    let command = with(command, needed(alloc, "listen", "ADDRESS", listen))?;
-    with(command, needed(alloc, "connections", "NUMBER", connections))
-}
+pub(crate) const COMMAND: Description = Description {
+    name: "serve",
+    about: "Answers HTTP/1.1 requests, one connection after another, and prints on standard error \
+        where it listens",
+    example: "Example: vend serve --file office.db --listen 127.0.0.1:8080 --connections 1000000",
+    is_hidden: false,
+    arguments: &[
+        options::TRANSFORM,
+        options::FILE,
+        options::WAIT,
+        LISTEN,
+        CONNECTIONS,
+    ],
+};
+
+const LISTEN: Argument = Argument {
+    name: "listen",
+    form: Form::Needed("ADDRESS"),
+    help: "Where to listen: four numbers and a port, e.g. 127.0.0.1:8080; with port 0 the \
+        system chooses one",
+};
+
+const CONNECTIONS: Argument = Argument {
+    name: "connections",
+    form: Form::Needed("NUMBER"),
+    help: "How many connections to serve before it exits, 1 to 1000000",
+};
 
 impl<'a> ServeWords<'a> {
     pub(crate) fn read(matches: &ArgMatches<'a>) -> Option<ServeWords<'a>>

@@ -1,40 +1,38 @@
-ghost use Rattle.std.specs.Prelude.{◌≡◌, codes, false, IfOk};
-ghost use Rattle.clap.specs.Walk.{rule_of};
+ghost use Rattle.std.specs.Prelude.{codes};
 ghost use Rattle.command_line.specs.Commands.{SaysRequest};
-ghost use Rattle.command_line.specs.Line.{IsDescribed, shift_command, word_named};
 ghost use Rattle.command_line.specs.Said.{ReadsWhat, argument_rows};
 
-use crate::options::{self, with};
-use crate::said;
-use clap::{Arg, ArgMatches, Command};
+use crate::argument::{Argument, Form};
+use crate::description::Description;
+use crate::{options, said};
+use clap::ArgMatches;
 use office_rules::Request;
-use std::alloc::{AllocError, Global};
 
 /// What it does, in its help.
 pub(crate) const ABOUT: &str = "Opens or closes an operator's shift, and prints its number";
 
 /// `shift --file F [--wait S] --operator O [--at S] [--transform X] open|close`.
-pub(crate) fn describe<'a>(alloc: Global) -> Result<Command<'a>, AllocError>
-    ensures { IfOk result (IsDescribed shift_command) }
-{
-    let example = "Example: vend shift --file office.db --operator ann open";
-    let command = options::command(alloc, "shift", ABOUT, example);
-    let command = with(command, options::transform(alloc))?;
-    let command = with(command, options::file_or_desk(alloc))?;
-    let command = with(command, options::wait(alloc))?;
-    let command = with(command, options::operator(alloc))?;
-    let command = with(command, options::at(alloc))?;
-    with(command, act(alloc))
-}
+pub(crate) const COMMAND: Description = Description {
+    name: "shift",
+    about: ABOUT,
+    example: "Example: vend shift --file office.db --operator ann open",
+    is_hidden: false,
+    arguments: &[
+        options::TRANSFORM,
+        options::FILE_OR_DESK,
+        options::WAIT,
+        options::OPERATOR,
+        options::AT,
+        ACT,
+    ],
+};
 
 /// What is done with the shift.
-pub(crate) fn act<'a>(alloc: Global) -> Arg<'a>
-    ensures rule { rule_of result ≡ word_named (codes "act") }
-    ensures own { result.global ≡ false }
-{
-    let help = "open or close";
-    options::word(alloc, "act", "ACT", help)
-}
+pub(crate) const ACT: Argument = Argument {
+    name: "act",
+    form: Form::Word("ACT"),
+    help: "open or close",
+};
 
 /// The request of `shift`: an operator's shift is opened or closed.
 pub(crate) fn read(matches: &ArgMatches) -> Option<Request>

@@ -1,15 +1,11 @@
-ghost use Rattle.std.specs.Prelude.{◌≡◌, codes, false, IfOk};
-ghost use Rattle.clap.specs.Walk.{rule_of};
 ghost use Rattle.command_line.specs.Commands.{SaysShow, SaysShown};
-ghost use Rattle.command_line.specs.Line.{IsDescribed, json_option, option_named, show_command};
-ghost use Rattle.command_line.specs.Line.{word_named};
 ghost use Rattle.command_line.specs.Said.{ReadsWhat, argument_rows};
 
-use crate::options::{self, option, with};
-use crate::said;
-use clap::{Arg, ArgMatches, Command};
+use crate::argument::{Argument, Form};
+use crate::description::Description;
+use crate::{options, said};
+use clap::ArgMatches;
 use office_rules::{MeterNo, Operator, Ref};
-use std::alloc::{AllocError, Global};
 use sts_fields::Moment;
 
 /// What it does, in its help.
@@ -44,66 +40,58 @@ pub struct ShowWords<'a> {
 
 /// `show --file F [--wait S] [--at S] [--json] meter --meter M`, the same with
 /// `sale --operator O --ref R`, and `show --file F [--wait S] [--at S] last --meter M`.
-pub(crate) fn describe<'a>(alloc: Global) -> Result<Command<'a>, AllocError>
-    ensures { IfOk result (IsDescribed show_command) }
-{
-    let example = "Example: vend show --file office.db meter --meter 12345678903";
-    let command = options::command(alloc, "show", ABOUT, example);
-    let command = with(command, options::present_file_or_desk(alloc))?;
-    let command = with(command, options::wait(alloc))?;
-    let command = with(command, options::at(alloc))?;
-    let command = with(command, meter(alloc))?;
-    let command = with(command, operator(alloc))?;
-    let command = with(command, order_ref(alloc))?;
-    let command = with(command, json(alloc))?;
-    with(command, what(alloc))
-}
+pub(crate) const COMMAND: Description = Description {
+    name: "show",
+    about: ABOUT,
+    example: "Example: vend show --file office.db meter --meter 12345678903",
+    is_hidden: false,
+    arguments: &[
+        options::PRESENT_FILE_OR_DESK,
+        options::WAIT,
+        options::AT,
+        METER,
+        OPERATOR,
+        ORDER_REF,
+        JSON,
+        WHAT,
+    ],
+};
 
 /// `--meter`, with `meter` and `last`.
-pub(crate) fn meter<'a>(alloc: Global) -> Arg<'a>
-    ensures rule { rule_of result ≡ option_named (codes "meter") }
-    ensures own { result.global ≡ false }
-{
-    let help = "With meter and last: the meter's number, eleven digits of which the last is a \
-        Luhn check";
-    option(alloc, "meter", "NUMBER", help)
-}
+pub(crate) const METER: Argument = Argument {
+    name: "meter",
+    form: Form::Optional("NUMBER"),
+    help: "With meter and last: the meter's number, eleven digits of which the last is a \
+        Luhn check",
+};
 
 /// `--operator`, with `sale`.
-pub(crate) fn operator<'a>(alloc: Global) -> Arg<'a>
-    ensures rule { rule_of result ≡ option_named (codes "operator") }
-    ensures own { result.global ≡ false }
-{
-    let help = "With sale: the cashier who sold, 1 to 16 ASCII letters or digits";
-    option(alloc, "operator", "NAME", help)
-}
+pub(crate) const OPERATOR: Argument = Argument {
+    name: "operator",
+    form: Form::Optional("NAME"),
+    help: "With sale: the cashier who sold, 1 to 16 ASCII letters or digits",
+};
 
 /// `--ref`, with `sale`.
-pub(crate) fn order_ref<'a>(alloc: Global) -> Arg<'a>
-    ensures rule { rule_of result ≡ option_named (codes "ref") }
-    ensures own { result.global ≡ false }
-{
-    let help = "With sale: your name for the order, 1 to 32 ASCII letters, digits or hyphens";
-    option(alloc, "ref", "REF", help)
-}
+pub(crate) const ORDER_REF: Argument = Argument {
+    name: "ref",
+    form: Form::Optional("REF"),
+    help: "With sale: your name for the order, 1 to 32 ASCII letters, digits or hyphens",
+};
 
 /// `--json`.
-pub(crate) fn json<'a>(alloc: Global) -> Arg<'a>
-    ensures rule { rule_of result ≡ json_option }
-    ensures own { result.global ≡ false }
-{
-    let help = "With meter and sale: print the JSON that 'vend serve' replies";
-    options::json(alloc, help)
-}
+pub(crate) const JSON: Argument = Argument {
+    name: "json",
+    form: Form::Flag,
+    help: "With meter and sale: print the JSON that 'vend serve' replies",
+};
 
 /// What is shown.
-pub(crate) fn what<'a>(alloc: Global) -> Arg<'a>
-    ensures rule { rule_of result ≡ word_named (codes "what") }
-    ensures own { result.global ≡ false }
-{
-    let help = "What to print: meter, sale or last";
-    options::word(alloc, "what", "WHAT", help)
-}
+pub(crate) const WHAT: Argument = Argument {
+    name: "what",
+    form: Form::Word("WHAT"),
+    help: "What to print: meter, sale or last",
+};
 
 impl<'a> ShowWords<'a> {
     pub(crate) fn read(matches: &ArgMatches<'a>) -> Option<ShowWords<'a>>

@@ -1,14 +1,14 @@
-ghost use Rattle.std.specs.Prelude.{Err, IfOk};
+ghost use Rattle.std.specs.Prelude.{Err};
 ghost use Rattle.command_line.specs.Commands.{SaysTrial};
-ghost use Rattle.command_line.specs.Line.{IsDescribed, trial_command};
 ghost use Rattle.command_line.specs.Said.{ReadsOrFull, argument_rows};
 
-use crate::options::{self, with};
+use crate::argument::{Argument, Form};
+use crate::description::Description;
 use crate::transform::Shipped;
 use crate::words::BadWords;
-use crate::{said, values};
-use clap::{ArgMatches, Command};
-use std::alloc::{AllocError, Global};
+use crate::{options, said, values};
+use clap::ArgMatches;
+use std::alloc::Global;
 use sts_fields::{Base, Moment};
 
 /// What `trial` is asked to do: amounts in tenths of a kWh, sold to one meter at a moment.
@@ -23,22 +23,26 @@ pub struct TrialWords {
 }
 
 /// `trial --base Y --key K [--at S] [--transform X] T..`.
-pub(crate) fn describe<'a>(alloc: Global) -> Result<Command<'a>, AllocError>
-    ensures { IfOk result (IsDescribed trial_command) }
-{
-    let about = "Sells amounts to one meter in memory, without a file, and prints a token a line; \
-        'sell --base ..' means the same";
-    let help =
-        "An amount in tenths of a kWh that a token can carry, 1 to 18201624: 105 is 10.5 kWh";
-    let amounts = options::words(alloc, "amounts", "TENTHS", help);
-    let example = "Example: vend trial --base 2014 --key 0000000000000000 105";
-    let command = options::command(alloc, "trial", about, example);
-    let command = with(command, options::transform(alloc))?;
-    let command = with(command, options::base(alloc))?;
-    let command = with(command, options::key(alloc))?;
-    let command = with(command, options::at(alloc))?;
-    with(command, amounts)
-}
+pub(crate) const COMMAND: Description = Description {
+    name: "trial",
+    about: "Sells amounts to one meter in memory, without a file, and prints a token a line; \
+        'sell --base ..' means the same",
+    example: "Example: vend trial --base 2014 --key 0000000000000000 105",
+    is_hidden: false,
+    arguments: &[
+        options::TRANSFORM,
+        options::BASE,
+        options::KEY,
+        options::AT,
+        AMOUNTS,
+    ],
+};
+
+const AMOUNTS: Argument = Argument {
+    name: "amounts",
+    form: Form::Words("TENTHS"),
+    help: "An amount in tenths of a kWh that a token can carry, 1 to 18201624: 105 is 10.5 kWh",
+};
 
 impl TrialWords {
     pub(crate) fn read(alloc: Global, matches: &ArgMatches) -> Result<TrialWords, BadWords>

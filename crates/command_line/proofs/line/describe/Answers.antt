@@ -1,6 +1,5 @@
-use Rattle.std.proofs.Common.{[], ◌∷◌}
-use Rattle.command_line.specs.Line.{care_commands, desk_base_command, desk_reading_commands, desk_shop_commands, officeless_commands, reading_commands, shop_commands}
-use Rattle.command_line.proofs.LineLemmas.{in_order}
+use Rattle.std.proofs.Common.{[]}
+use Rattle.command_line.proofs.DescriptionLemmas.{in_order}
 use Rattle.command_line.proofs.line.describe.Goals as goal
 
 pub returns : goal.returns
@@ -11,5 +10,5 @@ returns c =
     let after4 = c.in_ok-line-5.ensures _ after3 in
     let after5 = c.in_ok-line-6.ensures _ after4 in
     let after6 = c.in_ok-line-7.ensures _ after5 in
-    in_order shop_commands reading_commands care_commands officeless_commands desk_shop_commands desk_reading_commands
-    (desk_base_command ∷ []) _ (c.with.ensures _ _ after6 c.in_ok-describe_base.ensures)
+    in_order _ _ _ _ _ _ _ _ c.shop.ensures c.reading.ensures c.care.ensures c.officeless.ensures c.desk_shop.ensures
+    c.desk_reading.ensures c.desk_care.ensures (c.with-7.ensures _ after6)

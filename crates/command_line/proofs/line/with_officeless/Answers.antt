@@ -1,9 +1,0 @@
-use Rattle.command_line.proofs.LineLemmas.{four_more}
-use Rattle.command_line.proofs.line.with_officeless.Goals as goal
-
-pub returns : goal.returns
-returns c = λ before is.
-    let after1 = c.in_ok-line.ensures before _ is c.in_ok-describe.ensures in
-    let after2 = c.in_ok-line-2.ensures _ _ after1 c.in_ok-describe-2.ensures in
-    let after3 = c.in_ok-line-3.ensures _ _ after2 c.in_ok-describe-3.ensures in
-    four_more before _ _ _ _ _ (c.with-4.ensures _ _ after3 c.in_ok-describe-4.ensures)
