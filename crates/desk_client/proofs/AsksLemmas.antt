@@ -9,6 +9,7 @@ use Rattle.conversation.specs.message.Messages.{BeginsMessage, Message}
 use Rattle.desk_messages.specs.Asking.{BodyAsks, import_of}
 use Rattle.desk_messages.specs.Meaning.{ComesAt, IsFor, IsIdle, sale_form_of}
 use Rattle.desk_messages.specs.declared.desk_fault.DeskFault.TheVariants.{Clock}
+use Rattle.desk_messages.specs.declared.json_body.kind.JsonKind.TheVariants as kinds
 use Rattle.desk_messages.specs.declared.reply.form.Form.TheVariants.{Json}
 use Rattle.desk_messages.specs.declared.reply.outcome.Outcome.TheVariants.{Faulty}
 use Rattle.desk_messages.specs.declared.route.Route.{Route}
@@ -43,13 +44,13 @@ use Rattle.desk_client.proofs.WordLemmas.{IsPart, IsWord, is_seen, meter_word, n
 
 -- ---- the route of each question
 
+-- the route that a question leads to
 abbrev pub route_by : Question → Route
-route_by (Import files.Meters csv) = routes.ImportMeters
-route_by (Import files.Tariffs csv) = routes.ImportTariffs
-route_by (MoveBase meter base) = routes.MoveBase meter
-route_by (OpenShift operator) = routes.OpenShift
-route_by (CloseShift operator) = routes.CloseShift
-route_by (Sell order) = routes.Sell
+route_by (Import kind csv) = routes.Import kind
+route_by (MoveBase meter base) = routes.Object (kinds.MoveBase meter)
+route_by (OpenShift operator) = routes.Object kinds.OpenShift
+route_by (CloseShift operator) = routes.Object kinds.CloseShift
+route_by (Sell order) = routes.Object kinds.Sell
 route_by (ShiftReport number) = routes.ShiftReport number
 route_by (Receipt number) = routes.Receipt number
 route_by (ShiftTotals number) = routes.LookUp (lookups.ShiftTotals number)
@@ -173,8 +174,7 @@ target_found (Sales after) is = found_sales_after (decimal after) (word_value (d
 
 target_names : (q : Question) → IsAskable q → Names (target_by q) (route_by q)
 unfolding target_by
-target_names (Import files.Meters csv) is = tt
-target_names (Import files.Tariffs csv) is = tt
+target_names (Import kind csv) is = tt
 target_names (MoveBase meter base) is = (refl, is)
 target_names (OpenShift operator) is = tt
 target_names (CloseShift operator) is = tt
@@ -345,25 +345,27 @@ module _ (m : Message) (moment : ℕ) (route : Route) (at : ComesAt m (Some (pos
 file_records : (csv : List ℕ) (records : List Fields) → AreFileRecords csv records → AreFileRecords (csv ++ []) records
 file_records csv records are = subst (λ (bytes : List ℕ). AreFileRecords bytes records) (sym (append-nil csv)) are
 
+-- what a question means to a desk
 pub means : (q : Question) (moment : ℕ) → IsAskable q → IsMoment moment → MeansAsked (asked_by q) (question_message q) moment
-means (Import files.Meters csv) moment is h = λ records read are reading.
-    means_rows (question_message (Import files.Meters csv)) moment routes.ImportMeters (comes (Import files.Meters csv) moment is h) refl read
-    (records, file_records csv.now records are, read, reading, refl)
-means (Import files.Tariffs csv) moment is h = λ records read are reading.
-    means_rows (question_message (Import files.Tariffs csv)) moment routes.ImportTariffs (comes (Import files.Tariffs csv) moment is h) refl read
+means (Import kind csv) moment is h = λ records read are reading.
+    means_rows (question_message (Import kind csv)) moment (routes.Import kind) (comes (Import kind csv) moment is h) refl read
     (records, file_records csv.now records are, read, reading, refl)
 means (MoveBase meter base) moment is h =
     let says = says_base meter base in
-    record { route = routes.MoveBase meter; comes = comes (MoveBase meter base) moment is h; asked = (says.0, says.1, (base, refl, says.2)); told = refl }
+    let at = comes (MoveBase meter base) moment is h in
+    record { route = routes.Object (kinds.MoveBase meter); comes = at; asked = (says.0, says.1, (base, refl, says.2)); told = refl }
 means (OpenShift operator) moment is h =
     let says = says_operator operator is in
-    record { route = routes.OpenShift; comes = comes (OpenShift operator) moment is h; asked = (says.0, says.1, (operator, refl, says.2)); told = refl }
+    let at = comes (OpenShift operator) moment is h in
+    record { route = routes.Object kinds.OpenShift; comes = at; asked = (says.0, says.1, (operator, refl, says.2)); told = refl }
 means (CloseShift operator) moment is h =
     let says = says_operator operator is in
-    record { route = routes.CloseShift; comes = comes (CloseShift operator) moment is h; asked = (says.0, says.1, (operator, refl, says.2)); told = refl }
+    let at = comes (CloseShift operator) moment is h in
+    record { route = routes.Object kinds.CloseShift; comes = at; asked = (says.0, says.1, (operator, refl, says.2)); told = refl }
 means (Sell order) moment is h =
     let says = says_order order is in
-    record { route = routes.Sell; comes = comes (Sell order) moment is h; asked = (says.0, says.1, (order, refl, says.2)); told = refl }
+    let at = comes (Sell order) moment is h in
+    record { route = routes.Object kinds.Sell; comes = at; asked = (says.0, says.1, (order, refl, says.2)); told = refl }
 means (ShiftReport number) moment is h = record { route = routes.ShiftReport number; comes = comes (ShiftReport number) moment is h; asked = refl; told = refl }
 means (Receipt number) moment is h = record { route = routes.Receipt number; comes = comes (Receipt number) moment is h; asked = refl; told = refl }
 means (ShiftTotals number) moment is h = record { comes = comes (ShiftTotals number) moment is h; told = refl }

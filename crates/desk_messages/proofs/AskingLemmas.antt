@@ -5,7 +5,6 @@ use Rattle.std.specs.Str.Parse.{digits_value}
 use Rattle.papers.specs.File.{AreFileRecords, Fields}
 use Rattle.papers.specs.Import.{AreRows, FileHasFault, IsFirstFault, IsReading}
 use Rattle.papers.specs.declared.file_kind.FileKind.{FileKind}
-use Rattle.papers.specs.declared.file_kind.FileKind.TheVariants.{Meters, Tariffs}
 use Rattle.papers.specs.declared.row_fault.RowFault.{RowFault}
 use Rattle.papers.specs.declared.row_fault.RowFault.TheVariants as row_faults
 use Rattle.serde_json.specs.Data.{Data, number, string, unsigned}
@@ -25,7 +24,7 @@ use Rattle.office_rules.specs.declared.decision.row_cause.RowCause.{RowCause}
 use Rattle.desk_messages.specs.declared.body_fault.BodyFault.{BodyFault}
 use Rattle.desk_messages.specs.declared.body_fault.BodyFault.TheVariants as faults
 use Rattle.desk_messages.specs.declared.route.Route.{Route}
-use Rattle.desk_messages.specs.declared.route.Route.TheVariants.{AddTariff, AddSteps, AddMeter, SetTariff, MoveBase, OpenShift, CloseShift, ShiftReport, Sell, Reprint, Receipt, ImportMeters, ImportTariffs, LookUp}
+use Rattle.desk_messages.specs.declared.route.Route.TheVariants.{Object, Import, ShiftReport, Reprint, Receipt, LookUp}
 use Rattle.desk_messages.specs.declared.json_body.kind.JsonKind.{JsonKind}
 use Rattle.desk_messages.specs.declared.json_body.kind.JsonKind.TheVariants as kinds
 use Rattle.desk_messages.specs.Asking.{AsksByJson, AsksImport, BodyAsks, SaysJson, import_of}
@@ -134,27 +133,27 @@ one_base json a b x y =
 
 one_said : TextsSayOne → (kind : JsonKind) (json : Data) (x y : Request) → BodySays kind json x
     → BodySays kind json y → x ≡ y
-one_said are kinds.Tariff json x y a b =
+one_said are kinds.AddTariff json x y a b =
     let same = one_tariff are json a.0 b.0 a.1 b.1 a.3 b.3 in
     a.2 ∙ ap (λ name. requests.AddTariff name a.1) same.0
     ∙ ap (λ steps. requests.AddTariff b.0 steps) same.1 ∙ sym b.2
-one_said are (kinds.TariffSteps tariff) json x y a b =
+one_said are (kinds.AddSteps tariff) json x y a b =
     let same = one_dated are json a.0 b.0 a.1 b.1 a.3 b.3 in
     a.2 ∙ ap (λ day. requests.AddSteps tariff day a.1) same.0
     ∙ ap (λ steps. requests.AddSteps tariff b.0 steps) same.1 ∙ sym b.2
-one_said are kinds.Meter json x y a b =
+one_said are kinds.AddMeter json x y a b =
     let same = one_meter json a.0 b.0 a.1 b.1 a.3 b.3 in
     a.2 ∙ ap (λ meter. requests.AddMeter meter a.1) same.0
     ∙ ap (λ m. requests.AddMeter b.0 m) same.1 ∙ sym b.2
-one_said are (kinds.MeterTariff meter) json x y a b =
+one_said are (kinds.SetTariff meter) json x y a b =
     a.1 ∙ ap (λ name. requests.SetTariff meter name) (one_tariff_name json a.0 b.0 a.2 b.2) ∙ sym b.1
-one_said are (kinds.MeterBase meter) json x y a b =
+one_said are (kinds.MoveBase meter) json x y a b =
     a.1 ∙ ap (λ base. requests.MoveBase meter base) (one_base json a.0 b.0 a.2 b.2) ∙ sym b.1
-one_said are kinds.Opening json x y a b =
+one_said are kinds.OpenShift json x y a b =
     a.1 ∙ ap requests.OpenShift (one_operator json a.0 b.0 a.2 b.2) ∙ sym b.1
-one_said are kinds.Closing json x y a b =
+one_said are kinds.CloseShift json x y a b =
     a.1 ∙ ap requests.CloseShift (one_operator json a.0 b.0 a.2 b.2) ∙ sym b.1
-one_said are kinds.Order json x y a b =
+one_said are kinds.Sell json x y a b =
     a.1 ∙ ap requests.Sell (one_order json a.0 b.0 a.2 b.2) ∙ sym b.1
 
 one_said_by : TextsSayOne → (kind : JsonKind) (body : List ℕ) (x y : Request) → SaysJson kind body x
@@ -224,20 +223,13 @@ one_by_json : TextsSayOne → (kind : JsonKind) (body : List ℕ) (a b : Result 
     → b ≢ Err faults.Memory → a ≡ b
 one_by_json are kind body = one_found (SaysJson kind body) (one_said_by are kind body)
 
+-- a body asks one thing of a route
 pub one_asking : TextsSayOne → AreOne → (route : Route) (body : List ℕ) (a b : Result Request BodyFault)
     → BodyAsks route body a → BodyAsks route body b → a ≢ Err faults.Memory
     → b ≢ Err faults.Memory → a ≡ b
-one_asking texts files AddTariff body = one_by_json texts kinds.Tariff body
-one_asking texts files (AddSteps tariff) body = one_by_json texts (kinds.TariffSteps tariff) body
-one_asking texts files AddMeter body = one_by_json texts kinds.Meter body
-one_asking texts files (SetTariff meter) body = one_by_json texts (kinds.MeterTariff meter) body
-one_asking texts files (MoveBase meter) body = one_by_json texts (kinds.MeterBase meter) body
-one_asking texts files OpenShift body = one_by_json texts kinds.Opening body
-one_asking texts files CloseShift body = one_by_json texts kinds.Closing body
-one_asking texts files Sell body = one_by_json texts kinds.Order body
+one_asking texts files (Object kind) body = one_by_json texts kind body
+one_asking texts files (Import kind) body = one_import files kind body
 one_asking texts files (ShiftReport shift) body = λ a b x y u v. x ∙ sym y
 one_asking texts files (Reprint sale) body = λ a b x y u v. x ∙ sym y
 one_asking texts files (Receipt sale) body = λ a b x y u v. x ∙ sym y
-one_asking texts files ImportMeters body = one_import files Meters body
-one_asking texts files ImportTariffs body = one_import files Tariffs body
 one_asking texts files (LookUp lookup) body = λ a b x y u v. x ∙ sym y

@@ -14,7 +14,7 @@ use Rattle.office_rules.specs.declared.decision.request.Request.{Request}
 use Rattle.desk_messages.specs.declared.body_fault.BodyFault.{BodyFault}
 use Rattle.desk_messages.specs.declared.body_fault.BodyFault.TheVariants.{OutsideRule, Row, Memory}
 use Rattle.desk_messages.specs.declared.json_body.kind.JsonKind.{JsonKind}
-use Rattle.desk_messages.specs.declared.json_body.kind.JsonKind.TheVariants.{Tariff, TariffSteps}
+use Rattle.desk_messages.specs.declared.json_body.kind.JsonKind.TheVariants.{AddTariff, AddSteps}
 use Rattle.desk_messages.specs.json_body.Body.{HasMemberCount, IsKeyAt, BodySays, BodySaysMeter, BodySaysTariff, BodySaysDatedSteps}
 use Rattle.desk_messages.specs.Reads.{IsFoundInBody}
 
@@ -51,18 +51,18 @@ not_said Says kind own json fault needs same none =
     subst (λ k. IsFoundInBody (BodySays k json) (Err fault)) (sym same) (not_found_in Says (BodySays own json) fault needs none)
 
 -- a value that says no tariff
-pub no_tariff : (kind : JsonKind) (json : Data) (fault : BodyFault) → kind ≡ Tariff
+pub no_tariff : (kind : JsonKind) (json : Data) (fault : BodyFault) → kind ≡ AddTariff
     → IsFoundInBody {A = List ℕ × List Step} (λ said. BodySaysTariff json said.0 said.1) (Err fault)
     → IsFoundInBody (BodySays kind json) (Err fault)
 no_tariff kind json fault =
-    not_said {A = List ℕ × List Step} (λ said. BodySaysTariff json said.0 said.1) kind Tariff json fault
+    not_said {A = List ℕ × List Step} (λ said. BodySaysTariff json said.0 said.1) kind AddTariff json fault
     (λ request says. ((says.0, says.1), says.3))
 
 -- a value that says no dated steps
 pub no_dated_steps : (kind : JsonKind) (name : List ℕ) (json : Data) (fault : BodyFault)
-    → kind ≡ TariffSteps name
+    → kind ≡ AddSteps name
     → IsFoundInBody {A = ℕ × List Step} (λ said. BodySaysDatedSteps json said.0 said.1) (Err fault)
     → IsFoundInBody (BodySays kind json) (Err fault)
 no_dated_steps kind name json fault =
-    not_said {A = ℕ × List Step} (λ said. BodySaysDatedSteps json said.0 said.1) kind (TariffSteps name) json fault
+    not_said {A = ℕ × List Step} (λ said. BodySaysDatedSteps json said.0 said.1) kind (AddSteps name) json fault
     (λ request says. ((says.0, says.1), says.3))

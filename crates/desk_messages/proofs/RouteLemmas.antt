@@ -6,20 +6,23 @@ use Rattle.std.proofs.lemmas.List.{append_cancel_left, append_cancel_right}
 use Rattle.std.proofs.lemmas.List.Sums.{fold_more}
 use Rattle.tariff.specs.Tender.{IsTender}
 use Rattle.office_rules.specs.Name.{IsMeterNo, IsName, IsOperator}
+use Rattle.papers.specs.declared.file_kind.FileKind.TheVariants as files
 use Rattle.matchit.specs.Route.{Scan, parse_route}
 use Rattle.matchit.specs.Router.{InsertsRead}
 use Rattle.matchit.specs.declared.error.InsertError.{InsertError}
 use Rattle.conversation.specs.declared.message.method.Method.{Method}
 use Rattle.desk_messages.specs.declared.desk_fault.DeskFault.{DeskFault}
 use Rattle.desk_messages.specs.declared.desk_fault.DeskFault.TheVariants as faults
+use Rattle.desk_messages.specs.declared.json_body.kind.JsonKind.{JsonKind}
+use Rattle.desk_messages.specs.declared.json_body.kind.JsonKind.TheVariants as kinds
 use Rattle.desk_messages.specs.declared.route.endpoint.Endpoint.{Endpoint}
-use Rattle.desk_messages.specs.declared.route.endpoint.Endpoint.TheVariants.{Tariffs, TariffSteps, MeterTariff, MeterBase, Shift, Sale, SaleReceipt, Health, Meter, LastSale, Quote, SaleOfRef, ShiftTotals, FirstTariffs, TariffsAfter, FirstMeters, MetersAfter, ShiftsAfter, SalesAfter}
+use Rattle.desk_messages.specs.declared.route.endpoint.Endpoint.TheVariants.{Tariffs, TariffSteps, MeterTariff, MeterBase, Shift, Sale, SaleReceipt, Meter, LastSale, Quote, SaleOfRef, ShiftTotals, TariffsAfter, MetersAfter, ShiftsAfter, SalesAfter}
 use Rattle.desk_messages.specs.declared.route.Route.{Route}
-use Rattle.desk_messages.specs.declared.route.Route.TheVariants.{AddTariff, AddSteps, AddMeter, SetTariff, MoveBase, OpenShift, CloseShift, ShiftReport, Sell, Reprint, Receipt, ImportMeters, ImportTariffs, LookUp}
+use Rattle.desk_messages.specs.declared.route.Route.TheVariants.{Object, Import, ShiftReport, Reprint, Receipt, LookUp}
 use Rattle.book_states.specs.declared.lookup.Lookup.{Lookup}
 use Rattle.book_states.specs.declared.lookup.Lookup.TheVariants as lookups
 use Rattle.desk_messages.specs.route.Endpoint.{Table, closes, endpoints, endpoint_method, filled, opens, pattern_of, quote_target, sale_target, with_endpoint, with_pattern}
-use Rattle.desk_messages.specs.route.Route.{FindsRoute, IsRouted, LeadsTo, Names, NamesLookup, endpoint_of, lookup_endpoint}
+use Rattle.desk_messages.specs.route.Route.{FindsRoute, IsRouted, LeadsTo, Names, NamesLookup, NamesObject, endpoint_of, lookup_endpoint, object_endpoint}
 use Rattle.desk_messages.proofs.ParameterLemmas.{digits_lack, letters_lack, same_number, same_start, same_two}
 
 -- what `insert` leaves where it succeeds
@@ -57,147 +60,96 @@ same_filled pattern target x y one other =
     append_cancel_left front x y
     (append_cancel_right (front ++ x) (front ++ y) (after_first closes pattern) (sym one ∙ other))
 
--- which kind of look-up it is; two endpoints have the pages of one list
-abbrev lookup_kind : Lookup → ℕ
-lookup_kind lookups.SaleCount = 1
-lookup_kind (lookups.Meter meter) = 2
-lookup_kind (lookups.LastSale meter) = 3
-lookup_kind (lookups.SaleOfRef operator order_ref) = 4
-lookup_kind (lookups.Quote meter tender) = 5
-lookup_kind (lookups.ShiftTotals number) = 6
-lookup_kind (lookups.Tariffs after) = 7
-lookup_kind (lookups.Meters after) = 8
-lookup_kind (lookups.Shifts number) = 9
-lookup_kind (lookups.Sales number) = 10
-
--- which kind of look-up an endpoint has, or 0 where a request is asked
-abbrev endpoint_kind : Endpoint → ℕ
-endpoint_kind Health = 1
-endpoint_kind Meter = 2
-endpoint_kind LastSale = 3
-endpoint_kind SaleOfRef = 4
-endpoint_kind Quote = 5
-endpoint_kind ShiftTotals = 6
-endpoint_kind FirstTariffs = 7
-endpoint_kind TariffsAfter = 7
-endpoint_kind FirstMeters = 8
-endpoint_kind MetersAfter = 8
-endpoint_kind ShiftsAfter = 9
-endpoint_kind SalesAfter = 10
-endpoint_kind endpoint = 0
-
-kind_is : (lookup : Lookup) → endpoint_kind (lookup_endpoint lookup) ≡ lookup_kind lookup
-kind_is lookups.SaleCount = refl
-kind_is (lookups.Meter meter) = refl
-kind_is (lookups.LastSale meter) = refl
-kind_is (lookups.SaleOfRef operator order_ref) = refl
-kind_is (lookups.Quote meter tender) = refl
-kind_is (lookups.ShiftTotals number) = refl
-kind_is (lookups.Tariffs None) = refl
-kind_is (lookups.Tariffs (Some name)) = refl
-kind_is (lookups.Meters None) = refl
-kind_is (lookups.Meters (Some meter)) = refl
-kind_is (lookups.Shifts number) = refl
-kind_is (lookups.Sales number) = refl
-
--- a look-up at an endpoint is of its kind
-kind_at : (lookup : Lookup) (a b : Endpoint) → lookup_endpoint lookup ≡ a → a ≡ b → lookup_kind lookup ≡ endpoint_kind b
-kind_at lookup a b e is = sym (kind_is lookup) ∙ ap endpoint_kind (e ∙ is)
-
 -- a target names one look-up
-same_lookup : (target : List ℕ) (a b : Lookup) → lookup_kind a ≡ lookup_kind b → lookup_endpoint a ≡ lookup_endpoint b
-    → NamesLookup target a → NamesLookup target b → a ≡ b
-same_lookup target lookups.SaleCount lookups.SaleCount k e m n = refl
-same_lookup target (lookups.Meter x) (lookups.Meter y) k e m n =
+same_lookup : (target : List ℕ) (a b : Lookup) → lookup_endpoint a ≡ lookup_endpoint b → NamesLookup target a → NamesLookup target b → a ≡ b
+same_lookup target lookups.SaleCount lookups.SaleCount e m n = refl
+same_lookup target (lookups.Meter x) (lookups.Meter y) e m n =
     ap lookups.Meter (same_filled (pattern_of Meter) target x y m.0 n.0)
-same_lookup target (lookups.LastSale x) (lookups.LastSale y) k e m n =
+same_lookup target (lookups.LastSale x) (lookups.LastSale y) e m n =
     ap lookups.LastSale (same_filled (pattern_of LastSale) target x y m.0 n.0)
-same_lookup target (lookups.SaleOfRef o r) (lookups.SaleOfRef p s) k e m n =
+same_lookup target (lookups.SaleOfRef o r) (lookups.SaleOfRef p s) e m n =
     let same = same_two (codes "/operators/") (codes "sales/") o p r s (letters_lack o m.1.bytes) (letters_lack p n.1.bytes) (sym m.0 ∙ n.0) in
     ap (λ operator. lookups.SaleOfRef operator r) same.0 ∙ ap (λ order_ref. lookups.SaleOfRef p order_ref) same.1
-same_lookup target (lookups.Quote x t) (lookups.Quote y u) k e m n =
+same_lookup target (lookups.Quote x t) (lookups.Quote y u) e m n =
     let same = same_two (codes "/meters/") (codes "quote?tender=") x y (decimal t) (decimal u) (digits_lack x m.1.digits)
     (digits_lack y n.1.digits) (sym m.0 ∙ n.0) in
     let tenders = same_number t u (omega (arith, m.2.1)) (record { from_one = n.2.0; most = omega (arith, n.2.1) }) same.1 in
     ap (λ meter. lookups.Quote meter t) same.0 ∙ ap (λ tender. lookups.Quote y tender) tenders
-same_lookup target (lookups.ShiftTotals x) (lookups.ShiftTotals y) k e m n =
+same_lookup target (lookups.ShiftTotals x) (lookups.ShiftTotals y) e m n =
     ap lookups.ShiftTotals (same_number x y (omega (arith, m.1.most)) n.1 (same_filled (pattern_of ShiftTotals) target (decimal x) (decimal y) m.0 n.0))
-same_lookup target (lookups.Tariffs None) (lookups.Tariffs None) k e m n = refl
-same_lookup target (lookups.Tariffs (Some x)) (lookups.Tariffs (Some y)) k e m n =
+same_lookup target (lookups.Tariffs None) (lookups.Tariffs None) e m n = refl
+same_lookup target (lookups.Tariffs (Some x)) (lookups.Tariffs (Some y)) e m n =
     ap (λ name. lookups.Tariffs (Some name)) (same_filled (pattern_of TariffsAfter) target x y m.0 n.0)
-same_lookup target (lookups.Meters None) (lookups.Meters None) k e m n = refl
-same_lookup target (lookups.Meters (Some x)) (lookups.Meters (Some y)) k e m n =
+same_lookup target (lookups.Meters None) (lookups.Meters None) e m n = refl
+same_lookup target (lookups.Meters (Some x)) (lookups.Meters (Some y)) e m n =
     ap (λ meter. lookups.Meters (Some meter)) (same_filled (pattern_of MetersAfter) target x y m.0 n.0)
-same_lookup target (lookups.Shifts x) (lookups.Shifts y) k e m n =
+same_lookup target (lookups.Shifts x) (lookups.Shifts y) e m n =
     ap lookups.Shifts (same_start x y m.1 n.1 (same_filled (pattern_of ShiftsAfter) target (decimal x) (decimal y) m.0 n.0))
-same_lookup target (lookups.Sales x) (lookups.Sales y) k e m n =
+same_lookup target (lookups.Sales x) (lookups.Sales y) e m n =
     ap lookups.Sales (same_start x y m.1 n.1 (same_filled (pattern_of SalesAfter) target (decimal x) (decimal y) m.0 n.0))
-same_lookup target a b k e m n = absurd (cc)
+same_lookup target a b e m n = absurd (grind (arith, e))
 
--- no look-up is named at an endpoint whose parameters a target lacks
+-- ---- the two look-ups that have two parameters
+
 module _ (target : List ℕ) (endpoint : Endpoint) where
+  -- the target names no look-up at the endpoint
   abbrev pub NamesNone : Type 0
   NamesNone = (lookup : Lookup) → ¬ ((lookup_endpoint lookup ≡ endpoint) × NamesLookup target lookup)
 
   quote_named : ((named : List ℕ × ℕ) → ¬ ((target ≡ quote_target named.0 named.1) × IsMeterNo named.0 × IsTender named.1))
-      → (lookup : Lookup) → lookup_kind lookup ≡ 5 → ¬ NamesLookup target lookup
-  quote_named none (lookups.Quote meter tender) k named = none (meter, tender) named
-  quote_named none lookup k named = absurd (cc)
+      → (lookup : Lookup) → lookup_endpoint lookup ≡ Quote → ¬ NamesLookup target lookup
+  quote_named none (lookups.Quote meter tender) e named = none (meter, tender) named
+  quote_named none lookup e named = absurd (grind (arith, e))
 
+  -- none, where it has no meter and tender
   pub no_quote : endpoint ≡ Quote
       → ((named : List ℕ × ℕ) → ¬ ((target ≡ quote_target named.0 named.1) × IsMeterNo named.0 × IsTender named.1)) → NamesNone
-  no_quote is none lookup (e, named) = quote_named none lookup (kind_at lookup endpoint Quote e is) named
+  no_quote is none lookup (e, named) = quote_named none lookup (e ∙ is) named
 
   sale_named : ((named : List ℕ × List ℕ) → ¬ ((target ≡ sale_target named.0 named.1) × IsOperator named.0 × IsName named.1))
-      → (lookup : Lookup) → lookup_kind lookup ≡ 4 → ¬ NamesLookup target lookup
-  sale_named none (lookups.SaleOfRef operator order_ref) k named = none (operator, order_ref) named
-  sale_named none lookup k named = absurd (cc)
+      → (lookup : Lookup) → lookup_endpoint lookup ≡ SaleOfRef → ¬ NamesLookup target lookup
+  sale_named none (lookups.SaleOfRef operator order_ref) e named = none (operator, order_ref) named
+  sale_named none lookup e named = absurd (grind (arith, e))
 
+  -- none, where it has no operator and ref
   pub no_sale_of_ref : endpoint ≡ SaleOfRef
       → ((named : List ℕ × List ℕ) → ¬ ((target ≡ sale_target named.0 named.1) × IsOperator named.0 × IsName named.1)) → NamesNone
-  no_sale_of_ref is none lookup (e, named) = sale_named none lookup (kind_at lookup endpoint SaleOfRef e is) named
+  no_sale_of_ref is none lookup (e, named) = sale_named none lookup (e ∙ is) named
 
--- each look-up has a kind
-no_lookup : (lookup : Lookup) → lookup_kind lookup ≢ 0
-no_lookup lookups.SaleCount e = absurd (cc)
-no_lookup (lookups.Meter meter) e = absurd (cc)
-no_lookup (lookups.LastSale meter) e = absurd (cc)
-no_lookup (lookups.SaleOfRef operator order_ref) e = absurd (cc)
-no_lookup (lookups.Quote meter tender) e = absurd (cc)
-no_lookup (lookups.ShiftTotals number) e = absurd (cc)
-no_lookup (lookups.Tariffs after) e = absurd (cc)
-no_lookup (lookups.Meters after) e = absurd (cc)
-no_lookup (lookups.Shifts number) e = absurd (cc)
-no_lookup (lookups.Sales number) e = absurd (cc)
+-- ---- the route of a target
 
--- a target is that of one route
+-- a target names one request of an object of JSON
+same_object : (target : List ℕ) (a b : JsonKind) → object_endpoint a ≡ object_endpoint b → NamesObject target a
+    → NamesObject target b → a ≡ b
+same_object target kinds.AddTariff kinds.AddTariff e m n = refl
+same_object target (kinds.AddSteps x) (kinds.AddSteps y) e m n =
+    ap kinds.AddSteps (same_filled (pattern_of TariffSteps) target x y m.0 n.0)
+same_object target kinds.AddMeter kinds.AddMeter e m n = refl
+same_object target (kinds.SetTariff x) (kinds.SetTariff y) e m n =
+    ap kinds.SetTariff (same_filled (pattern_of MeterTariff) target x y m.0 n.0)
+same_object target (kinds.MoveBase x) (kinds.MoveBase y) e m n =
+    ap kinds.MoveBase (same_filled (pattern_of MeterBase) target x y m.0 n.0)
+same_object target kinds.OpenShift kinds.OpenShift e m n = refl
+same_object target kinds.CloseShift kinds.CloseShift e m n = refl
+same_object target kinds.Sell kinds.Sell e m n = refl
+same_object target a b e m n = absurd (cc)
+
+-- a target names one route
 same_route : (target : List ℕ) (a b : Route) → endpoint_of a ≡ endpoint_of b → Names target a
     → Names target b → a ≡ b
-same_route target AddTariff AddTariff e m n = refl
-same_route target (AddSteps x) (AddSteps y) e m n =
-    ap AddSteps (same_filled (pattern_of TariffSteps) target x y m.0 n.0)
-same_route target AddMeter AddMeter e m n = refl
-same_route target (SetTariff x) (SetTariff y) e m n =
-    ap SetTariff (same_filled (pattern_of MeterTariff) target x y m.0 n.0)
-same_route target (MoveBase x) (MoveBase y) e m n =
-    ap MoveBase (same_filled (pattern_of MeterBase) target x y m.0 n.0)
-same_route target OpenShift OpenShift e m n = refl
-same_route target CloseShift CloseShift e m n = refl
+same_route target (Object x) (Object y) e m n = ap Object (same_object target x y e m n)
+same_route target (Import files.Meters) (Import files.Meters) e m n = refl
+same_route target (Import files.Tariffs) (Import files.Tariffs) e m n = refl
 same_route target (ShiftReport x) (ShiftReport y) e m n =
     ap ShiftReport (same_number x y (omega (arith, m.1.most)) n.1 (same_filled (pattern_of Shift) target (decimal x) (decimal y) m.0 n.0))
-same_route target Sell Sell e m n = refl
 same_route target (Reprint x) (Reprint y) e m n =
     ap Reprint (same_number x y (omega (arith, m.1.most)) n.1 (same_filled (pattern_of Sale) target (decimal x) (decimal y) m.0 n.0))
 same_route target (Receipt x) (Receipt y) e m n =
     ap Receipt (same_number x y (omega (arith, m.1.most)) n.1 (same_filled (pattern_of SaleReceipt) target (decimal x) (decimal y) m.0 n.0))
-same_route target ImportMeters ImportMeters e m n = refl
-same_route target ImportTariffs ImportTariffs e m n = refl
-same_route target (LookUp x) (LookUp y) e m n =
-    ap LookUp (same_lookup target x y (kind_at x (lookup_endpoint x) (lookup_endpoint y) refl e ∙ kind_is y) e m n)
-same_route target (LookUp x) b e m n = absurd (no_lookup x (sym (kind_is x) ∙ ap endpoint_kind e))
-same_route target a (LookUp y) e m n = absurd (no_lookup y (sym (kind_is y) ∙ ap endpoint_kind (sym e)))
-same_route target a b e m n = absurd (cc)
+same_route target (LookUp x) (LookUp y) e m n = ap LookUp (same_lookup target x y e m n)
+same_route target a b e m n = absurd (grind (arith, e))
 
+-- a target leads to one route
 pub one_route : (target : List ℕ) (a b : Route) → LeadsTo target a → LeadsTo target b → a ≡ b
 one_route target a b one other =
     same_route target a b (one_endpoint target (endpoint_of a) (endpoint_of b) one.finds other.finds) one.names other.names

@@ -3,7 +3,6 @@ use Rattle.std.specs.Prelude.{◌≡◌, ℕ, List, Result, Ok, Err}
 use Rattle.papers.specs.File.{AreFileRecords, Fields}
 use Rattle.papers.specs.Import.{IsReading}
 use Rattle.papers.specs.declared.file_kind.FileKind.{FileKind}
-use Rattle.papers.specs.declared.file_kind.FileKind.TheVariants.{Meters, Tariffs}
 use Rattle.papers.specs.declared.row_fault.RowFault.{RowFault}
 use Rattle.papers.specs.declared.row_fault.RowFault.TheVariants as row_faults
 use Rattle.serde_json.specs.Data.{Data}
@@ -14,8 +13,7 @@ use Rattle.desk_messages.specs.declared.body_fault.BodyFault.{BodyFault}
 use Rattle.desk_messages.specs.declared.body_fault.BodyFault.TheVariants as faults
 use Rattle.desk_messages.specs.declared.route.Route.{Route}
 use Rattle.desk_messages.specs.declared.json_body.kind.JsonKind.{JsonKind}
-use Rattle.desk_messages.specs.declared.json_body.kind.JsonKind.TheVariants as kinds
-use Rattle.desk_messages.specs.declared.route.Route.TheVariants.{AddTariff, AddSteps, AddMeter, SetTariff, MoveBase, OpenShift, CloseShift, ShiftReport, Sell, Reprint, Receipt, ImportMeters, ImportTariffs, LookUp}
+use Rattle.desk_messages.specs.declared.route.Route.TheVariants.{Object, Import, ShiftReport, Reprint, Receipt, LookUp}
 use Rattle.desk_messages.specs.json_body.Body.{IsJson, BodySays}
 use Rattle.desk_messages.specs.Reads.{IsFoundInBody}
 
@@ -39,22 +37,14 @@ AsksImport kind body result =
     (records : List Fields) × AreFileRecords body records
     × (read : Result (List Row) RowFault) × IsReading kind records read × (result ≡ import_of read)
 
--- What a body asks of a route: a request, or why there is none. A route that is asked by GET
--- doesn't look at the body, two are asked by files of rows, and the others by JSON. No body asks a
--- request of a route that looks something up. Each route has its line, so that one more has no
--- meaning until it has one.
+-- What a body asks of a route: a request, or why there is none. It is an object of JSON or a file
+-- of rows; a route that is asked by GET doesn't look at it, and one that looks something up is
+-- asked no request by any. Each route has its line, so that one more has no meaning until it has
+-- one.
 abbrev pub BodyAsks : Route → List ℕ → Result Request BodyFault → Type 0
-BodyAsks AddTariff body result = AsksByJson kinds.Tariff body result
-BodyAsks (AddSteps tariff) body result = AsksByJson (kinds.TariffSteps tariff) body result
-BodyAsks AddMeter body result = AsksByJson kinds.Meter body result
-BodyAsks (SetTariff meter) body result = AsksByJson (kinds.MeterTariff meter) body result
-BodyAsks (MoveBase meter) body result = AsksByJson (kinds.MeterBase meter) body result
-BodyAsks OpenShift body result = AsksByJson kinds.Opening body result
-BodyAsks CloseShift body result = AsksByJson kinds.Closing body result
-BodyAsks Sell body result = AsksByJson kinds.Order body result
+BodyAsks (Object kind) body result = AsksByJson kind body result
+BodyAsks (Import kind) body result = AsksImport kind body result
 BodyAsks (ShiftReport shift) body result = result ≡ Ok (requests.ShiftReport shift)
 BodyAsks (Reprint sale) body result = result ≡ Ok (requests.Reprint sale)
 BodyAsks (Receipt sale) body result = result ≡ Ok (requests.Reprint sale)
-BodyAsks ImportMeters body result = AsksImport Meters body result
-BodyAsks ImportTariffs body result = AsksImport Tariffs body result
 BodyAsks (LookUp lookup) body result = result ≡ Err faults.OutsideRule

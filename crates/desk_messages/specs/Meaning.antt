@@ -19,7 +19,7 @@ use Rattle.desk_messages.specs.declared.meaning.Meaning.TheVariants as meanings
 use Rattle.desk_messages.specs.declared.reply.outcome.Outcome.{Outcome}
 use Rattle.desk_messages.specs.declared.reply.outcome.Outcome.TheVariants.{Faulty, Replied}
 use Rattle.desk_messages.specs.declared.route.Route.{Route}
-use Rattle.desk_messages.specs.declared.route.Route.TheVariants.{AddTariff, AddSteps, AddMeter, SetTariff, MoveBase, OpenShift, CloseShift, ShiftReport, Sell, Reprint, Receipt, ImportMeters, ImportTariffs, LookUp}
+use Rattle.desk_messages.specs.declared.route.Route.TheVariants.{Object, Import, ShiftReport, Reprint, Receipt, LookUp}
 use Rattle.desk_messages.specs.Asking.{BodyAsks}
 use Rattle.desk_messages.specs.route.Route.{IsRouted}
 
@@ -38,19 +38,11 @@ lookup_form (lookups.Sales number) = Json
 
 -- the form in which a route tells a sale: a receipt is a paper
 abbrev pub sale_form_of : Route → Form
-sale_form_of AddTariff = Json
-sale_form_of (AddSteps tariff) = Json
-sale_form_of AddMeter = Json
-sale_form_of (SetTariff meter) = Json
-sale_form_of (MoveBase meter) = Json
-sale_form_of OpenShift = Json
-sale_form_of CloseShift = Json
+sale_form_of (Object kind) = Json
+sale_form_of (Import kind) = Json
 sale_form_of (ShiftReport shift) = Json
-sale_form_of Sell = Json
 sale_form_of (Reprint sale) = Json
 sale_form_of (Receipt sale) = Paper
-sale_form_of ImportMeters = Json
-sale_form_of ImportTariffs = Json
 sale_form_of (LookUp lookup) = lookup_form lookup
 
 -- the route asks a request, and looks nothing up

@@ -10,7 +10,7 @@ use crate::json_body::requests::{said, sale};
 use crate::json_body::value::read_value;
 use crate::route::Route;
 use office_rules::{Request, Rows};
-use papers::{RowFault, import_law, read_meters, read_tariffs};
+use papers::{FileKind, RowFault, import_law, read_meters, read_tariffs};
 use std::alloc::Global;
 use sts_fields::day_law;
 use tariff::steps_text_law;
@@ -22,18 +22,12 @@ pub fn request_of(alloc: Global, route: Route, body: &[u8]) -> Result<Request, B
     ensures { BodyAsks route body.now result }
 {
     match route {
+        Route::Object(JsonKind::Sell) => sale_by(alloc, body),
+        Route::Object(kind) => said_by(alloc, kind, body),
+        Route::Import(FileKind::Meters) => import_of(read_meters(alloc, body)),
+        Route::Import(FileKind::Tariffs) => import_of(read_tariffs(alloc, body)),
         Route::ShiftReport(number) => Ok(Request::ShiftReport(number)),
         Route::Reprint(number) | Route::Receipt(number) => Ok(Request::Reprint(number)),
-        Route::ImportMeters => import_of(read_meters(alloc, body)),
-        Route::ImportTariffs => import_of(read_tariffs(alloc, body)),
-        Route::AddTariff => said_by(alloc, JsonKind::Tariff, body),
-        Route::AddSteps(name) => said_by(alloc, JsonKind::TariffSteps(name), body),
-        Route::AddMeter => said_by(alloc, JsonKind::Meter, body),
-        Route::SetTariff(meter) => said_by(alloc, JsonKind::MeterTariff(meter), body),
-        Route::MoveBase(meter) => said_by(alloc, JsonKind::MeterBase(meter), body),
-        Route::OpenShift => said_by(alloc, JsonKind::Opening, body),
-        Route::CloseShift => said_by(alloc, JsonKind::Closing, body),
-        Route::Sell => sale_by(alloc, body),
         Route::LookUp(_) => Err(BodyFault::OutsideRule),
     }
 }
@@ -52,7 +46,7 @@ pub fn asking_law()
 // The sale that a body orders as JSON. Most messages ask for one: in a function of its own it is
 // copied less often than among the other requests.
 fn sale_by(alloc: Global, body: &[u8]) -> Result<Request, BodyFault>
-    ensures { AsksByJson JsonKind.Order body.now result }
+    ensures { AsksByJson JsonKind.Sell body.now result }
 {
     match read_value(alloc, body) {
         Ok(value) => sale(&value),

@@ -57,18 +57,9 @@ impl Route {
     {
         match self {
             Route::Receipt(_) => Form::Paper,
-            Route::AddTariff
-            | Route::AddSteps(_)
-            | Route::AddMeter
-            | Route::SetTariff(_)
-            | Route::MoveBase(_)
-            | Route::OpenShift
-            | Route::CloseShift
-            | Route::ShiftReport(_)
-            | Route::Sell
-            | Route::Reprint(_)
-            | Route::ImportMeters
-            | Route::ImportTariffs => Form::Json,
+            Route::Object(_) | Route::Import(_) | Route::ShiftReport(_) | Route::Reprint(_) => {
+                Form::Json
+            }
             Route::LookUp(lookup) => lookup_form(lookup),
         }
     }
@@ -80,19 +71,11 @@ impl Route {
     {
         match self {
             Route::LookUp(lookup) => Some(*lookup),
-            Route::AddTariff
-            | Route::AddSteps(_)
-            | Route::AddMeter
-            | Route::SetTariff(_)
-            | Route::MoveBase(_)
-            | Route::OpenShift
-            | Route::CloseShift
+            Route::Object(_)
+            | Route::Import(_)
             | Route::ShiftReport(_)
-            | Route::Sell
             | Route::Reprint(_)
-            | Route::Receipt(_)
-            | Route::ImportMeters
-            | Route::ImportTariffs => None,
+            | Route::Receipt(_) => None,
         }
     }
 }

@@ -4,29 +4,24 @@ pub(crate) mod endpoint;
 mod parameter;
 pub(crate) mod routes;
 
+use crate::json_body::kind::JsonKind;
 use book_states::Lookup;
-use office_rules::{MeterNo, TariffName};
+use papers::FileKind;
 
 /// What a target asks for, with what it names: a request, which may change the office, or a
 /// look-up, which changes nothing.
 #[derive(Clone, Copy, Debug, PartialEq, Eq)]
 pub enum Route {
-    AddTariff,
-    AddSteps(TariffName),
-    AddMeter,
-    SetTariff(MeterNo),
-    MoveBase(MeterNo),
-    OpenShift,
-    CloseShift,
+    /// The request that an object of JSON says.
+    Object(JsonKind),
+    /// The import of a file of rows.
+    Import(FileKind),
     /// A shift by its number, 1 to 1000000000.
     ShiftReport(u32),
-    Sell,
     /// A sale by its number, 1 to 1000000000.
     Reprint(u32),
     /// The receipt of a sale, by its number, 1 to 1000000000.
     Receipt(u32),
-    ImportMeters,
-    ImportTariffs,
     /// Something is looked up, and no request asked.
     LookUp(Lookup),
 }

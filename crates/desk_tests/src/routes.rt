@@ -1,8 +1,9 @@
 //! Which route a target and a method stand for.
 
 use crate::texts::bytes;
-use desk::{DeskFault, Endpoint, Lookup, Method, Route, Routes};
+use desk::{DeskFault, Endpoint, JsonKind, Lookup, Method, Route, Routes};
 use office_rules::{MeterNo, Operator, Ref, TariffName, Tender};
+use papers::FileKind;
 use std::test::Fail;
 
 // Each a target behind its method, and its route.
@@ -53,19 +54,19 @@ GET /sales?after=1000000000 = sales 1000000000
 fn route(text: &str) -> Result<Route, Fail> {
     let (word, value) = text.split_once(' ').unwrap_or((text, ""));
     Ok(match word {
-        "add-tariff" => Route::AddTariff,
-        "add-steps" => Route::AddSteps(TariffName::read(value.as_bytes()).ok_or("a tariff")?),
-        "add-meter" => Route::AddMeter,
-        "set-tariff" => Route::SetTariff(meter(value)?),
-        "move-base" => Route::MoveBase(meter(value)?),
-        "open-shift" => Route::OpenShift,
-        "close-shift" => Route::CloseShift,
+        "add-tariff" => Route::Object(JsonKind::AddTariff),
+        "add-steps" => Route::Object(JsonKind::AddSteps(tariff(value)?)),
+        "add-meter" => Route::Object(JsonKind::AddMeter),
+        "set-tariff" => Route::Object(JsonKind::SetTariff(meter(value)?)),
+        "move-base" => Route::Object(JsonKind::MoveBase(meter(value)?)),
+        "open-shift" => Route::Object(JsonKind::OpenShift),
+        "close-shift" => Route::Object(JsonKind::CloseShift),
         "report" => Route::ShiftReport(value.parse()?),
-        "sell" => Route::Sell,
+        "sell" => Route::Object(JsonKind::Sell),
         "reprint" => Route::Reprint(value.parse()?),
         "receipt" => Route::Receipt(value.parse()?),
-        "import-meters" => Route::ImportMeters,
-        "import-tariffs" => Route::ImportTariffs,
+        "import-meters" => Route::Import(FileKind::Meters),
+        "import-tariffs" => Route::Import(FileKind::Tariffs),
         _ => Route::LookUp(lookup(word, value)?),
     })
 }
@@ -86,9 +87,7 @@ fn lookup(word: &str, value: &str) -> Result<Lookup, Fail> {
         ),
         "totals" => Lookup::ShiftTotals(first.parse()?),
         "tariffs" if first.is_empty() => Lookup::Tariffs(None),
-        "tariffs" => {
-            Lookup::Tariffs(Some(TariffName::read(first.as_bytes()).ok_or("a tariff")?))
-        }
+        "tariffs" => Lookup::Tariffs(Some(tariff(first)?)),
         "meters" if first.is_empty() => Lookup::Meters(None),
         "meters" => Lookup::Meters(Some(meter(first)?)),
         "shifts" => Lookup::Shifts(first.parse()?),
@@ -99,6 +98,10 @@ fn lookup(word: &str, value: &str) -> Result<Lookup, Fail> {
 
 fn meter(text: &str) -> Result<MeterNo, Fail> {
     Ok(MeterNo::read(text.as_bytes()).ok_or("a meter")?)
+}
+
+fn tariff(text: &str) -> Result<TariffName, Fail> {
+    Ok(TariffName::read(text.as_bytes()).ok_or("a tariff")?)
 }
 
 // Targets that are no routes, each behind a `>`. `texts` says how they are written.

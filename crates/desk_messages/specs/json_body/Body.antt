@@ -109,22 +109,22 @@ pub record BodySaysOrder (json : Data) (order : Order) : Type 0 where
 
 -- the value says this request, where it is to say what this kind is
 abbrev pub BodySays : JsonKind → Data → Request → Type 0
-BodySays kinds.Tariff json request =
+BodySays kinds.AddTariff json request =
     (name : List ℕ) × (steps : List Step) × (request ≡ requests.AddTariff name steps)
     × BodySaysTariff json name steps
-BodySays (kinds.TariffSteps tariff) json request =
+BodySays (kinds.AddSteps tariff) json request =
     (day : ℕ) × (steps : List Step) × (request ≡ requests.AddSteps tariff day steps)
     × BodySaysDatedSteps json day steps
-BodySays kinds.Meter json request =
+BodySays kinds.AddMeter json request =
     (meter : List ℕ) × (m : Meter) × (request ≡ requests.AddMeter meter m)
     × BodySaysMeter json meter m
-BodySays (kinds.MeterTariff meter) json request =
+BodySays (kinds.SetTariff meter) json request =
     (name : List ℕ) × (request ≡ requests.SetTariff meter name) × BodySaysTariffName json name
-BodySays (kinds.MeterBase meter) json request =
+BodySays (kinds.MoveBase meter) json request =
     (base : Base) × (request ≡ requests.MoveBase meter base) × BodySaysBase json base
-BodySays kinds.Opening json request =
+BodySays kinds.OpenShift json request =
     (operator : List ℕ) × (request ≡ requests.OpenShift operator) × BodySaysOperator json operator
-BodySays kinds.Closing json request =
+BodySays kinds.CloseShift json request =
     (operator : List ℕ) × (request ≡ requests.CloseShift operator) × BodySaysOperator json operator
-BodySays kinds.Order json request =
+BodySays kinds.Sell json request =
     (order : Order) × (request ≡ requests.Sell order) × BodySaysOrder json order

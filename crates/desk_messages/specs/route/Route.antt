@@ -2,6 +2,7 @@
 use Rattle.std.specs.Prelude.{◌≡◌, ◌≢◌, ℕ, ◌≤◌, List, Some, None, option_map, Result, Ok, Err, IsUtf8, decimal, ⊤}
 use Rattle.matchit.specs.Router.{RouteOf}
 use Rattle.matchit.specs.Seek.{first}
+use Rattle.papers.specs.declared.file_kind.FileKind.TheVariants as files
 use Rattle.tariff.specs.Tender.{IsTender}
 use Rattle.office_rules.specs.Name.{IsMeterNo, IsName, IsOperator}
 use Rattle.book_states.specs.declared.lookup.Lookup.{Lookup}
@@ -9,10 +10,12 @@ use Rattle.book_states.specs.declared.lookup.Lookup.TheVariants as lookups
 use Rattle.conversation.specs.declared.message.method.Method.{Method}
 use Rattle.desk_messages.specs.declared.desk_fault.DeskFault.{DeskFault}
 use Rattle.desk_messages.specs.declared.desk_fault.DeskFault.TheVariants as faults
+use Rattle.desk_messages.specs.declared.json_body.kind.JsonKind.{JsonKind}
+use Rattle.desk_messages.specs.declared.json_body.kind.JsonKind.TheVariants as kinds
 use Rattle.desk_messages.specs.declared.route.endpoint.Endpoint.{Endpoint}
 use Rattle.desk_messages.specs.declared.route.endpoint.Endpoint.TheVariants.{Tariffs, TariffSteps, Meters, MeterTariff, MeterBase, Shifts, ShiftClosing, Shift, Sales, Sale, SaleReceipt, MeterImports, TariffImports, Health, Meter, LastSale, Quote, SaleOfRef, ShiftTotals, FirstTariffs, TariffsAfter, FirstMeters, MetersAfter, ShiftsAfter, SalesAfter}
 use Rattle.desk_messages.specs.declared.route.Route.{Route}
-use Rattle.desk_messages.specs.declared.route.Route.TheVariants.{AddTariff, AddSteps, AddMeter, SetTariff, MoveBase, OpenShift, CloseShift, ShiftReport, Sell, Reprint, Receipt, ImportMeters, ImportTariffs, LookUp}
+use Rattle.desk_messages.specs.declared.route.Route.TheVariants.{Object, Import, ShiftReport, Reprint, Receipt, LookUp}
 use Rattle.desk_messages.specs.route.Endpoint.{endpoint_method, filled, pattern_of, quote_target, sale_target, table}
 
 -- the endpoint at which something is looked up
@@ -30,21 +33,25 @@ lookup_endpoint (lookups.Meters (Some meter)) = MetersAfter
 lookup_endpoint (lookups.Shifts number) = ShiftsAfter
 lookup_endpoint (lookups.Sales number) = SalesAfter
 
+-- the endpoint at which an object of JSON says a request
+abbrev pub object_endpoint : JsonKind → Endpoint
+object_endpoint kinds.AddTariff = Tariffs
+object_endpoint (kinds.AddSteps tariff) = TariffSteps
+object_endpoint kinds.AddMeter = Meters
+object_endpoint (kinds.SetTariff meter) = MeterTariff
+object_endpoint (kinds.MoveBase meter) = MeterBase
+object_endpoint kinds.OpenShift = Shifts
+object_endpoint kinds.CloseShift = ShiftClosing
+object_endpoint kinds.Sell = Sales
+
 -- the endpoint that a route is asked at
 abbrev pub endpoint_of : Route → Endpoint
-endpoint_of AddTariff = Tariffs
-endpoint_of (AddSteps tariff) = TariffSteps
-endpoint_of AddMeter = Meters
-endpoint_of (SetTariff meter) = MeterTariff
-endpoint_of (MoveBase meter) = MeterBase
-endpoint_of OpenShift = Shifts
-endpoint_of CloseShift = ShiftClosing
+endpoint_of (Object kind) = object_endpoint kind
+endpoint_of (Import files.Meters) = MeterImports
+endpoint_of (Import files.Tariffs) = TariffImports
 endpoint_of (ShiftReport number) = Shift
-endpoint_of Sell = Sales
 endpoint_of (Reprint number) = Sale
 endpoint_of (Receipt number) = SaleReceipt
-endpoint_of ImportMeters = MeterImports
-endpoint_of ImportTariffs = TariffImports
 endpoint_of (LookUp lookup) = lookup_endpoint lookup
 
 -- a number that a target may name
@@ -88,25 +95,31 @@ NamesLookup target (lookups.Shifts number) =
 NamesLookup target (lookups.Sales number) =
     (target ≡ filled (pattern_of SalesAfter) (decimal number)) × IsPageStart number
 
+-- the target names what the request of an object of JSON is for: a tariff, a meter, or nothing
+abbrev pub NamesObject : List ℕ → JsonKind → Type 0
+NamesObject target kinds.AddTariff = ⊤
+NamesObject target (kinds.AddSteps tariff) =
+    (target ≡ filled (pattern_of TariffSteps) tariff) × IsName tariff
+NamesObject target kinds.AddMeter = ⊤
+NamesObject target (kinds.SetTariff meter) =
+    (target ≡ filled (pattern_of MeterTariff) meter) × IsMeterNo meter
+NamesObject target (kinds.MoveBase meter) =
+    (target ≡ filled (pattern_of MeterBase) meter) × IsMeterNo meter
+NamesObject target kinds.OpenShift = ⊤
+NamesObject target kinds.CloseShift = ⊤
+NamesObject target kinds.Sell = ⊤
+
 -- The target names what the route is for, where the pattern has its parameter: a tariff's name, a
 -- meter's number, or a number without leading zeros. A route whose pattern has none names nothing.
 abbrev pub Names : List ℕ → Route → Type 0
-Names target AddTariff = ⊤
-Names target (AddSteps tariff) = (target ≡ filled (pattern_of TariffSteps) tariff) × IsName tariff
-Names target AddMeter = ⊤
-Names target (SetTariff meter) = (target ≡ filled (pattern_of MeterTariff) meter) × IsMeterNo meter
-Names target (MoveBase meter) = (target ≡ filled (pattern_of MeterBase) meter) × IsMeterNo meter
-Names target OpenShift = ⊤
-Names target CloseShift = ⊤
+Names target (Object kind) = NamesObject target kind
+Names target (Import kind) = ⊤
 Names target (ShiftReport number) =
     (target ≡ filled (pattern_of Shift) (decimal number)) × IsTargetNumber number
-Names target Sell = ⊤
 Names target (Reprint number) =
     (target ≡ filled (pattern_of Sale) (decimal number)) × IsTargetNumber number
 Names target (Receipt number) =
     (target ≡ filled (pattern_of SaleReceipt) (decimal number)) × IsTargetNumber number
-Names target ImportMeters = ⊤
-Names target ImportTariffs = ⊤
 Names target (LookUp lookup) = NamesLookup target lookup
 
 -- the target leads to the route, by whatever method

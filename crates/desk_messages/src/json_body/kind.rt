@@ -1,23 +1,23 @@
 use office_rules::{MeterNo, TariffName};
 
-/// What an object of JSON is to say. Each route that is asked by JSON has one of these, so that no
-/// route is without a rule for its body.
+/// The requests that an object of JSON says, with what the target names of them. Each has a rule
+/// for its body, so that no route is without one.
 #[derive(Clone, Copy, Debug, PartialEq, Eq)]
 pub enum JsonKind {
     /// A tariff: its name and its steps.
-    Tariff,
+    AddTariff,
     /// Further steps of this tariff, and the day from which they hold.
-    TariffSteps(TariffName),
+    AddSteps(TariffName),
     /// A meter: its base date, its key, its number and its tariff.
-    Meter,
+    AddMeter,
     /// The tariff that this meter is to have.
-    MeterTariff(MeterNo),
+    SetTariff(MeterNo),
     /// The base date that this meter is moved to.
-    MeterBase(MeterNo),
+    MoveBase(MeterNo),
     /// Who opens a shift.
-    Opening,
+    OpenShift,
     /// Who closes a shift.
-    Closing,
+    CloseShift,
     /// An order.
-    Order,
+    Sell,
 }

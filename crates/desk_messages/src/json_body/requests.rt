@@ -19,40 +19,40 @@ pub(crate) fn said(alloc: Global, kind: JsonKind, value: &Value) -> Result<Reque
     ensures { IsFoundInBody (BodySays kind (view value.now)) result }
 {
     match kind {
-        JsonKind::Tariff => match tariff(alloc, value) {
+        JsonKind::AddTariff => match tariff(alloc, value) {
             Ok((name, steps)) => Ok(Request::AddTariff(name, steps)),
             Err(fault) => Err(fault),
         },
-        JsonKind::TariffSteps(name) => match dated_steps(alloc, value) {
+        JsonKind::AddSteps(name) => match dated_steps(alloc, value) {
             Ok((day, steps)) => Ok(Request::AddSteps(name, day, steps)),
             Err(fault) => Err(fault),
         },
-        JsonKind::Meter => match meter(value) {
+        JsonKind::AddMeter => match meter(value) {
             Some((number, meter)) => Ok(Request::AddMeter(number, meter)),
             None => Err(BodyFault::OutsideRule),
         },
-        JsonKind::MeterTariff(meter) => match tariff_name(value) {
+        JsonKind::SetTariff(meter) => match tariff_name(value) {
             Some(name) => Ok(Request::SetTariff(meter, name)),
             None => Err(BodyFault::OutsideRule),
         },
-        JsonKind::MeterBase(meter) => match base(value) {
+        JsonKind::MoveBase(meter) => match base(value) {
             Some(base) => Ok(Request::MoveBase(meter, base)),
             None => Err(BodyFault::OutsideRule),
         },
-        JsonKind::Opening => operator(value)
+        JsonKind::OpenShift => operator(value)
             .map(Request::OpenShift)
             .ok_or(BodyFault::OutsideRule),
-        JsonKind::Closing => operator(value)
+        JsonKind::CloseShift => operator(value)
             .map(Request::CloseShift)
             .ok_or(BodyFault::OutsideRule),
-        JsonKind::Order => sale(value),
+        JsonKind::Sell => sale(value),
     }
 }
 
 // The sale that a value orders.
 #[inline(always)]
 pub(crate) fn sale(value: &Value) -> Result<Request, BodyFault>
-    ensures { IsFoundInBody (BodySays JsonKind.Order (view value.now)) result }
+    ensures { IsFoundInBody (BodySays JsonKind.Sell (view value.now)) result }
 {
     match order(value) {
         Some(order) => Ok(Request::Sell(order)),

@@ -8,12 +8,14 @@ ghost use Rattle.desk_messages.specs.declared.route.endpoint.Endpoint.{Endpoint}
 ghost use Rattle.desk_messages.specs.declared.route.Route.{Route};
 
 use crate::desk_fault::DeskFault;
+use crate::json_body::kind::JsonKind;
 use crate::route::Route;
 use crate::route::endpoint::Endpoint;
 use crate::route::parameter::{meter_at, number_at, quote_at, sale_of_ref_at, start_at, tariff_at};
 use book_states::Lookup;
 use conversation::Method;
 use matchit::Router;
+use papers::FileKind;
 use std::alloc::{AllocError, Global};
 use std::str;
 
@@ -115,19 +117,28 @@ fn read_route(endpoint: Endpoint, target: &[u8]) -> Option<Route>
     ensures { IsFound (λ route. (endpoint_of route ≡ endpoint) × Names target.now route) result }
 {
     match endpoint {
-        Endpoint::Tariffs => Some(Route::AddTariff),
-        Endpoint::TariffSteps => tariff_at(endpoint, target).map(Route::AddSteps),
-        Endpoint::Meters => Some(Route::AddMeter),
-        Endpoint::MeterTariff => meter_at(endpoint, target).map(Route::SetTariff),
-        Endpoint::MeterBase => meter_at(endpoint, target).map(Route::MoveBase),
-        Endpoint::Shifts => Some(Route::OpenShift),
-        Endpoint::ShiftClosing => Some(Route::CloseShift),
+        Endpoint::Tariffs => Some(Route::Object(JsonKind::AddTariff)),
+        Endpoint::TariffSteps => match tariff_at(endpoint, target) {
+            Some(name) => Some(Route::Object(JsonKind::AddSteps(name))),
+            None => None,
+        },
+        Endpoint::Meters => Some(Route::Object(JsonKind::AddMeter)),
+        Endpoint::MeterTariff => match meter_at(endpoint, target) {
+            Some(meter) => Some(Route::Object(JsonKind::SetTariff(meter))),
+            None => None,
+        },
+        Endpoint::MeterBase => match meter_at(endpoint, target) {
+            Some(meter) => Some(Route::Object(JsonKind::MoveBase(meter))),
+            None => None,
+        },
+        Endpoint::Shifts => Some(Route::Object(JsonKind::OpenShift)),
+        Endpoint::ShiftClosing => Some(Route::Object(JsonKind::CloseShift)),
         Endpoint::Shift => number_at(endpoint, target).map(Route::ShiftReport),
-        Endpoint::Sales => Some(Route::Sell),
+        Endpoint::Sales => Some(Route::Object(JsonKind::Sell)),
         Endpoint::Sale => number_at(endpoint, target).map(Route::Reprint),
         Endpoint::SaleReceipt => number_at(endpoint, target).map(Route::Receipt),
-        Endpoint::MeterImports => Some(Route::ImportMeters),
-        Endpoint::TariffImports => Some(Route::ImportTariffs),
+        Endpoint::MeterImports => Some(Route::Import(FileKind::Meters)),
+        Endpoint::TariffImports => Some(Route::Import(FileKind::Tariffs)),
         Endpoint::Health
         | Endpoint::Meter
         | Endpoint::LastSale

@@ -4,7 +4,6 @@ use Rattle.sts_fields.specs.Moment.{IsMoment}
 use Rattle.papers.specs.File.{AreFileRecords, Fields}
 use Rattle.papers.specs.Import.{IsReading}
 use Rattle.papers.specs.declared.file_kind.FileKind.{FileKind}
-use Rattle.papers.specs.declared.file_kind.FileKind.TheVariants as files
 use Rattle.papers.specs.declared.row_fault.RowFault.{RowFault}
 use Rattle.papers.specs.declared.row_fault.RowFault.TheVariants as row_faults
 use Rattle.vend_core.specs.Law.Life.{Life}
@@ -77,10 +76,6 @@ module _ (m : Message) (now : Option ℤ) (one : HasOneMeaning m now) where
 
 -- ---- the rows of a file
 
-abbrev pub import_route : FileKind → Route
-import_route files.Meters = routes.ImportMeters
-import_route files.Tariffs = routes.ImportTariffs
-
 -- what came of a file, by what reading its rows answers
 abbrev pub ComesOfRows : (moment : ℕ) → Result (List Row) RowFault → Outcome → (old new : Life) → Type 0
 ComesOfRows moment (Ok rows) outcome old new =
@@ -95,27 +90,21 @@ pub record IsRead (kind : FileKind) (body : List ℕ) (read : Result (List Row) 
   pub reading : IsReading kind records read
 
 -- what a body asks of the route of an import
-import_body : (kind : FileKind) (body : List ℕ) (r : Result Request BodyFault) → BodyAsks (import_route kind) body r
+import_body : (kind : FileKind) (body : List ℕ) (r : Result Request BodyFault) → BodyAsks (routes.Import kind) body r
     → (read : Result (List Row) RowFault) × IsRead kind body read × (r ≡ import_of read)
-import_body files.Meters body r (records, are, read, reading, is) = (read, record { records = records; are = are; reading = reading }, is)
-import_body files.Tariffs body r (records, are, read, reading, is) = (read, record { records = records; are = are; reading = reading }, is)
+import_body kind body r (records, are, read, reading, is) = (read, record { records = records; are = are; reading = reading }, is)
 
-import_form : (kind : FileKind) → sale_form_of (import_route kind) ≡ forms.Json
-import_form files.Meters = refl
-import_form files.Tariffs = refl
-
-import_looks : (kind : FileKind) (lookup : Lookup) → import_route kind ≢ routes.LookUp lookup
-import_looks files.Meters lookup same = absurd cc
-import_looks files.Tariffs lookup same = absurd cc
+import_looks : (kind : FileKind) (lookup : Lookup) → routes.Import kind ≢ routes.LookUp lookup
+import_looks kind lookup same = absurd cc
 
 module _ (routed : (target : List ℕ) (method : Method) (a b : Result Route DeskFault) → IsRouted target method a → IsRouted target method b → a ≡ b)
-    (m : Message) (kind : FileKind) (is_for : IsFor m (import_route kind)) (moment : ℕ) (old new : Life) where
-  the_route : (route : Route) → IsFor m route → route ≡ import_route kind
+    (m : Message) (kind : FileKind) (is_for : IsFor m (routes.Import kind)) (moment : ℕ) (old new : Life) where
+  the_route : (route : Route) → IsFor m route → route ≡ routes.Import kind
   the_route route other =
-      let same : Ok route ≡ Ok (import_route kind) = routed m.target m.method (Ok route) (Ok (import_route kind)) other is_for in
+      let same : Ok route ≡ Ok (routes.Import kind) = routed m.target m.method (Ok route) (Ok (routes.Import kind)) other is_for in
       cc
 
-  the_body : (route : Route) (r : Result Request BodyFault) → IsFor m route → BodyAsks route m.body r → BodyAsks (import_route kind) m.body r
+  the_body : (route : Route) (r : Result Request BodyFault) → IsFor m route → BodyAsks route m.body r → BodyAsks (routes.Import kind) m.body r
   the_body route r other asks = subst (λ (x : Route). BodyAsks x m.body r) (the_route route other) asks
 
   -- what comes of some rows
@@ -171,7 +160,7 @@ module _ (routed : (target : List ℕ) (method : Method) (a b : Result Route Des
     came_rows outcome (inr (inl (form, later, request, reply, is, asks, replies))) =
         let read = import_body kind m.body (Ok request) (the_body asks.route (Ok request) asks.comes.is_for asks.asked) in
         let moments : moment ≡ later = (let given : Some (pos moment) ≡ Some (pos later) = asks.comes.given in cc) in
-        let told : form ≡ forms.Json = asks.told ∙ ap sale_form_of (the_route asks.route asks.comes.is_for) ∙ import_form kind in
+        let told : form ≡ forms.Json = asks.told ∙ ap sale_form_of (the_route asks.route asks.comes.is_for) in
         let there = rows_asked read.0 request reply read.2 (subst (λ (n : ℕ). LifeReplies n request reply old new) (sym moments) replies) in
         (read.0, read.1, subst (λ (x : Outcome). ComesOfRows moment read.0 x old new) (sym (is ∙ ap (λ (f : Form). outcomes.Replied f reply) told)) there)
     came_rows outcome (inr (inr (form, later, lookup, found, is, looks, finds))) =

@@ -49,6 +49,7 @@ use Rattle.desk_messages.specs.declared.reply.form.Form.TheVariants as forms
 use Rattle.desk_messages.specs.declared.reply.outcome.Outcome.{Outcome}
 use Rattle.desk_messages.specs.declared.reply.outcome.Outcome.TheVariants as outcomes
 use Rattle.desk_messages.specs.declared.route.Route.{Route}
+use Rattle.desk_messages.specs.declared.route.Route.TheVariants.{Import}
 use Rattle.desk_messages.specs.reply.Text.{reply_bytes_of}
 use Rattle.desk_messages.specs.route.Route.{IsRouted}
 use Rattle.desk_client.specs.Alike.{TellAlike}
@@ -78,7 +79,7 @@ use Rattle.vend_ports.specs.declared.command_end.CommandEnd.TheVariants.{Refused
 use Rattle.office_commands.specs.office.Served.{TellsReply}
 use Rattle.vend_ports.specs.print.Printed.{clock_line}
 use Rattle.vend_ports.specs.print.Told.{IsTold, Outputs}
-use Rattle.program_laws.proofs.AtDeskLemmas.MeaningLemmas.{ComesOfRows, IsRead, came_rows, idled, import_route, looked, replied}
+use Rattle.program_laws.proofs.AtDeskLemmas.MeaningLemmas.{ComesOfRows, IsRead, came_rows, idled, looked, replied}
 use Rattle.program_laws.proofs.AtDeskLemmas.PrintedLemmas.{prints_last, prints_meter, prints_quote, prints_reply, prints_sale_of_ref, prints_totals, tell_alike}
 use Rattle.program_laws.proofs.AtDeskLemmas.RuleLemmas.{MayReply, by_rules, may_reply, present_before, present_is}
 use Rattle.program_laws.proofs.AtDeskLemmas.TellableLemmas.{AreToldSales, MayAsk, MayLook, RangeLaws, form_for, look_tells, no_count, reply_tells, sale_told, tellable_look, tellable_reply, told_look, told_reply, wanted_for, wanted_look}
@@ -102,7 +103,7 @@ pub record DeskLaws : Type 0 where
   pub alike : (asked : Wanted) (text : List ℕ) (one other : Told) → IsReply asked text one → IsReply asked text other → TellAlike one other
 
 -- the message of an import leads to its route
-pub import_for : (kind : FileKind) (csv : Bor (List ℕ)) → IsFor (question_message (questions.Import kind csv)) (import_route kind)
+pub import_for : (kind : FileKind) (csv : Bor (List ℕ)) → IsFor (question_message (questions.Import kind csv)) (Import kind)
 import_for files.Meters csv = (record { finds = record { text = seen_text (codes "/imports/meters") refl; found = found_imports_meters }; names = tt }, refl)
 import_for files.Tariffs csv = (record { finds = record { text = seen_text (codes "/imports/tariffs") refl; found = found_imports_tariffs }; names = tt }, refl)
 
