@@ -6,3 +6,4 @@ pub mod LookupLemmas
 pub mod LooksLemmas
 pub mod PageLemmas
 pub mod PassedLemmas
+pub mod TellsLemmas

@@ -12,6 +12,7 @@ use Rattle.sts_fields.specs.Day.{day_at}
 use Rattle.tariff.specs.declared.step.Step.{Step}
 use Rattle.office_rules.specs.Decision.{MeterAccount}
 use Rattle.office_rules.specs.Office.{Office}
+use Rattle.office_rules.specs.declared.decision.refusal.Refusal.{Refusal}
 use Rattle.office_rules.specs.declared.decision.row_facts.RowFacts.{RowFacts}
 use Rattle.office_rules.specs.declared.office.meter.Meter.{Meter}
 use Rattle.office_rules.specs.declared.office.row.Row.{Row}
@@ -23,7 +24,7 @@ use Rattle.book_tables.specs.reading.Questions.{the_meter}
 use Rattle.book_tables.specs.reading.Seen.{Sees, ShowsFirst}
 use Rattle.book_states.specs.FactsSeen.{AreRowsSeen, AreStepsSeenOn, IsAccountSeen, IsPassedBy, IsRefusedFor, IsRowSeen, IsSoldSeen, OrElse}
 use Rattle.book_states.specs.Same.{IsSame}
-use Rattle.book_facts.specs.Looking.{LooksUp}
+use Rattle.book_facts.specs.Looking.{LooksUp, LooksUpByRules}
 use Rattle.book_facts.proofs.FactsLemmas.{members_after}
 use Rattle.book_facts.proofs.ListedLemmas.{take_more}
 use Rattle.book_facts.proofs.PassedLemmas.{HasPassed, earlier, read_after, same_on, tables_after}
@@ -38,6 +39,18 @@ pub looks_on : {T U : Type 0} {Same : State → State → Type 0} {Says : Office
     → IsErrAnd r (λ x. x ≡ e) → OnlyReads {T = U} Same old new (Err e) → LooksUp Same Says AreRead old new r
 looks_on (Ok x) is this = absurd is
 looks_on (Err x) is this = looks_none (fail_on (Err x) is this)
+
+-- so it is where the rules may refuse what is looked up
+pub by_rules_none : {T : Type 0} {Same : State → State → Type 0} {Says : Office → Result T Refusal → Type 0}
+    {AreRead : Database → Result T Refusal → Type 0} {e : TableError} {old new : State}
+    → OnlyReads {T = Result T Refusal} Same old new (Err e) → LooksUpByRules Same Says AreRead old new (Err e)
+by_rules_none this = record { looks = looks_none this; rules = tt }
+
+pub by_rules_on : {T U : Type 0} {Same : State → State → Type 0} {Says : Office → Result T Refusal → Type 0}
+    {AreRead : Database → Result T Refusal → Type 0} {e : TableError} {old new : State} (r : Result (Result T Refusal) TableError)
+    → IsErrAnd r (λ x. x ≡ e) → OnlyReads {T = U} Same old new (Err e) → LooksUpByRules Same Says AreRead old new r
+by_rules_on (Ok x) is this = absurd is
+by_rules_on (Err x) is this = by_rules_none (fail_on (Err x) is this)
 
 -- what a read of one table has seen
 pub first_shown : {k : Kept} (in_office : IsInOffice k) {T : Type 0} {IsSeen : Database → T → Type 0} {IsSpoilt : Database → Type 0}
@@ -83,6 +96,20 @@ looks_weaker {Says = Says} {Others = Others} {AreRead = AreRead} {AreSeen = AreS
   shown = λ clean has. IfOk-weaker r (AreRead old.now) (AreSeen old.now) (seen old.now) (this.shown clean has);
   reads = this.reads;
 }
+
+-- what is found by the rules is so of a look-up that says less
+pub by_rules_weaker : {T : Type 0} {Same : State → State → Type 0} {Says Others : Office → Result T Refusal → Type 0}
+    {AreRead AreSeen : Database → Result T Refusal → Type 0} {r : Result (Result T Refusal) TableError} {old new : State}
+    → ((o : Office) (x : Result T Refusal) → Says o x → Others o x)
+    → ((db : Database) (x : Result T Refusal) → AreRead db x → AreSeen db x)
+    → LooksUpByRules Same Says AreRead old new r → LooksUpByRules Same Others AreSeen old new r
+by_rules_weaker says seen this = record { looks = looks_weaker says seen this.looks; rules = this.rules }
+
+-- and what is unchanged is the same there
+pub by_rules_same : {T : Type 0} {Says : Office → Result T Refusal → Type 0} {AreRead : Database → Result T Refusal → Type 0}
+    {r : Result (Result T Refusal) TableError} {old new : State}
+    → LooksUpByRules IsUnchanged Says AreRead old new r → LooksUpByRules IsSame Says AreRead old new r
+by_rules_same this = record { looks = looks_same this.looks; rules = this.rules }
 
 -- ---- what was seen
 

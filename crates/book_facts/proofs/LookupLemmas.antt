@@ -1,5 +1,5 @@
 -- What is found where something is looked up, and why nothing is.
-use Rattle.std.proofs.Common.{◌≡◌, ◌≢◌, ◌⊎◌, inl, ℕ, ◌+◌, ◌&&◌, ◌==◌, Bool, true, false, Option, None, Some, Result, Ok, Err, IsSome, List, ap, is_none, option_map, refl, subst, sym, ◌∙◌}
+use Rattle.std.proofs.Common.{◌≡◌, ℕ, ◌+◌, ◌&&◌, ◌==◌, Bool, true, false, Option, None, Some, Result, Ok, Err, IsSome, List, ap, is_none, option_map, refl, sym, ◌∙◌}
 use Rattle.std.specs.Prelude.{IfErr, bytes_eq, nat_lt, if◌then◌else◌}
 use Rattle.std.specs.Option.{ok_or}
 use Rattle.std.proofs.lemmas.Bool.{false≢true}
@@ -65,15 +65,6 @@ no_meter = record { not_memory = λ is. absurd cc; not_store = λ is. absurd cc;
 
 too_little : IsOfRules refusals.TooLittle
 too_little = record { not_memory = λ is. absurd cc; not_store = λ is. absurd cc; not_stopped = λ is. absurd cc }
-
-pub or_told : (given : Result Found Refusal) (Tells : Refusal → Type 0) → IfErr given IsOfRules → IfErr given (λ why. IsOfRules why ⊎ Tells why)
-or_told (Ok found) Tells own = tt
-or_told (Err why) Tells own = inl own
-
-pub never_stopped : (given : Result Found Refusal) → IfErr given IsOfRules → given ≢ Err refusals.Stopped
-never_stopped given own is =
-    let of_rules : IsOfRules refusals.Stopped = subst (λ (r : Result Found Refusal). IfErr r IsOfRules) is own in
-    of_rules.not_stopped refl
 
 -- a test and those after it refuse by the rules
 then_rules : {A B : Type 0} (r : Result A Refusal) (f : A → Result B Refusal) → IfErr r IsOfRules → ((x : A) → IfErr (f x) IsOfRules)

@@ -1,5 +1,5 @@
 -- The totals of a shift.
-use Rattle.std.specs.Prelude.{ℕ, Option, None, Some, option_map, Result, Ok, Err, unwrap_or}
+use Rattle.std.specs.Prelude.{◌≡◌, ℕ, Option, None, Some, option_map, Result, Ok, Err, unwrap_or}
 use Rattle.sqlite.specs.Effect.{Database}
 use Rattle.office_rules.specs.Office.Lookup.{sales_of_shift, shift_numbered}
 use Rattle.office_rules.specs.Office.{Office}
@@ -16,6 +16,11 @@ use Rattle.book_tables.specs.writing.Writing.{no_totals}
 abbrev pub shift_totals : Office → ℕ → Option Totals
 shift_totals o number =
     option_map (λ shift. all_totals (sales_of_shift o number)) (shift_numbered o number)
+
+-- the totals are those of the shift, and it has none where it is answered that there is no such one
+abbrev pub AreTotalsIn : Office → ℕ → Result Totals Refusal → Type 0
+AreTotalsIn o number (Ok totals) = shift_totals o number ≡ Some totals
+AreTotalsIn o number (Err why) = why ≡ NoSuchShift → shift_totals o number ≡ None
 
 -- ---- what was seen of a database that has the office's tables, whatever their rows are
 

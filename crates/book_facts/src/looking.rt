@@ -1,15 +1,13 @@
 //! A look-up in the tables.
 
-ghost use Rattle.std.specs.Prelude.{◌≡◌, ◌≢◌, ◌⊎◌, ◌+◌, Err, IfErr, IfOk, false, length};
+ghost use Rattle.std.specs.Prelude.{◌≡◌, ◌+◌, false, length};
 ghost use Rattle.sqlite.specs.State.{HasCleanDisk};
 ghost use Rattle.one_table.specs.Over.{Over};
 ghost use Rattle.office_rules.specs.Office.{Office};
-ghost use Rattle.book_tables.specs.reading.Reading.{HasAllTables};
-ghost use Rattle.book_states.specs.Failing.{IsToldOfRead};
 ghost use Rattle.book_states.specs.Stores.{Stores};
-ghost use Rattle.book_states.specs.Same.{ChangesNothing, IsSame};
+ghost use Rattle.book_states.specs.Same.{IsSame};
 ghost use Rattle.book_facts.specs.Lookups.{Finds, IsFoundIn, IsOfRules};
-ghost use Rattle.book_facts.specs.Looking.{LooksUp};
+ghost use Rattle.book_facts.specs.Looking.{LooksUpByRules, TellsTables};
 ghost use Rattle.book_facts.specs.LookupsSeen.{FindsSeen, IsFoundSeen};
 
 use book_states::{Found, Lookup, refusal_of};
@@ -47,17 +45,8 @@ pub fn look_up<S: Alter>(
     requires { conn.old.in_transaction ≡ false }
     ensures found { Over S.Store conn (λ old new. HasCleanDisk new → (o : Office) → Stores old o
         → next_number ≡ length o.sales + 1 → IsFoundIn o moment lookup.now result) }
-    ensures seen { Over S.Store conn (λ old new. HasCleanDisk new → HasAllTables old
-        → IsFoundSeen next_number moment lookup.now old.now result) }
-    ensures nothing { Over S.Store conn (λ old new. HasCleanDisk new → HasAllTables old
-        → ChangesNothing old new) }
-    ensures failures { Over S.Store conn (λ old new. HasCleanDisk new → HasAllTables old
-        → IfErr result (λ refusal. IsOfRules refusal ⊎ IsToldOfRead refusal old new)) }
-    ensures clean { Over S.Store conn (λ old new. HasCleanDisk new → HasCleanDisk old) }
-    ensures refusals { IfErr result (λ refusal. IsOfRules refusal
-        ⊎ ((refusal ≡ Refusal.Memory) ⊎ (refusal ≡ Refusal.Store))) }
-    ensures never_stopped { result ≢ Err Refusal.Stopped }
-    ensures outside { conn.new.in_transaction ≡ false }
+    ensures tells { Over S.Store conn (λ old new. TellsTables IsOfRules
+        (IsFoundSeen next_number moment lookup.now) old new result) }
 {
     // Outside a transaction an open connection has what was committed last.
     let _settled = conn.is_autocommit();
@@ -75,10 +64,9 @@ fn found_of<S: Alter>(
     sale_count: u64,
     lookup: &Lookup,
 ) -> Result<Result<Found, Refusal>, TableError>
-    ensures looks { Over S.Store conn (λ old new. LooksUp IsSame
+    ensures { Over S.Store conn (λ old new. LooksUpByRules IsSame
         (λ o found. sale_count ≡ length o.sales → Finds o moment lookup.now found)
         (FindsSeen sale_count moment lookup.now) old new result) }
-    ensures rules { IfOk result (λ found. IfErr found IsOfRules) }
 {
     match lookup {
         Lookup::SaleCount => Ok(Ok(Found::SaleCount(sale_count))),

@@ -1,6 +1,6 @@
 //! A page of sales.
 
-ghost use Rattle.std.specs.Prelude.{◌≡◌, ◌⊎◌, Err, IfErr, IfOk, false};
+ghost use Rattle.std.specs.Prelude.{◌≡◌, IfErr, IfOk, false};
 ghost use Rattle.sqlite.specs.State.{HasCleanDisk};
 ghost use Rattle.one_table.specs.Over.{Over};
 ghost use Rattle.office_rules.specs.Office.{Office};
@@ -8,9 +8,9 @@ ghost use Rattle.office_rules.specs.Law.Store.{sales_above};
 ghost use Rattle.book_tables.specs.reading.Reading.{HasAllTables};
 ghost use Rattle.book_tables.specs.reading.Questions.{the_sales_after};
 ghost use Rattle.book_tables.specs.reading.Seen.{HasSpoilt, ShowsAll};
-ghost use Rattle.book_states.specs.Failing.{HasFailedAt, IsToldOfRead};
+ghost use Rattle.book_states.specs.Failing.{HasFailedAt};
 ghost use Rattle.book_states.specs.Stores.{Stores};
-ghost use Rattle.book_states.specs.Same.{ChangesNothing};
+ghost use Rattle.book_facts.specs.Looking.{TellsTables};
 
 use book_states::refusal_of;
 use book_tables::reading::sale_lists;
@@ -31,19 +31,11 @@ pub fn page<S: Alter>(
     requires { conn.old.in_transaction ≡ false }
     ensures given { Over S.Store conn (λ old new. HasCleanDisk new → (o : Office) → Stores old o
         → IfOk result (λ sales. sales.items ≡ sales_above o number limit)) }
-    ensures seen { Over S.Store conn (λ old new. HasCleanDisk new → HasAllTables old
-        → IfOk result (λ sales. ShowsAll (the_sales_after number limit) old.now sales.items)) }
-    ensures nothing { Over S.Store conn (λ old new. HasCleanDisk new → HasAllTables old
-        → ChangesNothing old new) }
-    ensures clean { Over S.Store conn (λ old new. HasCleanDisk new → HasCleanDisk old) }
-    ensures failures { Over S.Store conn (λ old new. HasCleanDisk new → HasAllTables old
-        → IfErr result (λ refusal. IsToldOfRead refusal old new)) }
+    ensures tells { Over S.Store conn (λ old new. TellsTables (λ why. ⊥) (λ db given. IfOk given
+        (λ sales. ShowsAll (the_sales_after number limit) db sales.items)) old new result) }
     ensures spoilt { Over S.Store conn (λ old new. HasCleanDisk new → HasAllTables old
         → IfErr result (λ refusal. refusal ≡ Refusal.Store
         → HasFailedAt (HasSpoilt (the_sales_after number limit)) old new)) }
-    ensures refusals { IfErr result (λ refusal.
-        (refusal ≡ Refusal.Memory) ⊎ (refusal ≡ Refusal.Store)) }
-    ensures outside { conn.new.in_transaction ≡ false }
 {
     // Outside a transaction an open connection has what was committed last.
     let _settled = conn.is_autocommit();

@@ -11,12 +11,11 @@ use Rattle.sqlite_wal.specs.Recovery.{Image}
 use Rattle.kept_order.specs.InOrder.{HasTablesInOrder}
 use Rattle.office_rules.specs.Office.{Office}
 use Rattle.book_states.specs.Stores.{StoreStandsFor}
-use Rattle.book_opening.specs.Opening.{FailsToOpen, LeavesBrought, LeavesRefused, OpensAs}
+use Rattle.book_opening.specs.Opening.{LeavesBrought, OpensAs}
 use Rattle.books.specs.Found.{FindsOffice}
+use Rattle.books.specs.Opens.{RefusesOver}
 use Rattle.books.specs.Path.{IsConnected, OpensFiles, RefusesConnection, StandsIn}
-use Rattle.book_states.specs.Same.{IsSame}
 use Rattle.book_opening.specs.declared.fault.OpenFault.{OpenFault}
-use Rattle.book_opening.specs.declared.fault.OpenFault.TheVariants.{NotAnOffice}
 
 -- a connection that was just opened stands for the office that its trees show
 abbrev pub OpensAgain : (D : Type 0) → (g : Ghosts D) → Type 0
@@ -59,21 +58,15 @@ module _ {D : Type 0} {g : Ghosts D} where
       pub stands_first : (o : Office) → HasCleanDisk (file_state first) → StandsIn image o → StoreStandsFor (file_state first) o
       stands_first o clean stands = let it = connected clean in again first o it.opens it.live (stands (file_state first).committed.trees it.found)
 
-      pub refuses_connection : (fault : OpenFault)
-          → (HasCleanDisk (file_state last) → fault ≡ NotAnOffice → (o : Office) → ¬ StoreStandsFor (file_state first) o)
-          → (HasCleanDisk (file_state last) → FailsToOpen {S = FileStore D g} over_files (file_state first) (file_state last) fault)
-          → (HasCleanDisk (file_state last) → IsSame (file_state first) (file_state last))
-          → (HasCleanDisk (file_state last) → (o : Office) → StoreStandsFor (file_state first) o → StoreStandsFor (file_state last) o)
-          → last.in_transaction ≡ false
-          → Survives (file_state first) (file_state last) (LeavesRefused (file_state first) fault) → RefusesConnection image fault last
-      refuses_connection fault other fails same refused rests survives =
-          let early : HasCleanDisk (file_state last) → HasCleanDisk (file_state first) = λ clean. omega (arith, survives.clean) in record {
+      pub refuses_connection : (fault : OpenFault) → RefusesOver {S = FileStore D g} over_files first last fault → RefusesConnection image fault last
+      refuses_connection fault told =
+          let early : HasCleanDisk (file_state last) → HasCleanDisk (file_state first) = λ clean. omega (arith, told.survives.clean) in record {
             first = first;
             connected = connected;
-            told = λ clean is o stands. other clean is o (stands_first o (early clean) stands);
-            fails = fails;
-            same = same;
-            kept = λ clean o stands. refused clean o (stands_first o (early clean) stands);
-            rests = rests;
-            survives = survives;
+            told = λ clean is o stands. told.other clean is o (stands_first o (early clean) stands);
+            fails = told.fails;
+            same = told.same;
+            kept = λ clean o stands. told.refused clean o (stands_first o (early clean) stands);
+            rests = told.rests;
+            survives = told.survives;
           }

@@ -1,23 +1,21 @@
 -- What a call that only reads makes of books.
-use Rattle.std.proofs.Common.{◌≡◌, ◌≢◌, ◌⊎◌, ◌↔◌, ◌+◌, ℕ, length, false, true, IsTrue, Result, Ok, Err, ap, refl, sym, subst, ◌∙◌, inl, inr}
+use Rattle.std.proofs.Common.{◌≡◌, ◌⊎◌, ◌↔◌, ◌+◌, ℕ, length, false, true, IsTrue, Result, Ok, Err, ap, refl, sym, subst, ◌∙◌, inl, inr}
 use Rattle.std.proofs.lemmas.Bool.{false≢true}
 use Rattle.std.specs.Prelude.{IfErr}
 use Rattle.sqlite.specs.Effect.{Database}
 use Rattle.sqlite.specs.State.{HasCleanDisk}
-use Rattle.vend_core.specs.Law.Life.{Life}
+use Rattle.vend_core.specs.Law.Life.{Life, present}
 use Rattle.office_rules.specs.Office.{Office}
 use Rattle.office_rules.specs.declared.decision.refusal.Refusal.{Refusal}
 use Rattle.office_rules.specs.declared.decision.refusal.Refusal.TheVariants.{Memory, Store, Stopped}
-use Rattle.book_tables.specs.reading.Reading.{HasAllTables}
+use Rattle.book_facts.specs.Looking.{TellsTables}
 use Rattle.book_facts.specs.Lookups.{Finds, IsFoundIn}
 use Rattle.book_states.specs.declared.lookup.Found.{Found}
 use Rattle.book_states.specs.declared.lookup.Lookup.{Lookup}
-use Rattle.book_states.specs.Failing.{IsToldOfRead}
-use Rattle.book_states.specs.Same.{ChangesNothing}
 use Rattle.book_states.specs.Stores.{Stores}
 use Rattle.book_states.proofs.OthersLemmas.{nothing_others, others_same, tables_stay}
 use Rattle.book_states.proofs.StayLemmas.{has_tables, nothing_same, still_held}
-use Rattle.books.specs.Keeps.{IsPresent, Seen}
+use Rattle.books.specs.Keeps.{IsPresent, Represents, Seen}
 use Rattle.books.specs.Looking.{IsFoundAt}
 use Rattle.books.specs.Reads.{ReadsBooks}
 use Rattle.books.proofs.PageLemmas.{kept_read}
@@ -39,11 +37,6 @@ read_stopped Own books was = record {
   seen = λ clean has runs. absurd (false≢true (sym runs ∙ was));
 }
 
--- the read has no refusal of its own
-pub none_own : {A : Type 0} (given : Result A Refusal) (Tells : Refusal → Type 0) → IfErr given Tells → IfErr given (λ why. ⊥ ⊎ Tells why)
-none_own (Ok value) Tells told = tt
-none_own (Err why) Tells told = inr told
-
 -- books answer as stopped also where they are not read
 or_stopped : {A : Type 0} (Own : Refusal → Type 0) (given : Result A Refusal) → IfErr given (λ why. Own why ⊎ ((why ≡ Memory) ⊎ (why ≡ Store)))
     → IfErr given (λ why. Own why ⊎ ((why ≡ Memory) ⊎ ((why ≡ Store) ⊎ (why ≡ Stopped))))
@@ -52,39 +45,35 @@ or_stopped Own (Err why) (inl own) = inl own
 or_stopped Own (Err why) (inr (inl memory)) = inr (inl memory)
 or_stopped Own (Err why) (inr (inr store)) = inr (inr (inl store))
 
-never_stopped : {A : Type 0} (Own : Refusal → Type 0) (given : Result A Refusal) → ¬ Own Stopped
-    → IfErr given (λ why. Own why ⊎ ((why ≡ Memory) ⊎ (why ≡ Store))) → given ≢ Err Stopped
-never_stopped {A} Own given never told is =
-    let stopped : Own Stopped ⊎ ((Stopped ≡ Memory) ⊎ (Stopped ≡ Store)) =
-    subst (λ (r : Result A Refusal). IfErr r (λ why. Own why ⊎ ((why ≡ Memory) ⊎ (why ≡ Store)))) is told in
-    elim stopped [ inl own ↦ never own | inr (inl memory) ↦ absurd cc | inr (inr store) ↦ absurd cc ]
-
 -- books that were not stopped were read, by what the read makes of their tables
-pub was_read : {A : Type 0} {IsSeen : Database → Result A Refusal → Type 0} (Own : Refusal → Type 0) (given : Result A Refusal)
+pub was_read : {A : Type 0} {Own : Refusal → Type 0} {IsSeen : Database → Result A Refusal → Type 0} (given : Result A Refusal)
     (old new : Seen) → old.stopped ≡ false → new.forward ≡ old.forward → new.next_number ≡ old.next_number
-    → (HasCleanDisk new.state → HasAllTables old.state → ChangesNothing old.state new.state) → (HasCleanDisk new.state → HasCleanDisk old.state)
-    → (HasCleanDisk new.state → HasAllTables old.state → IfErr given (λ why. Own why ⊎ IsToldOfRead why old.state new.state))
-    → IfErr given (λ why. Own why ⊎ ((why ≡ Memory) ⊎ (why ≡ Store))) → ¬ Own Stopped → (IsTrue new.stopped ↔ (given ≡ Err Store))
-    → (HasCleanDisk new.state → HasAllTables old.state → IsSeen old.state.now given) → ReadsBooks Own IsSeen given old new
-was_read Own given old new runs forward next nothing back failures refusals own failed seen =
-    let never = never_stopped Own given own refusals in record {
-      keeps = λ life keeps clean.
-          let kept = keeps (back clean) in
-          let here = kept.running runs in
-          kept_read life old new kept here forward next (still_held here.present old.state new.state clean here.at
-          (nothing clean (has_tables here.present old.state here.at)));
-      tables = λ has clean running.
-          let before = has (back clean) runs in
-          tables_stay old.state new.state (nothing_others old.state new.state clean (nothing clean before)) before;
-      others = λ clean has. nothing_others old.state new.state clean (nothing clean (has (back clean) runs));
-      nothing = λ clean has. nothing clean (has (back clean) runs);
-      clean = back;
-      stopped = (λ is. absurd (never is), λ was. absurd (false≢true (sym runs ∙ was)));
-      stops = stops_on new.stopped given failed never;
-      refusals = or_stopped Own given refusals;
-      failures = λ clean has running. failures clean (has (back clean) running);
-      seen = λ clean has running. seen clean (has (back clean) running);
-    }
+    → TellsTables Own IsSeen old.state new.state given → (IsTrue new.stopped ↔ (given ≡ Err Store)) → ReadsBooks Own IsSeen given old new
+was_read {Own = Own} given old new runs forward next told failed = record {
+  keeps = λ life keeps clean.
+      let kept = keeps (told.clean clean) in
+      let here = kept.running runs in
+      kept_read life old new kept here forward next (still_held here.present old.state new.state clean here.at
+      (told.nothing clean (has_tables here.present old.state here.at)));
+  tables = λ has clean running.
+      let before = has (told.clean clean) runs in
+      tables_stay old.state new.state (nothing_others old.state new.state clean (told.nothing clean before)) before;
+  others = λ clean has. nothing_others old.state new.state clean (told.nothing clean (has (told.clean clean) runs));
+  nothing = λ clean has. told.nothing clean (has (told.clean clean) runs);
+  clean = told.clean;
+  stopped = (λ is. absurd (told.never_stopped is), λ was. absurd (false≢true (sym runs ∙ was)));
+  stops = stops_on new.stopped given failed told.never_stopped;
+  refusals = or_stopped Own given told.refusals;
+  failures = λ clean has running. told.failures clean (has (told.clean clean) running);
+  seen = λ clean has running. told.seen clean (has (told.clean clean) running);
+}
+
+-- what holds of the office that the tables hold holds of the present office of the life
+pub of_present : (Holds : Office → Type 0) (life : Life) (old new : Seen) → old.stopped ≡ false → (HasCleanDisk new.state → HasCleanDisk old.state)
+    → (HasCleanDisk new.state → (o : Office) → Stores old.state o → Holds o) → HasCleanDisk new.state → Represents life old → Holds (present life)
+of_present Holds life old new runs back holds clean keeps =
+    let here = (keeps (back clean)).running runs in
+    subst Holds (sym here.running.present) (holds clean here.present here.at)
 
 -- what is found in the office that the tables hold is found in the present office of the life
 pub found_here : (life : Life) (books : Seen) (moment : ℕ) (lookup : Lookup) (given : Result Found Refusal) → (here : IsPresent life books)

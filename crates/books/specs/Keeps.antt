@@ -1,5 +1,5 @@
 -- How books keep a life: what their connection has, and what a crash may leave.
-use Rattle.std.specs.Prelude.{◌≡◌, ◌⊎◌, ℕ, ◌+◌, Bool, false, length}
+use Rattle.std.specs.Prelude.{◌≡◌, ◌⊎◌, ℕ, ◌+◌, Bool, false, length, true}
 use Rattle.sqlite.specs.Held.{state}
 use Rattle.sqlite.specs.State.{HasCleanDisk, State}
 use Rattle.sqlite_trees.specs.Tree.{Trees}
@@ -33,6 +33,17 @@ seen {g = g} {h = h} books = record {
   been = HasBeen g;
 }
 
+-- it says this of what is seen of books before a call and after it
+abbrev pub Across : {S T : Type 0} → {g : Ghosts S} → {h : block.Ghosts T}
+    → (Seen → Seen → Type 0) → Books S T g h → Books S T g h → Type 0
+Across Says old new = Says (seen old) (seen new)
+
+-- the same, and books that were stopped stay as they are
+pub record UnlessStopped {S T : Type 0} {g : Ghosts S} {h : block.Ghosts T}
+    (Says : Seen → Seen → Type 0) (old new : Books S T g h) : Type 0 where
+  pub says : Across Says old new
+  pub idle : old.stopped ≡ true → new ≡ old
+
 -- Books that are not stopped have the office's tables, as long as the disk returns what was
 -- written. Nothing is said of the rows: they may be those of no office.
 abbrev pub BooksHaveTables : Seen → Type 0
@@ -64,3 +75,9 @@ pub record IsRepresented (life : Life) (books : Seen) : Type 0 where
 -- books keep a life, as long as the disk returns what was written
 abbrev pub Represents : Life → Seen → Type 0
 Represents life books = HasCleanDisk books.state → IsRepresented life books
+
+-- so it is of each life that the books keep, as long as the disk returns what was written
+abbrev pub OfEachLife : {S T : Type 0} → {g : Ghosts S} → {h : block.Ghosts T} → Books S T g h
+    → (Life → Type 0) → Type 0
+OfEachLife books Says =
+    HasCleanDisk (seen books).state → (life : Life) → Represents life (seen books) → Says life

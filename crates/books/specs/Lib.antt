@@ -1,8 +1,10 @@
 pub mod Asking
 pub mod Found
 pub mod Headline
+pub mod InTurn
 pub mod Keeps
 pub mod Looking
+pub mod Opens
 pub mod Path
 pub mod Reads
 pub mod Serving

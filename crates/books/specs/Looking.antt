@@ -10,7 +10,7 @@ use Rattle.book_facts.specs.LookupsSeen.{IsFoundSeen}
 use Rattle.book_states.specs.declared.lookup.Found.{Found}
 use Rattle.book_states.specs.declared.lookup.Lookup.{Lookup}
 use Rattle.books.specs.Keeps.{Seen}
-use Rattle.books.specs.Reads.{ReadsBooks}
+use Rattle.books.specs.Reads.{ReadsBooks, ReadsOfLife}
 
 -- that was found at the moment in the present office of the life, or there was no memory, or the
 -- store failed, or the books were stopped
@@ -23,6 +23,13 @@ IsFoundAt life moment lookup result =
 abbrev pub LooksUpBooks : ℕ → Lookup → Result Found Refusal → Seen → Seen → Type 0
 LooksUpBooks moment lookup found old new =
     ReadsBooks IsOfRules (IsFoundSeen old.next_number moment lookup) found old new
+
+-- What books found of what was looked up at a moment: for each life that they kept what its present
+-- office has, or why they had no answer. They were only read.
+abbrev pub FoundAt : ℕ → Lookup → Result Found Refusal → Seen → Seen → Type 0
+FoundAt moment lookup found old new =
+    ReadsOfLife (λ life. IsFoundAt life moment lookup found) IsOfRules
+    (IsFoundSeen old.next_number moment lookup) found old new
 
 -- the sale is the last one to a meter, by number
 pub record IsLastTo (o : Office) (number : List ℕ) (s : Sale) : Type 0 where

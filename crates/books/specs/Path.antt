@@ -11,7 +11,10 @@ use Rattle.sqlite_disk.specs.declared.Files.{Files}
 use Rattle.sqlite_store.specs.FileStore.{files as store_files, view}
 use Rattle.sqlite_store.specs.declared.store.FileStore.{FileStore}
 use Rattle.sqlite_trees.specs.Tree.{Trees}
+use Rattle.sqlite_trees.specs.declared.store.Store as stores
 use Rattle.sqlite_wal.specs.Recovery.{Image}
+use Rattle.sts_token.specs.Token.{BlockFunction}
+use Rattle.sts_token.specs.declared.transform.BlockTransform as block
 use Rattle.kept_order.specs.InOrder.{HasTablesInOrder}
 use Rattle.office_rules.specs.Office.{Office}
 use Rattle.book_states.specs.Stores.{StoreStandsFor}
@@ -20,6 +23,8 @@ use Rattle.book_states.specs.Same.{IsSame}
 use Rattle.book_opening.specs.declared.fault.OpenFault.{OpenFault}
 use Rattle.book_opening.specs.declared.fault.OpenFault.TheVariants.{NotAnOffice, Store, Memory}
 use Rattle.books.specs.Found.{FindsOffice}
+use Rattle.books.specs.Opens.{AreOpened}
+use Rattle.books.specs.declared.books.Books.{Books}
 use Rattle.books.specs.declared.refused_files.RefusedFiles.{RefusedFiles}
 use Rattle.books.specs.declared.refused_files.RefusedFiles.TheVariants.{Connected, Unconnected}
 
@@ -54,6 +59,14 @@ module _ {D : Type 0} {g : Ghosts D} where
     pub finds : HasCleanDisk (file_state last) → OpensAs (file_state first) (file_state last)
     pub survives : Survives (file_state first) (file_state last) (LeavesBrought (file_state first))
     pub unlimited : (file_state last).step_limit ≡ None
+
+  -- Books keep the office that opens there, of each one that the files stand for, and it was opened
+  -- so.
+  pub record AreOpenedIn {T : Type 0} {store : stores.Ghosts (FileStore D g)} {h : block.Ghosts T}
+      (image : Image) (forward : BlockFunction) (opened : Books (FileStore D g) T store h) : Type 0
+    where
+      pub books : AreOpened (StandsIn image) forward opened
+      pub finds : OpensFiles image opened.conn
 
   -- None was opened over a connection that was just made to the files. A fault that names the file
   -- is true of it, and another has a cause. The connection has what it had, and what the files

@@ -30,3 +30,10 @@ pub record ReadsBooks {A : Type 0} (Own : Refusal → Type 0)
       → IfErr given (λ why. Own why ⊎ IsToldOfRead why old.state new.state)
   pub seen : HasCleanDisk new.state → BooksHaveTables old → old.stopped ≡ false
       → IsSeen old.state.now given
+
+-- The same, and this is so of each life that the books kept.
+pub record ReadsOfLife {A : Type 0} (OfLife : Life → Type 0) (Own : Refusal → Type 0)
+    (IsSeen : Database → Result A Refusal → Type 0) (given : Result A Refusal) (old new : Seen)
+    : Type 0 where
+  pub of_life : HasCleanDisk new.state → (life : Life) → Represents life old → OfLife life
+  pub reads : ReadsBooks Own IsSeen given old new

@@ -1,11 +1,10 @@
 -- How an office answers messages, by how it serves requests and what it finds.
 use Rattle.std.specs.Prelude.{◌≡◌, ◌≢◌, ℕ, ◌+◌, ◌%◌, ℤ, ◌⊎◌, true, List, length, Option, Result, Err}
 use Rattle.books.specs.Asking.{ReplyAt}
-use Rattle.books.specs.Keeps.{Represents, Seen}
-use Rattle.books.specs.Looking.{IsFoundAt, LooksUpBooks}
+use Rattle.books.specs.Keeps.{Seen}
+use Rattle.books.specs.Looking.{FoundAt, IsFoundAt}
 use Rattle.book_states.specs.declared.lookup.Found.{Found}
 use Rattle.book_states.specs.declared.lookup.Lookup.{Lookup}
-use Rattle.sqlite.specs.State.{HasCleanDisk}
 use Rattle.vend_core.specs.Law.Life.{Life, present}
 use Rattle.vend_core.specs.Law.LifeLaws.{extended_by}
 use Rattle.office_rules.specs.declared.decision.answer.Answer.{Answer}
@@ -50,14 +49,6 @@ answers_by serves old x new =
 -- the reply to a message that is refused, after which the conversation ends
 abbrev pub message_refusal_of : MessageFault → List ℕ
 message_refusal_of fault = reply_bytes_of (Refused fault) true
-
--- What books found of what was looked up at a moment: for each life that they keep what its present
--- office has, or why they had no answer. They were only read.
-pub record FoundAt (moment : ℕ) (lookup : Lookup) (found : Result Found Refusal) (old new : Seen)
-    : Type 0 where
-  pub of_life : HasCleanDisk new.state → (life : Life) → Represents life old
-      → IsFoundAt life moment lookup found
-  pub reads : LooksUpBooks moment lookup found old new
 
 -- how books of any kind serve, by what contracts see of them
 abbrev pub books_serve : {B : Type 0} → (B → Seen) → Serving B

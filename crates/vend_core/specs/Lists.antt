@@ -4,7 +4,7 @@ use Rattle.std.specs.Prelude.{◌≡◌, ◌⊎◌, ◌<◌, ◌≤◌, Bool, tr
 use Rattle.sts_fields.specs.Tid.{last_tid}
 use Rattle.sts_token.specs.Token.{BlockFunction}
 use Rattle.office_rules.specs.Decision.{account_of, decision}
-use Rattle.office_rules.specs.Decision.Edits.{RowsFit}
+use Rattle.office_rules.specs.Decision.Edits.{RowsFit, applied}
 use Rattle.office_rules.specs.Decision.Facts.{report_of}
 use Rattle.office_rules.specs.Decision.Fold.{reply, step}
 use Rattle.office_rules.specs.Office.Lookup.{open_shift, sale_of_ref}
@@ -40,6 +40,11 @@ Fits (MoveBase number base) o = Unit {0}
 Fits (OpenShift s) o = Unit {0}
 Fits (CloseShift number moment) o = Unit {0}
 Fits (AddSale s) o = (s.tid ≤ last_tid) × (length o.sales < greatest_count)
+
+-- the edit was made, or for want of memory the office is as it was
+abbrev pub MakesEdit : {A E : Type 0} → Edit → Office → Office → Result A E → Type 0
+MakesEdit edit old new (Ok done) = new ≡ applied edit old
+MakesEdit edit old new (Err error) = new ≡ old
 
 -- an edit that adds no row
 abbrev pub sets_only : Edit → Bool

@@ -1,10 +1,10 @@
 //! The last sale to a meter.
 
-ghost use Rattle.std.specs.Prelude.{◌≡◌, IfErr, IfOk};
+ghost use Rattle.std.specs.Prelude.{◌≡◌};
 ghost use Rattle.sqlite.specs.State.{IsUnchanged};
 ghost use Rattle.one_table.specs.Over.{Over};
-ghost use Rattle.book_facts.specs.Lookups.{IsOfRules, last_found, last_sale, last_under};
-ghost use Rattle.book_facts.specs.Looking.{LooksUp};
+ghost use Rattle.book_facts.specs.Lookups.{last_found, last_sale, last_under};
+ghost use Rattle.book_facts.specs.Looking.{LooksUp, LooksUpByRules};
 ghost use Rattle.book_facts.specs.LookupsSeen.{IsLastFoundSeen, IsLastSaleSeen, IsLastUnderSeen};
 
 use crate::looking::sales::sale_or_none;
@@ -20,10 +20,9 @@ pub(crate) fn last_sale_of<S: Alter>(
     conn: &mut Connection<S>,
     number: &MeterNo,
 ) -> Result<Result<Found, Refusal>, TableError>
-    ensures looks { Over S.Store conn (λ old new. LooksUp IsUnchanged
+    ensures { Over S.Store conn (λ old new. LooksUpByRules IsUnchanged
         (λ o found. found ≡ last_found (o.meters number.now) (last_sale o number.now))
         (IsLastFoundSeen number.now) old new result) }
-    ensures rules { IfOk result (λ found. IfErr found IsOfRules) }
 {
     members_law();
     let there = meters::meter_numbered(conn, number)?;

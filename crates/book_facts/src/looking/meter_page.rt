@@ -1,11 +1,11 @@
 //! A page of the meters.
 
-ghost use Rattle.std.specs.Prelude.{◌≡◌, [], IfErr, IfOk, map, unwrap_or};
+ghost use Rattle.std.specs.Prelude.{◌≡◌, [], IfOk, map, unwrap_or};
 ghost use Rattle.sqlite.specs.State.{IsUnchanged};
 ghost use Rattle.one_table.specs.Over.{Over};
 ghost use Rattle.book_facts.specs.Listing.{listed_meter};
-ghost use Rattle.book_facts.specs.Lookups.{FindsMeters, IsOfRules};
-ghost use Rattle.book_facts.specs.Looking.{LooksUp};
+ghost use Rattle.book_facts.specs.Lookups.{FindsMeters};
+ghost use Rattle.book_facts.specs.Looking.{LooksUpByRules};
 ghost use Rattle.book_facts.specs.LookupsSeen.{FindsMetersSeen};
 
 use book_lists::meters_after;
@@ -22,9 +22,8 @@ pub(crate) fn meter_page<S: Alter>(
     conn: &mut Connection<S>,
     after: &Option<MeterNo>,
 ) -> Result<Result<Found, Refusal>, TableError>
-    ensures looks { Over S.Store conn (λ old new. LooksUp IsUnchanged
+    ensures { Over S.Store conn (λ old new. LooksUpByRules IsUnchanged
         (λ o. FindsMeters o after.now) (FindsMetersSeen after.now) old new result) }
-    ensures rules { IfOk result (λ found. IfErr found IsOfRules) }
 {
     let rows = meters_after(alloc, conn, number_or_none(after))?;
     let listed = listed_meters(alloc, rows)?;

@@ -1,12 +1,12 @@
 //! What is told of a meter.
 
-ghost use Rattle.std.specs.Prelude.{◌≡◌, IfErr, IfOk, option_map};
+ghost use Rattle.std.specs.Prelude.{◌≡◌, option_map};
 ghost use Rattle.sqlite.specs.State.{IsUnchanged};
 ghost use Rattle.one_table.specs.Over.{Over};
 ghost use Rattle.sts_fields.specs.Calendar.{month_at};
 ghost use Rattle.office_rules.specs.Office.Lookup.{prior};
-ghost use Rattle.book_facts.specs.Lookups.{IsOfRules, last_sale, meter_found};
-ghost use Rattle.book_facts.specs.Looking.{LooksUp};
+ghost use Rattle.book_facts.specs.Lookups.{last_sale, meter_found};
+ghost use Rattle.book_facts.specs.Looking.{LooksUpByRules};
 ghost use Rattle.book_facts.specs.LookupsSeen.{IsMeterFoundSeen};
 
 use crate::looking::last_sales::last_sale;
@@ -23,11 +23,10 @@ pub(crate) fn meter_of<S: Alter>(
     moment: Moment,
     number: &MeterNo,
 ) -> Result<Result<Found, Refusal>, TableError>
-    ensures looks { Over S.Store conn (λ old new. LooksUp IsUnchanged
+    ensures { Over S.Store conn (λ old new. LooksUpByRules IsUnchanged
         (λ o found. found ≡ meter_found number.now (o.meters number.now) (prior o number.now
         (month_at moment)) (last_sale o number.now)) (IsMeterFoundSeen number.now moment) old new
         result) }
-    ensures rules { IfOk result (λ found. IfErr found IsOfRules) }
 {
     members_law();
     let there = meters::meter_numbered(conn, number)?;

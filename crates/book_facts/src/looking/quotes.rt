@@ -1,6 +1,6 @@
 //! What a tender would buy.
 
-ghost use Rattle.std.specs.Prelude.{◌≡◌, ℕ, IfErr, IfOk, IsSome, None, length};
+ghost use Rattle.std.specs.Prelude.{◌≡◌, ℕ, IsSome, None, length};
 ghost use Rattle.std.specs.Option.{option_copied};
 ghost use Rattle.sqlite.specs.State.{IsUnchanged};
 ghost use Rattle.one_table.specs.Over.{Over};
@@ -10,8 +10,8 @@ ghost use Rattle.office_rules.specs.Office.{Office};
 ghost use Rattle.office_rules.specs.Office.Lookup.{open_shift, sale_of_ref};
 ghost use Rattle.office_rules.specs.declared.decision.request.Order.{Order};
 ghost use Rattle.office_rules.specs.declared.decision.request.Request.{Request};
-ghost use Rattle.book_facts.specs.Lookups.{IsOfRules, IsQuoted, quote, quote_for};
-ghost use Rattle.book_facts.specs.Looking.{LooksUp};
+ghost use Rattle.book_facts.specs.Lookups.{IsQuoted, quote, quote_for};
+ghost use Rattle.book_facts.specs.Looking.{LooksUpByRules};
 ghost use Rattle.book_facts.specs.LookupsSeen.{IsQuoteSeen};
 
 use crate::facts::accounts::account_numbered;
@@ -45,10 +45,9 @@ pub(crate) fn quote_of<S: Alter>(
     tender: Tender,
     sale_count: u64,
 ) -> Result<Result<Found, Refusal>, TableError>
-    ensures looks { Over S.Store conn (λ old new. LooksUp IsUnchanged
+    ensures { Over S.Store conn (λ old new. LooksUpByRules IsUnchanged
         (λ o found. sale_count ≡ length o.sales → found ≡ quote o moment number.now tender)
         (IsQuoteSeen number.now moment tender sale_count) old new result) }
-    ensures rules { IfOk result (λ found. IfErr found IsOfRules) }
 {
     let account = account_numbered(alloc, conn, number, moment)?;
     Ok(quoted(moment, number, tender, account.as_ref(), sale_count))

@@ -1,10 +1,9 @@
 //! A page of the sales.
 
-ghost use Rattle.std.specs.Prelude.{IfErr, IfOk};
 ghost use Rattle.sqlite.specs.State.{IsUnchanged};
 ghost use Rattle.one_table.specs.Over.{Over};
-ghost use Rattle.book_facts.specs.Lookups.{FindsSales, IsOfRules};
-ghost use Rattle.book_facts.specs.Looking.{LooksUp};
+ghost use Rattle.book_facts.specs.Lookups.{FindsSales};
+ghost use Rattle.book_facts.specs.Looking.{LooksUpByRules};
 ghost use Rattle.book_facts.specs.LookupsSeen.{FindsSalesSeen};
 
 use book_lists::PAGE;
@@ -21,9 +20,8 @@ pub(crate) fn sale_page<S: Alter>(
     conn: &mut Connection<S>,
     after: u32,
 ) -> Result<Result<Found, Refusal>, TableError>
-    ensures looks { Over S.Store conn (λ old new. LooksUp IsUnchanged (λ o. FindsSales o after)
+    ensures { Over S.Store conn (λ old new. LooksUpByRules IsUnchanged (λ o. FindsSales o after)
         (FindsSalesSeen after) old new result) }
-    ensures rules { IfOk result (λ found. IfErr found IsOfRules) }
 {
     let sales = sale_lists::sales_after(alloc, conn, after, PAGE)?;
     Ok(Ok(Found::Sales(sales)))

@@ -1,11 +1,11 @@
 //! The sale of a ref.
 
-ghost use Rattle.std.specs.Prelude.{◌≡◌, IfErr, IfOk};
+ghost use Rattle.std.specs.Prelude.{◌≡◌, IfErr};
 ghost use Rattle.sqlite.specs.State.{IsUnchanged};
 ghost use Rattle.one_table.specs.Over.{Over};
 ghost use Rattle.office_rules.specs.Office.Lookup.{sale_of_ref};
 ghost use Rattle.book_facts.specs.Lookups.{IsOfRules, sale_found};
-ghost use Rattle.book_facts.specs.Looking.{LooksUp};
+ghost use Rattle.book_facts.specs.Looking.{LooksUpByRules};
 ghost use Rattle.book_facts.specs.LookupsSeen.{IsSaleFoundSeen};
 
 use book_states::Found;
@@ -20,10 +20,9 @@ pub(crate) fn sale_under<S: Alter>(
     operator: &Operator,
     order_ref: &Ref,
 ) -> Result<Result<Found, Refusal>, TableError>
-    ensures looks { Over S.Store conn (λ old new. LooksUp IsUnchanged
+    ensures { Over S.Store conn (λ old new. LooksUpByRules IsUnchanged
         (λ o found. found ≡ sale_found (sale_of_ref o operator.now order_ref.now))
         (IsSaleFoundSeen operator.now order_ref.now) old new result) }
-    ensures rules { IfOk result (λ found. IfErr found IsOfRules) }
 {
     let there = sales::sale_of_ref(conn, operator, order_ref)?;
     Ok(sale_or_none(there))

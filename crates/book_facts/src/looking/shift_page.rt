@@ -1,10 +1,9 @@
 //! A page of the shifts, with their totals.
 
-ghost use Rattle.std.specs.Prelude.{IfErr, IfOk};
 ghost use Rattle.one_table.specs.Over.{Over};
 ghost use Rattle.book_states.specs.Same.{IsSame};
-ghost use Rattle.book_facts.specs.Lookups.{FindsShifts, IsOfRules};
-ghost use Rattle.book_facts.specs.Looking.{LooksUp};
+ghost use Rattle.book_facts.specs.Lookups.{FindsShifts};
+ghost use Rattle.book_facts.specs.Looking.{LooksUpByRules};
 ghost use Rattle.book_facts.specs.LookupsSeen.{FindsShiftsSeen};
 
 use book_lists::shifts_after;
@@ -21,9 +20,8 @@ pub(crate) fn shift_page<S: Alter>(
     conn: &mut Connection<S>,
     after: u32,
 ) -> Result<Result<Found, Refusal>, TableError>
-    ensures looks { Over S.Store conn (λ old new. LooksUp IsSame (λ o. FindsShifts o after)
+    ensures { Over S.Store conn (λ old new. LooksUpByRules IsSame (λ o. FindsShifts o after)
         (FindsShiftsSeen after) old new result) }
-    ensures rules { IfOk result (λ found. IfErr found IsOfRules) }
 {
     let shifts = shifts_after(alloc, conn, after)?;
     let mut listed = Vec::new(alloc);

@@ -1,11 +1,11 @@
 //! The totals of a shift.
 
-ghost use Rattle.std.specs.Prelude.{◌≡◌, IfErr, IfOk};
+ghost use Rattle.std.specs.Prelude.{◌≡◌, IfErr};
 ghost use Rattle.sqlite.specs.State.{IsUnchanged};
 ghost use Rattle.one_table.specs.Over.{Over};
 ghost use Rattle.book_facts.specs.Lookups.{IsOfRules, totals_found};
 ghost use Rattle.book_facts.specs.Totals.{shift_totals};
-ghost use Rattle.book_facts.specs.Looking.{LooksUp};
+ghost use Rattle.book_facts.specs.Looking.{LooksUpByRules};
 ghost use Rattle.book_facts.specs.LookupsSeen.{AreTotalsFoundSeen};
 
 use crate::facts::shifts::totals_of;
@@ -19,10 +19,9 @@ pub(crate) fn totals_under<S: Alter>(
     conn: &mut Connection<S>,
     number: u32,
 ) -> Result<Result<Found, Refusal>, TableError>
-    ensures looks { Over S.Store conn (λ old new. LooksUp IsUnchanged
+    ensures { Over S.Store conn (λ old new. LooksUpByRules IsUnchanged
         (λ o found. found ≡ totals_found number (shift_totals o number))
         (AreTotalsFoundSeen number) old new result) }
-    ensures rules { IfOk result (λ found. IfErr found IsOfRules) }
 {
     let there = totals_of(conn, number)?;
     Ok(totals_or_none(number, there))

@@ -1,13 +1,13 @@
 //! A page of the tariffs, with their steps.
 
-ghost use Rattle.std.specs.Prelude.{◌≡◌, [], IfErr, IfOk, unwrap_or};
+ghost use Rattle.std.specs.Prelude.{◌≡◌, [], unwrap_or};
 ghost use Rattle.sqlite.specs.State.{IsUnchanged};
 ghost use Rattle.one_table.specs.Over.{Over};
 ghost use Rattle.sts_fields.specs.Day.{day_at};
 ghost use Rattle.book_states.specs.Same.{IsSame};
 ghost use Rattle.book_facts.specs.Listing.{TellsOf};
-ghost use Rattle.book_facts.specs.Lookups.{FindsTariffs, IsOfRules};
-ghost use Rattle.book_facts.specs.Looking.{LooksUp};
+ghost use Rattle.book_facts.specs.Lookups.{FindsTariffs};
+ghost use Rattle.book_facts.specs.Looking.{LooksUp, LooksUpByRules};
 ghost use Rattle.book_facts.specs.LookupsSeen.{FindsTariffsSeen, IsTariffNamedSeen};
 
 use crate::facts::steps::steps_on;
@@ -28,9 +28,8 @@ pub(crate) fn tariff_page<S: Alter>(
     moment: Moment,
     after: &Option<TariffName>,
 ) -> Result<Result<Found, Refusal>, TableError>
-    ensures looks { Over S.Store conn (λ old new. LooksUp IsSame (λ o. FindsTariffs o
+    ensures { Over S.Store conn (λ old new. LooksUpByRules IsSame (λ o. FindsTariffs o
         (day_at moment) after.now) (FindsTariffsSeen (day_at moment) after.now) old new result) }
-    ensures rules { IfOk result (λ found. IfErr found IsOfRules) }
 {
     let names = tariffs_after(alloc, conn, name_or_none(after))?;
     let day = day_of(moment);

@@ -1,8 +1,7 @@
 //! A request that is asked at a moment.
 
-ghost use Rattle.std.specs.Prelude.{◌≡◌, true};
 ghost use Rattle.books.specs.Asking.{IsAsked, ReplyAt};
-ghost use Rattle.books.specs.Keeps.{seen};
+ghost use Rattle.books.specs.Keeps.{UnlessStopped, seen};
 
 use super::Books;
 use office_rules::{Moment, Reply, Request, Stamped};
@@ -13,8 +12,7 @@ impl<S: Alter, T: BlockTransform> Books<S, T> {
     /// Serves a request at a moment, with the nibble of the next sale's number: that number modulo
     /// 16.
     pub fn ask(&mut self, moment: Moment, request: Request) -> Reply
-        ensures replies { ReplyAt moment request result (seen self.old) (seen self.new) }
-        ensures idle { self.old.stopped ≡ true → self.new ≡ self.old }
+        ensures { UnlessStopped (ReplyAt moment request result) self.old self.new }
     {
         let at = self.stamp(moment, request);
         self.serve(&at)

@@ -9,7 +9,7 @@ ghost use Rattle.office_rules.specs.Office.{Office};
 ghost use Rattle.office_rules.specs.Decision.Requests.{IsStamped};
 ghost use Rattle.office_rules.specs.Law.Store.{Meets};
 ghost use Rattle.book_tables.specs.reading.Reading.{HasAllTables};
-ghost use Rattle.books.specs.Keeps.{seen};
+ghost use Rattle.books.specs.Keeps.{Across};
 ghost use Rattle.book_states.specs.Others.{LeavesOthers};
 ghost use Rattle.books.specs.Serving.{FailsToServe, HoldsOffice, ServesGranted, ServingEnds};
 
@@ -25,17 +25,17 @@ impl<S: Alter, T: BlockTransform> Books<S, T> {
     // Serves a request at books that are not stopped.
     pub(super) fn attempt(&mut self, at: &Stamped) -> Reply
         requires stamped { IsStamped at.now }
-        ensures attempts { HasCleanDisk (seen self.new).state
-            → (o : Office) → HoldsOffice o (seen self.old)
-            → ServingEnds (T.forwards self.old.transform) o at.now result (seen self.new) }
-        ensures others { HasCleanDisk (seen self.new).state → HasAllTables (seen self.old).state
-            → LeavesOthers (seen self.old).state (seen self.new).state }
-        ensures failures { HasCleanDisk (seen self.new).state → HasAllTables (seen self.old).state
-            → IfErr result (FailsToServe at.now (seen self.old) (seen self.new)) }
-        ensures granted { HasCleanDisk (seen self.new).state → HasAllTables (seen self.old).state
-            → IfOk result (λ answer. ServesGranted at.now answer (seen self.old)
-            (seen self.new)) }
-        ensures clean { HasCleanDisk (seen self.new).state → HasCleanDisk (seen self.old).state }
+        ensures attempts { Across (λ old new. HasCleanDisk new.state → (o : Office)
+            → HoldsOffice o old → ServingEnds old.forward o at.now result new)
+            self.old self.new }
+        ensures others { Across (λ old new. HasCleanDisk new.state → HasAllTables old.state
+            → LeavesOthers old.state new.state) self.old self.new }
+        ensures failures { Across (λ old new. HasCleanDisk new.state → HasAllTables old.state
+            → IfErr result (FailsToServe at.now old new)) self.old self.new }
+        ensures granted { Across (λ old new. HasCleanDisk new.state → HasAllTables old.state
+            → IfOk result (λ answer. ServesGranted at.now answer old new)) self.old self.new }
+        ensures clean { Across (λ old new. HasCleanDisk new.state → HasCleanDisk old.state)
+            self.old self.new }
         ensures never_stopped { result ≢ Err Refusal.Stopped }
         ensures transform { self.new.transform ≡ self.old.transform }
         ensures stopped { self.new.stopped ≡ self.old.stopped }

@@ -1,11 +1,8 @@
 //! An office in two files that are at hand.
 
-ghost use Rattle.std.specs.Prelude.{◌≡◌, false, IfErr, IfOk, IsTrue};
+ghost use Rattle.std.specs.Prelude.{IfErr, IfOk, IsTrue};
 ghost use Rattle.sqlite.specs.Files.{image_of};
-ghost use Rattle.vend_core.specs.Law.LifeLaws.{opened};
-ghost use Rattle.office_rules.specs.Office.{Office};
-ghost use Rattle.books.specs.Keeps.{BooksHaveTables, Represents, seen};
-ghost use Rattle.books.specs.Path.{OpensFiles, RefusesFiles, StandsIn};
+ghost use Rattle.books.specs.Path.{AreOpenedIn, RefusesFiles};
 
 use crate::books::Books;
 use crate::refused_files::RefusedFiles;
@@ -31,11 +28,7 @@ impl<D: Disk + Drop, T: BlockTransform + Drop> Books<FileStore<D>, T> {
     ) -> Result<Books<FileStore<D>, T>, (OpenFault, RefusedFiles<D>)>
         requires log { IsTrue (D.Disk.is_usable files.log) }
         requires db { IsTrue (D.Disk.is_usable files.db) }
-        ensures opens { (o : Office) → StandsIn (image_of D.Disk files) o
-            → IfOk result (λ books. Represents (opened (T.forwards transform) o) (seen books)) }
-        ensures tables { IfOk result (λ books. BooksHaveTables (seen books)) }
-        ensures finds { IfOk result (λ books. OpensFiles (image_of D.Disk files) books.conn) }
-        ensures running { IfOk result (λ books. books.stopped ≡ false) }
+        ensures opened { IfOk result (AreOpenedIn (image_of D.Disk files) (T.forwards transform)) }
         ensures refused { IfErr result (λ e. RefusesFiles files e.0 e.1) }
     {
         found_law::<FileStore<D>>();

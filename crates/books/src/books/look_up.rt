@@ -1,10 +1,7 @@
 //! A look-up.
 
-ghost use Rattle.std.specs.Prelude.{◌≡◌, true, Err};
-ghost use Rattle.sqlite.specs.State.{HasCleanDisk};
-ghost use Rattle.vend_core.specs.Law.Life.{Life};
-ghost use Rattle.books.specs.Keeps.{Represents, seen};
-ghost use Rattle.books.specs.Looking.{IsFoundAt, LooksUpBooks};
+ghost use Rattle.books.specs.Keeps.{UnlessStopped};
+ghost use Rattle.books.specs.Looking.{FoundAt};
 
 use super::Books;
 use book_facts::look_up;
@@ -21,11 +18,7 @@ impl<S: Alter, T: BlockTransform> Books<S, T> {
     /// `Memory`; `Stopped`; and `Store`, after which the books are stopped too. It puts nothing in
     /// doubt.
     pub fn look_up(&mut self, moment: Moment, lookup: &Lookup) -> Result<Found, Refusal>
-        ensures found { HasCleanDisk (seen self.new).state → (life : Life)
-            → Represents life (seen self.old)
-            → IsFoundAt life moment lookup.now result }
-        ensures reads { LooksUpBooks moment lookup.now result (seen self.old) (seen self.new) }
-        ensures idle { self.old.stopped ≡ true → self.new ≡ self.old }
+        ensures { UnlessStopped (FoundAt moment lookup.now result) self.old self.new }
     {
         if self.stopped {
             return Err(Refusal::Stopped);

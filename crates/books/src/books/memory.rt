@@ -1,9 +1,9 @@
 //! An office in memory.
 
-ghost use Rattle.std.specs.Prelude.{◌≡◌, ◌⊎◌, false, None, IfOk, IfErr};
-ghost use Rattle.vend_core.specs.Law.LifeLaws.{opened};
+ghost use Rattle.std.specs.Prelude.{◌≡◌, ◌⊎◌, None, IfOk, IfErr};
 ghost use Rattle.office_rules.specs.Office.{empty_office};
-ghost use Rattle.books.specs.Keeps.{BooksHaveTables, Represents, seen};
+ghost use Rattle.books.specs.Keeps.{seen};
+ghost use Rattle.books.specs.Opens.{AreOpened};
 
 use crate::books::Books;
 use book_opening::OpenFault;
@@ -18,10 +18,7 @@ impl<T: BlockTransform + Drop> Books<MemStore, T> {
     /// # Errors
     /// `Store` and `Memory`.
     pub fn in_memory(alloc: Global, transform: T) -> Result<Books<MemStore, T>, OpenFault>
-        ensures opens { IfOk result (λ books. Represents
-            (opened (T.forwards transform) empty_office) (seen books)) }
-        ensures tables { IfOk result (λ books. BooksHaveTables (seen books)) }
-        ensures running { IfOk result (λ books. books.stopped ≡ false) }
+        ensures opened { IfOk result (AreOpened (λ o. o ≡ empty_office) (T.forwards transform)) }
         ensures unlimited { IfOk result (λ books. (seen books).state.step_limit ≡ None) }
         ensures faults { IfErr result
             (λ fault. (fault ≡ OpenFault.Store) ⊎ (fault ≡ OpenFault.Memory)) }

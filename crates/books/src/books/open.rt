@@ -1,14 +1,7 @@
 //! The opening of an office over a connection.
 
-ghost use Rattle.std.specs.Prelude.{◌≡◌, ◌≢◌, false, IfOk, IfErr, MatchResult};
-ghost use Rattle.sqlite.specs.State.{HasCleanDisk, Survives};
-ghost use Rattle.sqlite.specs.Held.{state};
-ghost use Rattle.vend_core.specs.Law.LifeLaws.{opened};
-ghost use Rattle.office_rules.specs.Office.{Office};
-ghost use Rattle.books.specs.Keeps.{BooksHaveTables, Represents, seen};
-ghost use Rattle.book_states.specs.Stores.{StoreStandsFor};
-ghost use Rattle.book_opening.specs.Opening.{FailsToOpen, LeavesBrought, LeavesRefused, OpensAs};
-ghost use Rattle.book_states.specs.Same.{IsSame};
+ghost use Rattle.std.specs.Prelude.{◌≡◌, false, IfOk, IfErr};
+ghost use Rattle.books.specs.Opens.{OpensOver, RefusesOver};
 
 use crate::books::Books;
 use book_opening::{OpenFault, next_here};
@@ -32,28 +25,8 @@ impl<S: Alter, T: BlockTransform + Drop> Books<S, T> {
         transform: T,
     ) -> Result<Books<S, T>, (OpenFault, Connection<S>)>
         requires outside { conn.in_transaction ≡ false }
-        ensures opens { (o : Office) → StoreStandsFor (state S.Store conn) o
-            → IfOk result (λ books. Represents (opened (T.forwards transform) o) (seen books)) }
-        ensures tables { IfOk result (λ books. BooksHaveTables (seen books)) }
-        ensures finds { IfOk result (λ books. HasCleanDisk (state S.Store books.conn)
-            → OpensAs (state S.Store conn) (state S.Store books.conn)) }
-        ensures running { IfOk result (λ books. books.stopped ≡ false) }
-        ensures other { IfErr result (λ e. HasCleanDisk (state S.Store e.1)
-            → e.0 ≡ OpenFault.NotAnOffice → (o : Office)
-            → ¬ StoreStandsFor (state S.Store conn) o) }
-        ensures fails { IfErr result (λ e. HasCleanDisk (state S.Store e.1)
-            → FailsToOpen S.Store (state S.Store conn) (state S.Store e.1) e.0) }
-        ensures same { IfErr result (λ e. HasCleanDisk (state S.Store e.1)
-            → IsSame (state S.Store conn) (state S.Store e.1)) }
-        ensures refused { IfErr result (λ e. HasCleanDisk (state S.Store e.1)
-            → (o : Office) → StoreStandsFor (state S.Store conn) o
-            → StoreStandsFor (state S.Store e.1) o) }
-        ensures rests { IfErr result (λ e. e.1.in_transaction ≡ false) }
-        ensures survives { MatchResult result
-            (λ books. Survives (state S.Store conn) (state S.Store books.conn)
-            (LeavesBrought (state S.Store conn)))
-            (λ e. Survives (state S.Store conn) (state S.Store e.1)
-            (LeavesRefused (state S.Store conn) e.0)) }
+        ensures opened { IfOk result (OpensOver conn (T.forwards transform)) }
+        ensures refused { IfErr result (λ e. RefusesOver S.Store conn e.1 e.0) }
     {
         life_law();
         match next_here(alloc, &mut conn) {

@@ -1,14 +1,13 @@
 //! The sales, a page at a time, and the number of the next one.
 
-ghost use Rattle.std.specs.Prelude.{◌≡◌, ◌≤◌, ◌+◌, IfOk, false, length, true};
-ghost use Rattle.sqlite.specs.State.{HasCleanDisk};
-ghost use Rattle.vend_core.specs.Law.Life.{Life, MayLeave, present};
+ghost use Rattle.std.specs.Prelude.{◌≡◌, ◌≤◌, ◌+◌, IfOk, false, length};
+ghost use Rattle.vend_core.specs.Law.Life.{MayLeave, present};
 ghost use Rattle.office_rules.specs.Office.{Office};
 ghost use Rattle.office_rules.specs.Law.Store.{sales_above};
 ghost use Rattle.book_tables.specs.reading.Questions.{the_sales_after};
 ghost use Rattle.book_tables.specs.reading.Seen.{ShowsAll};
-ghost use Rattle.books.specs.Keeps.{IsNextOrOneBefore, Represents, seen};
-ghost use Rattle.books.specs.Reads.{ReadsBooks};
+ghost use Rattle.books.specs.Keeps.{IsNextOrOneBefore, OfEachLife, UnlessStopped};
+ghost use Rattle.books.specs.Reads.{ReadsOfLife};
 
 use super::Books;
 use book_facts::page;
@@ -26,13 +25,10 @@ impl<S: Alter, T: BlockTransform> Books<S, T> {
     pub fn sales_after(&mut self, number: u32, limit: u32) -> Result<Vec<Sale>, Refusal>
         requires some { 1 ≤ limit }
         requires few { limit ≤ 1000 }
-        ensures given { HasCleanDisk (seen self.new).state → (life : Life)
-            → Represents life (seen self.old)
-            → IfOk result (λ sales. sales.items ≡ sales_above (present life) number limit) }
-        ensures reads { ReadsBooks (λ why. ⊥) (λ db given. IfOk given (λ sales.
-            ShowsAll (the_sales_after number limit) db sales.items)) result
-            (seen self.old) (seen self.new) }
-        ensures idle { self.old.stopped ≡ true → self.new ≡ self.old }
+        ensures { UnlessStopped (ReadsOfLife (λ life. IfOk result (λ sales.
+            sales.items ≡ sales_above (present life) number limit)) (λ why. ⊥) (λ db given.
+            IfOk given (λ sales. ShowsAll (the_sales_after number limit) db sales.items)) result)
+            self.old self.new }
     {
         if self.stopped {
             return Err(Refusal::Stopped);
@@ -46,12 +42,10 @@ impl<S: Alter, T: BlockTransform> Books<S, T> {
     ///
     /// After a failure of the store it may be too small by one.
     pub fn next_number(&self) -> u64
-        ensures exact { HasCleanDisk (seen self.now).state → (life : Life)
-            → Represents life (seen self.now)
-            → self.now.stopped ≡ false → result ≡ length (present life).sales + 1 }
-        ensures near { HasCleanDisk (seen self.now).state → (life : Life)
-            → Represents life (seen self.now)
-            → (o : Office) → MayLeave life o → IsNextOrOneBefore o result }
+        ensures exact { OfEachLife self.now (λ life.
+            self.now.stopped ≡ false → result ≡ length (present life).sales + 1) }
+        ensures near { OfEachLife self.now (λ life.
+            (o : Office) → MayLeave life o → IsNextOrOneBefore o result) }
     {
         self.next_number
     }

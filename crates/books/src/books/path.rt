@@ -1,11 +1,8 @@
 //! An office in a file.
 
-ghost use Rattle.std.specs.Prelude.{◌≡◌, ◌≢◌, codes, false, Err, IfOk, IfErr, IsErrAnd};
+ghost use Rattle.std.specs.Prelude.{◌≡◌, codes, Err, IfOk, IfErr, IsErrAnd};
 ghost use Rattle.sqlite_wal.specs.Files.{image_at};
-ghost use Rattle.vend_core.specs.Law.LifeLaws.{opened};
-ghost use Rattle.office_rules.specs.Office.{Office};
-ghost use Rattle.books.specs.Keeps.{BooksHaveTables, Represents, seen};
-ghost use Rattle.books.specs.Path.{OpensFiles, RefusedAt, RefusesPath, StandsIn};
+ghost use Rattle.books.specs.Path.{AreOpenedIn, RefusedAt, RefusesPath};
 
 use crate::books::Books;
 use crate::reopening::found_law;
@@ -29,11 +26,7 @@ impl<B: Start, T: BlockTransform + Drop> Books<FileStore<FileFrom<B>>, T> {
         start: B,
         transform: T,
     ) -> Result<Books<FileStore<FileFrom<B>>, T>, OpenFault>
-        ensures opens { (o : Office) → StandsIn (image_at B.Start) o
-            → IfOk result (λ books. Represents (opened (T.forwards transform) o) (seen books)) }
-        ensures tables { IfOk result (λ books. BooksHaveTables (seen books)) }
-        ensures finds { IfOk result (λ books. OpensFiles (image_at B.Start) books.conn) }
-        ensures running { IfOk result (λ books. books.stopped ≡ false) }
+        ensures opened { IfOk result (AreOpenedIn (image_at B.Start) (T.forwards transform)) }
         ensures refused { IfErr result (RefusedAt ⟦<FileFrom<B> as Disk>⟧ (image_at B.Start)) }
         ensures no_memory { path.now ≡ codes ":memory:" → result ≡ Err OpenFault.Store }
     {
@@ -56,11 +49,7 @@ impl<B: Start, T: BlockTransform + Drop> Books<FileStore<FileFrom<B>>, T> {
         Books<FileStore<FileFrom<B>>, T>,
         (OpenFault, Option<Connection<FileStore<FileFrom<B>>>>),
     >
-        ensures opens { (o : Office) → StandsIn (image_at B.Start) o
-            → IfOk result (λ books. Represents (opened (T.forwards transform) o) (seen books)) }
-        ensures tables { IfOk result (λ books. BooksHaveTables (seen books)) }
-        ensures finds { IfOk result (λ books. OpensFiles (image_at B.Start) books.conn) }
-        ensures running { IfOk result (λ books. books.stopped ≡ false) }
+        ensures opened { IfOk result (AreOpenedIn (image_at B.Start) (T.forwards transform)) }
         ensures refused { IfErr result (λ e. RefusesPath (image_at B.Start) e.0 e.1) }
         // What `sqlite` keeps in memory is no file, and is never opened.
         ensures no_memory { path.now ≡ codes ":memory:"

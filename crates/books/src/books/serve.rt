@@ -1,8 +1,7 @@
 //! The requests, one at a time.
 
-ghost use Rattle.std.specs.Prelude.{◌≡◌, true};
 ghost use Rattle.books.specs.Asking.{Replies};
-ghost use Rattle.books.specs.Keeps.{seen};
+ghost use Rattle.books.specs.Keeps.{UnlessStopped};
 
 use super::Books;
 use book_states::has_failed;
@@ -18,8 +17,7 @@ impl<S: Alter, T: BlockTransform> Books<S, T> {
     /// office as it was. After `Store` the request is in doubt, and every request is answered
     /// `Stopped` until the office is opened again.
     pub fn serve(&mut self, at: &Stamped) -> Reply
-        ensures replies { Replies at.now result (seen self.old) (seen self.new) }
-        ensures idle { self.old.stopped ≡ true → self.new ≡ self.old }
+        ensures { UnlessStopped (Replies at.now result) self.old self.new }
     {
         life_law();
         at.keeps_ranges();

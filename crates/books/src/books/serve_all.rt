@@ -1,13 +1,8 @@
 //! Many requests, one after another.
 
-ghost use Rattle.std.specs.Prelude.{◌≡◌, IfErr, IfOk, OnErr, length, true};
-ghost use Rattle.sqlite.specs.State.{HasCleanDisk};
-ghost use Rattle.vend_core.specs.Law.Life.{Life};
-ghost use Rattle.vend_core.specs.Law.LifeLaws.{extended_along};
-ghost use Rattle.books.specs.Asking.{AreServedInTurn};
-ghost use Rattle.books.specs.Keeps.{BooksHaveTables, Represents, seen};
-ghost use Rattle.book_states.specs.Others.{LeavesOthers};
-ghost use Rattle.books.specs.Stopping.{StopAtFailure};
+ghost use Rattle.std.specs.Prelude.{◌≡◌, IfErr, IfOk, OnErr};
+ghost use Rattle.books.specs.InTurn.{LeaveTables, ServeInTurn};
+ghost use Rattle.books.specs.Keeps.{UnlessStopped};
 
 use super::Books;
 use office_rules::{Refusal, Reply, Stamped};
@@ -21,18 +16,9 @@ impl<S: Alter, T: BlockTransform> Books<S, T> {
     /// # Errors
     /// `Memory`, where there is no room for all replies. Nothing was done then.
     pub fn serve_all(&mut self, ats: &[Stamped]) -> Result<Vec<Reply>, Refusal>
-        ensures count { IfOk result (λ replies. length replies.items ≡ length ats.now) }
         ensures served { IfOk result (λ replies.
-            AreServedInTurn seen self.old ats.now replies.items self.new) }
-        ensures keeps { IfOk result (λ replies. (life : Life) → Represents life (seen self.old)
-            → Represents (extended_along life ats.now replies.items) (seen self.new)) }
-        ensures tables { BooksHaveTables (seen self.old) → BooksHaveTables (seen self.new) }
-        ensures others { HasCleanDisk (seen self.new).state → BooksHaveTables (seen self.old)
-            → LeavesOthers (seen self.old).state (seen self.new).state }
-        ensures clean { HasCleanDisk (seen self.new).state → HasCleanDisk (seen self.old).state }
-        ensures stops { IfOk result (λ replies.
-            StopAtFailure self.old.stopped replies.items self.new.stopped) }
-        ensures idle { self.old.stopped ≡ true → self.new ≡ self.old }
+            ServeInTurn ats.now replies.items self.old self.new) }
+        ensures leaves { UnlessStopped LeaveTables self.old self.new }
         ensures memory { IfErr result (λ refusal. refusal ≡ Refusal.Memory) }
         ensures untouched { OnErr result (self.new ≡ self.old) }
     {

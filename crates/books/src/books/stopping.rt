@@ -1,7 +1,6 @@
 //! Whether the store failed.
 
 ghost use Rattle.std.specs.Prelude.{◌≡◌};
-ghost use Rattle.books.specs.Keeps.{seen};
 
 use super::Books;
 use sqlite::Alter;
@@ -13,7 +12,7 @@ impl<S: Alter, T: BlockTransform> Books<S, T> {
     ///
     /// It takes no memory.
     pub fn is_stopped(&self) -> bool
-        ensures { result ≡ (seen self.now).stopped }
+        ensures { result ≡ self.now.stopped }
     {
         self.stopped
     }

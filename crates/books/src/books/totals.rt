@@ -1,11 +1,10 @@
 //! The running totals of a shift.
 
-ghost use Rattle.std.specs.Prelude.{◌≡◌, true, Err, None, Some, IfOk};
-ghost use Rattle.sqlite.specs.State.{HasCleanDisk};
-ghost use Rattle.vend_core.specs.Law.Life.{Life, present};
-ghost use Rattle.books.specs.Keeps.{Represents, seen};
-ghost use Rattle.books.specs.Reads.{ReadsBooks};
-ghost use Rattle.book_facts.specs.Totals.{GivesTotals, shift_totals};
+ghost use Rattle.std.specs.Prelude.{◌≡◌};
+ghost use Rattle.vend_core.specs.Law.Life.{present};
+ghost use Rattle.books.specs.Keeps.{UnlessStopped};
+ghost use Rattle.books.specs.Reads.{ReadsOfLife};
+ghost use Rattle.book_facts.specs.Totals.{AreTotalsIn, GivesTotals};
 
 use super::Books;
 use book_facts::totals;
@@ -24,15 +23,8 @@ impl<S: Alter, T: BlockTransform> Books<S, T> {
     /// `NoSuchShift`; `Memory`; `Stopped`; and `Store`, after which the books are stopped too. It
     /// puts nothing in doubt.
     pub fn shift_totals(&mut self, number: u32) -> Result<Totals, Refusal>
-        ensures given { HasCleanDisk (seen self.new).state → (life : Life)
-            → Represents life (seen self.old)
-            → IfOk result (λ totals. shift_totals (present life) number ≡ Some totals) }
-        ensures none { HasCleanDisk (seen self.new).state → (life : Life)
-            → Represents life (seen self.old)
-            → result ≡ Err Refusal.NoSuchShift → shift_totals (present life) number ≡ None }
-        ensures reads { ReadsBooks (λ why. why ≡ Refusal.NoSuchShift) (GivesTotals number) result
-            (seen self.old) (seen self.new) }
-        ensures idle { self.old.stopped ≡ true → self.new ≡ self.old }
+        ensures { UnlessStopped (ReadsOfLife (λ life. AreTotalsIn (present life) number result)
+            (λ why. why ≡ Refusal.NoSuchShift) (GivesTotals number) result) self.old self.new }
     {
         if self.stopped {
             return Err(Refusal::Stopped);

@@ -1,8 +1,8 @@
-ghost use Rattle.std.specs.Prelude.{◌≡◌, ◌==◌, ◌≤◌, ◌<◌, IfOk, IsOk, OnOk, OnErr, IsSome, List, ℕ, true, if◌then◌else◌, length, map, [], ◌∷◌, ◌++◌};
+ghost use Rattle.std.specs.Prelude.{◌≡◌, ◌==◌, ◌≤◌, ◌<◌, IfOk, IsOk, IsSome, List, ℕ, true, if◌then◌else◌, length, map, [], ◌∷◌, ◌++◌};
 ghost use Rattle.sts_fields.specs.Tid.{last_tid};
 ghost use Rattle.office_rules.specs.Decision.Edits.{RowsFit, set_meter, with_base};
 ghost use Rattle.office_rules.specs.Decision.Fold.{applied, closed_at};
-ghost use Rattle.vend_core.specs.Lists.{Fits, recorded, sets_only};
+ghost use Rattle.vend_core.specs.Lists.{Fits, MakesEdit, recorded, sets_only};
 ghost use Rattle.office_rules.specs.Office.{greatest_count};
 ghost use Rattle.vend_core.specs.Lists.PlainRows.{base_row, dated_steps_of, meters_of, row_put, tariffs_of};
 
@@ -17,8 +17,7 @@ use tariff::Steps;
 pub(crate) fn apply(alloc: Global, records: &mut Records, edit: Edit) -> Result<(), AllocError>
     requires { Fits edit (recorded records.old) }
     ensures exact { sets_only edit ≡ true → IsOk result }
-    ensures ok { OnOk result (recorded records.new ≡ applied edit (recorded records.old)) }
-    ensures err { OnErr result (recorded records.new ≡ recorded records.old) }
+    ensures made { MakesEdit edit (recorded records.old) (recorded records.new) result }
 {
     match edit {
         Edit::AddTariff(name, steps) => add_tariff(records, name, steps),
@@ -40,9 +39,8 @@ pub(crate) fn apply(alloc: Global, records: &mut Records, edit: Edit) -> Result<
 }
 
 fn add_tariff(records: &mut Records, name: TariffName, steps: Steps) -> Result<(), AllocError>
-    ensures ok { OnOk result
-        (recorded records.new ≡ applied (Edit.AddTariff name steps) (recorded records.old)) }
-    ensures err { OnErr result (recorded records.new ≡ recorded records.old) }
+    ensures { MakesEdit (Edit.AddTariff name steps) (recorded records.old)
+        (recorded records.new) result }
 {
     records.tariffs.insert(0, (name, steps))?;
     Ok(())
@@ -54,9 +52,8 @@ fn add_steps(
     day: Day,
     steps: Steps,
 ) -> Result<(), AllocError>
-    ensures ok { OnOk result
-        (recorded records.new ≡ applied (Edit.AddSteps name day steps) (recorded records.old)) }
-    ensures err { OnErr result (recorded records.new ≡ recorded records.old) }
+    ensures { MakesEdit (Edit.AddSteps name day steps) (recorded records.old)
+        (recorded records.new) result }
 {
     records.dated_steps.insert(0, ((name, day), steps))?;
     Ok(())
@@ -65,9 +62,8 @@ fn add_steps(
 // Room is made first, so that both rows are added or none.
 fn add_meter(records: &mut Records, number: MeterNo, meter: Meter) -> Result<(), AllocError>
     requires { IsSome ((recorded records.old).tariffs meter.tariff) }
-    ensures ok { OnOk result
-        (recorded records.new ≡ applied (Edit.AddMeter number meter) (recorded records.old)) }
-    ensures err { OnErr result (recorded records.new ≡ recorded records.old) }
+    ensures { MakesEdit (Edit.AddMeter number meter) (recorded records.old)
+        (recorded records.new) result }
 {
     let base = meter.base;
     records.bases.reserve(1)?;
@@ -79,9 +75,7 @@ fn add_meter(records: &mut Records, number: MeterNo, meter: Meter) -> Result<(),
 // Room is made first, so that all the rows are added or none.
 fn add_rows(alloc: Global, records: &mut Records, rows: Rows) -> Result<(), AllocError>
     requires { RowsFit rows (recorded records.old) }
-    ensures ok { OnOk result
-        (recorded records.new ≡ applied (Edit.AddRows rows) (recorded records.old)) }
-    ensures err { OnErr result (recorded records.new ≡ recorded records.old) }
+    ensures { MakesEdit (Edit.AddRows rows) (recorded records.old) (recorded records.new) result }
 {
     let (mut tariffs, mut dated_steps, mut meters) = last_first(alloc, rows)?;
     let mut bases = bases_of(alloc, &meters)?;
@@ -150,9 +144,8 @@ fn set_tariff(records: &mut Records, number: MeterNo, name: TariffName)
 }
 
 fn move_base(records: &mut Records, number: MeterNo, base: Base) -> Result<(), AllocError>
-    ensures ok { OnOk result
-        (recorded records.new ≡ applied (Edit.MoveBase number base) (recorded records.old)) }
-    ensures err { OnErr result (recorded records.new ≡ recorded records.old) }
+    ensures { MakesEdit (Edit.MoveBase number base) (recorded records.old)
+        (recorded records.new) result }
 {
     records.bases.insert(0, (number, base))?;
     set_base(records, number, base);
@@ -197,9 +190,8 @@ fn row_put(row: &(MeterNo, Meter), number: MeterNo, meter: &Meter) -> (MeterNo, 
 }
 
 fn open_shift(records: &mut Records, shift: Shift) -> Result<(), AllocError>
-    ensures ok { OnOk result
-        (recorded records.new ≡ applied (Edit.OpenShift shift) (recorded records.old)) }
-    ensures err { OnErr result (recorded records.new ≡ recorded records.old) }
+    ensures { MakesEdit (Edit.OpenShift shift) (recorded records.old)
+        (recorded records.new) result }
 {
     records.shifts.extend_from_slice(&[shift])
 }
@@ -238,9 +230,7 @@ fn closed_if(shift: &Shift, number: u32, moment: Moment) -> Shift
 fn add_sale(records: &mut Records, sale: Sale) -> Result<(), AllocError>
     requires tid { sale.tid ≤ last_tid }
     requires room { length (recorded records.old).sales < greatest_count }
-    ensures ok { OnOk result
-        (recorded records.new ≡ applied (Edit.AddSale sale) (recorded records.old)) }
-    ensures err { OnErr result (recorded records.new ≡ recorded records.old) }
+    ensures { MakesEdit (Edit.AddSale sale) (recorded records.old) (recorded records.new) result }
 {
     records.sales.push(sale)?;
     Ok(())

@@ -1,23 +1,32 @@
-use Rattle.std.proofs.Common.{inr}
+use Rattle.std.proofs.Common.{IsTrue, Ok, Err, refl, rules, subst}
 use Rattle.sqlite.specs.Held.{state}
-use Rattle.book_states.proofs.FailingLemmas.{told_of_read}
-use Rattle.book_states.proofs.StayLemmas.{clean_before}
+use Rattle.office_rules.specs.declared.decision.refusal.Refusal.TheVariants.{NoSuchShift}
+use Rattle.book_states.proofs.StayLemmas.{unchanged_same}
+use Rattle.book_facts.specs.Totals.{AreTotalsSeen}
+use Rattle.book_facts.proofs.TellsLemmas.{no_totals, tells_failed, tells_read}
 use Rattle.book_facts.proofs.shift_totals.totals.Goals as goal
 
-pub returns-in-Ok-Some-clause-clean : goal.returns-in-Ok-Some-clause-clean
-returns-in-Ok-Some-clause-clean g c = clean_before (state g.S.Store c.args.conn.now) (state g.S.Store c.totals_of.new.conn) _
-    (g.met.S.Store.shut_if_dirty c.args.conn.now.store) c.totals_of.ensures.reads.survives
+pub returns-in-Ok-Some-clause-tells : goal.returns-in-Ok-Some-clause-tells
+returns-in-Ok-Some-clause-tells g c =
+    let old = state g.S.Store c.args.conn.now in
+    let new = state g.S.Store c.totals_of.new.conn in
+    let it = c.in-Ok-Some in
+    tells_read (Ok it.totals) old new it.ensures.reads (unchanged_same old new) (g.met.S.Store.shut_if_dirty c.args.conn.now.store) c.requires
+    (λ clean has. subst (AreTotalsSeen c.args.number old.now) it.field-0-is (it.ensures.shown clean has)) tt (λ is. absurd cc)
 
-pub returns-in-Ok-None-clause-clean : goal.returns-in-Ok-None-clause-clean
-returns-in-Ok-None-clause-clean g c = clean_before (state g.S.Store c.args.conn.now) (state g.S.Store c.totals_of.new.conn) _
-    (g.met.S.Store.shut_if_dirty c.args.conn.now.store) c.totals_of.ensures.reads.survives
+pub returns-in-Ok-None-clause-tells : goal.returns-in-Ok-None-clause-tells
+returns-in-Ok-None-clause-tells g c =
+    let old = state g.S.Store c.args.conn.now in
+    let new = state g.S.Store c.totals_of.new.conn in
+    let it = c.in-Ok-None in
+    tells_read (Err NoSuchShift) old new it.ensures.reads (unchanged_same old new) (g.met.S.Store.shut_if_dirty c.args.conn.now.store) c.requires
+    (λ clean has. subst (AreTotalsSeen c.args.number old.now) it.field-0-is (it.ensures.shown clean has)) refl (λ is. absurd cc)
 
-pub returns-in-Err-clause-clean : goal.returns-in-Err-clause-clean
-returns-in-Err-clause-clean g c = clean_before (state g.S.Store c.args.conn.now) (state g.S.Store c.totals_of.new.conn) _
-    (g.met.S.Store.shut_if_dirty c.args.conn.now.store) c.totals_of.ensures.reads.survives
-
-pub returns-in-Err-clause-failures : goal.returns-in-Err-clause-failures
-returns-in-Err-clause-failures g c clean tables =
-    inr (told_of_read (state g.S.Store c.args.conn.now) (state g.S.Store c.totals_of.new.conn) c.in-Err.error c.refusal_of.result
-    c.refusal_of.ensures.value (c.in-Err.ensures.reads.faults clean tables) clean
-    (c.totals_of.ensures.reads.survives tables))
+pub returns-in-Err-clause-tells : goal.returns-in-Err-clause-tells
+returns-in-Err-clause-tells g c =
+    let old = state g.S.Store c.args.conn.now in
+    let outside : IsTrue c.is_autocommit-settled.result = search rules in
+    tells_failed old (state g.S.Store c.totals_of.new.conn) c.in-Err.error c.refusal_of.result c.refusal_of.ensures.value
+    c.refusal_of.ensures.either c.in-Err.ensures.reads (c.is_autocommit-settled.ensures.settled outside)
+    (g.met.S.Store.shut_if_dirty c.args.conn.now.store) c.requires
+    (no_totals c.args.number old.now c.refusal_of.result c.refusal_of.ensures.either)

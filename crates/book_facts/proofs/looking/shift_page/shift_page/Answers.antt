@@ -17,11 +17,11 @@ use Rattle.book_facts.proofs.FactsLemmas.{members_after, sales_told, shifts_told
 use Rattle.book_facts.proofs.ListedLemmas.{map_more}
 use Rattle.book_facts.proofs.PassedLemmas.{clean_before, passed, passed_after, passed_none, passed_reads, passed_then, read_after, same_on, stops_on, earlier, tables_after}
 use Rattle.book_facts.specs.LookupsSeen.{IsShiftListedSeen}
-use Rattle.book_facts.proofs.LooksLemmas.{looks_on, first_shown, table_shown, zip_more}
+use Rattle.book_facts.proofs.LooksLemmas.{by_rules_on, first_shown, table_shown, zip_more}
 use Rattle.book_facts.proofs.looking.shift_page.shift_page.Goals as goal
 
-pub returns-in_err-shifts-clause-looks : goal.returns-in_err-shifts-clause-looks
-returns-in_err-shifts-clause-looks g c = looks_on c.from_residual.result c.from_residual.ensures.1
+pub returns-in_err-shifts : goal.returns-in_err-shifts
+returns-in_err-shifts g c = by_rules_on c.from_residual.result c.from_residual.ensures.1
     (same_on (read_in_office shifts_in c.in_err-shifts.ensures.reads))
 
 pub loop-shift-init : goal.loop-shift-init
@@ -32,18 +32,18 @@ loop-shift-init g c =
       seen = λ clean has. rw c.new-listed.ensures.items tt;
     }
 
-pub returns-in_err-totals-clause-looks : goal.returns-in_err-totals-clause-looks
-returns-in_err-totals-clause-looks g c =
+pub returns-in_err-totals : goal.returns-in_err-totals
+returns-in_err-totals g c =
     let first = passed (read_in_office shifts_in c.in_ok-shifts.ensures.reads) (g.met.S.Store.shut_if_dirty c.shifts_after.new.conn.store) in
     let before = passed_then first c.loop-shift.invariant.passed in
-    looks_on c.from_residual-in_err-totals.result c.from_residual-in_err-totals.ensures.1
+    by_rules_on c.from_residual-in_err-totals.result c.from_residual-in_err-totals.ensures.1
     (same_on (read_after before (read_in_office shift_totals_in c.in_err-totals.ensures.reads)))
 
-pub returns-in_err-map_err-clause-looks : goal.returns-in_err-map_err-clause-looks
-returns-in_err-map_err-clause-looks g c =
+pub returns-in_err-map_err : goal.returns-in_err-map_err
+returns-in_err-map_err g c =
     let first = passed (read_in_office shifts_in c.in_ok-shifts.ensures.reads) (g.met.S.Store.shut_if_dirty c.shifts_after.new.conn.store) in
     let read = read_after (passed_then first c.loop-shift.invariant.passed) (read_in_office shift_totals_in c.in_ok-totals.ensures.reads) in
-    looks_on {U = ⊤} c.from_residual-in_err-map_err.result c.from_residual-in_err-map_err.ensures.1
+    by_rules_on {U = ⊤} c.from_residual-in_err-map_err.result c.from_residual-in_err-map_err.ensures.1
     (same_on (stops_on (Database (SqliteFailure OutOfMemory)) read (λ clean has. inr (refl, read.same clean has))))
 
 pub loop-shift-preserved : goal.loop-shift-preserved
@@ -75,8 +75,8 @@ loop-shift-preserved g c =
           (c.loop-shift.invariant.seen was has) (refl, totals));
     }
 
-pub returns-clause-looks : goal.returns-clause-looks
-returns-clause-looks g c =
+pub returns : goal.returns
+returns g c =
     let old = state g.S.Store c.args.conn.now in
     let initial = state g.S.Store c.shifts_after.new.conn in
     let new = state g.S.Store c.loop-shift.conn in
@@ -90,21 +90,24 @@ returns-clause-looks g c =
     let items_are : items ≡ c.in_ok-shifts.shifts.items = search rules in
     let all = take_all c.loop-shift.shift-index items c.loop-shift-test.false in
     record {
-      facts = λ clean o office members.
-          let was = clean_before first after.survives (tables_of old o members) clean in
-          let shifts_are = shifts_told office members none read was
-          (λ (shifts : List Shift). take page_size (filter (λ s. nat_lt number s.number) shifts)) c.in_ok-shifts.shifts.items
-          (c.in_ok-shifts.ensures.given was) in
-          c.loop-shift.invariant.listed clean o office (members_after o members first after.survives clean)
-          ∙ ap (map (listed_shift o)) (all ∙ items_are ∙ shifts_are);
-      shown = λ clean has.
-          let was = clean_before first after.survives has clean in
-          let as_was = earlier old initial new first after.survives has clean in
-          let told = subst (λ (shifts : List Shift). AllZip (IsShiftListedSeen initial.now) shifts listed) (all ∙ items_are)
-          (c.loop-shift.invariant.seen clean (tables_after first has)) in (
-            c.in_ok-shifts.shifts.items,
-            first_shown shifts_in c.in_ok-shifts.ensures.sees was has,
-            subst (λ db. AllZip (IsShiftListedSeen db) c.in_ok-shifts.shifts.items listed) as_was.now_is told,
-          );
-      reads = passed_reads (passed_then first after);
+      looks = record {
+        facts = λ clean o office members.
+            let was = clean_before first after.survives (tables_of old o members) clean in
+            let shifts_are = shifts_told office members none read was
+            (λ (shifts : List Shift). take page_size (filter (λ s. nat_lt number s.number) shifts)) c.in_ok-shifts.shifts.items
+            (c.in_ok-shifts.ensures.given was) in
+            c.loop-shift.invariant.listed clean o office (members_after o members first after.survives clean)
+            ∙ ap (map (listed_shift o)) (all ∙ items_are ∙ shifts_are);
+        shown = λ clean has.
+            let was = clean_before first after.survives has clean in
+            let as_was = earlier old initial new first after.survives has clean in
+            let told = subst (λ (shifts : List Shift). AllZip (IsShiftListedSeen initial.now) shifts listed) (all ∙ items_are)
+            (c.loop-shift.invariant.seen clean (tables_after first has)) in (
+              c.in_ok-shifts.shifts.items,
+              first_shown shifts_in c.in_ok-shifts.ensures.sees was has,
+              subst (λ db. AllZip (IsShiftListedSeen db) c.in_ok-shifts.shifts.items listed) as_was.now_is told,
+            );
+        reads = passed_reads (passed_then first after);
+      };
+      rules = tt;
     }

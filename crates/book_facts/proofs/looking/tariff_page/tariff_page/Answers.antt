@@ -17,11 +17,11 @@ use Rattle.book_facts.proofs.FactsLemmas.{members_after, of_no_office, office_sa
 use Rattle.book_facts.proofs.ListedLemmas.{TellTariffs, never_none, tariffs_listed, tell_more, tell_none}
 use Rattle.book_facts.proofs.PassedLemmas.{clean_before, passed, passed_after, passed_none, passed_reads, passed_then, read_after, same_on, stops_on, earlier, tables_after}
 use Rattle.book_facts.specs.LookupsSeen.{IsTariffNamedSeen, IsTariffListedSeen}
-use Rattle.book_facts.proofs.LooksLemmas.{looks_none, looks_on, looks_shown, first_shown, zip_more}
+use Rattle.book_facts.proofs.LooksLemmas.{by_rules_none, by_rules_on, looks_shown, first_shown, zip_more}
 use Rattle.book_facts.proofs.looking.tariff_page.tariff_page.Goals as goal
 
-pub returns-in_err-names-clause-looks : goal.returns-in_err-names-clause-looks
-returns-in_err-names-clause-looks g c = looks_on c.from_residual.result c.from_residual.ensures.1
+pub returns-in_err-names : goal.returns-in_err-names
+returns-in_err-names g c = by_rules_on c.from_residual.result c.from_residual.ensures.1
     (same_on (read_in_office tariffs_in c.in_err-names.ensures.reads))
 
 pub loop-name-init : goal.loop-name-init
@@ -32,21 +32,21 @@ loop-name-init g c =
       seen = λ clean has. rw c.new-listed.ensures.items tt;
     }
 
-pub returns-in_err-found-clause-looks : goal.returns-in_err-found-clause-looks
-returns-in_err-found-clause-looks g c =
+pub returns-in_err-found : goal.returns-in_err-found
+returns-in_err-found g c =
     let first = passed (read_in_office tariffs_in c.in_ok-names.ensures.reads) (g.met.S.Store.shut_if_dirty c.tariffs_after.new.conn.store) in
-    looks_on c.from_residual-in_err-found.result c.from_residual-in_err-found.ensures.1
+    by_rules_on c.from_residual-in_err-found.result c.from_residual-in_err-found.ensures.1
     (same_on (read_after (passed_then first c.loop-name.invariant.passed) c.in_err-found.ensures.reads))
 
-pub returns-in_err-map_err-clause-looks : goal.returns-in_err-map_err-clause-looks
-returns-in_err-map_err-clause-looks g c =
+pub returns-in_err-map_err : goal.returns-in_err-map_err
+returns-in_err-map_err g c =
     let first = passed (read_in_office tariffs_in c.in_ok-names.ensures.reads) (g.met.S.Store.shut_if_dirty c.tariffs_after.new.conn.store) in
     let read = read_after (passed_then first c.loop-name.invariant.passed) c.in_ok-found.ensures.reads in
-    looks_on {U = ⊤} c.from_residual-in_err-map_err.result c.from_residual-in_err-map_err.ensures.1
+    by_rules_on {U = ⊤} c.from_residual-in_err-map_err.result c.from_residual-in_err-map_err.ensures.1
     (same_on (stops_on (Database (SqliteFailure OutOfMemory)) read (λ clean has. inr (refl, read.same clean has))))
 
-pub returns-in_default-clause-looks : goal.returns-in_default-clause-looks
-returns-in_default-clause-looks g c =
+pub returns-in_default : goal.returns-in_default
+returns-in_default g c =
     let none = passed_none (state g.S.Store c.args.conn.now) (g.met.S.Store.shut_if_dirty c.args.conn.now.store) in
     let read_1 = read_in_office tariffs_in c.in_ok-names.ensures.reads in
     let first = passed read_1 (g.met.S.Store.shut_if_dirty c.tariffs_after.new.conn.store) in
@@ -56,7 +56,7 @@ returns-in_default-clause-looks g c =
     let all = read_after before read in
     let start = c.name_or_none.result.now in
     let name = c.name-item.result in
-    looks_none (same_on (stops_on RowOfNoOffice all (λ clean has. of_no_office all clean has (λ o office members.
+    by_rules_none (same_on (stops_on RowOfNoOffice all (λ clean has. of_no_office all clean has (λ o office members.
     let was = clean_before before read.survives has clean in
     let was_1 = clean_before first so_far.survives has was in
     let items = c.deref-name-items.result.now in
@@ -94,8 +94,8 @@ loop-name-preserved g c =
           c.name-item.is (c.loop-name.invariant.seen was has) seen);
     }
 
-pub returns-clause-looks : goal.returns-clause-looks
-returns-clause-looks g c =
+pub returns : goal.returns
+returns g c =
     let old = state g.S.Store c.args.conn.now in
     let initial = state g.S.Store c.tariffs_after.new.conn in
     let new = state g.S.Store c.loop-name.conn in
@@ -111,25 +111,28 @@ returns-clause-looks g c =
     let day_is : c.day_of-day.result ≡ day_at c.args.moment = search rules in
     let all = take_all c.loop-name.name-index items c.loop-name-test.false ∙ items_are in
     record {
-      facts = λ clean o office members.
-          let was = clean_before first so_far.survives (tables_of old o members) clean in
-          let page = office_says office members none read was tariffs_in
-          (λ (o : Office). AreFirstAfter (λ name. IsSome (o.tariffs name)) start names) (c.in_ok-names.ensures.given was) in
-          let told = subst (λ ns. TellTariffs o c.day_of-day.result ns listed) all
-          (c.loop-name.invariant.told clean o office (members_after o members first so_far.survives clean)) in
-          subst (λ day. AreTariffsAfter o day (unwrap_or c.args.after.now []) listed) day_is
-          (subst (λ start. AreTariffsAfter o c.day_of-day.result start listed) c.name_or_none.ensures
-          (tariffs_listed o c.day_of-day.result start names listed page told));
-      shown = λ clean has.
-          let was = clean_before first so_far.survives has clean in
-          let as_was = earlier old initial new first so_far.survives has clean in
-          let seen = subst (λ ns. AllZip (IsTariffListedSeen c.day_of-day.result initial.now) ns listed) all
-          (c.loop-name.invariant.seen clean (tables_after first has)) in (
-            names,
-            subst (λ start. ShowsAll (the_tariffs_after start) old.now names) c.name_or_none.ensures
-                (first_shown tariffs_in c.in_ok-names.ensures.sees was has),
-            subst (λ day. AllZip (IsTariffListedSeen day old.now) names listed) day_is
-                (subst (λ db. AllZip (IsTariffListedSeen c.day_of-day.result db) names listed) as_was.now_is seen),
-          );
-      reads = passed_reads (passed_then first so_far);
+      looks = record {
+        facts = λ clean o office members.
+            let was = clean_before first so_far.survives (tables_of old o members) clean in
+            let page = office_says office members none read was tariffs_in
+            (λ (o : Office). AreFirstAfter (λ name. IsSome (o.tariffs name)) start names) (c.in_ok-names.ensures.given was) in
+            let told = subst (λ ns. TellTariffs o c.day_of-day.result ns listed) all
+            (c.loop-name.invariant.told clean o office (members_after o members first so_far.survives clean)) in
+            subst (λ day. AreTariffsAfter o day (unwrap_or c.args.after.now []) listed) day_is
+            (subst (λ start. AreTariffsAfter o c.day_of-day.result start listed) c.name_or_none.ensures
+            (tariffs_listed o c.day_of-day.result start names listed page told));
+        shown = λ clean has.
+            let was = clean_before first so_far.survives has clean in
+            let as_was = earlier old initial new first so_far.survives has clean in
+            let seen = subst (λ ns. AllZip (IsTariffListedSeen c.day_of-day.result initial.now) ns listed) all
+            (c.loop-name.invariant.seen clean (tables_after first has)) in (
+              names,
+              subst (λ start. ShowsAll (the_tariffs_after start) old.now names) c.name_or_none.ensures
+                  (first_shown tariffs_in c.in_ok-names.ensures.sees was has),
+              subst (λ day. AllZip (IsTariffListedSeen day old.now) names listed) day_is
+                  (subst (λ db. AllZip (IsTariffListedSeen c.day_of-day.result db) names listed) as_was.now_is seen),
+            );
+        reads = passed_reads (passed_then first so_far);
+      };
+      rules = tt;
     }

@@ -1,8 +1,7 @@
 use Rattle.books.proofs.books.Books.ask.Goals as goal
 
-pub returns-clause-replies : goal.returns-clause-replies
-returns-clause-replies g c = (
-  c.stamp-at.result,
-  c.stamp-at.ensures,
-  c.serve.ensures.replies,
-)
+pub returns : goal.returns
+returns g c = record {
+  says = (c.stamp-at.result, c.stamp-at.ensures, c.serve.ensures.says);
+  idle = c.serve.ensures.idle;
+}

@@ -1,5 +1,7 @@
-use Rattle.std.proofs.Common.{◌≡◌, true, ◌++◌, ◌∷◌, [], ◌+◌, take, refl, ap, sym, subst, ◌∙◌, arith}
+use Rattle.std.proofs.Common.{◌≡◌, true, ◌++◌, ◌∷◌, [], ◌+◌, take, take_all, refl, ap, sym, subst, ◌∙◌, arith}
 use Rattle.std.proofs.lemmas.List.{take_more}
+use Rattle.book_states.proofs.OthersLemmas.{others_same}
+use Rattle.books.specs.InTurn.{ServeInTurn}
 use Rattle.books.specs.Keeps.{seen}
 use Rattle.books.proofs.AlongLemmas.{HaveServed, served_more, served_none, served_on}
 use Rattle.books.proofs.books.Books.serve_all.Goals as goal
@@ -27,13 +29,38 @@ loop-at-preserved g c =
     take_more c.args.ats.now c.loop-at.at-index at (omega arith) ∙ ap (λ x. ats ++ x ∷ []) (sym c.at-item.is) in record {
       served = rw (more, c.push_reserved.ensures.items)
           (served_more old mid new ats replies at c.serve-reply.result so_far.served
-          (λ life. c.life_law.ensures.along_one life ats replies at c.serve-reply.result) c.serve-reply.ensures.replies.keeps
-          c.serve-reply.ensures.replies.tables c.serve-reply.ensures.replies.others
-          c.serve-reply.ensures.replies.clean c.serve-reply.ensures.replies.stopped c.serve-reply.ensures.replies.stops);
+          (λ life. c.life_law.ensures.along_one life ats replies at c.serve-reply.result) c.serve-reply.ensures.says.keeps
+          c.serve-reply.ensures.says.tables c.serve-reply.ensures.says.others
+          c.serve-reply.ensures.says.clean c.serve-reply.ensures.says.stopped c.serve-reply.ensures.says.stops);
       each = rw (more, c.push_reserved.ensures.items)
           (served_on seen c.args.self.now c.loop-at.self c.serve-reply.new.self ats replies at c.serve-reply.result so_far.each
-          c.serve-reply.ensures.replies);
+          c.serve-reply.ensures.says);
       room = omega (arith, so_far.room, c.push_reserved.ensures.capacity);
       filled = omega (arith, so_far.filled, c.push_reserved.ensures.len);
       idle = λ stopped. let still : c.loop-at.self.stopped ≡ true = rw (so_far.idle stopped) stopped in c.serve-reply.ensures.idle still ∙ so_far.idle stopped;
+    }
+
+pub returns-in_err-replies-clause-leaves : goal.returns-in_err-replies-clause-leaves
+returns-in_err-replies-clause-leaves g c = record {
+  says = record { tables = λ has. has; others = λ _ _. others_same (seen c.args.self.now).state; clean = λ clean. clean };
+  idle = λ _. refl;
+}
+
+pub returns-clause-served : goal.returns-clause-served
+returns-clause-served g c =
+    let so_far = c.loop-at.invariant in
+    let all = take_all c.loop-at.at-index c.args.ats.now c.loop-at-test.false in
+    subst (λ ats. ServeInTurn ats c.loop-at.replies.items c.args.self.now c.loop-at.self) all (record {
+      count = so_far.served.count;
+      served = so_far.each;
+      keeps = so_far.served.keeps;
+      stops = so_far.served.stops;
+    })
+
+pub returns-clause-leaves : goal.returns-clause-leaves
+returns-clause-leaves g c =
+    let so_far = c.loop-at.invariant in
+    record {
+      says = record { tables = so_far.served.tables; others = so_far.served.others; clean = so_far.served.clean };
+      idle = so_far.idle;
     }

@@ -15,9 +15,9 @@ returns-clause-ok g c =
     let comes : Comes serves m now outcome c.args.office.now c.match-meaning_of.office =
     elim c.match-meaning_of.branch [
       | in-Asks w ↦ comes_asked serves m now _ w.in-Asks.form w.in-Asks.moment w.in-Asks.request w.ask.result outcome _ w.ask.new.self _
-          means w.in-Asks.is w.outcome-is w.office-is w.ask.ensures.replies
+          means w.in-Asks.is w.outcome-is w.office-is w.ask.ensures.says
       | in-Looks w ↦ comes_looked serves m now _ w.in-Looks.form w.in-Looks.moment w.in-Looks.lookup w.look_up.result outcome _
-          w.look_up.new.self _ means w.in-Looks.is w.outcome-is w.office-is (record { of_life = w.look_up.ensures.found; reads = w.look_up.ensures.reads })
+          w.look_up.new.self _ means w.in-Looks.is w.outcome-is w.office-is w.look_up.ensures.says
       | in-Told w ↦ comes_told serves m now _ w.in-Told.outcome outcome _ _ means w.in-Told.is w.outcome-is w.office-is
     ] in
     was_answered serves (λ v. v.items) (c.args.office.now, g.C.Clock.answers c.args.clock.now)
@@ -34,9 +34,9 @@ returns-clause-err g c =
     let comes : Comes serves m now outcome c.args.office.now c.match-meaning_of.office =
     elim c.match-meaning_of.branch [
       | in-Asks w ↦ comes_asked serves m now _ w.in-Asks.form w.in-Asks.moment w.in-Asks.request w.ask.result outcome _ w.ask.new.self _
-          means w.in-Asks.is w.outcome-is w.office-is w.ask.ensures.replies
+          means w.in-Asks.is w.outcome-is w.office-is w.ask.ensures.says
       | in-Looks w ↦ comes_looked serves m now _ w.in-Looks.form w.in-Looks.moment w.in-Looks.lookup w.look_up.result outcome _
-          w.look_up.new.self _ means w.in-Looks.is w.outcome-is w.office-is (record { of_life = w.look_up.ensures.found; reads = w.look_up.ensures.reads })
+          w.look_up.new.self _ means w.in-Looks.is w.outcome-is w.office-is w.look_up.ensures.says
       | in-Told w ↦ comes_told serves m now _ w.in-Told.outcome outcome _ _ means w.in-Told.is w.outcome-is w.office-is
     ] in
     was_given_up serves (c.args.office.now, g.C.Clock.answers c.args.clock.now) (c.match-meaning_of.office, g.C.Clock.answers c.meaning_of.new.clock) m

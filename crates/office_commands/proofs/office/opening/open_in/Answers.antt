@@ -7,13 +7,13 @@ returns-in_default-clause-refused g c = unsalted c.args.salts.now c.in_default.e
 
 pub returns-in-Ok-clause-opened : goal.returns-in-Ok-clause-opened
 returns-in-Ok-clause-opened g c = record {
-  opens = c.in-Ok.ensures.opens;
-  running = c.in-Ok.ensures.running;
-  tables = c.in-Ok.ensures.tables;
+  opens = c.in-Ok.ensures.opened.books.opens;
+  running = c.in-Ok.ensures.opened.books.running;
+  tables = c.in-Ok.ensures.opened.books.tables;
   finds = record {
     conn = c.in-Ok.books.conn;
     seen_as = record { now = refl; committed = refl; is_open = refl; is_clean = refl; faults = refl; left = λ trees may. may; leaves = λ trees may. may };
-    opens = c.in-Ok.ensures.finds;
+    opens = c.in-Ok.ensures.opened.finds;
   };
 }
 

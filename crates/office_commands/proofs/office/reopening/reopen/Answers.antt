@@ -10,15 +10,15 @@ use Rattle.office_commands.proofs.office.reopening.reopen.Goals as goal
 pub returns-in-Ok-open_from-clause-left : goal.returns-in-Ok-open_from-clause-left
 returns-in-Ok-open_from-clause-left g c clean =
     let first = file_state c.in-Ok.conn in
-    let survives = c.in-Ok-open_from.ensures.survives in
-    let finds = c.in-Ok-open_from.ensures.finds clean in
+    let survives = c.in-Ok-open_from.ensures.opened.survives in
+    let finds = c.in-Ok-open_from.ensures.opened.finds clean in
     let next = subst (λ conn. IsNextOf (file_state conn) first) c.into_connection.ensures.same (c.in-Ok.ensures.next (omega (arith, survives.clean, clean))) in
     record {
       clean = next.clean;
       left = ∥∥₁_map next.left (λ may. (
         first.committed.trees,
         may,
-        λ o found. c.in-Ok-open_from.ensures.opens o (c.opening_law.ensures.opens_again c.in-Ok.conn o next.opens next.live found),
+        λ o found. c.in-Ok-open_from.ensures.opened.books.opens o (c.opening_law.ensures.opens_again c.in-Ok.conn o next.opens next.live found),
         record {
           found = first.now;
           has = ap (λ (db : Database). db.trees) next.opens.clean;
@@ -43,7 +43,7 @@ returns-in-Err-clause-refused g c = (
 pub returns-in-Err-open_from-clause-refused : goal.returns-in-Err-open_from-clause-refused
 returns-in-Err-open_from-clause-refused g c =
     let first = file_state c.in-Ok.conn in
-    let told = c.in-Err-open_from.ensures in
+    let told = c.in-Err-open_from.ensures.refused in
     record {
       first = c.in-Ok.conn;
       next = λ clean. subst (λ conn. IsNextOf (file_state conn) first) c.into_connection.ensures.same (c.in-Ok.ensures.next clean);

@@ -22,7 +22,7 @@ returns-in_default-clause-page g c =
       takes_none c.args.out.now,
       inl refl,
       record {
-        tells = tells_no_memory old new c.in-Ok.sales (c.in-Ok.ensures.reads.stopped, c.in-Ok.ensures.reads.stops);
+        tells = tells_no_memory old new c.in-Ok.sales (c.in-Ok.ensures.says.reads.stopped, c.in-Ok.ensures.says.reads.stops);
         failures = λ clean tables running. inl refl;
       },
     )
@@ -32,10 +32,10 @@ returns-in-Err-clause-page g c =
     let old = seen c.args.books.now in
     let new = seen c.sales_after.new.self in (
       takes_none c.args.out.now,
-      not_own c.in-Err.ensures.reads.refusals,
+      not_own c.in-Err.ensures.says.reads.refusals,
       record {
-        tells = tells_refusal old new c.in-Err.refusal (c.in-Err.ensures.reads.stopped, c.in-Err.ensures.reads.stops);
-        failures = λ clean tables running. inr (not_own (c.in-Err.ensures.reads.failures clean tables running));
+        tells = tells_refusal old new c.in-Err.refusal (c.in-Err.ensures.says.reads.stopped, c.in-Err.ensures.says.reads.stops);
+        failures = λ clean tables running. inr (not_own (c.in-Err.ensures.says.reads.failures clean tables running));
       },
     )
 
@@ -55,22 +55,23 @@ returns-clause-page g c =
     let count : length c.in-Ok.sales.items ≡ c.len.result = sym (ap length c.deref.ensures.value) ∙ c.deref.ensures.len ∙ sym c.len.ensures in (
       c.in-Ok.sales.items,
       λ clean life kept.
-          let here = kept (c.in-Ok.ensures.reads.clean clean) in
+          let here = kept (c.in-Ok.ensures.says.reads.clean clean) in
           let office = (c.life_law.ensures.left life (present life) here.is_life here.opening (inl refl)).0 in
-          c.in-Ok.ensures.given clean life kept ∙ c.store_law.ensures.sales_above (present life) (c.args.page * 1000) 1000 office,
+          c.in-Ok.ensures.says.of_life clean life kept ∙ c.store_law.ensures.sales_above (present life) (c.args.page * 1000) 1000 office,
       subst (Takes before after) text c.put.ensures,
       elim c.if-is_full.branch [
         | then-is_full w ↦ full_page _ _ _ _ count w.if-is_full.true (w.result-is ∙ ap not w.has_failed.ensures)
         | else-is_full w ↦ short_page _ _ _ _ count w.if-is_full.false w.result-is
       ],
-      stopped_as_before (seen c.args.books.now) (seen c.sales_after.new.self) c.in-Ok.sales (c.in-Ok.ensures.reads.stopped, c.in-Ok.ensures.reads.stops),
+      stopped_as_before (seen c.args.books.now) (seen c.sales_after.new.self) c.in-Ok.sales
+          (c.in-Ok.ensures.says.reads.stopped, c.in-Ok.ensures.says.reads.stops),
     )
 
 pub returns-in_default-clause-reads : goal.returns-in_default-clause-reads
-returns-in_default-clause-reads g c = read_once (seen c.args.books.now) (seen c.sales_after.new.self) c.in-Ok.ensures.reads
+returns-in_default-clause-reads g c = read_once (seen c.args.books.now) (seen c.sales_after.new.self) c.in-Ok.ensures.says.reads
 
 pub returns-in-Err-clause-reads : goal.returns-in-Err-clause-reads
-returns-in-Err-clause-reads g c = read_once (seen c.args.books.now) (seen c.sales_after.new.self) c.in-Err.ensures.reads
+returns-in-Err-clause-reads g c = read_once (seen c.args.books.now) (seen c.sales_after.new.self) c.in-Err.ensures.says.reads
 
 pub returns-clause-reads : goal.returns-clause-reads
-returns-clause-reads g c = read_once (seen c.args.books.now) (seen c.sales_after.new.self) c.in-Ok.ensures.reads
+returns-clause-reads g c = read_once (seen c.args.books.now) (seen c.sales_after.new.self) c.in-Ok.ensures.says.reads

@@ -19,8 +19,8 @@ invariant_of-records-2-clause-have_tariffs c =
     (have_tariffs-rows c.args.rows now.tariffs.items now.meters.items now.bases.items now.dated_steps.items now.shifts.items
     now.sales.items c.requires now.have_tariffs))
 
-pub returns-clause-ok : goal.returns-clause-ok
-returns-clause-ok c =
+pub returns : goal.returns
+returns c =
     let now = c.args.records.now in
     let ts = c.in_ok-append.ensures.items ∙ ap (λ (l : List (List ℕ × List Step)). l ++ now.tariffs.items)
     (c.reserve.ensures.items ∙ c.in_ok-tariffs.ensures.0) in
