@@ -1,10 +1,10 @@
 -- A conversation that one office had, another one has that follows each of its steps.
-use Rattle.std.proofs.Common.{◌≡◌, ◌⊎◌, ℕ, inl, inr, List, [], ◌∷◌, Option, refl, ap, sym, subst}
+use Rattle.std.proofs.Common.{◌≡◌, ◌⊎◌, ℕ, ℤ, inl, inr, List, [], ◌∷◌, Option, refl, ap, sym, subst}
 use Rattle.conversation.specs.declared.end.End.{End}
 use Rattle.conversation.specs.declared.end.End.TheVariants.{Closed, BadMessage, ReadFault, WriteFault, Memory}
 use Rattle.conversation.specs.declared.message.message_fault.MessageFault.{MessageFault}
 use Rattle.conversation.specs.Conversation.{Conversation, Progress, IsCutOff, IsGivenUp, IsMessageReply, IsRefusal}
-use Rattle.conversation.specs.Exchanges.{MessageExchange, Exchanged, Timed, timed, GaveUp}
+use Rattle.conversation.specs.Exchanges.{MessageExchange, Exchanged, Timed, clocked, timed, GaveUp}
 use Rattle.conversation.specs.message.Messages.{Stop, Message, BeginsMessage, Ending}
 use Rattle.conversation.specs.Run.{IsRun, IsSaid}
 use Rattle.conversation.proofs.ProgressLemmas.{Step}
@@ -15,6 +15,16 @@ pub record Follows {O L : Type 0} (step : Step O) (live : Step L) (IsOf : L → 
   pub back : (old : O) (x : MessageExchange) (new : O) → step old x new → Well new → Well old
   pub next : (life : L) (old : O) (x : MessageExchange) (new : O) → IsOf life old → step old x new → Well new
       → (after : L) × live life x after × IsOf after new
+
+-- steps at the moments of one clock are followed at the same moments
+pub clocked_follows : {O L : Type 0} (step : Step O) (live : Step L) (IsOf : L → O → Type 0) (Well : O → Type 0) (gives : ℤ → Type 0)
+    → Follows step live IsOf Well → Follows (clocked gives step) (clocked gives live) IsOf Well
+clocked_follows step live IsOf Well gives f = record {
+  back = λ old x new stepped well. f.back old x new stepped.0 well;
+  next = λ life old x new is stepped well.
+      let one = f.next life old x new is stepped.0 well in
+      (one.0, (one.1, stepped.1), one.2);
+}
 
 module _ {O L : Type 0} (step : Step O) (live : Step L) (IsOf : L → O → Type 0) (Well : O → Type 0) (f : Follows step live IsOf Well) where
   -- the other office goes on to one that is the new office's, and this holds then

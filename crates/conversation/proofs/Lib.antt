@@ -9,3 +9,4 @@ pub mod ProgressLemmas
 pub mod ReadingLemmas
 pub mod RunLemmas
 pub mod UsesLemmas
+pub mod WiderLemmas

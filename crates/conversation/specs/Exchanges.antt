@@ -2,7 +2,7 @@
 --
 -- An office is any type of values. How one answers is a relation `step`, between the office before
 -- an exchange and the office after it.
-use Rattle.std.specs.Prelude.{◌≡◌, ℕ, ℤ, ◌⊎◌, false, List, [], ◌∷◌, Option, None, Some}
+use Rattle.std.specs.Prelude.{◌≡◌, ℕ, ℤ, ◌⊎◌, false, List, [], ◌∷◌, Option, None, Some, IfSome}
 use Rattle.conversation.specs.Clock.{Gives}
 use Rattle.conversation.specs.message.Messages.{Message, BeginsMessage}
 
@@ -25,6 +25,11 @@ Timed O = O × Option (List ℤ)
 abbrev pub timed : {O : Type 0} → (O → MessageExchange → O → Type 0) → Timed O → MessageExchange
     → Timed O → Type 0
 timed step old x new = step old.0 x new.0 × ReadsClock old.1 x.now new.1
+
+-- the office answered, and the moment, where the clock was read for it, is one that it gives
+abbrev pub clocked : {O : Type 0} → (gives : ℤ → Type 0) → (O → MessageExchange → O → Type 0) → O
+    → MessageExchange → O → Type 0
+clocked gives step old x new = step old x new × IfSome x.now gives
 
 -- the office gave up on the reply to this message: it is as before, or answered it all the same
 abbrev pub GaveUp : {O : Type 0} → (O → MessageExchange → O → Type 0) → Timed O → Message

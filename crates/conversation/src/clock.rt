@@ -7,13 +7,14 @@ pub trait Clock {
     ghost answers: { Self → Option (List ℤ) } = { λ _. None };
 
     /// It was read, and this is what it gave: so much is told of a clock whose answers nobody knows
-    /// beforehand.
+    /// beforehand. By being read it comes to give nothing that it did not give before.
     ghost reads: { Self → ℤ → Type 0 } = { λ _ _. ⊤ };
 
     /// The present moment in Unix seconds, which may lie outside the moments of the office.
     fn now(&mut self) -> i64
         ensures gives { Gives (answers self.old) result (answers self.new) }
-        ensures reads { reads self.old result };
+        ensures reads { reads self.old result }
+        ensures stays { (given : ℤ) → reads self.new given → reads self.old given };
 }
 
 /// A clock whose answers are given beforehand. The last one is repeated.

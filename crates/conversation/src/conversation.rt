@@ -1,9 +1,10 @@
+ghost use Rattle.conversation.specs.Exchanges.{clocked};
 ghost use Rattle.conversation.specs.message.Next.{message_of};
 ghost use Rattle.conversation.specs.Parts.{RepliesAreWritten, ReplyIsWritten, IsOver, RefusalIsWritten};
 ghost use Rattle.conversation.specs.Run.{IsRun};
 ghost use Rattle.conversation.specs.Uses.{EndsBy, Grows, IsPaced, Use};
 ghost use Rattle.conversation.specs.Wants.{IsAwaited};
-ghost use Rattle.std.specs.Prelude.{List};
+ghost use Rattle.std.specs.Prelude.{ℤ, List};
 
 use crate::clock::Clock;
 use crate::end::End;
@@ -35,13 +36,16 @@ pub fn run<O, S: Service<O>, L: Line<R, W>, R: Read, W: Write, C: Clock>(
     office: &mut O,
     clock: &mut C,
 ) -> End
-    ensures run { IsRun S.step S.refusal (office.old, C.answers clock.old)
-        (office.new, C.answers clock.new) (R.remaining reader.old) (R.remaining reader.new)
+    ensures run { IsRun (clocked (C.reads clock.old) S.step) S.refusal
+        (office.old, C.answers clock.old) (office.new, C.answers clock.new)
+        (R.remaining reader.old) (R.remaining reader.new)
         (W.contents writer.old) (W.contents writer.new) result }
     ensures paced { (uses : List Use) × Grows (L.uses line.old) (L.uses line.new) uses
-        × IsPaced S.step (office.old, C.answers clock.old) (R.remaining reader.old)
-        (R.remaining reader.new) (W.contents writer.old) (W.contents writer.new) uses
+        × IsPaced (clocked (C.reads clock.old) S.step) (office.old, C.answers clock.old)
+        (R.remaining reader.old) (R.remaining reader.new)
+        (W.contents writer.old) (W.contents writer.new) uses
         × EndsBy result uses }
+    ensures stays { (given : ℤ) → C.reads clock.new given → C.reads clock.old given }
 {
     let mut unanswered = Unanswered::new(alloc);
     let mut wants = Wants::Head(MAX_HEAD);
@@ -97,9 +101,11 @@ fn answer_all<O, S: Service<O>, L: Line<R, W>, R: Read, W: Write, C: Clock>(
     writer: &mut W,
     input: &[u8],
 ) -> Result<Awaiting, End>
-    ensures { RepliesAreWritten S.step S.refusal (office.old, C.answers clock.old)
-        (office.new, C.answers clock.new) (W.contents writer.old, L.uses line.old)
-        (W.contents writer.new, L.uses line.new) input.now result }
+    ensures written { RepliesAreWritten (clocked (C.reads clock.old) S.step) S.refusal
+        (office.old, C.answers clock.old) (office.new, C.answers clock.new)
+        (W.contents writer.old, L.uses line.old) (W.contents writer.new, L.uses line.new)
+        input.now result }
+    ensures stays { (given : ℤ) → C.reads clock.new given → C.reads clock.old given }
 {
     let mut len = 0;
     'messages: while len < input.len() {
@@ -138,10 +144,11 @@ fn answer_one<O, S: Service<O>, L: Line<R, W>, R: Read, W: Write, C: Clock>(
     writer: &mut W,
     message: &Received<'_>,
 ) -> Result<(), End>
-    ensures { ReplyIsWritten S.step (office.old, C.answers clock.old)
-        (office.new, C.answers clock.new)
+    ensures written { ReplyIsWritten (clocked (C.reads clock.old) S.step)
+        (office.old, C.answers clock.old) (office.new, C.answers clock.new)
         (W.contents writer.old, L.uses line.old) (W.contents writer.new, L.uses line.new)
         (message_of message.now) result }
+    ensures stays { (given : ℤ) → C.reads clock.new given → C.reads clock.old given }
 {
     match service.answer(alloc, office, clock, message) {
         Ok(reply) => send(line, writer, &reply),

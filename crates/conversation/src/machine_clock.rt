@@ -1,4 +1,4 @@
-ghost use Rattle.std.specs.Prelude.{ℕ, Option, ⊤};
+ghost use Rattle.std.specs.Prelude.{◌≡◌, ℕ, Option, ⊤};
 ghost use Rattle.conversation.specs.Clock.{IsAnswerFor};
 
 use crate::clock::Clock;
@@ -40,7 +40,9 @@ pub struct MachineClock<'a, T> {
 
 impl<'a, T: TimeSource> MachineClock<'a, T> {
     /// The clock of this source.
-    pub fn new(source: &'a T) -> MachineClock<'a, T> {
+    pub fn new(source: &'a T) -> MachineClock<'a, T>
+        ensures { result.source.now ≡ source.now }
+    {
         MachineClock { source }
     }
 }

@@ -1,5 +1,5 @@
-ghost use Rattle.std.specs.Prelude.{◌≡◌, ℕ, List, IfOk, OnErr};
-ghost use Rattle.conversation.specs.Exchanges.{MessageExchange, GaveUp, timed};
+ghost use Rattle.std.specs.Prelude.{◌≡◌, ℕ, ℤ, List, IfOk, OnErr};
+ghost use Rattle.conversation.specs.Exchanges.{MessageExchange, GaveUp, clocked, timed};
 ghost use Rattle.conversation.specs.message.Next.{message_of};
 ghost use Rattle.conversation.specs.declared.message.message_fault.MessageFault.{MessageFault};
 
@@ -16,8 +16,9 @@ pub trait Service<O> {
     /// The bytes of the reply to a message that is refused.
     ghost refusal: { MessageFault → List ℕ };
 
-    /// The bytes of the reply to a message. The clock is read at most once. Without memory there is
-    /// no reply, and the message may have been answered all the same.
+    /// The bytes of the reply to a message. The clock is read at most once, and the message is
+    /// answered at the moment that it gave. Without memory there is no reply, and the message may
+    /// have been answered all the same.
     fn answer<C: Clock>(
         &self,
         alloc: Global,
@@ -27,9 +28,12 @@ pub trait Service<O> {
     ) -> Result<Vec<u8>, AllocError>
         ensures ok { IfOk result (λ reply. (x : MessageExchange)
             × (x.message ≡ message_of message.now) × (x.reply ≡ reply.items)
-            × timed step (office.old, C.answers clock.old) x (office.new, C.answers clock.new)) }
-        ensures err { OnErr result (GaveUp step (office.old, C.answers clock.old)
-            (message_of message.now) (office.new, C.answers clock.new)) };
+            × timed (clocked (C.reads clock.old) step) (office.old, C.answers clock.old) x
+            (office.new, C.answers clock.new)) }
+        ensures err { OnErr result (GaveUp (clocked (C.reads clock.old) step)
+            (office.old, C.answers clock.old)
+            (message_of message.now) (office.new, C.answers clock.new)) }
+        ensures stays { (given : ℤ) → C.reads clock.new given → C.reads clock.old given };
 
     /// The bytes of the reply to a message that is refused.
     fn refuse(&self, alloc: Global, fault: MessageFault) -> Result<Vec<u8>, AllocError>

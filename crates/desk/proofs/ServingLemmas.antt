@@ -1,6 +1,6 @@
 -- The lives that books keep, by the messages that they answer.
 use Rattle.std.proofs.Common.{◌≡◌, ◌∙◌, ℕ, ℤ, ◌+◌, ◌%◌, inl, inr, Bool, true, false, List, length, Option, Result, Ok, Err, refl, ap, sym, subst}
-use Rattle.std.specs.Prelude.{IfOk, OnErr}
+use Rattle.std.specs.Prelude.{IfOk, IfSome, OnErr}
 use Rattle.sqlite.specs.State.{HasCleanDisk, State}
 use Rattle.vend_core.specs.Law.Life.{Life, present}
 use Rattle.vend_core.specs.Law.LifeLaws.{extended_by}
@@ -15,13 +15,13 @@ use Rattle.books.specs.Others.{LeavesOthers}
 use Rattle.books.proofs.OthersLemmas.{kept_tables, others_same, others_then}
 use Rattle.book_states.specs.declared.lookup.Found.{Found}
 use Rattle.book_states.specs.declared.lookup.Lookup.{Lookup}
-use Rattle.conversation.specs.Exchanges.{MessageExchange, GaveUp, ReadsClock, Timed, timed}
+use Rattle.conversation.specs.Exchanges.{MessageExchange, GaveUp, ReadsClock, Timed, clocked, timed}
 use Rattle.conversation.specs.message.Messages.{Message}
 use Rattle.conversation.specs.Run.{IsRun}
 use Rattle.conversation.specs.Uses.{EndsBy, IsPaced, Use}
 use Rattle.conversation.specs.declared.end.End.{End}
 use Rattle.conversation.specs.declared.message.message_fault.MessageFault.{MessageFault}
-use Rattle.conversation.proofs.FollowLemmas.{Follows, run_along, run_well}
+use Rattle.conversation.proofs.FollowLemmas.{Follows, clocked_follows, run_along, run_well}
 use Rattle.desk.specs.Answering.{Comes, LifeReplies, Serving, answers_by, books_serve, life_serves, message_refusal_of}
 use Rattle.desk.specs.Converses.{Converses}
 use Rattle.desk_messages.specs.Meaning.{IsIdle, IsMeaning}
@@ -66,20 +66,21 @@ comes_told serves m now meaning told outcome old office is means same kept =
     inl (subst (λ o. IsIdle m now o) (sym same) (subst (λ x. IsMeaning m now x) means is), kept)
 
 -- a message was answered, by the text that a result has
-pub was_answered : {O A E : Type 0} (serves : Serving O) (items : A → List ℕ) (old new : Timed O) (m : Message) (now : Option ℤ)
+pub was_answered : {O A E : Type 0} (serves : Serving O) (gives : ℤ → Type 0) (items : A → List ℕ) (old new : Timed O) (m : Message) (now : Option ℤ)
     (outcome : Outcome) (r : Result A E)
-    → ReadsClock old.1 now new.1 → Comes serves m now outcome old.0 new.0 → IfOk r (λ text. items text ≡ reply_bytes_of outcome m.closes)
-    → IfOk r (λ reply. (x : MessageExchange) × (x.message ≡ m) × (x.reply ≡ items reply) × timed (answers_by serves) old x new)
-was_answered serves items old new m now outcome (Ok reply) reads comes text =
-    (record { message = m; now = now; reply = items reply }, refl, refl, ((outcome, comes, text), reads))
-was_answered serves items old new m now outcome (Err error) reads comes text = tt
+    → ReadsClock old.1 now new.1 → IfSome now gives → Comes serves m now outcome old.0 new.0 → IfOk r (λ text. items text ≡ reply_bytes_of outcome m.closes)
+    → IfOk r (λ reply. (x : MessageExchange) × (x.message ≡ m) × (x.reply ≡ items reply) × timed (clocked gives (answers_by serves)) old x new)
+was_answered serves gives items old new m now outcome (Ok reply) reads gave comes text =
+    (record { message = m; now = now; reply = items reply }, refl, refl, (((outcome, comes, text), gave), reads))
+was_answered serves gives items old new m now outcome (Err error) reads gave comes text = tt
 
 -- a message was answered, and there was no memory for the text
-pub was_given_up : {O A E : Type 0} (serves : Serving O) (old new : Timed O) (m : Message) (now : Option ℤ) (outcome : Outcome) (r : Result A E)
-    → ReadsClock old.1 now new.1 → Comes serves m now outcome old.0 new.0 → OnErr r (GaveUp (answers_by serves) old m new)
-was_given_up serves old new m now outcome (Ok reply) reads comes = tt
-was_given_up serves old new m now outcome (Err error) reads comes =
-    (now, reads, inr (reply_bytes_of outcome m.closes, (outcome, comes, refl)))
+pub was_given_up : {O A E : Type 0} (serves : Serving O) (gives : ℤ → Type 0) (old new : Timed O) (m : Message) (now : Option ℤ)
+    (outcome : Outcome) (r : Result A E)
+    → ReadsClock old.1 now new.1 → IfSome now gives → Comes serves m now outcome old.0 new.0 → OnErr r (GaveUp (clocked gives (answers_by serves)) old m new)
+was_given_up serves gives old new m now outcome (Ok reply) reads gave comes = tt
+was_given_up serves gives old new m now outcome (Err error) reads gave comes =
+    (now, reads, inr (reply_bytes_of outcome m.closes, ((outcome, comes, refl), gave)))
 
 unless_true : (b : Bool) → ¬ (b ≡ true) → b ≡ false
 unless_true true not = absurd (not refl)
@@ -143,36 +144,47 @@ books_follow {B} see start = record { back = back; next = next }
       (finds.reads.keeps life kept.0, others_then start (see old).state (see new).state kept.1 (finds.reads.others clean (kept_tables life (see old) kept.0))),
     )
 
-module _ {B : Type 0} (see : B → Seen) (refusal : MessageFault → List ℕ) (old new : Timed B) (unread left held holds : Option (List ℕ)) (end : End)
-    (is_run : IsRun (answers_by (books_serve see)) refusal old new unread left held holds end) (clean : HasCleanDisk (see new.0).state) where
+module _ {B : Type 0} (see : B → Seen) (gives : ℤ → Type 0) (refusal : MessageFault → List ℕ) (old new : Timed B)
+    (unread left held holds : Option (List ℕ)) (end : End)
+    (is_run : IsRun (clocked gives (answers_by (books_serve see))) refusal old new unread left held holds end) (clean : HasCleanDisk (see new.0).state) where
+  -- books are followed by the lives that they keep, at the moments of the clock
+  follow : (start : State)
+      → Follows (clocked gives (answers_by (books_serve see))) (clocked gives (answers_by life_serves))
+      (λ life books. KeepsFrom start life (see books)) (λ books. HasCleanDisk (see books).state)
+  follow start =
+      clocked_follows (answers_by (books_serve see)) (answers_by life_serves) (λ life books. KeepsFrom start life (see books))
+      (λ books. HasCleanDisk (see books).state) gives
+      (books_follow see start)
+
   -- a life that books kept went on along a run of them, which left other tables alone
   run_kept : (life : Life) → Represents life (see old.0)
-      → (after : Life) × IsRun (answers_by life_serves) refusal (life, old.1) (after, new.1) unread left held holds end
+      → (after : Life) × IsRun (clocked gives (answers_by life_serves)) refusal (life, old.1) (after, new.1) unread left held holds end
       × KeepsFrom (see old.0).state after (see new.0)
   run_kept life keeps =
       let start = (see old.0).state in
-      run_along (answers_by (books_serve see)) (answers_by life_serves) (λ l books. KeepsFrom start l (see books))
-      (λ books. HasCleanDisk (see books).state) (books_follow see start)
+      run_along (clocked gives (answers_by (books_serve see))) (clocked gives (answers_by life_serves)) (λ l books. KeepsFrom start l (see books))
+      (λ books. HasCleanDisk (see books).state) (follow start)
       refusal life old new unread left held holds end (keeps, others_same start) is_run clean
 
   -- the disk was clean before it
   run_clean : HasCleanDisk (see old.0).state
   run_clean =
       let start = (see old.0).state in
-      run_well (answers_by (books_serve see)) (answers_by life_serves) (λ l books. KeepsFrom start l (see books))
-      (λ books. HasCleanDisk (see books).state) (books_follow see start)
+      run_well (clocked gives (answers_by (books_serve see))) (clocked gives (answers_by life_serves)) (λ l books. KeepsFrom start l (see books))
+      (λ books. HasCleanDisk (see books).state) (follow start)
       refusal old new unread left held holds end is_run clean
 
 -- a run over books is a conversation of them, and of the lives that they keep
-pub converses : {B : Type 0} (see : B → Seen) (old new : Timed B) (unread left held holds : Option (List ℕ)) (uses : List Use) (end : End)
-    → IsRun (answers_by (books_serve see)) message_refusal_of old new unread left held holds end
-    → IsPaced (answers_by (books_serve see)) old unread left held holds uses → EndsBy end uses → Converses see old new unread left held holds uses end
-converses see old new unread left held holds uses end ran paced ends = record {
+pub converses : {B : Type 0} (see : B → Seen) (gives : ℤ → Type 0) (old new : Timed B) (unread left held holds : Option (List ℕ)) (uses : List Use) (end : End)
+    → IsRun (clocked gives (answers_by (books_serve see))) message_refusal_of old new unread left held holds end
+    → IsPaced (clocked gives (answers_by (books_serve see))) old unread left held holds uses → EndsBy end uses
+    → Converses see gives old new unread left held holds uses end
+converses see gives old new unread left held holds uses end ran paced ends = record {
   run = ran;
   paced = paced;
   ends = ends;
-  clean = λ clean. run_clean see message_refusal_of old new unread left held holds end ran clean;
+  clean = λ clean. run_clean see gives message_refusal_of old new unread left held holds end ran clean;
   lives = λ clean life keeps.
-      let kept = run_kept see message_refusal_of old new unread left held holds end ran clean life keeps in
+      let kept = run_kept see gives message_refusal_of old new unread left held holds end ran clean life keeps in
       (kept.0, kept.1, kept.2.0, kept.2.1);
 }

@@ -1,4 +1,4 @@
-ghost use Rattle.std.specs.Prelude.{List};
+ghost use Rattle.std.specs.Prelude.{ℤ, List};
 ghost use Rattle.books.specs.Keeps.{seen};
 ghost use Rattle.conversation.specs.Uses.{Grows, Use};
 ghost use Rattle.desk.specs.Converses.{Converses};
@@ -43,10 +43,11 @@ impl Desk {
         books: &mut Books<S, T>,
         clock: &mut C,
     ) -> End
-        ensures { (uses : List Use) × Converses seen
+        ensures converses { (uses : List Use) × Converses seen (C.reads clock.old)
             (books.old, C.answers clock.old) (books.new, C.answers clock.new)
             (R.remaining reader.old) (R.remaining reader.new)
             (W.contents writer.old) (W.contents writer.new) uses result }
+        ensures stays { (given : ℤ) → C.reads clock.new given → C.reads clock.old given }
     {
         run(self, alloc, &mut Untold, reader, writer, books, clock)
     }
@@ -63,10 +64,12 @@ impl Desk {
         books: &mut Books<S, T>,
         clock: &mut C,
     ) -> End
-        ensures { (uses : List Use) × Grows (L.uses line.old) (L.uses line.new) uses
-            × Converses seen (books.old, C.answers clock.old) (books.new, C.answers clock.new)
+        ensures converses { (uses : List Use) × Grows (L.uses line.old) (L.uses line.new) uses
+            × Converses seen (C.reads clock.old)
+            (books.old, C.answers clock.old) (books.new, C.answers clock.new)
             (R.remaining reader.old) (R.remaining reader.new)
             (W.contents writer.old) (W.contents writer.new) uses result }
+        ensures stays { (given : ℤ) → C.reads clock.new given → C.reads clock.old given }
     {
         run(self, alloc, line, reader, writer, books, clock)
     }

@@ -1,6 +1,6 @@
 //! What a message means, before the office is asked.
 
-ghost use Rattle.std.specs.Prelude.{◌≡◌, ◌≢◌, ℤ, MatchOption, Option, Some, Ok, pos};
+ghost use Rattle.std.specs.Prelude.{◌≡◌, ◌≢◌, ℤ, IfSome, MatchOption, Option, Some, Ok, pos};
 ghost use Rattle.conversation.specs.Exchanges.{ReadsClock};
 ghost use Rattle.conversation.specs.message.Next.{message_of};
 ghost use Rattle.book_states.specs.declared.lookup.Lookup.{Lookup};
@@ -33,15 +33,19 @@ pub enum Meaning {
 }
 
 impl Routes {
-    /// What a message means. The clock is read once where it has a route, and else not.
+    /// What a message means. The clock is read once where it has a route, and else not; the moment
+    /// is the one that it gave.
     pub fn meaning_of<C: Clock>(
         &self,
         alloc: Global,
         clock: &mut C,
         message: &Received<'_>,
     ) -> Meaning
-        ensures { (now : Option ℤ) × ReadsClock (C.answers clock.old) now (C.answers clock.new)
+        ensures meaning { (now : Option ℤ)
+            × ReadsClock (C.answers clock.old) now (C.answers clock.new)
+            × IfSome now (C.reads clock.old)
             × IsMeaning (message_of message.now) now result }
+        ensures stays { (given : ℤ) → C.reads clock.new given → C.reads clock.old given }
     {
         match self.route_of(message.target, message.method) {
             Ok(route) => meaning_at(alloc, route, clock.now(), message),

@@ -1,13 +1,14 @@
 -- The lives of one office along connections.
-use Rattle.std.proofs.Common.{◌≡◌, ◌⊎◌, ◌∙◌, ℕ, zero, suc, List, [], ◌∷◌, ◌++◌, Option, inl, inr, refl, ap, subst, sym}
+use Rattle.std.proofs.Common.{◌≡◌, ◌⊎◌, ◌∙◌, ℕ, ℤ, zero, suc, List, [], ◌∷◌, ◌++◌, Option, inl, inr, refl, ap, subst, sym}
 use Rattle.std.proofs.Math.Logic.{∥∥₁_elim}
 use Rattle.sqlite.specs.State.{HasCleanDisk}
 use Rattle.books.specs.Headline.{RepresentTheLast, with_last}
 use Rattle.books.specs.Keeps.{Seen}
 use Rattle.desk.specs.Answering.{answers_by, life_serves, message_refusal_of}
-use Rattle.conversation.specs.Exchanges.{Exchanged, GaveUp, MessageExchange, Timed, timed}
+use Rattle.conversation.specs.Exchanges.{Exchanged, GaveUp, MessageExchange, Timed, clocked, timed}
 use Rattle.conversation.specs.message.Messages.{BeginsMessage, Message}
 use Rattle.conversation.specs.Run.{IsRun}
+use Rattle.conversation.proofs.WiderLemmas.{run_wider, unclocked}
 use Rattle.conversation.specs.declared.end.End as conversation
 use Rattle.conversation.specs.declared.end.End.TheVariants.{Closed, BadMessage, ReadFault, WriteFault, Memory}
 use Rattle.sts_fields.specs.Text.{Text}
@@ -81,18 +82,24 @@ module _ {D R W B : Type 0} (way : Way D R W) (forward : BlockFunction) (see : B
         },
       ) ∣₁)
 
-  pub live_on : (count : ℕ) (old new : Service D B) (printed : Text) → AreHeld way forward see count old new printed
+module _ {D R W B : Type 0} (way : Way D R W) (gives : ℤ → Type 0) (forward : BlockFunction) (see : B → Seen)
+    (goes_on : (lives : List Life) (life : Life) (o p : Office) → AreLives lives o → IsLife life → life.opening ≡ o → MayLeave life p
+    → AreLives (lives ++ life ∷ []) p) where
+  pub live_on : (count : ℕ) (old new : Service D B) (printed : Text) → AreHeld way gives forward see count old new printed
       → HasCleanDisk (see new.books).state → (start : Course) → RepresentTheLast start.over start.life (see old.books)
       → ∥ LiveOn way forward see count (service old.door start old.answers) new ∥₁
   live_on zero old new printed (same, none) clean start last =
       ∣ (start, ap (λ s. service s.door start s.answers) same, subst (λ s. RepresentTheLast start.over start.life (see s.books)) (sym same) last) ∣₁
   live_on (suc count) old new printed (mid, before, held, (ready, are, one), all) clean start last =
       let ready_is_clean = one.clean clean in
-      ∥∥₁_elim (live_on count old mid before held (ready_clean mid.books ready are ready_is_clean) start last) squash₁ (λ so_far.
-      ∥∥₁_elim (next_course mid.books ready are ready_is_clean so_far.0 so_far.2) squash₁ (λ next.
+      ∥∥₁_elim (live_on count old mid before held (ready_clean way forward see goes_on mid.books ready are ready_is_clean) start last) squash₁ (λ so_far.
+      ∥∥₁_elim (next_course way forward see goes_on mid.books ready are ready_is_clean so_far.0 so_far.2) squash₁ (λ next.
       let kept = next.2 in
       let goes = one.lives clean next.0.life kept.kept in
-      let opening = run_opening (next.0.life, mid.answers) (goes.0, new.answers) _ _ _ _ one.end goes.1 in
+      let lived = answers_by life_serves in
+      let run = run_wider (clocked gives lived) lived (unclocked lived gives) message_refusal_of (next.0.life, mid.answers)
+      (goes.0, new.answers) _ _ _ _ one.end goes.1 in
+      let opening = run_opening (next.0.life, mid.answers) (goes.0, new.answers) _ _ _ _ one.end run in
       ∣ (
         course next.0.over goes.0,
         (
@@ -108,7 +115,7 @@ module _ {D R W B : Type 0} (way : Way D R W) (forward : BlockFunction) (see : B
               written = one.written;
               end = one.end;
               accepted = one.accepted;
-              run = goes.1;
+              run = run;
               ended = one.ended;
               over = refl;
             },

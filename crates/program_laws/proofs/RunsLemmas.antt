@@ -163,8 +163,8 @@ next_own before more forward last next over (inr (o, left, is)) =
     let all : next.over ≡ before ++ (more ++ then) = ap (λ (c : Course). c.over) is ∙ (ap (λ l. l ++ then) over ∙ append_assoc before more then) in
     ((more ++ then) ++ one, sym (ap (λ l. l ++ one) all ∙ append_assoc before (more ++ then) one))
 
-module _ {D R W B : Type 0} (way : Way D R W) (forward : BlockFunction) (see : B → Seen) (laws : Laws) where
-  held_clean : (count : ℕ) (old new : Service D B) (printed : Text) → AreHeld way forward see count old new printed
+module _ {D R W B : Type 0} (way : Way D R W) (gives : ℤ → Type 0) (forward : BlockFunction) (see : B → Seen) (laws : Laws) where
+  held_clean : (count : ℕ) (old new : Service D B) (printed : Text) → AreHeld way gives forward see count old new printed
       → HasCleanDisk (see new.books).state → HasCleanDisk (see old.books).state
   held_clean zero old new printed (same, none) clean = subst (λ (s : Service D B). HasCleanDisk (see s.books).state) same clean
   held_clean (suc count) old new printed (mid, before, held, (ready, are, one), all) clean =
@@ -172,14 +172,14 @@ module _ {D R W B : Type 0} (way : Way D R W) (forward : BlockFunction) (see : B
 
   -- Lives go on along the connections to what is kept of the last one.
   coursed_on : (After : Image → Type 0) (lives : List Life) (count : ℕ) (old last : Service D B) (printed : Text)
-      → AreHeld way forward see count old last printed → HasCleanDisk (see last.books).state
+      → AreHeld way gives forward see count old last printed → HasCleanDisk (see last.books).state
       → ((c : Course) → RepresentTheLast c.over c.life (see last.books)
       → ∥ ((next : Course) × IsNext forward c next × Kept After (with_last next.over next.life)) ∥₁)
       → (office : Office) → AreLives lives office → Represents (opened forward office) (see old.books)
       → ∥ ((own : List Life) × AreCoursed way forward count old.door old.answers last.door last.answers lives own × Kept After (lives ++ own)) ∥₁
   coursed_on After lives count old last printed held clean follows office led begins =
       let start : Course = course lives (opened forward office) in
-      ∥∥₁_elim (live_on way forward see laws.goes_on count old last printed held clean start
+      ∥∥₁_elim (live_on way gives forward see laws.goes_on count old last printed held clean start
       (record { led = led; kept = begins; clean = held_clean count old last printed held clean })) squash₁ (λ lived.
       ∥∥₁_map (follows lived.0 lived.2) (λ next.
       let over = lived_over way forward count (service old.door start old.answers) (service last.door lived.0 last.answers) lived.1 in
@@ -196,19 +196,19 @@ module _ {D R W B : Type 0} (way : Way D R W) (forward : BlockFunction) (see : B
         × ((c : Course) → RepresentTheLast c.over c.life old → ∥ Kept (MayHoldAfter last) (with_last c.over c.life) ∥₁)
 
     found_served : (wanted : ℕ) (old : Service D B) (door : D) (answers : Option (List ℤ)) (printed : Text) (image : Image)
-        (served : Result (B × Bool) OpenFault) (are : AreServed way forward see loses wanted old door answers served printed)
-        → FindsImage (use_served way forward see loses ends wanted old door answers printed image served are) Before → Before image
+        (served : Result (B × Bool) OpenFault) (are : AreServed way gives forward see loses wanted old door answers served printed)
+        → FindsImage (use_served way gives forward see loses ends wanted old door answers printed image served are) Before → Before image
     found_served wanted old door answers printed image (Ok (books, true)) held found = found.0
     found_served wanted old door answers printed image (Ok (books, false)) none found = found.0
     found_served wanted old door answers printed image (Err fault) lost found = found.0
 
     served_on : ((old : Seen) (fault : OpenFault) (lost : loses old fault) → LostGoesOn old (ends old fault lost))
         → (lives : List Life) (wanted : ℕ) (old : Service D B) (door : D) (answers : Option (List ℤ)) (printed : Text) (image : Image)
-        (served : Result (B × Bool) OpenFault) (are : AreServed way forward see loses wanted old door answers served printed)
-        → FindsImage (use_served way forward see loses ends wanted old door answers printed image served are) Before
-        → IsClean (use_served way forward see loses ends wanted old door answers printed image served are)
+        (served : Result (B × Bool) OpenFault) (are : AreServed way gives forward see loses wanted old door answers served printed)
+        → FindsImage (use_served way gives forward see loses ends wanted old door answers printed image served are) Before
+        → IsClean (use_served way gives forward see loses ends wanted old door answers printed image served are)
         → (office : Office) → AreLives lives office → Represents (opened forward office) (see old.books)
-        → ∥ GoesOn (use_served way forward see loses ends wanted old door answers printed image served are) Before lives ∥₁
+        → ∥ GoesOn (use_served way gives forward see loses ends wanted old door answers printed image served are) Before lives ∥₁
     served_on lost_goes lives wanted old door answers printed image (Ok (books, true)) held found clean office led begins =
         coursed_on (IsLeftBy (see books).state) lives wanted old (service door books answers) printed held clean
         (λ c last. ∣ (c, inl refl, last_kept laws c.over c.life (see books) last) ∣₁) office led begins
@@ -513,7 +513,7 @@ module _ (laws : Laws) (Before : Image → Type 0) (lives : List Life) where
           )
 
       serving_on : (words : ServeWords) (err_old err_new : Sink) (end : CommandEnd)
-          (serving : IsServing (over_files {g = disk}) m.way here.at m.door m.clock.answers words err_old err_new end)
+          (serving : IsServing (over_files {g = disk}) m.way here.at m.door m.clock words err_old err_new end)
           → FindsImage (use_serving disk salts of office m words err_old err_new end serving) Before
           → IsClean (use_serving disk salts of office m words err_old err_new end serving) → Kept Before lives
           → ∥ GoesOn (use_serving disk salts of office m words err_old err_new end serving) Before lives ∥₁
@@ -525,9 +525,9 @@ module _ (laws : Laws) (Before : Image → Type 0) (lives : List Life) where
           let image = of.image office words.file.now in
           let loses = (here.at words.file.now words.wait).loses in
           let service_old = service were.listening old m.clock.answers in
-          let was = kept.left image (found_served m.way (forward_of words.transform) seen_in laws Before loses ends_lost words.connections
+          let was = kept.left image (found_served m.way m.clock.reads (forward_of words.transform) seen_in laws Before loses ends_lost words.connections
           service_old were.last were.left were.printed image were.served were.are_served found) in
-          served_on m.way (forward_of words.transform) seen_in laws Before loses ends_lost (lost_on laws finds) lives words.connections
+          served_on m.way m.clock.reads (forward_of words.transform) seen_in laws Before loses ends_lost (lost_on laws finds) lives words.connections
           service_old were.last were.left were.printed image were.served were.are_served found clean was.0 was.2 (begins.opens was.0 was.1)
 
       carried_on : (asked : Asked) (o : Outputs) (end : CommandEnd) (done : IsCarriedOut (over_files {g = disk}) here asked o end)

@@ -116,14 +116,14 @@ timed_tells : (Idle : Type 0) (At : ℕ → Type 0) (o : Outputs) (end : Command
 timed_tells Idle At o end made each (Some moment) done q asks = each moment done q asks
 timed_tells Idle At o end made each None idle q asks = absurd asks
 
-served_tells : {D R W B : Type 0} (way : Way D R W) (forward : BlockFunction) (see : B → Seen) (loses : Seen → OpenFault → Type 0)
+served_tells : {D R W B : Type 0} (way : Way D R W) (gives : ℤ → Type 0) (forward : BlockFunction) (see : B → Seen) (loses : Seen → OpenFault → Type 0)
     (ends : (old : Seen) (fault : OpenFault) → loses old fault → RunEnding) (wanted : ℕ) (old : Service D B) (door : D)
     (answers : Option (List ℤ)) (printed : Text) (image : Image) (served : Result (B × Bool) OpenFault)
-    (are : AreServed way forward see loses wanted old door answers served printed) (o : Outputs) (end : CommandEnd)
-    → Tells (use_served way forward see loses ends wanted old door answers printed image served are) o end
-served_tells way forward see loses ends wanted old door answers printed image (Ok (books, true)) held o end q asks = absurd asks
-served_tells way forward see loses ends wanted old door answers printed image (Ok (books, false)) none o end q asks = absurd asks
-served_tells way forward see loses ends wanted old door answers printed image (Err fault) lost o end q asks = absurd asks
+    (are : AreServed way gives forward see loses wanted old door answers served printed) (o : Outputs) (end : CommandEnd)
+    → Tells (use_served way gives forward see loses ends wanted old door answers printed image served are) o end
+served_tells way gives forward see loses ends wanted old door answers printed image (Ok (books, true)) held o end q asks = absurd asks
+served_tells way gives forward see loses ends wanted old door answers printed image (Ok (books, false)) none o end q asks = absurd asks
+served_tells way gives forward see loses ends wanted old door answers printed image (Err fault) lost o end q asks = absurd asks
 
 module _ {M S H D R W : Type 0} (disk : disk.Ghosts M) (salts : source.Ghosts S) (of : file.Ghosts H M S) (office : H) (m : Machine D R W) where
   abbrev here : Machine D R W
@@ -172,12 +172,12 @@ module _ {M S H D R W : Type 0} (disk : disk.Ghosts M) (salts : source.Ghosts S)
   audited_tells words o end (audit_looked answer meets audit told) q is = absurd is
 
   serving_tells : (words : ServeWords) (err_old err_new : Sink) (o : Outputs) (end : CommandEnd)
-      (serving : IsServing (over_files {g = disk}) m.way here.at m.door m.clock.answers words err_old err_new end)
+      (serving : IsServing (over_files {g = disk}) m.way here.at m.door m.clock words err_old err_new end)
       → Tells (use_serving disk salts of office m words err_old err_new end serving) o end
   serving_tells words err_old err_new o end (serve_unopened fault fails leaves told ends) q is = refused_tells fault fails o end q is
   serving_tells words err_old err_new o end (serve_unheard old begins finds last deaf leaves closes ends) q is = absurd is
   serving_tells words err_old err_new o end (serve_open old begins finds were) q is =
-      served_tells m.way (forward_of words.transform) seen_in (here.at words.file.now words.wait).loses ends_lost words.connections
+      served_tells m.way m.clock.reads (forward_of words.transform) seen_in (here.at words.file.now words.wait).loses ends_lost words.connections
       (service were.listening old m.clock.answers) were.last were.left were.printed (of.image office words.file.now) were.served were.are_served o end q is
 
   carried_tells : (asked : Asked) (o : Outputs) (end : CommandEnd) (done : IsCarriedOut (over_files {g = disk}) here asked o end)

@@ -190,12 +190,12 @@ pub fn broken_law<H: OfficeFile>()
 /// while the disk returns what was written, they are lives of one office. Each connection went on
 /// the last of them by the conversation over its own bytes, and by nothing beside; so what
 /// `headline_law` of `books` says of lives holds of these.
-pub fn serve_law<H: OfficeFile, D: Door>()
-    ensures { (forward : BlockFunction) (count : ℕ)
+pub fn serve_law<H: OfficeFile, C: Clock, D: Door>()
+    ensures { (clock : C) (forward : BlockFunction) (count : ℕ)
         (old new : Service D (Books (Files H.Medium H.Medium.Disk) Shipped
         ⟦<FileStore<H::Medium> as Store>⟧ shipped)) (printed : Text) (start : Course)
         → AreHeld (way D.Door D.Reader.remaining D.Writer.contents)
-        forward seen_in count old new printed
+        (C.reads clock) forward seen_in count old new printed
         → HasCleanDisk (seen_in new.books).state
         → RepresentTheLast start.over start.life (seen_in old.books)
         → ∥ LiveOn (way D.Door D.Reader.remaining D.Writer.contents)

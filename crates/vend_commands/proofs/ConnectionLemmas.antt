@@ -1,6 +1,9 @@
 -- Connections that are served one after another.
-use Rattle.std.proofs.Common.{◌≡◌, ℕ, ◌+◌, true, false, if◌then◌else◌, [], ◌++◌, add-one, ap, refl, subst, sym}
+use Rattle.std.proofs.Common.{◌≡◌, ℕ, ℤ, ◌+◌, true, false, if◌then◌else◌, [], ◌++◌, add-one, ap, refl, subst, sym}
 use Rattle.books.specs.Keeps.{Seen}
+use Rattle.conversation.specs.Exchanges.{clocked}
+use Rattle.conversation.proofs.WiderLemmas.{clocked_wider, paced_wider, run_wider}
+use Rattle.desk.specs.Answering.{answers_by, books_serve, life_serves, message_refusal_of}
 use Rattle.sts_fields.specs.Text.{Text}
 use Rattle.sts_token.specs.Token.{BlockFunction}
 use Rattle.vend_commands.specs.serving.Connections.{AreHeld, AreReady, IsHeld, Service, open_text, service, stopped_text}
@@ -23,20 +26,48 @@ stopped_some books stopped = ap (λ b. if b then stopped_line else []) stopped
 pub stopped_none : (books : Seen) → books.stopped ≡ false → stopped_text books ≡ []
 stopped_none books runs = ap (λ b. if b then stopped_line else []) runs
 
-module _ {D R W B : Type 0} (way : Way D R W) (forward : BlockFunction) (see : B → Seen) where
+-- a connection that was held at moments of one clock was so by one that gives those and more
+held_wider : {D R W B : Type 0} (way : Way D R W) (few more : ℤ → Type 0) (see : B → Seen) (old new : Service D B) → ((given : ℤ) → few given → more given)
+    → IsHeld way few see old new → IsHeld way more see old new
+held_wider way few more see old new wider one =
+    let books = answers_by (books_serve see) in
+    let on_books = clocked_wider books few more wider in
+    let on_lives = clocked_wider (answers_by life_serves) few more wider in
+    record {
+      reader = one.reader;
+      writer = one.writer;
+      read = one.read;
+      written = one.written;
+      end = one.end;
+      accepted = one.accepted;
+      run = run_wider (clocked few books) (clocked more books) on_books message_refusal_of (old.books, old.answers)
+          (new.books, new.answers) _ _ _ _ one.end one.run;
+      paced = (one.paced.0, paced_wider (clocked few books) (clocked more books) on_books (old.books, old.answers) _ _ _ _ one.paced.0 one.paced.1);
+      clean = one.clean;
+      lives = λ clean life keeps.
+          let goes = one.lives clean life keeps in
+          let run = run_wider (clocked few (answers_by life_serves)) (clocked more (answers_by life_serves)) on_lives message_refusal_of
+          (life, old.answers) (goes.0, new.answers) _ _ _ _ one.end goes.1 in
+          (goes.0, run, goes.2, goes.3);
+      ended = one.ended;
+    }
+
+module _ {D R W B : Type 0} (way : Way D R W) (gives : ℤ → Type 0) (forward : BlockFunction) (see : B → Seen) where
   -- this was printed, by connections that were held one after another
   abbrev pub AreHeldTelling : ℕ → (old new : Service D B) → (err_old err_new : Sink) → Type 0
   AreHeldTelling count old new err_old err_new =
-      (printed : Text) × AreHeld way forward see count old new printed × Takes err_old err_new printed
+      (printed : Text) × AreHeld way gives forward see count old new printed × Takes err_old err_new printed
 
-  -- one more was held, by books that were made ready
-  pub one_more : (count : ℕ) (old mid new : Service D B) (ready : B) (a b c d : Sink) → AreHeldTelling count old mid a b → AreReady see forward mid.books ready
-      → IsHeld way see (service mid.door ready mid.answers) new → Takes b c (open_text (see mid.books)) → Takes c d (stopped_text (see new.books))
+  -- one more was held, by books that were made ready, and a clock that gives nothing new
+  pub one_more : (now : ℤ → Type 0) (count : ℕ) (old mid new : Service D B) (ready : B) (a b c d : Sink)
+      → ((given : ℤ) → now given → gives given) → AreHeldTelling count old mid a b → AreReady see forward mid.books ready
+      → IsHeld way now see (service mid.door ready mid.answers) new → Takes b c (open_text (see mid.books)) → Takes c d (stopped_text (see new.books))
       → AreHeldTelling (count + 1) old new a d
-  one_more count old mid new ready a b c d (before, held, told) are one opens stops =
+  one_more now count old mid new ready a b c d stays (before, held, told) are one opens stops =
+      let here = held_wider way now gives see (service mid.door ready mid.answers) new stays one in
       let more = open_text (see mid.books) ++ stopped_text (see new.books) in (
         before ++ more,
-        subst (λ n. AreHeld way forward see n old new (before ++ more)) (sym (add-one count)) (mid, before, held, (ready, are, one), refl),
+        subst (λ n. AreHeld way gives forward see n old new (before ++ more)) (sym (add-one count)) (mid, before, held, (ready, are, here), refl),
         takes_next a b d before more told (takes_next b c d (open_text (see mid.books)) (stopped_text (see new.books)) opens stops),
       )
 

@@ -165,13 +165,13 @@ served_low (Err fault) = omega arith
 end_low : (meant end : CommandEnd) → exit_status_of meant ≤ 1 → end ≡ meant → exit_status_of end ≤ 1
 end_low meant end low is = subst (λ e. exit_status_of e ≤ 1) (sym is) low
 
-serving_ends : {S D R W : Type 0} (store : Ghosts S) (way : Way D R W) (at : Places) (door : D) (answers : Option (List ℤ))
+serving_ends : {S D R W : Type 0} (store : Ghosts S) (way : Way D R W) (at : Places) (door : D) (clock : Dial)
     (words : ServeWords) (err_old err_new : Sink) (end : CommandEnd)
-    → IsServing store way at door answers words err_old err_new end → exit_status_of end ≤ 1
-serving_ends store way at door answers words err_old err_new end (serves_unopened fault fails shut told ends) = end_low how.Refused end (omega arith) ends
-serving_ends store way at door answers words err_old err_new end (unheard old opens finds last deaf shut closes ends) =
+    → IsServing store way at door clock words err_old err_new end → exit_status_of end ≤ 1
+serving_ends store way at door clock words err_old err_new end (serves_unopened fault fails shut told ends) = end_low how.Refused end (omega arith) ends
+serving_ends store way at door clock words err_old err_new end (unheard old opens finds last deaf shut closes ends) =
     end_low how.Refused end (omega arith) ends
-serving_ends store way at door answers words err_old err_new end (was_open old opens finds were) =
+serving_ends store way at door clock words err_old err_new end (was_open old opens finds were) =
     end_low (serving_end were.served) end (served_low were.served) were.ends
 
 answer_told_ends : (answer : Result Audited AuditFault) (o : Outputs) (end : CommandEnd) → TellsAudit answer o end → exit_status_of end ≤ 1
@@ -281,7 +281,7 @@ answer_ends store m (asks.Meter words) o end (idle, done) = told_ends o _ _ how.
 answer_ends store m (asks.Quote words) o end (idle, done) =
     let bought = purchase_of words.steps words.prior words.tender in
     told_ends o _ _ (quote_end bought) end (quote_low bought) done
-answer_ends store m (asks.Serve words) o end (left, done) = serving_ends store m.way m.at m.door m.clock.answers words o.err_old o.err_new end done.1
+answer_ends store m (asks.Serve words) o end (left, done) = serving_ends store m.way m.at m.door m.clock words o.err_old o.err_new end done.1
 answer_ends store m (asks.Selfcheck words) o end (untouched, shut, agreed has told) = told_ends o _ _ how.Done end (omega arith) told
 answer_ends store m (asks.Selfcheck words) o end (untouched, shut, failed fault why told) = told_ends o _ _ how.Refused end (omega arith) told
 answer_ends store m (asks.Desk words) o end (untouched, shut, done) = answered_ends m.texts m.loop.calls m.loop.leaves words.desk words.question o end done

@@ -117,13 +117,13 @@ deaf_same way address door last old new (no_listener fails told) = told.same
 deaf_same way address door last old new (no_text port is_port listens told) = told.same
 deaf_same way address door last old new (not_told port is_port listens cut told) = told.same
 
-serving_same : {S D R W : Type 0} (store : Ghosts S) (way : Way D R W) (at : Places) (door : D) (answers : Option (List ℤ))
+serving_same : {S D R W : Type 0} (store : Ghosts S) (way : Way D R W) (at : Places) (door : D) (clock : Dial)
     (words : ServeWords) (old new : Sink) (end : CommandEnd)
-    → IsServing store way at door answers words old new end → new.name ≡ old.name
-serving_same store way at door answers words old new end (serves_unopened fault fails shut told ends) = told.same
-serving_same store way at door answers words old new end (unheard books opens finds last deaf shut closes ends) =
+    → IsServing store way at door clock words old new end → new.name ≡ old.name
+serving_same store way at door clock words old new end (serves_unopened fault fails shut told ends) = told.same
+serving_same store way at door clock words old new end (unheard books opens finds last deaf shut closes ends) =
     deaf_same way words.listen door last old new deaf
-serving_same store way at door answers words old new end (was_open books opens finds were) = were.told.same ∙ were.listens.told.same
+serving_same store way at door clock words old new end (was_open books opens finds were) = were.told.same ∙ were.listens.told.same
 
 answer_told_same : (answer : Result Audited AuditFault) (o : Outputs) (end : CommandEnd) → TellsAudit answer o end → AreSame o
 answer_told_same (Ok audited) o end told = told_same o _ _ _ end told
@@ -223,7 +223,7 @@ answer_same store m (asks.Offer words) o end (shut, done) =
 answer_same store m (asks.Meter words) o end (idle, done) = told_same o _ _ _ end done
 answer_same store m (asks.Quote words) o end (idle, done) = told_same o _ _ _ end done
 answer_same store m (asks.Serve words) o end (left, done) =
-    record { out = ap (λ s. s.name) done.0; err = serving_same store m.way m.at m.door m.clock.answers words o.err_old o.err_new end done.1 }
+    record { out = ap (λ s. s.name) done.0; err = serving_same store m.way m.at m.door m.clock words o.err_old o.err_new end done.1 }
 answer_same store m (asks.Selfcheck words) o end (untouched, shut, agreed has told) = told_same o _ _ _ end told
 answer_same store m (asks.Selfcheck words) o end (untouched, shut, failed fault why told) = told_same o _ _ _ end told
 answer_same store m (asks.Desk words) o end (untouched, shut, done) = answered_same m.texts m.loop.calls m.loop.leaves words.desk words.question o end done

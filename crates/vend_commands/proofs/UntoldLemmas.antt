@@ -105,8 +105,8 @@ timed_bare Idle Bare_idle given clock At Bare o end idle_less less (Some moment,
 abbrev bare : {D B : Type 0} → Service D B → Service ⊤ B
 bare s = service tt s.books s.answers
 
-module _ {D R W B : Type 0} (way : Way D R W) (see : B → Seen) where
-  held_bare : (old new : Service D B) → IsHeld way see old new → IsHeld untold_way see (bare old) (bare new)
+module _ {D R W B : Type 0} (way : Way D R W) (gives : ℤ → Type 0) (see : B → Seen) where
+  held_bare : (old new : Service D B) → IsHeld way gives see old new → IsHeld untold_way gives see (bare old) (bare new)
   held_bare old new one = record {
     reader = way.remaining one.reader;
     writer = way.contents one.writer;
@@ -124,17 +124,17 @@ module _ {D R W B : Type 0} (way : Way D R W) (see : B → Seen) where
   unheld_bare : (old new : Service D B) → IsUnheld way see old new → IsUnheld untold_way see (bare old) (bare new)
   unheld_bare old new none = record { refused = tt; books = none.books; answers = none.answers }
 
-module _ {D R W B : Type 0} (way : Way D R W) (forward : BlockFunction) (see : B → Seen) where
-  all_bare : (count : ℕ) (old new : Service D B) (printed : Text) → AreHeld way forward see count old new printed
-      → AreHeld untold_way forward see count (bare old) (bare new) printed
+module _ {D R W B : Type 0} (way : Way D R W) (gives : ℤ → Type 0) (forward : BlockFunction) (see : B → Seen) where
+  all_bare : (count : ℕ) (old new : Service D B) (printed : Text) → AreHeld way gives forward see count old new printed
+      → AreHeld untold_way gives forward see count (bare old) (bare new) printed
   all_bare zero old new printed (same, none) = (ap bare same, none)
   all_bare (suc count) old new printed (mid, before, held, (ready, are, one), all) =
-      (bare mid, before, all_bare count old mid before held, (ready, are, held_bare way see (service mid.door ready mid.answers) new one), all)
+      (bare mid, before, all_bare count old mid before held, (ready, are, held_bare way gives see (service mid.door ready mid.answers) new one), all)
 
   served_bare : (loses : Seen → OpenFault → Type 0) (asked : ℕ) (old : Service D B) (door : D) (answers : Option (List ℤ))
       (served : Result (B × Bool) OpenFault) (printed : Text)
-      → AreServed way forward see loses asked old door answers served printed
-      → AreServed untold_way forward see (λ books fault. ⊤) asked (bare old) tt answers served printed
+      → AreServed way gives forward see loses asked old door answers served printed
+      → AreServed untold_way gives forward see (λ books fault. ⊤) asked (bare old) tt answers served printed
   served_bare loses asked old door answers (Ok (books, true)) printed held = all_bare asked old (service door books answers) printed held
   served_bare loses asked old door answers (Ok (books, false)) printed none = record {
     count = none.count;
@@ -144,7 +144,7 @@ module _ {D R W B : Type 0} (way : Way D R W) (forward : BlockFunction) (see : B
     held = all_bare none.count old none.last none.before none.held;
     ready = none.ready;
     are_ready = none.are_ready;
-    unheld = unheld_bare way see (service none.last.door none.ready none.last.answers) (service door books answers) none.unheld;
+    unheld = unheld_bare way gives see (service none.last.door none.ready none.last.answers) (service door books answers) none.unheld;
     printed_is = none.printed_is;
   }
   served_bare loses asked old door answers (Err fault) printed lost = record {
@@ -230,13 +230,13 @@ answered_bare texts calls uncalled desk (desk_asks.Offer meter tender json) o en
 answered_bare texts calls uncalled desk (desk_asks.List list json) o end (left, done) = (left, desk_list_bare calls desk list json o end done)
 
 module _ {S D R W : Type 0} (store : Ghosts S) (way : Way D R W) (at : Places) (door : D) where
-  serving_bare : (answers : Option (List ℤ)) (words : ServeWords) (err_old err_new : Sink) (end : CommandEnd)
-      → IsServing store way at door answers words err_old err_new end
-      → IsServing store untold_way (λ path wait. bare_place (at path wait)) tt answers words err_old err_new end
-  serving_bare answers words err_old err_new end (unopened fault fails shut told ends) = unopened fault tt tt told ends
-  serving_bare answers words err_old err_new end (unheard old opens finds last deaf shut closes ends) =
+  serving_bare : (clock : Dial) (words : ServeWords) (err_old err_new : Sink) (end : CommandEnd)
+      → IsServing store way at door clock words err_old err_new end
+      → IsServing store untold_way (λ path wait. bare_place (at path wait)) tt clock words err_old err_new end
+  serving_bare clock words err_old err_new end (unopened fault fails shut told ends) = unopened fault tt tt told ends
+  serving_bare clock words err_old err_new end (unheard old opens finds last deaf shut closes ends) =
       unheard old opens tt tt (deaf_bare way words.listen door last err_old err_new deaf) tt closes ends
-  serving_bare answers words err_old err_new end (was_open old opens finds were) =
+  serving_bare clock words err_old err_new end (was_open old opens finds were) =
       was_open old opens tt (record {
         listening = tt;
         mid = were.mid;
@@ -245,7 +245,8 @@ module _ {S D R W : Type 0} (store : Ghosts S) (way : Way D R W) (at : Places) (
         left = were.left;
         served = were.served;
         printed = were.printed;
-        are_served = served_bare way _ _ _ words.connections (service were.listening old answers) were.last were.left were.served were.printed were.are_served;
+        are_served = served_bare way clock.reads _ _ _ words.connections (service were.listening old clock.answers) were.last were.left
+            were.served were.printed were.are_served;
         leaves = tt;
         closed = were.closed;
         told = were.told;
@@ -291,7 +292,7 @@ module _ {S D R W : Type 0} (store : Ghosts S) (way : Way D R W) (at : Places) (
     )
     carried_bare (asks.Meter words) o end ((none, (offline, unread)), done) = ((tt, ((tt, tt), unread)), done)
     carried_bare (asks.Quote words) o end ((none, (offline, unread)), done) = ((tt, ((tt, tt), unread)), done)
-    carried_bare (asks.Serve words) o end ((left, unread), done) = ((tt, unread), (done.0, serving_bare clock.answers words o.err_old o.err_new end done.1))
+    carried_bare (asks.Serve words) o end ((left, unread), done) = ((tt, unread), (done.0, serving_bare clock words o.err_old o.err_new end done.1))
     carried_bare (asks.Selfcheck words) o end (left, (shut, unread), done) =
         (tt, (tt, unread), selfcheck_done o end _ _ _ _ (less words.transform) (λ fault why. tt) done)
     carried_bare (asks.Desk words) o end (left, shut, done) = (tt, tt, answered_bare texts loop.calls loop.leaves words.desk words.question o end done)

@@ -58,7 +58,7 @@ IsCarriedOut store m (Meter words) o end = IsMachineIdle m × IsMetered words o 
 IsCarriedOut store m (Quote words) o end = IsMachineIdle m × PrintsQuote words o end
 IsCarriedOut store m (Serve words) o end =
     (m.loop.leaves × m.texts.leaves)
-    × IsServedTo store m.way m.at m.door m.clock.answers words o end
+    × IsServedTo store m.way m.at m.door m.clock words o end
 IsCarriedOut store m (Selfcheck words) o end = m.untouched × (IsShut m × m.texts.leaves)
     × IsSelfchecked (m.loop.agrees words.transform) (m.loop.disagrees words.transform) o end
 IsCarriedOut store m (asks.Desk words) o end = m.untouched × IsShut m

@@ -53,7 +53,8 @@ pub fn run<B: Start, T: TimeSource, O: Write, E: Write>(
     err: &mut E,
 ) -> u8
     ensures run { (end : CommandEnd) × (out_failed err_failed : Bool) × (out_name err_name : ℕ)
-        × (clock : MachineClock T) × IsProgramRun ⟦<FileStore<FileFrom<EachTry<B>>> as Store>⟧
+        × (clock : MachineClock T) × (clock.source.now ≡ time.now)
+        × IsProgramRun ⟦<FileStore<FileFrom<EachTry<B>>> as Store>⟧
         (untold ⟦<FileFrom<EachTry<B>> as Disk>⟧ (image_at B.Start)
         (dial_of ⟦<MachineClock<'static, T> as Clock>⟧ clock))
         (map (λ w. w.now) words.now)

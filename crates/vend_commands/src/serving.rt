@@ -1,6 +1,6 @@
 //! Connections to a door, served one after another over any books.
 
-ghost use Rattle.std.specs.Prelude.{[], MatchResult};
+ghost use Rattle.std.specs.Prelude.{ℤ, [], MatchResult};
 ghost use Rattle.std.specs.Bool.{MatchBool};
 ghost use Rattle.command_line.specs.Transform.{forward_of};
 ghost use Rattle.sts_fields.specs.Text.{Text};
@@ -37,7 +37,7 @@ pub fn serve<H: OfficeFile, D: Door, C: Clock, E: Write>(
     err: &mut Watched<'_, E>,
 ) -> Result<(Books<FileStore<H::Medium>, Shipped>, bool), OpenFault>
     ensures { (printed : Text) × AreServed
-        (way D.Door D.Reader.remaining D.Writer.contents)
+        (way D.Door D.Reader.remaining D.Writer.contents) (C.reads clock.old)
         (forward_of words.now.transform) seen_in
         (IsUnreopened H.Medium.Disk H.Salts.SaltSource (H.lets_go H.Medium)) words.now.connections
         (service door.old books (C.answers clock.old)) door.new (C.answers clock.new) result printed
@@ -102,13 +102,14 @@ fn hold<S: Alter, D: Door, C: Clock>(
     books: &mut Books<S, Shipped>,
     clock: &mut C,
 ) -> bool
-    ensures { MatchBool result
-        (IsHeld (way D.Door D.Reader.remaining D.Writer.contents) seen_in
+    ensures held { MatchBool result
+        (IsHeld (way D.Door D.Reader.remaining D.Writer.contents) (C.reads clock.old) seen_in
         (service door.old books.old (C.answers clock.old))
         (service door.new books.new (C.answers clock.new)))
         (IsUnheld (way D.Door D.Reader.remaining D.Writer.contents) seen_in
         (service door.old books.old (C.answers clock.old))
         (service door.new books.new (C.answers clock.new))) }
+    ensures stays { (given : ℤ) → C.reads clock.new given → C.reads clock.old given }
 {
     let Some((mut reader, mut writer)) = door.accept() else {
         return false;

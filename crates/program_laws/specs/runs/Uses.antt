@@ -218,20 +218,20 @@ ends_lost {disk = disk} old fault
     cut_off old.state disk why.2.here rest
 
 -- connections that are served, by how lost books end
-abbrev pub use_served : {D R W B : Type 0} → (way : Way D R W) → (forward : BlockFunction)
-    → (see : B → Seen) → (loses : Seen → OpenFault → Type 0)
+abbrev pub use_served : {D R W B : Type 0} → (way : Way D R W) → (gives : ℤ → Type 0)
+    → (forward : BlockFunction) → (see : B → Seen) → (loses : Seen → OpenFault → Type 0)
     → ((old : Seen) → (fault : OpenFault) → loses old fault → RunEnding) → (wanted : ℕ)
     → (old : Service D B) → (door : D) → (answers : Option (List ℤ)) → (printed : Text) → Image
     → (served : Result (B × Bool) OpenFault)
-    → AreServed way forward see loses wanted old door answers served printed → RunUse
-use_served way forward see loses ends wanted old door answers printed image (Ok (books, true))
+    → AreServed way gives forward see loses wanted old door answers served printed → RunUse
+use_served way gives forward see loses ends wanted old door answers printed image (Ok (books, true))
     held = connected image (many_lives way forward wanted old.door old.answers door answers)
     (let_go (see books).state)
-use_served way forward see loses ends wanted old door answers printed image (Ok (books, false))
-    none = connected image
+use_served way gives forward see loses ends wanted old door answers printed image
+    (Ok (books, false)) none = connected image
     (many_lives way forward none.count old.door old.answers none.last.door none.last.answers)
     (let_go (see books).state)
-use_served way forward see loses ends wanted old door answers printed image (Err fault) lost =
+use_served way gives forward see loses ends wanted old door answers printed image (Err fault) lost =
     connected image
     (many_lives way forward lost.count old.door old.answers lost.last.door lost.last.answers)
     (ends (see lost.last.books) fault lost.lost.1)
@@ -283,7 +283,7 @@ module _ {M S H D R W : Type 0} (disk : disk.Ghosts M) (salts : source.Ghosts S)
       (λ old new done. reading_life moment (reading_of moment wanted old new o end done)) visit
 
   abbrev pub use_serving : (words : ServeWords) → (err_old err_new : Sink) → (end : CommandEnd)
-      → IsServing (over_files {g = disk}) m.way with_file.at m.door m.clock.answers words err_old
+      → IsServing (over_files {g = disk}) m.way with_file.at m.door m.clock words err_old
       err_new end → RunUse
   use_serving words err_old err_new end (serve_unopened fault fails leaves told ends) =
       use_refused fault fails
@@ -292,7 +292,7 @@ module _ {M S H D R W : Type 0} (disk : disk.Ghosts M) (salts : source.Ghosts S)
       connected (of.image office words.file.now) (idle_life words.transform)
       (let_go (seen_in old).state)
   use_serving words err_old err_new end (serve_open old opens finds were) =
-      use_served m.way (forward_of words.transform) seen_in
+      use_served m.way m.clock.reads (forward_of words.transform) seen_in
       (with_file.at words.file.now words.wait).loses ends_lost words.connections
       (service were.listening old m.clock.answers) were.last were.left were.printed
       (of.image office words.file.now) were.served were.are_served

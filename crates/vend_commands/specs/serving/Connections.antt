@@ -5,6 +5,7 @@ use Rattle.books.specs.Keeps.{Represents, Seen}
 use Rattle.books.specs.Others.{LeavesOthers}
 use Rattle.book_opening.specs.declared.fault.OpenFault.{OpenFault}
 use Rattle.desk.specs.Answering.{answers_by, books_serve, life_serves, message_refusal_of}
+use Rattle.conversation.specs.Exchanges.{clocked}
 use Rattle.conversation.specs.Run.{IsRun}
 use Rattle.conversation.specs.Uses.{IsPaced, Use}
 use Rattle.conversation.specs.declared.end.End as conversation
@@ -29,11 +30,11 @@ abbrev pub GoOn : (old new : Seen) → (Life → Life → Type 0) → Type 0
 GoOn old new Goes = HasCleanDisk new.state → (life : Life) → Represents life old
     → (after : Life) × Goes life after × Represents after new × LeavesOthers old.state new.state
 
-module _ {D R W B : Type 0} (way : Way D R W) (see : B → Seen) where
+module _ {D R W B : Type 0} (way : Way D R W) (gives : ℤ → Type 0) (see : B → Seen) where
   -- A connection came in, the desk held its conversation over what it sends and what it is sent,
-  -- and it was let go as the conversation left it. No more was read than the desk may ask for, nor
-  -- before the replies to what came before it were written. Every life that the books kept goes on
-  -- by that, and by nothing beside.
+  -- at moments that the clock gives, and it was let go as the conversation left it. No more was
+  -- read than the desk may ask for, nor before the replies to what came before it were written.
+  -- Every life that the books kept goes on by that, and by nothing beside.
   pub record IsHeld (old new : Service D B) : Type 0 where
     pub reader : R
     pub writer : W
@@ -41,19 +42,20 @@ module _ {D R W B : Type 0} (way : Way D R W) (see : B → Seen) where
     pub written : W
     pub end : conversation.End
     pub accepted : way.accepts old.door reader writer new.door
-    pub run : IsRun (answers_by (books_serve see)) message_refusal_of (old.books, old.answers)
-        (new.books, new.answers) (way.remaining reader) (way.remaining read)
-        (way.contents writer) (way.contents written) end
-    pub paced : (uses : List Use) × IsPaced (answers_by (books_serve see)) (old.books, old.answers)
-        (way.remaining reader) (way.remaining read) (way.contents writer)
-        (way.contents written) uses
+    pub run : IsRun (clocked gives (answers_by (books_serve see))) message_refusal_of
+        (old.books, old.answers) (new.books, new.answers) (way.remaining reader)
+        (way.remaining read) (way.contents writer) (way.contents written) end
+    pub paced : (uses : List Use) × IsPaced (clocked gives (answers_by (books_serve see)))
+        (old.books, old.answers) (way.remaining reader) (way.remaining read)
+        (way.contents writer) (way.contents written) uses
     pub clean : HasCleanDisk (see new.books).state → HasCleanDisk (see old.books).state
     pub lives : GoOn (see old.books) (see new.books) (λ life after.
-        IsRun (answers_by life_serves) message_refusal_of (life, old.answers) (after, new.answers)
-        (way.remaining reader) (way.remaining read) (way.contents writer)
+        IsRun (clocked gives (answers_by life_serves)) message_refusal_of (life, old.answers)
+        (after, new.answers) (way.remaining reader) (way.remaining read) (way.contents writer)
         (way.contents written) end)
     pub ended : way.ends read written
 
+module _ {D R W B : Type 0} (way : Way D R W) (see : B → Seen) where
   -- no connection could be had, and nothing else has changed
   pub record IsUnheld (old new : Service D B) : Type 0 where
     pub refused : way.refuses old.door new.door
@@ -78,7 +80,8 @@ open_text books = if books.stopped then open_line else []
 abbrev pub stopped_text : Seen → Text
 stopped_text books = if books.stopped then stopped_line else []
 
-module _ {D R W B : Type 0} (way : Way D R W) (forward : BlockFunction) (see : B → Seen) where
+module _ {D R W B : Type 0} (way : Way D R W) (gives : ℤ → Type 0) (forward : BlockFunction)
+    (see : B → Seen) where
   -- So many connections, one after another, and before each the books are made ready. What is
   -- printed by then: each time that a connection left the books stopped, and that they were open
   -- again before the next one, in that order, and nothing else.
@@ -87,7 +90,7 @@ module _ {D R W B : Type 0} (way : Way D R W) (forward : BlockFunction) (see : B
   AreHeld (suc count) old new printed = (mid : Service D B) × (before : Text)
       × AreHeld count old mid before
       × ((ready : B) × AreReady see forward mid.books ready
-      × IsHeld way see (service mid.door ready mid.answers) new)
+      × IsHeld way gives see (service mid.door ready mid.answers) new)
       × (printed ≡ before ++ (open_text (see mid.books) ++ stopped_text (see new.books)))
 
   -- one could not be had after fewer than were asked for

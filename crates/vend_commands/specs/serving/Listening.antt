@@ -1,5 +1,6 @@
 -- What `serve` does: where it listens is told, and connections are served one after another.
 use Rattle.std.specs.Prelude.{◌≡◌, ⊤, ℕ, ℤ, Bool, true, false, List, [], ◌++◌, Option, Result, Ok, Err}
+use Rattle.vend_ports.specs.port.Dial.{Dial}
 use Rattle.sqlite_trees.specs.declared.store.Store.{Ghosts}
 use Rattle.books.specs.declared.books.Books.{Books}
 use Rattle.book_opening.specs.declared.fault.OpenFault.{OpenFault}
@@ -65,12 +66,13 @@ abbrev pub IsClosedAfter : {B : Type 0} → (B → Type 0) → Result (B × Bool
 IsClosedAfter Closes (Ok (books, all)) = Closes books
 IsClosedAfter Closes (Err fault) = ⊤
 
--- Books were open to connections, which were served, and it ended so. The door is left as the last
--- of them left it: so none came in beside. Behind the line that tells where it listens standard
--- error is given what is printed of books that stop and are open again, and how it ends.
+-- Books were open to connections, which were served at moments that the clock gives, and it ended
+-- so. The door is left as the last of them left it: so none came in beside. Behind the line that
+-- tells where it listens standard error is given what is printed of books that stop and are open
+-- again, and how it ends.
 pub record WereOpen {S D R W : Type 0} (store : Ghosts S) (way : Way D R W) (place : Place)
     (words : ServeWords)
-    (old : Books S Shipped store shipped) (door : D) (answers : Option (List ℤ))
+    (old : Books S Shipped store shipped) (door : D) (clock : Dial)
     (err_old err_new : Sink) (end : CommandEnd)
     : Type 0 where
   pub listening : D
@@ -80,8 +82,8 @@ pub record WereOpen {S D R W : Type 0} (store : Ghosts S) (way : Way D R W) (pla
   pub left : Option (List ℤ)
   pub served : Result (Books S Shipped store shipped × Bool) OpenFault
   pub printed : Text
-  pub are_served : AreServed way (forward_of words.transform) seen_in place.loses words.connections
-      (service listening old answers) last left served printed
+  pub are_served : AreServed way clock.reads (forward_of words.transform) seen_in place.loses
+      words.connections (service listening old clock.answers) last left served printed
   pub leaves : way.leaves last
   pub closed : IsClosedAfter (λ books. place.closes (seen_in books)) served
   pub told : Takes mid err_new (printed ++ last_line served)
@@ -92,26 +94,26 @@ pub record WereOpen {S D R W : Type 0} (store : Ghosts S) (way : Way D R W) (pla
 -- left.
 pub data IsServing {S D R W : Type 0} (store : Ghosts S) (way : Way D R W) (at : Places)
     (door : D)
-    (answers : Option (List ℤ)) (words : ServeWords) (err_old err_new : Sink)
+    (clock : Dial) (words : ServeWords) (err_old err_new : Sink)
     (end : CommandEnd) : Type 0 where
   unopened : (fault : OpenFault) → (at words.file.now words.wait).fails fault → way.leaves door
       → Takes err_old err_new (opening_line fault) → end ≡ Refused
-      → IsServing store way at door answers words err_old err_new end
+      → IsServing store way at door clock words err_old err_new end
   unheard : (old : Books S Shipped store shipped)
       → IsOpenedAt (at words.file.now words.wait) words.transform old
       → (at words.file.now words.wait).finds → (last : D)
       → IsDeaf way words.listen door last err_old err_new
       → way.leaves last → (at words.file.now words.wait).closes (seen_in old) → end ≡ Refused
-      → IsServing store way at door answers words err_old err_new end
+      → IsServing store way at door clock words err_old err_new end
   was_open : (old : Books S Shipped store shipped)
       → IsOpenedAt (at words.file.now words.wait) words.transform old
       → (at words.file.now words.wait).finds
-      → WereOpen store way (at words.file.now words.wait) words old door answers err_old err_new end
-      → IsServing store way at door answers words err_old err_new end
+      → WereOpen store way (at words.file.now words.wait) words old door clock err_old err_new end
+      → IsServing store way at door clock words err_old err_new end
 
 -- it is served so, and the output is given nothing
 abbrev pub IsServedTo : {S D R W : Type 0} → Ghosts S → Way D R W → Places → D
-    → Option (List ℤ)
+    → Dial
     → ServeWords → Outputs → CommandEnd → Type 0
-IsServedTo store way at door answers words o end =
-    (o.new ≡ o.old) × IsServing store way at door answers words o.err_old o.err_new end
+IsServedTo store way at door clock words o end =
+    (o.new ≡ o.old) × IsServing store way at door clock words o.err_old o.err_new end

@@ -1,6 +1,7 @@
 ghost use Rattle.std.specs.Prelude.{◌≡◌, MatchOption};
 ghost use Rattle.office_commands.specs.office.Closed.{IsClosed};
 ghost use Rattle.vend_commands.specs.serving.Listening.{IsClosedAfter, IsDeaf, IsServing, Listens, last_line, serving_end};
+ghost use Rattle.vend_ports.specs.port.Dial.{dial_of};
 ghost use Rattle.office_commands.specs.port.Places.{places_of};
 ghost use Rattle.vend_commands.specs.port.Machines.{way};
 ghost use Rattle.vend_ports.specs.print.Printed.{net_line, refusal_line};
@@ -32,7 +33,7 @@ pub(crate) fn run<H: OfficeFile, D: Door, C: Clock, E: Write>(
     ensures { IsServing ⟦<FileStore<H::Medium> as Store>⟧
         (way D.Door D.Reader.remaining D.Writer.contents)
         (places_of H.Medium.Disk H.Salts.SaltSource H.OfficeFile office)
-        door (C.answers clock.old) words.now
+        door (dial_of C.Clock clock.old) words.now
         err.old err.new result }
 {
     let mut door = door;

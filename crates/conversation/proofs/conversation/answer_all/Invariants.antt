@@ -1,7 +1,7 @@
-use Rattle.std.proofs.Common.{ℕ, List, ◌≤◌, ◌-◌, length, drop}
+use Rattle.std.proofs.Common.{ℕ, ℤ, List, ◌≤◌, ◌-◌, length, drop}
 use Rattle.conversation.specs.Conversation.{Progress}
 use Rattle.conversation.specs.Ends.{WritesWhole}
-use Rattle.conversation.specs.Exchanges.{timed}
+use Rattle.conversation.specs.Exchanges.{clocked, timed}
 use Rattle.conversation.proofs.conversation.answer_all.Given as goal
 
 -- the messages before the place were answered
@@ -11,7 +11,8 @@ invariant-messages g l = record {
   text : List ℕ;
   wrote : WritesWhole (g.W.Write.contents l.fn.writer, g.L.Line.uses l.fn.line)
       (g.W.Write.contents l.writer, g.L.Line.uses l.line) text;
-  progress : Progress (timed g.S.Service.step) l.input (drop l.len l.input)
+  stays : (given : ℤ) → g.C.Clock.reads l.clock given → g.C.Clock.reads l.fn.clock given;
+  progress : Progress (timed (clocked (g.C.Clock.reads l.fn.clock) g.S.Service.step)) l.input (drop l.len l.input)
       (l.fn.office, g.C.Clock.answers l.fn.clock) text (l.office, g.C.Clock.answers l.clock);
 }
 

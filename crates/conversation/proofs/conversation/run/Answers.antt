@@ -1,5 +1,5 @@
-use Rattle.std.proofs.Common.{◌≡◌, [], inr, refl, sym, subst, arith}
-use Rattle.conversation.specs.Exchanges.{timed}
+use Rattle.std.proofs.Common.{◌≡◌, Ok, Err, [], inr, refl, sym, subst, arith}
+use Rattle.conversation.specs.Exchanges.{clocked, timed}
 use Rattle.conversation.specs.message.Heads.{longest_head}
 use Rattle.conversation.specs.Wants.{IsAwaited}
 use Rattle.conversation.specs.declared.end.End.TheVariants.{ReadFault}
@@ -8,6 +8,7 @@ use Rattle.conversation.proofs.EndLemmas.{bytes_after, bytes_here_after, run_ear
 use Rattle.conversation.proofs.ProgressLemmas.{progress_none}
 use Rattle.conversation.proofs.RunLemmas.{after_read, awaited_fits, awaits_nothing, bytes_of, failed_run, interrupted_read, over_end, paced, paced_after, paced_read, read_run, used_none, went_on}
 use Rattle.conversation.proofs.UsesLemmas.{whole_none}
+use Rattle.conversation.proofs.WiderLemmas.{clocked_wider, replies_wider}
 use Rattle.conversation.proofs.conversation.run.Goals as goal
 
 pub reads-init : goal.reads-init
@@ -15,9 +16,10 @@ reads-init g c =
     let none : [] ≡ c.new-unanswered.result.bytes.items = sym c.new-unanswered.ensures in
     record {
       uses = [];
-      used = used_none g.S.Service.step _ _ _ _;
+      stays = λ given gives. gives;
+      used = used_none (clocked (g.C.Clock.reads c.args.clock.now) g.S.Service.step) _ _ _ _;
       still_open = tt;
-      progress = rw (← none) (progress_none (timed g.S.Service.step) [] _);
+      progress = rw (← none) (progress_none (timed (clocked (g.C.Clock.reads c.args.clock.now) g.S.Service.step)) [] _);
       awaited = subst (λ rest. IsAwaited rest (Head longest_head)) none awaits_nothing;
       counted = refl;
     }
@@ -28,7 +30,7 @@ read_more-requires-clause-room g c =
 
 pub returns-in-Ok-Some-eq0-clause-run : goal.returns-in-Ok-Some-eq0-clause-run
 returns-in-Ok-Some-eq0-clause-run g c =
-    let step = g.S.Service.step in
+    let step = clocked (g.C.Clock.reads c.args.clock.now) g.S.Service.step in
     let refusal = g.S.Service.refusal in
     let inv = c.reads.invariant in
     let read = rw c.in-Ok-Some-eq0.field-0-is at c.in-Ok-Some-eq0.ensures in
@@ -41,7 +43,7 @@ returns-in-Ok-Some-eq0-clause-run g c =
 
 pub returns-in-Ok-Some-eq0-clause-paced : goal.returns-in-Ok-Some-eq0-clause-paced
 returns-in-Ok-Some-eq0-clause-paced g c =
-    let step = g.S.Service.step in
+    let step = clocked (g.C.Clock.reads c.args.clock.now) g.S.Service.step in
     let inv = c.reads.invariant in
     let over = rw c.as_slice.ensures at c.finish.ensures in
     let said = over_end step g.S.Service.refusal (c.reads.office, g.C.Clock.answers c.reads.clock) _ _ _ c.finish.result over in
@@ -51,46 +53,63 @@ returns-in-Ok-Some-eq0-clause-paced g c =
 pub returns-in-Err-clause-run : goal.returns-in-Err-clause-run
 returns-in-Err-clause-run g c =
     let inv = c.reads.invariant in
-    read_run g.S.Service.step g.S.Service.refusal _ _ _ _ _ _ _ _ _ _ _ c.reads.unanswered.bytes.items _ _ c.reads.wants c.in-Err.end
+    read_run (clocked (g.C.Clock.reads c.args.clock.now) g.S.Service.step) g.S.Service.refusal _ _ _ _ _ _ _ _ _ _ _
+    c.reads.unanswered.bytes.items _ _ c.reads.wants c.in-Err.end
     inv.used.paced.reads c.in-Err.ensures inv.used.paced.writes inv.progress inv.awaited
 
 pub returns-in-Err-clause-paced : goal.returns-in-Err-clause-paced
 returns-in-Err-clause-paced g c =
     let inv = c.reads.invariant in
-    paced_read g.S.Service.step _ _ _ _ _ _ _ _ _ _ inv.uses c.reads.unanswered.bytes.items _ c.reads.wants _ c.in-Err.end c.count.ensures
+    paced_read (clocked (g.C.Clock.reads c.args.clock.now) g.S.Service.step) _ _ _ _ _ _ _ _ _ _ inv.uses c.reads.unanswered.bytes.items _
+    c.reads.wants _ c.in-Err.end c.count.ensures
     inv.used inv.still_open inv.progress inv.awaited c.in-Err.ensures
 
 pub returns-in-Err-answer_all-clause-run : goal.returns-in-Err-answer_all-clause-run
 returns-in-Err-answer_all-clause-run g c =
-    let step = g.S.Service.step in
+    let step = clocked (g.C.Clock.reads c.args.clock.now) g.S.Service.step in
     let refusal = g.S.Service.refusal in
     let inv = c.reads.invariant in
     let read = rw c.in-Ok-Some.field-0-is at c.in-Ok-Some.ensures in
     let rest = c.read_more.new.self.bytes.items in
     let now = after_read step _ _ _ _ _ _ c.reads.unanswered.bytes.items rest read.0 _ inv.used.paced.reads inv.progress read.3 read.2 in
-    let ends = rw c.as_slice-in-reads.ensures at c.in-Err-answer_all.ensures in
+    let one = g.S.Service.step in
+    let reads = g.C.Clock.reads in
+    let wider = clocked_wider one (reads c.reads.clock) (reads c.args.clock.now) inv.stays in
+    let written = replies_wider (clocked (reads c.reads.clock) one) step wider g.S.Service.refusal _ _ _ _ _ (Err c.in-Err-answer_all.end)
+    c.in-Err-answer_all.ensures.written in
+    let ends = rw c.as_slice-in-reads.ensures at written in
     run_early step refusal _ _ _ _ _ _ _ c.in-Err-answer_all.end now.0
     (bytes_after step refusal _ _ _ _ _ _ _ rest _ c.in-Err-answer_all.end inv.used.paced.writes now.1 (bytes_of c.in-Err-answer_all.end _ _ _ ends))
 
 pub returns-in-Err-answer_all-clause-paced : goal.returns-in-Err-answer_all-clause-paced
 returns-in-Err-answer_all-clause-paced g c =
-    let step = g.S.Service.step in
+    let step = clocked (g.C.Clock.reads c.args.clock.now) g.S.Service.step in
     let inv = c.reads.invariant in
-    let ends = rw c.as_slice-in-reads.ensures at c.in-Err-answer_all.ensures in
+    let one = g.S.Service.step in
+    let reads = g.C.Clock.reads in
+    let wider = clocked_wider one (reads c.reads.clock) (reads c.args.clock.now) inv.stays in
+    let written = replies_wider (clocked (reads c.reads.clock) one) step wider g.S.Service.refusal _ _ _ _ _ (Err c.in-Err-answer_all.end)
+    c.in-Err-answer_all.ensures.written in
+    let ends = rw c.as_slice-in-reads.ensures at written in
     paced_after step _ _ _ _ _ _ _ _ _ _ inv.uses c.reads.unanswered.bytes.items _ c.reads.wants _ c.in-Ok-Some.count c.count.ensures
     inv.used inv.still_open inv.progress inv.awaited (rw c.in-Ok-Some.field-0-is at c.in-Ok-Some.ensures) c.in-Err-answer_all.end _ _ ends.0 ends.1
 
 pub reads-preserved : goal.reads-preserved
 reads-preserved g c =
-    let step = g.S.Service.step in
+    let step = clocked (g.C.Clock.reads c.args.clock.now) g.S.Service.step in
     let inv = c.reads.invariant in
-    let more = rw c.as_slice-in-reads.ensures at c.in-Ok.ensures in
+    let one = g.S.Service.step in
+    let reads = g.C.Clock.reads in
+    let wider = clocked_wider one (reads c.reads.clock) (reads c.args.clock.now) inv.stays in
+    let written = replies_wider (clocked (reads c.reads.clock) one) step wider g.S.Service.refusal _ _ _ _ _ (Ok c.in-Ok.awaiting) c.in-Ok.ensures.written in
+    let more = rw c.as_slice-in-reads.ensures at written in
     let rest = sym c.drop_front.ensures in
     let on = went_on step _ _ _ _ _ _ _ _ _ _ inv.uses c.reads.unanswered.bytes.items _ c.reads.wants _ c.in-Ok-Some.count c.count.ensures
     inv.used inv.still_open inv.progress inv.awaited (rw c.in-Ok-Some.field-0-is at c.in-Ok-Some.ensures) _ _ more.0 _ _
     c.in-Ok-Some.count-test.1 more.1 more.3 in
     record {
       uses = on.0;
+      stays = λ given gives. inv.stays given (c.in-Ok.ensures.stays given gives);
       used = on.1;
       still_open = on.2;
       progress = rw (← rest) on.3;
@@ -100,7 +119,7 @@ reads-preserved g c =
 
 pub reads-preserved-in-Some : goal.reads-preserved-in-Some
 reads-preserved-in-Some g c =
-    let step = g.S.Service.step in
+    let step = clocked (g.C.Clock.reads c.args.clock.now) g.S.Service.step in
     let inv = c.reads.invariant in
     let read = rw c.in-Ok-Some.field-0-is at c.in-Ok-Some.ensures in
     let on = went_on step _ _ _ _ _ _ _ _ _ _ inv.uses c.reads.unanswered.bytes.items _ c.reads.wants _ c.in-Ok-Some.count c.count.ensures
@@ -109,6 +128,7 @@ reads-preserved-in-Some g c =
     let stays = c.in-Some.ensures c.reads.unanswered.bytes.items read.0 inv.awaited read.1 in
     record {
       uses = on.0;
+      stays = inv.stays;
       used = on.1;
       still_open = on.2;
       progress = on.3;
@@ -119,22 +139,26 @@ reads-preserved-in-Some g c =
 pub returns-clause-run : goal.returns-clause-run
 returns-clause-run g c =
     let inv = c.reads.invariant in
-    failed_run g.S.Service.step g.S.Service.refusal _ _ _ _ _ _ _ c.reads.unanswered.bytes.items _ c.reads.wants inv.used.paced.reads
+    failed_run (clocked (g.C.Clock.reads c.args.clock.now) g.S.Service.step) g.S.Service.refusal _ _ _ _ _ _ _
+    c.reads.unanswered.bytes.items _ c.reads.wants inv.used.paced.reads
     inv.used.paced.writes inv.progress inv.awaited
 
 pub returns-clause-paced : goal.returns-clause-paced
 returns-clause-paced g c =
     let inv = c.reads.invariant in
-    paced g.S.Service.step _ _ _ _ _ _ _ ReadFault inv.uses inv.used (inr (inv.still_open, omega (arith, inv.counted)))
+    paced (clocked (g.C.Clock.reads c.args.clock.now) g.S.Service.step) _ _ _ _ _ _ _ ReadFault inv.uses inv.used
+    (inr (inv.still_open, omega (arith, inv.counted)))
 
 pub reads-preserved-in-Ok-None : goal.reads-preserved-in-Ok-None
 reads-preserved-in-Ok-None g c =
     let inv = c.reads.invariant in
     let read = rw c.in-Ok-None.field-0-is at c.in-Ok-None.ensures in
-    let on = interrupted_read g.S.Service.step _ _ _ _ _ _ _ _ _ _ inv.uses c.reads.unanswered.bytes.items _ c.reads.wants _ c.count.ensures
+    let on = interrupted_read (clocked (g.C.Clock.reads c.args.clock.now) g.S.Service.step) _ _ _ _ _ _ _ _ _ _ inv.uses
+    c.reads.unanswered.bytes.items _ c.reads.wants _ c.count.ensures
     inv.used inv.still_open inv.progress inv.awaited read in
     record {
       uses = on.0;
+      stays = inv.stays;
       used = on.1;
       still_open = on.2;
       progress = on.3;

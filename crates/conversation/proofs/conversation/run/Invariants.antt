@@ -1,6 +1,6 @@
-use Rattle.std.proofs.Common.{◌≡◌, List}
+use Rattle.std.proofs.Common.{◌≡◌, ℤ, List}
 use Rattle.conversation.specs.Conversation.{Progress}
-use Rattle.conversation.specs.Exchanges.{timed}
+use Rattle.conversation.specs.Exchanges.{clocked, timed}
 use Rattle.conversation.specs.Uses.{AreOpen, Use, reads_in, received, written}
 use Rattle.conversation.specs.Wants.{IsAwaited}
 use Rattle.conversation.proofs.RunLemmas.{Used}
@@ -10,10 +10,12 @@ use Rattle.conversation.proofs.conversation.run.Given as goal
 abbrev pub invariant-reads : goal.invariant-reads
 invariant-reads g l = record {
   uses : List Use;
-  used : Used g.S.Service.step (l.fn.office, g.C.Clock.answers l.fn.clock) (g.L.Line.uses l.fn.line) (g.L.Line.uses l.line)
+  stays : (given : ℤ) → g.C.Clock.reads l.clock given → g.C.Clock.reads l.fn.clock given;
+  used : Used (clocked (g.C.Clock.reads l.fn.clock) g.S.Service.step) (l.fn.office, g.C.Clock.answers l.fn.clock) (g.L.Line.uses l.fn.line)
+      (g.L.Line.uses l.line)
       (g.R.Read.remaining l.fn.reader) (g.R.Read.remaining l.reader) (g.W.Write.contents l.fn.writer) (g.W.Write.contents l.writer) uses;
   still_open : AreOpen uses;
-  progress : Progress (timed g.S.Service.step) (received uses) l.unanswered.bytes.items
+  progress : Progress (timed (clocked (g.C.Clock.reads l.fn.clock) g.S.Service.step)) (received uses) l.unanswered.bytes.items
       (l.fn.office, g.C.Clock.answers l.fn.clock) (written uses) (l.office, g.C.Clock.answers l.clock);
   awaited : IsAwaited l.unanswered.bytes.items l.wants;
   counted : reads_in uses ≡ l.made;

@@ -18,6 +18,7 @@ returns-clause-run g c =
       c.args.out.ghost_name,
       c.args.err.ghost_name,
       c.new.result,
+      c.new.ensures,
       run_of _ _ _ _ _ _ _ _ _ _ _ ran.result c.new-out.ensures
           (writer_left ran.new.out _ _ c.into_inner.ensures.held out_named) c.new-err.ensures
           (writer_left ran.new.err _ _ c.into_inner-2.ensures.held err_named)

@@ -1,8 +1,8 @@
 use Rattle.vend_commands.proofs.serving.hold.Goals as goal
 
-pub returns : goal.returns
-returns g c =
-    let converses = c.run.ensures.1 in
+pub returns-clause-held : goal.returns-clause-held
+returns-clause-held g c =
+    let converses = c.run.ensures.converses.1 in
     record {
       reader = c.in-Some.reader;
       writer = c.in-Some.writer;
@@ -11,7 +11,7 @@ returns g c =
       end = c.run.result;
       accepted = c.in-Some.ensures.accepts;
       run = converses.run;
-      paced = (c.run.ensures.0, converses.paced);
+      paced = (c.run.ensures.converses.0, converses.paced);
       clean = converses.clean;
       lives = converses.lives;
       ended = c.end.ensures;

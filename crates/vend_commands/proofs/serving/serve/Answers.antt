@@ -9,7 +9,7 @@ use Rattle.vend_ports.proofs.TakeLemmas.{takes_next, takes_none}
 use Rattle.vend_commands.proofs.serving.serve.Goals as goal
 
 pub loop-connection-init : goal.loop-connection-init
-loop-connection-init g c = ([], (refl, refl), takes_none _)
+loop-connection-init g c = (([], (refl, refl), takes_none _), λ given gives. gives)
 
 pub loop-connection-preserved : goal.loop-connection-preserved
 loop-connection-preserved g c =
@@ -18,14 +18,16 @@ loop-connection-preserved g c =
     let C = g.C.Clock in
     let ways = way D g.D.Reader.Read.remaining g.D.Writer.Write.contents in
     let before = c.loop-connection in
-    one_more ways (forward_of c.args.words.now.transform) seen_in before._connection
+    let one = one_more ways (C.reads c.args.clock.now) (forward_of c.args.words.now.transform) seen_in (C.reads before.clock) before._connection
     (service c.args.door.now c.args.books (C.answers c.args.clock.now)) (service before.door before.books (C.answers before.clock))
-    (service c.hold.new.door c.hold.new.books (C.answers c.hold.new.clock)) c.in-Ok.books _ _ _ _ before.invariant c.in-Ok.ensures.ready c.if-not-hold.ensures
-    c.in-Ok.ensures.told c.tell_stop.ensures
+    (service c.hold.new.door c.hold.new.books (C.answers c.hold.new.clock)) c.in-Ok.books _ _ _ _ before.invariant.1 before.invariant.0
+    c.in-Ok.ensures.ready c.if-not-hold.ensures.held
+    c.in-Ok.ensures.told c.tell_stop.ensures in
+    (one, λ given gives. before.invariant.1 given (c.if-not-hold.ensures.stays given gives))
 
 pub returns-in-Err : goal.returns-in-Err
 returns-in-Err g c =
-    let held = c.loop-connection.invariant in (
+    let held = c.loop-connection.invariant.0 in (
       held.0,
       record {
         count = c.loop-connection._connection;
@@ -41,7 +43,7 @@ returns-in-Err g c =
 
 pub returns-then-not-hold : goal.returns-then-not-hold
 returns-then-not-hold g c =
-    let held = c.loop-connection.invariant in (
+    let held = c.loop-connection.invariant.0 in (
       _,
       record {
         count = c.loop-connection._connection;
@@ -51,7 +53,7 @@ returns-then-not-hold g c =
         held = held.1;
         ready = c.in-Ok.books;
         are_ready = c.in-Ok.ensures.ready;
-        unheld = c.if-not-hold.ensures;
+        unheld = c.if-not-hold.ensures.held;
         printed_is = refl;
       },
       takes_next _ _ _ held.0 _ held.2 c.in-Ok.ensures.told,
@@ -64,5 +66,5 @@ returns g c =
     let C = g.C.Clock in
     let ways = way D g.D.Reader.Read.remaining g.D.Writer.Write.contents in
     let last = c.loop-connection in
-    all_held ways (forward_of c.args.words.now.transform) seen_in last._connection c.args.words.now.connections
-    (service c.args.door.now c.args.books (C.answers c.args.clock.now)) (service last.door last.books (C.answers last.clock)) _ _ last.invariant (omega arith)
+    all_held ways (C.reads c.args.clock.now) (forward_of c.args.words.now.transform) seen_in last._connection c.args.words.now.connections
+    (service c.args.door.now c.args.books (C.answers c.args.clock.now)) (service last.door last.books (C.answers last.clock)) _ _ last.invariant.0 (omega arith)

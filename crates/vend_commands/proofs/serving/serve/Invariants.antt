@@ -1,3 +1,4 @@
+use Rattle.std.specs.Prelude.{ℤ}
 use Rattle.command_line.specs.Transform.{forward_of}
 use Rattle.vend_commands.specs.serving.Connections.{service}
 use Rattle.vend_commands.specs.port.Machines.{way}
@@ -12,6 +13,7 @@ invariant-loop-connection g l =
     let H = g.H.OfficeFile in
     let C = g.C.Clock in
     let ways = way D g.D.Reader.Read.remaining g.D.Writer.Write.contents in
-    AreHeldTelling ways (forward_of l.words.transform) seen_in l._connection
+    AreHeldTelling ways (C.reads l.fn.clock) (forward_of l.words.transform) seen_in l._connection
     (service l.fn.door l.fn.books (C.answers l.fn.clock)) (service l.door l.books (C.answers l.clock))
     l.fn.err l.err
+    × ((given : ℤ) → C.reads l.clock given → C.reads l.fn.clock given)

@@ -9,8 +9,8 @@ pub returns-clause-ok : goal.returns-clause-ok
 returns-clause-ok g c =
     let serves = books_serve (seen {g = g.S.Store} {h = g.T.BlockTransform}) in
     let m = message_of c.args.message.now in
-    let now = c.meaning_of.ensures.0 in
-    let means = c.meaning_of.ensures.2 in
+    let now = c.meaning_of.ensures.meaning.0 in
+    let means = c.meaning_of.ensures.meaning.3 in
     let outcome = c.match-meaning_of.outcome in
     let comes : Comes serves m now outcome c.args.office.now c.match-meaning_of.office =
     elim c.match-meaning_of.branch [
@@ -20,16 +20,16 @@ returns-clause-ok g c =
           w.look_up.new.self _ means w.in-Looks.is w.outcome-is w.office-is w.look_up.ensures.says
       | in-Told w ↦ comes_told serves m now _ w.in-Told.outcome outcome _ _ means w.in-Told.is w.outcome-is w.office-is
     ] in
-    was_answered serves (λ v. v.items) (c.args.office.now, g.C.Clock.answers c.args.clock.now)
+    was_answered serves (g.C.Clock.reads c.args.clock.now) (λ v. v.items) (c.args.office.now, g.C.Clock.answers c.args.clock.now)
     (c.match-meaning_of.office, g.C.Clock.answers c.meaning_of.new.clock) m
-    now outcome c.reply_bytes.result c.meaning_of.ensures.1 comes c.reply_bytes.ensures
+    now outcome c.reply_bytes.result c.meaning_of.ensures.meaning.1 c.meaning_of.ensures.meaning.2 comes c.reply_bytes.ensures
 
 pub returns-clause-err : goal.returns-clause-err
 returns-clause-err g c =
     let serves = books_serve (seen {g = g.S.Store} {h = g.T.BlockTransform}) in
     let m = message_of c.args.message.now in
-    let now = c.meaning_of.ensures.0 in
-    let means = c.meaning_of.ensures.2 in
+    let now = c.meaning_of.ensures.meaning.0 in
+    let means = c.meaning_of.ensures.meaning.3 in
     let outcome = c.match-meaning_of.outcome in
     let comes : Comes serves m now outcome c.args.office.now c.match-meaning_of.office =
     elim c.match-meaning_of.branch [
@@ -39,5 +39,6 @@ returns-clause-err g c =
           w.look_up.new.self _ means w.in-Looks.is w.outcome-is w.office-is w.look_up.ensures.says
       | in-Told w ↦ comes_told serves m now _ w.in-Told.outcome outcome _ _ means w.in-Told.is w.outcome-is w.office-is
     ] in
-    was_given_up serves (c.args.office.now, g.C.Clock.answers c.args.clock.now) (c.match-meaning_of.office, g.C.Clock.answers c.meaning_of.new.clock) m
-    now outcome c.reply_bytes.result c.meaning_of.ensures.1 comes
+    was_given_up serves (g.C.Clock.reads c.args.clock.now) (c.args.office.now, g.C.Clock.answers c.args.clock.now)
+    (c.match-meaning_of.office, g.C.Clock.answers c.meaning_of.new.clock) m
+    now outcome c.reply_bytes.result c.meaning_of.ensures.meaning.1 c.meaning_of.ensures.meaning.2 comes
