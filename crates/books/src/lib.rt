@@ -5,10 +5,10 @@
 //! and a life that the contracts speak of.
 #![tactic(auto)]
 
-pub use book_facts::{
+pub use book_opening::OpenFault;
+pub use book_states::{
     Found, LaterSteps, ListedMeter, ListedShift, ListedTariff, Lookup, MeterSummary, Quote,
 };
-pub use book_opening::OpenFault;
 pub use book_tables::Totals;
 pub use books::Books;
 pub use headline::headline_law;

@@ -14,6 +14,6 @@ pub use office::opening::{close_office, open_office};
 pub use office::reopening::{open_again, reopen};
 pub use port::machine::MachineFile;
 pub use port::openings::EachTry;
-pub use port::ports::{OfficeFile, Ports, SaltSource};
+pub use port::ports::{Machine, OfficeFile, Ports, SaltSource};
 pub use port::progress::{Progress, TerminalProgress};
 pub use print::opening::put_opening;

@@ -84,7 +84,7 @@ ghost use Rattle.vend_ports.specs.print.Printed.{clock_line};
 use book_tables::PRESENT_FORMAT;
 use books::{found_law, opening_law};
 use command_line::{DeskQuestion, Listed};
-use desk::{Clock, conversation_law, reply_law, route_law};
+use desk::{conversation_law, reply_law, route_law};
 use desk_client::{page_law, question_law, told_law};
 use office_rules::store_law;
 use papers::{export_fields_law, export_law};
@@ -92,7 +92,7 @@ use sqlite::FileStore;
 use sqlite_trees::store::Store;
 use sts_fields::amount_law;
 use tariff::purchase_law;
-use vend_commands::{Door, Loopback, OfficeFile, TextFiles};
+use vend_commands::{Door, Machine, OfficeFile};
 use vend_core::{history_law, life_law, office_law, reached_law};
 
 /// What the pages of a list print together where the last one is not full: the lines of all
@@ -213,17 +213,18 @@ pub fn serve_law<H: OfficeFile, C: Clock, D: Door>()
 /// Each sale that one of them got in a reply, read, exported or told a connection of `serve` stands
 /// for ever, and no two of them differ under one identifier, number or reference. An order that a
 /// command or a desk sold is sold once.
-pub fn program_law<H: OfficeFile, F: TextFiles, C: Clock, D: Door, L: Loopback>()
-    ensures { KeepsPromise (here_of H.Medium.Disk H.Salts.SaltSource H.OfficeFile F.TextFiles
-        C.Clock (way D.Door D.Reader.remaining D.Writer.contents)
-        (loop_of L.Loopback L.Stream.remaining L.Stream.contents)) }
+pub fn program_law<M: Machine>()
+    ensures { KeepsPromise (here_of M.Office.Medium.Disk M.Office.Salts.SaltSource
+        M.Office.OfficeFile M.Texts.TextFiles M.Clock.Clock
+        (way M.Door.Door M.Door.Reader.remaining M.Door.Writer.contents)
+        (loop_of M.Loopback.Loopback M.Loopback.Stream.remaining M.Loopback.Stream.contents)) }
 {
     history_law();
     life_law();
     office_law();
     store_law();
-    opening_law::<FileStore<H::Medium>>();
-    found_law::<FileStore<H::Medium>>();
+    opening_law::<FileStore<<M::Office as OfficeFile>::Medium>>();
+    found_law::<FileStore<<M::Office as OfficeFile>::Medium>>();
 }
 
 /// What is told of a sale names it: two sales of an office with one receipt are one sale, and so

@@ -11,7 +11,9 @@ mod selfcheck;
 mod serving;
 
 pub use commands::selfcheck::run_selfcheck;
-pub use office_commands::{Follows, OfficeFile, Part, Ports, Progress, SaltSource, reopen};
+pub use office_commands::{
+    Follows, Machine, OfficeFile, Part, Ports, Progress, SaltSource, reopen,
+};
 pub use running::{refuse, run, run_over, status};
 pub use selfcheck::fault::SelfcheckFault;
 pub use selfcheck::{gives_exactly, replies_over_memory};

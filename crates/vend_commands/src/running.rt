@@ -1,13 +1,12 @@
 ghost use Rattle.std.specs.Prelude.{◌≡◌, ◌≢◌, ◌⊎◌, ◌≤◌, ℕ, Bool, false, [], map};
+ghost use Rattle.sqlite.specs.Files.{over_files};
 ghost use Rattle.sqlite_wal.specs.Files.{image_at};
 ghost use Rattle.sts_fields.specs.Text.{Text};
 ghost use Rattle.office_rules.specs.declared.decision.refusal.Refusal.TheVariants.{Memory};
 ghost use Rattle.command_line.specs.Asked.{AskFor};
 ghost use Rattle.conversation.specs.declared.machine_clock.MachineClock.{MachineClock};
 ghost use Rattle.vend_ports.specs.port.Dial.{dial_of};
-ghost use Rattle.office_commands.specs.port.Places.{places_of};
-ghost use Rattle.vend_commands.specs.port.Machines.{loop_of, machine, untold, way};
-ghost use Rattle.vend_ports.specs.port.Texts.{texts_of};
+ghost use Rattle.vend_commands.specs.port.Machines.{machine_of, untold};
 ghost use Rattle.vend_ports.specs.print.Printed.{refusal_line};
 ghost use Rattle.vend_commands.specs.Run.{IsCarriedOut, IsExplained, IsProgramRun};
 ghost use Rattle.vend_ports.specs.Status.{status_of};
@@ -25,18 +24,40 @@ use command_line::{Asked, BadWords, meant, parse};
 use desk::{Clock, MachineClock, TimeSource};
 use desk_commands::at_desk;
 use office_commands::commands::{file_audit, import, list, offer, report, request, show};
-use office_commands::{EachTry, MachineFile, OfficeFile, Ports, Progress, TerminalProgress};
+use office_commands::{EachTry, Machine, MachineFile, OfficeFile, Ports, TerminalProgress};
 use office_rules::Refusal;
 use sqlite::{FileFrom, FileStore, Start};
 use sqlite_disk::Disk;
 use sqlite_trees::store::Store;
 use std::alloc::Global;
 use std::io::Write;
+use std::marker::PhantomData;
 use vend_ports::commands::{meter, quote, trial};
 use vend_ports::{
     CommandEnd, Door, Loopback, MachineDoor, MachineTexts, TextFiles, Watched, put_line,
     put_refusal,
 };
+
+// The computer that the program runs on. `start` stands for what the office's file holds, and
+// `time` tells the time of day.
+struct Computer<'a, B: Start, T> {
+    start: PhantomData<B>,
+    time: PhantomData<&'a T>,
+}
+
+impl<'a, B: Start, T: TimeSource> Machine for Computer<'a, B, T> {
+    type Office = MachineFile<'a, B>;
+
+    type Texts = MachineTexts<'a>;
+
+    type Clock = MachineClock<'a, T>;
+
+    type Door = MachineDoor<'a, HostRuntime>;
+
+    type Loopback = &'a HostRuntime;
+
+    type Progress = TerminalProgress<'a>;
+}
 
 /// Runs the command that some words give, the program's own name left out, and answers the exit
 /// status.
@@ -65,7 +86,7 @@ pub fn run<B: Start, T: TimeSource, O: Write, E: Write>(
         × (result ≡ status_of end out_failed) }
     ensures asked { (asked : Asked) → AskFor (map (λ w. w.now) words.now) asked → result ≤ 1 }
 {
-    let ports = Ports {
+    let ports: Ports<Computer<B, T>> = Ports {
         office: MachineFile { rt, start },
         texts: MachineTexts { rt },
         clock: MachineClock::new(time),
@@ -94,30 +115,15 @@ pub fn status(end: CommandEnd, failed: bool) -> u8
 }
 
 /// Does what the words ask for with what some ports give, or says why not.
-pub fn run_over<
-    H: OfficeFile,
-    F: TextFiles,
-    C: Clock + Drop,
-    D: Door,
-    L: Loopback,
-    P: Progress,
-    O: Write,
-    E: Write,
->(
+pub fn run_over<M: Machine, O: Write, E: Write>(
     alloc: Global,
-    ports: Ports<H, F, C, D, L, P>,
+    ports: Ports<M>,
     words: &[&str],
     out: &mut Watched<'_, O>,
     err: &mut Watched<'_, E>,
 ) -> CommandEnd
-    ensures { IsProgramRun ⟦<FileStore<H::Medium> as Store>⟧ (machine
-        (places_of H.Medium.Disk H.Salts.SaltSource H.OfficeFile ports.office)
-        (H.leaves H ports.office)
-        (texts_of F.TextFiles ports.texts) (dial_of C.Clock ports.clock)
-        (way D.Door D.Reader.remaining D.Writer.contents) ports.door
-        (loop_of L.Loopback L.Stream.remaining L.Stream.contents ports.loopback))
-        (map (λ w. w.now) words.now)
-        (outputs out.old out.new err.old err.new) result }
+    ensures { IsProgramRun (over_files {g = M.Office.Medium.Disk}) (machine_of ports)
+        (map (λ w. w.now) words.now) (outputs out.old out.new err.old err.new) result }
 {
     let Ok(line) = meant(alloc, words) else {
         leave_all(ports.office, ports.texts, ports.door, ports.loopback);
@@ -175,29 +181,15 @@ fn go_offline<D: Door, L: Loopback>(door: D, loopback: L)
 }
 
 // Does what is asked.
-fn answer<
-    H: OfficeFile,
-    F: TextFiles,
-    C: Clock + Drop,
-    D: Door,
-    L: Loopback,
-    P: Progress,
-    O: Write,
-    E: Write,
->(
+fn answer<M: Machine, O: Write, E: Write>(
     alloc: Global,
-    ports: Ports<H, F, C, D, L, P>,
+    ports: Ports<M>,
     asked: Asked<'_, '_>,
     out: &mut Watched<'_, O>,
     err: &mut Watched<'_, E>,
 ) -> CommandEnd
-    ensures { IsCarriedOut ⟦<FileStore<H::Medium> as Store>⟧ (machine
-        (places_of H.Medium.Disk H.Salts.SaltSource H.OfficeFile ports.office)
-        (H.leaves H ports.office)
-        (texts_of F.TextFiles ports.texts) (dial_of C.Clock ports.clock)
-        (way D.Door D.Reader.remaining D.Writer.contents) ports.door
-        (loop_of L.Loopback L.Stream.remaining L.Stream.contents ports.loopback))
-        asked.entry (outputs out.old out.new err.old err.new) result }
+    ensures { IsCarriedOut (over_files {g = M.Office.Medium.Disk}) (machine_of ports) asked.entry
+        (outputs out.old out.new err.old err.new) result }
 {
     let mut clock = ports.clock;
     match asked {
@@ -247,19 +239,19 @@ fn answer<
             quote::run(&words, out, err)
         }
         Asked::Serve(words) => {
-            F::leave(ports.texts);
-            L::leave(ports.loopback);
+            M::Texts::leave(ports.texts);
+            M::Loopback::leave(ports.loopback);
             commands::serve::run(&words, alloc, ports.office, ports.door, &mut clock, err)
         }
         Asked::Selfcheck(words) => {
-            H::leave(ports.office);
-            F::leave(ports.texts);
-            D::leave(ports.door);
+            M::Office::leave(ports.office);
+            M::Texts::leave(ports.texts);
+            M::Door::leave(ports.door);
             run_selfcheck(&words, alloc, ports.loopback, out, err)
         }
         Asked::Desk(words) => {
-            H::leave(ports.office);
-            D::leave(ports.door);
+            M::Office::leave(ports.office);
+            M::Door::leave(ports.door);
             let loopback = ports.loopback;
             at_desk::run(&words, alloc, ports.texts, loopback, out, err)
         }

@@ -4,11 +4,35 @@ ghost use Rattle.std.specs.Prelude.{⊤, []};
 use crate::lapses::lapse::{Faults, Lapse, NO_FAULTS};
 use books::OpenFault;
 use command_line::Address;
+use desk::Script;
 use sqlite_disk::Memory;
 use std::alloc::Global;
 use std::fs::OpenOptions;
 use std::io::{self, Read, Write};
-use vend_commands::{Door, FileFault, Follows, OfficeFile, Part, Progress, SaltSource, TextFiles};
+use std::marker::PhantomData;
+use vend_commands::{
+    Door, FileFault, Follows, Machine, OfficeFile, Part, Progress, SaltSource, TextFiles,
+};
+
+/// A machine whose office's file lapses, and whose clock is a script. Nothing else of it is the
+/// computer's but the connection that a command makes.
+pub(crate) struct LapsingMachine<'a> {
+    rt: PhantomData<&'a HostRuntime>,
+}
+
+impl<'a> Machine for LapsingMachine<'a> {
+    type Office = LapsingOffice;
+
+    type Texts = NoTexts;
+
+    type Clock = Script<'a>;
+
+    type Door = Texts<'a>;
+
+    type Loopback = &'a HostRuntime;
+
+    type Progress = Unseen;
+}
 
 /// What fails of an office's file: some calls of its log, or of its database file.
 #[derive(Clone, Copy)]

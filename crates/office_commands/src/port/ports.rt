@@ -1,7 +1,7 @@
 //! What a command has of the machine beside its outputs: each a small trait that says what it
 //! means. Whatever stands over them is proved for every machine.
 
-ghost use Rattle.std.specs.Prelude.{◌≡◌, ℕ, IfErr, IfNone, IfOk, IfSome, IsTrue};
+ghost use Rattle.std.specs.Prelude.{◌≡◌, ⊤, ℕ, IfErr, IfNone, IfOk, IfSome, IsTrue};
 ghost use Rattle.sqlite_wal.specs.Files.{seen_image};
 ghost use Rattle.sqlite_wal.specs.Recovery.{Image};
 ghost use Rattle.sts_fields.specs.Text.{Text};
@@ -9,6 +9,7 @@ ghost use Rattle.book_opening.specs.declared.fault.OpenFault.{OpenFault};
 
 use crate::port::progress::Progress;
 use books::OpenFault;
+use conversation::Clock;
 use sqlite_disk::Disk;
 use vend_ports::{Door, Loopback, TextFiles};
 
@@ -99,15 +100,40 @@ pub trait OfficeFile: Drop {
         ensures { leaves T it };
 }
 
+/// A machine, by the type of each port that it gives. Whatever is said of a run is said over its
+/// ports, and holds for every machine.
+pub trait Machine {
+    /// The file that keeps an office.
+    type Office: OfficeFile;
+
+    /// The files that are read whole.
+    type Texts: TextFiles;
+
+    /// What says which moment it is.
+    type Clock: Clock + Drop;
+
+    /// Where connections come in.
+    type Door: Door;
+
+    /// What the connection that a command makes comes of.
+    type Loopback: Loopback;
+
+    /// Whom a command that takes long tells how far it is.
+    type Progress: Progress;
+}
+
 /// The ports of one run. A command uses up what it needs and leaves the rest: the file of an
 /// office, the files that are read, the door and the connection with itself by a call that takes
 /// them, whose fact no other call gives.
 #[derive(Drop)]
-pub struct Ports<H: OfficeFile, F: TextFiles, C, D: Door, L: Loopback, P: Progress> {
-    pub office: H,
-    pub texts: F,
-    pub clock: C,
-    pub door: D,
-    pub loopback: L,
-    pub progress: P,
+pub struct Ports<M: Machine> {
+    pub office: M::Office,
+    pub texts: M::Texts,
+    pub clock: M::Clock,
+    pub door: M::Door,
+    pub loopback: M::Loopback,
+    pub progress: M::Progress,
+    // It says nothing. By it the type of these ports holds what each of them tells, so that a
+    // contract names all of it by the ports (`machine_of`).
+    ghost telling: { ⊤ },
 }

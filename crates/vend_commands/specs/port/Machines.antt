@@ -1,5 +1,7 @@
 -- What a command has of the machine beside its outputs.
 use Rattle.std.specs.Prelude.{ℕ, ⊤}
+use Rattle.std.specs.declared.io.Read as reads
+use Rattle.std.specs.declared.io.Write as writes
 use Rattle.sqlite.specs.Steps.{over_memory}
 use Rattle.sqlite_disk.specs.declared.Disk as disk
 use Rattle.sqlite_wal.specs.Recovery.{Image}
@@ -7,16 +9,21 @@ use Rattle.books.specs.Keeps.{seen}
 use Rattle.command_line.specs.Transform.{forward_of, shipped}
 use Rattle.command_line.specs.declared.address.Address.{Address}
 use Rattle.command_line.specs.declared.transform.Shipped.{Shipped}
+use Rattle.conversation.specs.declared.clock.Clock as clocks
 use Rattle.desk_commands.specs.Exchanged.{Calls, calls_of, untold_calls}
 use Rattle.office_commands.specs.office.Audits.{AuditsIn}
 use Rattle.office_commands.specs.office.Closed.{IsClosed}
 use Rattle.office_commands.specs.office.Opened.{OpensIn}
-use Rattle.office_commands.specs.port.Places.{Places, untold_place}
-use Rattle.vend_ports.specs.port.Dial.{Dial}
-use Rattle.vend_ports.specs.port.Texts.{Texts}
+use Rattle.office_commands.specs.port.Places.{Places, places_of, untold_place}
+use Rattle.office_commands.specs.declared.port.ports.OfficeFile as file
+use Rattle.office_commands.specs.declared.port.ports.Ports.{Ports}
+use Rattle.office_commands.specs.declared.port.ports.SaltSource as source
+use Rattle.vend_ports.specs.port.Dial.{Dial, dial_of}
+use Rattle.vend_ports.specs.port.Texts.{Texts, texts_of}
 use Rattle.vend_ports.specs.print.Sink.{Held}
 use Rattle.vend_ports.specs.declared.port.door.Door as doors
 use Rattle.vend_ports.specs.declared.port.loopback.Loopback as loopback
+use Rattle.vend_ports.specs.declared.port.text_files.TextFiles as files
 use Rattle.vend_commands.specs.commands.Selfchecked.{AgreesOver, Disagrees, HasReplies}
 use Rattle.vend_commands.specs.declared.selfcheck.fault.SelfcheckFault.{SelfcheckFault}
 
@@ -101,6 +108,23 @@ machine at untouched texts clock way door loop = record {
   door = door;
   loop = loop;
 }
+
+-- the machine that these are the ports of
+abbrev pub machine_of : {M H F C D L P K S R W N : Type 0} → {office : file.Ghosts H K S}
+    → {disk : disk.Ghosts K} → {salts : source.Ghosts S} → {texts : files.Ghosts F}
+    → {clock : clocks.Ghosts C} → {door : doors.Ghosts D R W} → {reader : reads.Ghosts R}
+    → {writer : writes.Ghosts W} → {net : loopback.Ghosts L N} → {end_reads : reads.Ghosts N}
+    → {end_writes : writes.Ghosts N}
+    → Ports M H F C D L P K S R W N office disk salts texts clock door reader writer net end_reads
+    end_writes
+    → Machine D R W
+machine_of {H = H} {office = office} {disk = disk} {salts = salts} {texts = texts} {clock = clock}
+    {door = door} {reader = reader} {writer = writer} {net = net} {end_reads = end_reads}
+    {end_writes = end_writes} ports =
+    machine (places_of disk salts office ports.office) (office.leaves H ports.office)
+    (texts_of texts ports.texts) (dial_of clock ports.clock)
+    (way door reader.remaining writer.contents) ports.door
+    (loop_of net end_reads.remaining end_writes.contents ports.loopback)
 
 -- a door of which nothing is told but the bytes of each connection
 abbrev pub untold_way : Way ⊤ Held Held

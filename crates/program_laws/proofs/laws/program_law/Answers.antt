@@ -9,8 +9,9 @@ use Rattle.program_laws.proofs.laws.program_law.Goals as goal
 
 pub returns : goal.returns
 returns g c =
-    let here = here_of g.H.Medium.Disk g.H.Salts.SaltSource g.H.OfficeFile g.F.TextFiles g.C.Clock
-    (way g.D.Door g.D.Reader.Read.remaining g.D.Writer.Write.contents) (loop_of g.L.Loopback g.L.Stream.Read.remaining g.L.Stream.Write.contents) in
+    let here = here_of g.M.Office.Medium.Disk g.M.Office.Salts.SaltSource g.M.Office.OfficeFile g.M.Texts.TextFiles g.M.Clock.Clock
+    (way g.M.Door.Door g.M.Door.Reader.Read.remaining g.M.Door.Writer.Write.contents)
+    (loop_of g.M.Loopback.Loopback g.M.Loopback.Stream.Read.remaining g.M.Loopback.Stream.Write.contents) in
     let h = c.history_law.ensures in
     let history : HistoryLaws = record { offices = h.offices; stands = h.stands } in
     let handing : HandingLaws = record { replied = c.life_law.ensures.replied; for_good = c.life_law.ensures.for_good } in

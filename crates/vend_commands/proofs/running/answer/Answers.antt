@@ -1,10 +1,7 @@
 use Rattle.std.proofs.Common.{refl}
 use Rattle.sqlite.specs.Files.{over_files}
 use Rattle.command_line.specs.declared.asked.Asked.TheVariants as asks
-use Rattle.vend_ports.specs.port.Dial.{dial_of}
-use Rattle.vend_ports.specs.port.Texts.{texts_of}
-use Rattle.office_commands.specs.port.Places.{places_of}
-use Rattle.vend_commands.specs.port.Machines.{loop_of, machine, way}
+use Rattle.vend_commands.specs.port.Machines.{machine_of}
 use Rattle.vend_ports.specs.print.Told.{outputs}
 use Rattle.vend_commands.proofs.RunLemmas.{done_so}
 use Rattle.vend_ports.proofs.TakeLemmas.{takes_none}
@@ -12,13 +9,8 @@ use Rattle.vend_commands.proofs.running.answer.Goals as goal
 
 pub returns-in-Serve : goal.returns-in-Serve
 returns-in-Serve g c =
-    let H = g.H.OfficeFile in
-    let D = g.D.Door in
-    let at = places_of g.H.Medium.Disk g.H.Salts.SaltSource H c.args.ports.office in
-    let store = over_files {g = g.H.Medium.Disk} in
-    let m = machine at (H.leaves _ c.args.ports.office) (texts_of g.F.TextFiles c.args.ports.texts) (dial_of g.C.Clock c.args.ports.clock)
-    (way D g.D.Reader.Read.remaining g.D.Writer.Write.contents) c.args.ports.door
-    (loop_of g.L.Loopback g.L.Stream.Read.remaining g.L.Stream.Write.contents c.args.ports.loopback) in
+    let store = over_files {g = g.M.Office.Medium.Disk} in
+    let m = machine_of c.args.ports in
     let out = c.args.out.now in
     let o = outputs out out c.args.err.now c.run-in-Serve.new.err in
     done_so store m c.args.asked (asks.Serve c.in-Serve.words) o c.run-in-Serve.result c.in-Serve.is
@@ -26,13 +18,8 @@ returns-in-Serve g c =
 
 pub returns-in-Report : goal.returns-in-Report
 returns-in-Report g c =
-    let H = g.H.OfficeFile in
-    let D = g.D.Door in
-    let at = places_of g.H.Medium.Disk g.H.Salts.SaltSource H c.args.ports.office in
-    let store = over_files {g = g.H.Medium.Disk} in
-    let m = machine at (H.leaves _ c.args.ports.office) (texts_of g.F.TextFiles c.args.ports.texts) (dial_of g.C.Clock c.args.ports.clock)
-    (way D g.D.Reader.Read.remaining g.D.Writer.Write.contents) c.args.ports.door
-    (loop_of g.L.Loopback g.L.Stream.Read.remaining g.L.Stream.Write.contents c.args.ports.loopback) in
+    let store = over_files {g = g.M.Office.Medium.Disk} in
+    let m = machine_of c.args.ports in
     let o = outputs c.args.out.now c.run-in-Report.new.out
     c.args.err.now c.run-in-Report.new.err in
     done_so store m c.args.asked (asks.Report c.in-Report.words) o c.run-in-Report.result c.in-Report.is
@@ -40,13 +27,8 @@ returns-in-Report g c =
 
 pub returns-in-Meter : goal.returns-in-Meter
 returns-in-Meter g c =
-    let H = g.H.OfficeFile in
-    let D = g.D.Door in
-    let at = places_of g.H.Medium.Disk g.H.Salts.SaltSource H c.args.ports.office in
-    let store = over_files {g = g.H.Medium.Disk} in
-    let m = machine at (H.leaves _ c.args.ports.office) (texts_of g.F.TextFiles c.args.ports.texts) (dial_of g.C.Clock c.args.ports.clock)
-    (way D g.D.Reader.Read.remaining g.D.Writer.Write.contents) c.args.ports.door
-    (loop_of g.L.Loopback g.L.Stream.Read.remaining g.L.Stream.Write.contents c.args.ports.loopback) in
+    let store = over_files {g = g.M.Office.Medium.Disk} in
+    let m = machine_of c.args.ports in
     let err = c.args.err.now in
     let o = outputs c.args.out.now c.run-in-Meter.new.out err err in
     done_so store m c.args.asked (asks.Meter c.in-Meter.words) o c.run-in-Meter.result c.in-Meter.is (
@@ -62,13 +44,8 @@ returns-in-Meter g c =
 
 pub returns-in-Selfcheck : goal.returns-in-Selfcheck
 returns-in-Selfcheck g c =
-    let H = g.H.OfficeFile in
-    let D = g.D.Door in
-    let at = places_of g.H.Medium.Disk g.H.Salts.SaltSource H c.args.ports.office in
-    let store = over_files {g = g.H.Medium.Disk} in
-    let m = machine at (H.leaves _ c.args.ports.office) (texts_of g.F.TextFiles c.args.ports.texts) (dial_of g.C.Clock c.args.ports.clock)
-    (way D g.D.Reader.Read.remaining g.D.Writer.Write.contents) c.args.ports.door
-    (loop_of g.L.Loopback g.L.Stream.Read.remaining g.L.Stream.Write.contents c.args.ports.loopback) in
+    let store = over_files {g = g.M.Office.Medium.Disk} in
+    let m = machine_of c.args.ports in
     let o = outputs c.args.out.now c.run_selfcheck.new.out
     c.args.err.now c.run_selfcheck.new.err in
     done_so store m c.args.asked (asks.Selfcheck c.in-Selfcheck.words) o c.run_selfcheck.result c.in-Selfcheck.is
@@ -76,13 +53,8 @@ returns-in-Selfcheck g c =
 
 pub returns-in-Audit : goal.returns-in-Audit
 returns-in-Audit g c =
-    let H = g.H.OfficeFile in
-    let D = g.D.Door in
-    let at = places_of g.H.Medium.Disk g.H.Salts.SaltSource H c.args.ports.office in
-    let store = over_files {g = g.H.Medium.Disk} in
-    let m = machine at (H.leaves _ c.args.ports.office) (texts_of g.F.TextFiles c.args.ports.texts) (dial_of g.C.Clock c.args.ports.clock)
-    (way D g.D.Reader.Read.remaining g.D.Writer.Write.contents) c.args.ports.door
-    (loop_of g.L.Loopback g.L.Stream.Read.remaining g.L.Stream.Write.contents c.args.ports.loopback) in
+    let store = over_files {g = g.M.Office.Medium.Disk} in
+    let m = machine_of c.args.ports in
     let o = outputs c.args.out.now c.run-in-Audit.new.out
     c.args.err.now c.run-in-Audit.new.err in
     done_so store m c.args.asked (asks.Audit c.in-Audit.words) o c.run-in-Audit.result c.in-Audit.is
@@ -90,13 +62,8 @@ returns-in-Audit g c =
 
 pub returns-in-Desk : goal.returns-in-Desk
 returns-in-Desk g c =
-    let H = g.H.OfficeFile in
-    let D = g.D.Door in
-    let at = places_of g.H.Medium.Disk g.H.Salts.SaltSource H c.args.ports.office in
-    let store = over_files {g = g.H.Medium.Disk} in
-    let m = machine at (H.leaves _ c.args.ports.office) (texts_of g.F.TextFiles c.args.ports.texts) (dial_of g.C.Clock c.args.ports.clock)
-    (way D g.D.Reader.Read.remaining g.D.Writer.Write.contents) c.args.ports.door
-    (loop_of g.L.Loopback g.L.Stream.Read.remaining g.L.Stream.Write.contents c.args.ports.loopback) in
+    let store = over_files {g = g.M.Office.Medium.Disk} in
+    let m = machine_of c.args.ports in
     let o = outputs c.args.out.now c.run-in-Desk.new.out
     c.args.err.now c.run-in-Desk.new.err in
     done_so store m c.args.asked (asks.Desk c.in-Desk.words) o c.run-in-Desk.result c.in-Desk.is
