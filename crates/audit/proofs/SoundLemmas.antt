@@ -123,11 +123,13 @@ module _ {T : Type 0} (forwards : T → BlockFunction) (transform : Option (Bor 
 
   -- one is, and the tokens were tested by it
   module _ (t : Bor T) (is : transform ≡ Some t) where
+    -- if it wrote the tokens, an office of these rows is plausible, its tokens written by it
     pub passed_by : {U : Type 0} (answer : Result U OfficeFault) → OnOk answer ((o : Office) → AreRowsOfOffice rows o → HasTokensOf (forwards t.now) o)
         → OnOk answer ((o : Office) → AreRowsOfOffice rows o → IsPlausible o × AreWritten (given_by forwards transform) o)
     passed_by (Ok x) has = λ o are. (reached o are, subst (λ (x : Option (Bor T)). AreWritten (given_by forwards x) o) (sym is) (has o are))
     passed_by (Err e) has = tt
 
+    -- if it did not write one, what is told of that sale is told of rows that requests lead to
     pub told_by : {U : Type 0} (answer : Result U OfficeFault) → IfErr answer (TellsUnwritten (forwards t.now) rows)
         → IfErr answer (TellsForged (given_by forwards transform) rows)
     told_by (Ok x) told = tt
@@ -173,6 +175,7 @@ module _ (given : Option BlockFunction) (o : Office) (plausible : IsPlausible o)
 module _ (given : Option BlockFunction) (n : ℕ) (old new : State) (answer : Result Audited AuditFault) (known : IsSoundOfFormat n old)
     (passed : HasCleanDisk new → IsSoundOfFormat n old → IfOk answer (IsSound given old.now))
     (this : ReadsOnly (IsSoundOfFormat n) IsUnchanged (StopsBy (Denies given)) old new answer) where
+  -- a read of the tables that is sound where it passes is an audit, whatever it answers
   pub audit_of_tables : (IsTrue old.is_open → old.in_transaction ≡ false → HasTablesInOrder old.now) → IsAuditOf given old new answer
   audit_of_tables ordered = record {
     passes = λ clean _. passed clean known;

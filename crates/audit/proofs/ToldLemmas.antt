@@ -94,6 +94,7 @@ module _ (n : ℕ) (some : 1 ≤ n) (known : n ≤ present_format) where
 abbrev pub RowLaw : Type 0
 RowLaw = (n : ℕ) (f : Finding) (db : Database) (o : Office) → Breaks (tables_of n) f db → StandsFor db o → ⊥
 
+-- what is known of a database without a format: it stands for no office
 abbrev pub FormatLaw : Type 0
 FormatLaw = (db : Database) (o : Office) → HasNoFormat db → StandsFor db o → ⊥
 

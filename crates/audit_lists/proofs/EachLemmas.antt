@@ -16,6 +16,7 @@ each_more said rows at row there here before i r low there_r = elim (cases_lt i 
       subst (λ n. said n r) (sym last) (subst (said at) r_is here)
 ]
 
+-- the row that is read at a place within the list is the one there
 pub row_at : {T : Type 0} (rows : List T) (at : ℕ) (row : T) → at < length rows → row ≡ get_or rows at row → slice_get rows at ≡ Some row
 row_at rows at row low is = slice_get_read rows (length rows) at row refl low is
 

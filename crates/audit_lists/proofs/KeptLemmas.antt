@@ -82,6 +82,7 @@ module _ {T I : Type 0} (step : T → Step) (key before : T → Key) (rows : Lis
           let last = same.1 in
           omega (arith, within, long, last)
 
+  -- each row of steps has the one before it, and the office's steps under a key are rows
   pub steps_kept : Each (λ _ row. HasKey key rows (before row)) rows × ((x : I) (s : List Step) → have x ≡ Some s → IsSteps s → AreSteps step key rows (base x))
   steps_kept = (places_follow, steps_are)
 

@@ -11,6 +11,7 @@ use Rattle.std.proofs.lemmas.Map.Text.{is_eq-slice_cmp}
 use Rattle.std.proofs.lemmas.Slice.Eq.{bytes_eq-Decides}
 use Rattle.audit_lists.specs.Keys.{Key, LentKey, lent_key_cmp, owned_key, place_under}
 
+-- two keys have the same texts and the same numbers
 abbrev pub same_key : Key → Key → Bool
 same_key a b = ((bytes_eq a.0 b.0 && bytes_eq a.1 b.1) && (a.2 == b.2)) && (a.3 == b.3)
 
@@ -73,6 +74,7 @@ key_itself a =
 pub key_same : (a b : Key) → a ≡ b → same_key a b ≡ true
 key_same a b e = ap (λ (k : Key). same_key a k) (sym e) ∙ key_itself a
 
+-- keys that are lent, in the order of the maps that places are put in
 abbrev pub lent_cmp : LentKey → LentKey → Ordering
 lent_cmp a b = lent_key_cmp (owned_key a) b
 

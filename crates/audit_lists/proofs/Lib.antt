@@ -8,6 +8,7 @@ pub mod OfficeLemmas
 pub mod PlacesLemmas
 pub mod ReachedLemmas
 pub mod StepLemmas
+pub mod TextLemmas
 pub mod TieLemmas
 pub mod TokenLemmas
 pub mod ToldLemmas

@@ -77,5 +77,6 @@ with_more (s ∷ rest) sales rows are =
     let all = with_more rest (sales ++ s ∷ []) one.0 one.1 in
     (all.0, subst (λ (l : List Sale). AreTotalsOf l all.0) (append_assoc sales (s ∷ []) rest) all.1)
 
+-- any sales have rows of totals
 pub totals_made : (sales : List Sale) → (rows : Rows) × AreTotalsOf sales rows
 totals_made sales = with_more sales [] no_rows (no_totals no_rows refl refl refl)

@@ -1,6 +1,6 @@
 -- The office whose members the rows are that keep the rules that tie them.
-use Rattle.std.proofs.Common.{◌≡◌, ◌≢◌, ◌<◌, ◌≤◌, ◌-◌, ◌^◌, ℕ, suc, Bool, true, false, List, [], Option, Some, None, slice_get, inl, inr, refl, sym, ap, subst, ◌∙◌, ◌++◌, arith, map}
-use Rattle.std.specs.Prelude.{◌↔◌, All, AllPairs, ◌⊎◌, Contains, IsSome, is_some, length, if◌then◌else◌}
+use Rattle.std.proofs.Common.{◌≡◌, ◌≢◌, ◌<◌, ◌≤◌, ◌-◌, ◌^◌, ℕ, suc, Bool, true, List, [], Option, Some, None, slice_get, inl, inr, refl, sym, ap, subst, ◌∙◌, ◌++◌, arith, map}
+use Rattle.std.specs.Prelude.{◌↔◌, AllPairs, ◌⊎◌, Contains, IsSome, is_some, length, if◌then◌else◌}
 use Rattle.std.proofs.lemmas.Bool.{cases_lt}
 use Rattle.std.proofs.lemmas.Option.{none-some, same_Some}
 use Rattle.sts_fields.specs.Base.{year_of}
@@ -12,7 +12,6 @@ use Rattle.office_rules.specs.Name.{IsMeterNo, IsName}
 use Rattle.office_rules.specs.Office.{IsBaseRow, IsBefore, IsDatedRow, IsMeterRow, IsOffice, IsSaleRow, IsShiftRow, IsTariffRow, NotBothOpen, Office, greatest_count}
 use Rattle.office_rules.specs.declared.office.meter.Meter.{Meter}
 use Rattle.office_rules.specs.declared.office.sale.Sale.{Sale}
-use Rattle.office_rules.specs.declared.office.shift.Shift.{Shift}
 use Rattle.book_tables.specs.Stands.{AreApart, AreDatedApart, AreMembersOf, AreTotalsOf, HasDatedStep, HasStep}
 use Rattle.book_tables.specs.row.Rows as stored
 use Rattle.book_tables.specs.row.Values.{AreMeterValues, AreSaleValues, AreShiftValues, AreStepValues, IsClosing}
@@ -26,7 +25,7 @@ use Rattle.audit_rows.specs.declared.rows.StepRow.{StepRow}
 use Rattle.audit_lists.specs.Keys.{HasKey, IsNew, Key}
 use Rattle.audit_lists.specs.RowKeys.{base_key, dated_before_key, dated_first_key, dated_key, meter_key, name_key, place_key, step_before_key, step_key, open_key, ref_key, tid_key}
 use Rattle.audit_lists.specs.Rules.{dated_rules, dated_step_of, meter_rules, sale_rules, shift_rules, row_step, tariff_rules, tie_rules}
-use Rattle.audit_lists.specs.Steps.{HasStepAt, at_place}
+use Rattle.audit_lists.specs.Steps.{at_place}
 use Rattle.audit_lists.specs.Ties.{AreKept, Each}
 use Rattle.book_tables.proofs.RowLemmas.RecordLemmas.{one_base}
 use Rattle.audit_lists.proofs.EachLemmas.{row_below}

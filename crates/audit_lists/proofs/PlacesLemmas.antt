@@ -23,10 +23,12 @@ module _ {T : Type 0} (key : T → Key) where
   at_some rows n q i None e is = absurd (none-some i e)
   at_some rows n q i (Some j) e is = subst (SomeAt rows n q) (same_Some j i e) is
 
+  -- where nothing is under a key, none of the rows so far has it
   pub none_under : (places : BTreeMap LentKey ℕ) (rows : List T) (n : ℕ) → ArePlaces key places rows n → (q : Key) → place_under places q
       ≡ None → NoneAt rows n q
   none_under places rows n are q none = at_none rows n q (place_under places q) none (are q)
 
+  -- the place under a key is that of a row so far that has it
   pub some_under : (places : BTreeMap LentKey ℕ) (rows : List T) (n : ℕ) → ArePlaces key places rows n → (q : Key) (i : ℕ)
       → place_under places q ≡ Some i → SomeAt rows n q i
   some_under places rows n are q i some = at_some rows n q i (place_under places q) some (are q)
@@ -61,5 +63,6 @@ module _ {T : Type 0} (key : T → Key) where
             let same = same_Some i j e in
             subst (SomeAt rows (at + 1) q) (sym same) (let low = was.0 in omega (arith, low), was.1)
 
+        -- once the row's place is put in, the places are those of the rows with it among them
         pub places_more : MatchOption (place_under n q) (NoneAt rows (at + 1) q) (SomeAt rows (at + 1) q)
         places_more = fits (same_key (owned_key k) q) refl (place_under m q) (place_under n q) (put_place m n k at put q) (are q)

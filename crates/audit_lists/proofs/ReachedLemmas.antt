@@ -7,6 +7,5 @@ pub mod OwnLemmas
 pub mod PlausibleLemmas
 pub mod PriceLemmas
 pub mod ShiftLemmas
-pub mod TextLemmas
 pub mod TidLemmas
 pub mod WalkLemmas

@@ -96,6 +96,7 @@ module _ {T U : Type 0} (step : T → Step) (key before : T → Key) (rows : Lis
       × (a : AreSteps step key rows q) × (a.steps ≡ s)
   from q s e = let h = had_from of others q (λ has. (chosen q has).steps) s e in (h.0, chosen q h.0, h.1)
 
+  -- the steps under the keys of others are had there, and the rows are these steps
   pub steps_had : StepsHad step key rows of others
   steps_had = record {
     had = λ q. had of others q (λ has. (chosen q has).steps);

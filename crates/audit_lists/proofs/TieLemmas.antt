@@ -11,6 +11,7 @@ pub kept_both : (first rest : List Tie) → AreKept first → AreKept rest → A
 kept_both [] rest kept more = more
 kept_both (tie ∷ first) rest kept more = (kept.0, kept_both first rest kept.1 more)
 
+-- where the rules of both lists are kept, so are those of each
 pub kept_parts : (first rest : List Tie) → AreKept (first ++ rest) → AreKept first × AreKept rest
 kept_parts [] rest kept = (tt, kept)
 kept_parts (tie ∷ first) rest kept = let parts = kept_parts first rest kept.1 in ((kept.0, parts.0), parts.1)
@@ -25,10 +26,12 @@ finds_right : (first rest : List Tie) (f : Finding) → AreKept first → FindsF
 finds_right [] rest f kept found = found
 finds_right (tie ∷ first) rest f kept found = inr (kept.0, finds_right first rest f kept.1 found)
 
+-- what a fault says of the first list it says of both
 pub says_left : (first rest : List Tie) (f : OfficeFault) → Says (FindsFirst first) f → Says (FindsFirst (first ++ rest)) f
 says_left first rest (fault.Found f) found = finds_left first rest f found
 says_left first rest fault.Memory found = tt
 
+-- what it says of the second it says of both, where the first is kept
 pub says_right : (first rest : List Tie) (f : OfficeFault) → AreKept first → Says (FindsFirst rest) f → Says (FindsFirst (first ++ rest)) f
 says_right first rest (fault.Found f) kept found = finds_right first rest f kept found
 says_right first rest fault.Memory kept found = tt

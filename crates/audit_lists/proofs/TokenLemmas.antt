@@ -1,6 +1,6 @@
 -- The meters of an office's rows by their places, and what their keys say of the tokens of its sales.
 use Rattle.std.proofs.Common.{◌≡◌, ◌≢◌, ◌<◌, ◌≤◌, ◌∙◌, ℕ, List, Some, length, map, sym, ap, subst, arith}
-use Rattle.std.specs.Prelude.{◌↔◌, All, slice_get}
+use Rattle.std.specs.Prelude.{◌↔◌, slice_get}
 use Rattle.std.proofs.lemmas.Option.{same_Some, slice_get_within}
 use Rattle.sts_token.specs.Fields.{AreFields, TokenFields}
 use Rattle.sts_token.specs.Token.{BlockFunction, IsToken}
@@ -22,7 +22,7 @@ use Rattle.audit_lists.specs.Tokens.{TellsUnwritten, written_tie}
 use Rattle.audit_lists.specs.declared.fault.OfficeFault.{OfficeFault}
 use Rattle.audit_lists.specs.declared.fault.OfficeFault.TheVariants as fault
 use Rattle.audit_lists.specs.reached.Finds.{AreRowsOfOffice}
-use Rattle.audit_lists.proofs.ListLemmas.{all_at, all_from, at_pairs, contains_map, map_at, map_contains}
+use Rattle.audit_lists.proofs.ListLemmas.{all_at, at_pairs, contains_map, map_at, map_contains}
 
 -- fields are the same where the three numbers are, and only there
 pub same_fields : (rnd tid tenths : ℕ) (read f : TokenFields) → record { rnd = rnd; tid = tid; tenths = tenths } ≡ read → rnd ≡ f.rnd → tid
@@ -31,6 +31,7 @@ same_fields rnd tid tenths read f is same_rnd same_tid same_tenths =
     sym is ∙ ap (λ (n : ℕ). record { rnd = n; tid = tid; tenths = tenths }) same_rnd ∙ ap (λ (n : ℕ). record { rnd = f.rnd; tid = n; tenths = tenths }) same_tid
     ∙ ap (λ (n : ℕ). record { rnd = f.rnd; tid = f.tid; tenths = n }) same_tenths
 
+-- fields that were read and are those of another have the other's values
 pub fields_same : (rnd tid tenths : ℕ) (read f : TokenFields) → record { rnd = rnd; tid = tid; tenths = tenths } ≡ read → read ≡ f
     → (rnd ≡ f.rnd) × (tid ≡ f.tid) × (tenths ≡ f.tenths)
 fields_same rnd tid tenths read f is same =

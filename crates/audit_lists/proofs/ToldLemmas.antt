@@ -1,9 +1,8 @@
 -- The rules of a format's tables, from those between rows and those of the totals.
 use Rattle.std.proofs.Common.{◌≡◌, ◌≤◌, ℕ, zero, suc, arith}
-use Rattle.office_rules.specs.Office.{IsOffice, Office}
-use Rattle.book_tables.specs.Stands.{AreMembersOf, AreTotalsOf}
+use Rattle.book_tables.specs.Stands.{AreTotalsOf}
 use Rattle.book_tables.specs.row.Rows.{Rows}
-use Rattle.audit_rows.specs.AllRows.{KeepRules, with_totals}
+use Rattle.audit_rows.specs.AllRows.{KeepRules}
 use Rattle.audit_rows.specs.Entries.{rows_of}
 use Rattle.audit_rows.specs.declared.office_rows.OfficeRows.{OfficeRows}
 use Rattle.audit_lists.specs.Rules.{tie_rules}
@@ -20,6 +19,7 @@ told_ties zero r f said = said
 told_ties (suc zero) r f said = said
 told_ties (suc (suc n)) r f said = says_left (tie_rules r) (total_rules r) f said
 
+-- what is found of the totals is found by all rules, where those between rows are kept
 pub told_totals : (n : ℕ) (r : OfficeRows) (f : OfficeFault) → 2 ≤ n → AreKept (tie_rules r) → Says (FindsFirst (total_rules r)) f
     → Says (FindsFirst (rules_of n r)) f
 told_totals zero r f two kept said = absurd (omega (arith, two))

@@ -67,6 +67,7 @@ module _ {X : Type 0} (p : X → Bool) where
 module _ {K V : Type 0} (is_key : K → K → Bool) (tells : (key k : K) → (is_key key k ≡ true) ↔ (k ≡ key)) (key_of : Sale → K)
     (found : List Sale → Option V) (none : found [] ≡ None) (some : (s : Sale) (more : List Sale) → (v : V) × (found (s ∷ more) ≡ Some v))
     (sales : List Sale) where
+  -- what is kept under a key: what is found of the sales that have it
   abbrev pub has : K → Option V
   has key = found (filter (λ s. is_key key (key_of s)) sales)
 
@@ -127,6 +128,7 @@ module _ {K V : Type 0} (is_key : K → K → Bool) (tells : (key k : K) → (is
           ),
         )
 
+    -- the rows keep the rules exactly if they are those of what is kept under each key
     pub rows_are : Keep ↔ AreRowsOf (map entry rows) has
     rows_are = (kept_are, are_kept)
 
@@ -155,15 +157,19 @@ rising (r ∷ s ∷ rows) sorted once =
 
 -- ---- the three tables
 
+-- the meter and the base of a sale, under which its last identifier is kept
 abbrev pub base_of : Sale → List ℕ × Base
 base_of s = (s.meter, s.base)
 
+-- the meter and the month of a sale, under which its tenths are added up
 abbrev pub month_of : Sale → List ℕ × ℕ
 month_of s = (s.meter, month_at s.moment)
 
+-- the greatest identifier of some sales
 abbrev pub greatest : List Sale → Option ℕ
 greatest sales = greatest_of (map (λ s. s.tid) sales)
 
+-- where there is a sale, there is a greatest identifier
 pub some_id : (s : Sale) (more : List Sale) → (v : ℕ) × (greatest (s ∷ more) ≡ Some v)
 some_id s more = (max s.tid (unwrap_or (greatest_of (map (λ (t : Sale). t.tid) more)) 0), refl)
 

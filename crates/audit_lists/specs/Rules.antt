@@ -11,9 +11,13 @@ use Rattle.audit_rows.specs.declared.office_rows.OfficeRows.{OfficeRows}
 use Rattle.audit_rows.specs.declared.rows.BaseRow.{BaseRow}
 use Rattle.audit_rows.specs.declared.rows.DatedStepRow.{DatedStepRow}
 use Rattle.audit_rows.specs.declared.rows.StepRow.{StepRow}
-use Rattle.audit_lists.specs.RowKeys.{base_key, dated_before_key, dated_first_key, dated_key, dated_tariff_key, meter_base_key, meter_key, meter_tariff_key, name_key, open_key, ref_key, sale_base_key, step_before_key, step_key, step_tariff_key, tid_key}
+use Rattle.audit_lists.specs.RowKeys.{base_key, dated_before_key, dated_first_key, dated_key}
+use Rattle.audit_lists.specs.RowKeys.{dated_tariff_key, meter_base_key, meter_key, meter_tariff_key}
+use Rattle.audit_lists.specs.RowKeys.{name_key, open_key, ref_key, sale_base_key, step_before_key}
+use Rattle.audit_lists.specs.RowKeys.{step_key, step_tariff_key, tid_key}
 use Rattle.audit_lists.specs.Steps.{AreSteps}
-use Rattle.audit_lists.specs.Tables.{listed_bases, listed_dated_steps, listed_meters, listed_sales, shifts_of, steps_of, listed_tariffs}
+use Rattle.audit_lists.specs.Tables.{listed_bases, listed_dated_steps, listed_meters, listed_sales}
+use Rattle.audit_lists.specs.Tables.{shifts_of, steps_of, listed_tariffs}
 use Rattle.audit_lists.specs.Ties.{Tie, each, few, names, numbered, once}
 
 -- the step of a row

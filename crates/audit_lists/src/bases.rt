@@ -6,7 +6,7 @@ ghost use Rattle.audit_lists.specs.Keys.{ArePlaces, IsNew};
 ghost use Rattle.audit_lists.specs.RowKeys.{meter_key};
 ghost use Rattle.audit_lists.specs.Rules.{IsOfMeter};
 ghost use Rattle.audit_lists.specs.Tables.{listed_bases};
-ghost use Rattle.audit_lists.specs.Ties.{Each, IsFirst, IsTieKept, each};
+ghost use Rattle.audit_lists.specs.Ties.{Each, IsFirst, each};
 
 use crate::fault::found;
 use crate::places::{Places, place_of};

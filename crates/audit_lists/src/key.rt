@@ -4,7 +4,11 @@ ghost use Rattle.std.specs.Prelude.{◌≡◌};
 ghost use Rattle.office_rules.specs.declared.office.sale.Sale.{Sale};
 ghost use Rattle.office_rules.specs.declared.office.shift.Shift.{Shift};
 ghost use Rattle.audit_lists.specs.Keys.{Key, owned_key};
-ghost use Rattle.audit_lists.specs.RowKeys.{base_key, dated_before_key, dated_first_key, dated_key, dated_tariff_key, meter_base_key, meter_key, meter_tariff_key, name_key, open_key, ref_key, sale_base_key, step_before_key, step_key, step_tariff_key, tid_key};
+ghost use Rattle.audit_lists.specs.RowKeys.{base_key, dated_before_key, dated_first_key, dated_key};
+ghost use Rattle.audit_lists.specs.RowKeys.{dated_tariff_key, meter_base_key, meter_key};
+ghost use Rattle.audit_lists.specs.RowKeys.{meter_tariff_key, name_key, open_key, ref_key};
+ghost use Rattle.audit_lists.specs.RowKeys.{sale_base_key, step_before_key, step_key};
+ghost use Rattle.audit_lists.specs.RowKeys.{step_tariff_key, tid_key};
 
 use audit_rows::{BaseRow, DatedStepRow, MeterRow, StepRow};
 use office_rules::{Sale, Shift, TariffName};

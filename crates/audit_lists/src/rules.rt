@@ -4,7 +4,8 @@ ghost use Rattle.std.specs.Prelude.{IfErr, IfOk, OnOk, length};
 ghost use Rattle.audit_rows.specs.declared.finding.Rule.TheVariants as rule;
 ghost use Rattle.audit_lists.specs.Keys.{ArePlaces};
 ghost use Rattle.audit_lists.specs.RowKeys.{base_key, name_key};
-ghost use Rattle.audit_lists.specs.Rules.{IsInShift, dated_rules, meter_rules, sale_rules, shift_rules, tariff_rules, tie_rules};
+ghost use Rattle.audit_lists.specs.Rules.{IsInShift, dated_rules, meter_rules, sale_rules};
+ghost use Rattle.audit_lists.specs.Rules.{shift_rules, tariff_rules, tie_rules};
 ghost use Rattle.audit_lists.specs.Tables.{listed_sales};
 ghost use Rattle.audit_lists.specs.Ties.{AreKept, Each, FindsFirst, IsFirst, Says, each};
 

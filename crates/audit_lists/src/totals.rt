@@ -3,7 +3,8 @@
 ghost use Rattle.std.specs.Prelude.{◌≡◌, ◌≤◌, IfErr, IfOk, IsSome, OnOk, Some, length};
 ghost use Rattle.office_rules.specs.Office.{greatest_count};
 ghost use Rattle.book_tables.specs.row.Gathered.{IsGathered};
-ghost use Rattle.audit_lists.specs.Ties.{AreKept, FindsFirst, IsFirst, IsTieKept, Says, each, listed};
+ghost use Rattle.audit_lists.specs.Ties.{AreKept, FindsFirst, IsFirst, IsTieKept, Says, each};
+ghost use Rattle.audit_lists.specs.Ties.{listed};
 ghost use Rattle.audit_lists.specs.totals.Rules.{sum_rules, total_rules};
 ghost use Rattle.audit_rows.specs.declared.finding.Rule.TheVariants as rule;
 

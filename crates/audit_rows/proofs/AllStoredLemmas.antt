@@ -172,6 +172,7 @@ module _ (n : ℕ) (db : Database) (sound : IsDatabase db) (has : HasOfficeOf n 
   each table.MeterBases = bases_are.stored
   each table.DatedSteps = dated_steps.stored
 
+  -- the database holds these rows, put in the order in which they stand in the tables
   pub all_stored : (b : Rows) × AreReordered rows b × HoldsOf n n db b
   all_stored = (
     ordered,

@@ -110,6 +110,7 @@ answer_lists k db answer is = record {
 
 -- records with numbers that rise have rows that rise
 module _ {X : Type 0} (k : Kept) (columns : X → Row) (number_of : X → ℕ) (numbered_by : (x : X) → column (columns x) 0 ≡ number (number_of x)) where
+  -- rows of records that are keyed by their numbers rise by their first column
   pub rise_keyed : (xs : List X) → IsKeyedBy (λ x. pos (number_of x)) xs
       → IsAscending (λ (a b : Row). value_cmp (column a 0) (column b 0) ≡ Less) (map columns xs)
   rise_keyed xs up = ascending-map (λ (a b : Row). value_cmp (column a 0) (column b 0) ≡ Less) columns xs

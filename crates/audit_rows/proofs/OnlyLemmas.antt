@@ -126,6 +126,7 @@ module _ {X : Type 0} (R : X → X → Type 0) (turn : (x y : X) → R x y → R
         still p q (inr (inr (i_is, (not_a, not_b)))) (inr (inl (j_is, q_is))) same = not_a (i_is ∙ same ∙ q_is)
         still p q (inr (inr (i_is, from))) (inr (inr (j_is, from_j))) same = other (i_is ∙ same ∙ sym j_is)
 
+  -- what holds of all pairs of a list, either way round, holds of those in another order
   pub pairs_reordered : (xs ys : List X) → IsPermutation xs ys → AllPairs R xs → AllPairs R ys
   pairs_reordered xs ys same pairs = pairs_from_apart ys
       (IsPermutation-keeps xs Apart (apart_from_pairs xs pairs) (λ l i j i_in j_in apart. exchanged_apart l i j i_in j_in apart) ys same)
@@ -139,12 +140,14 @@ there_too xs ys x same is = (λ a. Contains-permutation xs ys x same (is.0 a), �
 apart_turned : {K V : Type 0} (a b : K × V) → a.0 ≢ b.0 → b.0 ≢ a.0
 apart_turned a b other same = other (sym same)
 
+-- rows of what is had under keys are those of it in another order too
 pub rows_of_reordered : {K V : Type 0} (has : K → Option V) (xs ys : List (K × V)) → IsPermutation xs ys → AreRowsOf xs has → AreRowsOf ys has
 rows_of_reordered {K} {V} has xs ys same are = record {
   members = λ key value. there_too xs ys (key, value) same (are.members key value);
   once = pairs_reordered (λ (a b : K × V). a.0 ≢ b.0) apart_turned xs ys same are.once;
 }
 
+-- rows of an office's members are those of them in another order too
 pub members_reordered : (a b : Rows) (o : Office) → AreReordered a b → AreMembersOf a o → AreMembersOf b o
 members_reordered a b o same are = record {
   tariffs = λ name. there_too a.tariffs b.tariffs name same.tariffs (are.tariffs name);
@@ -168,6 +171,7 @@ members_reordered a b o same are = record {
       b.dated_steps same.dated_steps are.dated_once;
 }
 
+-- rows in another order are turned back into the order that they had
 pub reordered_back : (a b : Rows) → AreReordered a b → AreReordered b a
 reordered_back a b same = record {
   tariffs = IsPermutation-sym a.tariffs b.tariffs same.tariffs;
@@ -334,8 +338,10 @@ module _ (n : ℕ) (some : 1 ≤ n) (db : Database) (rows : Rows) (read : HasAll
   members_with : (totals : Rows) → AreReordered (with_totals rows totals) r → AreMembersOf (with_totals rows totals) o
   members_with totals same = members_reordered r (with_totals rows totals) o (reordered_back (with_totals rows totals) r same) are
 
+  -- with the totals that the tables hold, the rows that were read are those of the office
   pub only_members : AreMembersOf (with_totals rows r) o
   only_members = members_with r (reordered_with r (IsPermutation-refl r.last_ids) (IsPermutation-refl r.month_tenths) refl)
 
+  -- from the format with totals on, the rows that were read are the office's, totals too
   pub only_all : 2 ≤ n → AreMembersOf rows o
   only_all come = members_with rows (reordered_with rows (last_ids come) (month_tenths come) (shift_totals come))

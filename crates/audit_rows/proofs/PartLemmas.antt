@@ -48,15 +48,19 @@ row_from entry order token price = record {
   month = entry.month;
 }
 
+-- the part of a sale's row with its number, moment, month and shift
 abbrev pub entry_in : SaleRow → SaleEntry
 entry_in s = record { number = s.sale.number; moment = s.sale.moment; month = s.month; shift = s.sale.shift }
 
+-- the part with the order: its operator and reference, the meter and the tender
 abbrev pub order_in : SaleRow → Order
 order_in s = record { operator = s.sale.operator; order_ref = s.sale.order_ref; meter = s.sale.meter; tender = s.sale.tender }
 
+-- the part with the token: its base, identifier, nibble, tenths and digits
 abbrev pub token_in : SaleRow → SaleToken
 token_in s = record { base = s.sale.base; tid = s.sale.tid; rnd = s.sale.rnd; tenths = s.sale.tenths; digits = s.sale.digits }
 
+-- a row whose parts show its columns is shown by the record that is made of them
 pub shows_row : (r : Row) (entry : SaleEntry) (order : Order) (token : SaleToken) (price : ℕ) → length r ≡ 14 → shown_sale_entry entry
     ≡ sale_entry_columns r → shown_sale_order order ≡ sale_order_columns r → shown_sale_token token ≡ sale_token_columns r → number price
     ≡ column r 11 → shown_sale_row (row_from entry order token price) ≡ r
@@ -64,11 +68,14 @@ shows_row r entry order token price count e o t p =
     let columns : shown_sale_row (row_from entry order token price) ≡ columns_from r 0 14 = cc in
     columns ∙ all_columns r count
 
+-- where a record shows a row, its first part shows the columns of that part
 pub shows_entry : (r : Row) (s : SaleRow) → shown_sale_row s ≡ r → shown_sale_entry (entry_in s) ≡ sale_entry_columns r
 shows_entry r s e = ap sale_entry_columns e
 
+-- the same of what was ordered
 pub shows_order : (r : Row) (s : SaleRow) → shown_sale_row s ≡ r → shown_sale_order (order_in s) ≡ sale_order_columns r
 shows_order r s e = ap sale_order_columns e
 
+-- the same of the token
 pub shows_token : (r : Row) (s : SaleRow) → shown_sale_row s ≡ r → shown_sale_token (token_in s) ≡ sale_token_columns r
 shows_token r s e = ap sale_token_columns e

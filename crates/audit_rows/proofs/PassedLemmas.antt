@@ -50,6 +50,7 @@ module _ (old mid new : State) (same : IsUnchanged old mid) (survives : Survives
   plainly_after e (inl why) = inl (why.0, why.1, caused_after why.0 why.2, back_after why.3, why.4)
   plainly_after e (inr why) = inr (why.0, rw (← survives.limit) why.1, unchanged_then old mid new same why.2)
 
+  -- a table that is not read after a read fails on what was there before that read
   pub lists_after : (e : Error) → FailsToList mid new e → FailsToList old new e
   lists_after e (inl why) = inl (λ was_open. plainly_after e (why same.0.is_open))
   lists_after e (inr why) = inr (why.0, unchanged_then old mid new same why.1)
@@ -57,6 +58,7 @@ module _ (old mid new : State) (same : IsUnchanged old mid) (survives : Survives
 -- a read after one that left all as it was
 module _ {K L : State → Type 0} {T U E F : Type 0} {A : State → State → E → Type 0} {B C : State → State → F → Type 0} {x : T}
     {old mid new : State} (first : ReadsOnly K IsUnchanged A old mid (Ok x)) (there : K old → L mid) where
+  -- a read after one that left all as it was is a read of what was there before it
   pub reads_then : (r : Result U F) → ReadsOnly L IsUnchanged B mid new r
       → (HasCleanDisk mid → K old → IsUnchanged old mid → Survives old mid (λ _. ⊥) → (e : F) → B mid new e → C old new e) → ReadsOnly K IsUnchanged C old new r
   reads_then r second fails = record {
@@ -113,6 +115,7 @@ module _ (xs ys : List TableName) where
   fails_first old new NoOffice why = why
   fails_first old new (Failed e) why = why
 
+  -- a fault of the first tables is one of these and those that come after them
   pub read_first : {T U : Type 0} {old new : State} (e : AuditFault)
       → ReadsOnly {T = T} (IsKnown (HaveTables xs)) IsUnchanged (FailsToReadTables xs) old new (Err e)
       → ReadsOnly {T = U} (IsKnown (HaveTables (xs ++ ys))) IsUnchanged (FailsToReadTables (xs ++ ys)) old new (Err e)
@@ -129,18 +132,22 @@ module _ (xs ys : List TableName) where
   module _ {T U : Type 0} {x : T} {old mid new : State}
       (first : ReadsOnly (IsKnown (HaveTables xs)) IsUnchanged (FailsToReadTables xs) old mid (Ok x)) (shut : mid.is_clean ≡ false → mid.is_open ≡ false)
       {r : Result U AuditFault} (second : ReadsOnly (IsKnown (HaveTables ys)) IsUnchanged (FailsToReadTables ys) mid new r) where
+    -- the first tables are there where all are
     pub known_first : IsKnown (HaveTables (xs ++ ys)) old → IsKnown (HaveTables xs) old
     known_first known runs = have_first xs ys old.now (known runs)
 
+    -- the later tables are there once the first were read
     pub known_between : IsKnown (HaveTables (xs ++ ys)) old → IsKnown (HaveTables ys) mid
     known_between known runs =
         let same = first.same (no_doubt mid.is_clean (true_from_ne_false mid.is_clean (λ dirty. both_ways mid.is_open (shut dirty) runs)))
         (known_first known) in
         subst (HaveTables ys) (sym same.0.now_is) (have_after xs ys old.now (known same.0.was_open))
 
+    -- the disk was clean between two reads, where it is clean after them
     pub clean_between : IsKnown (HaveTables (xs ++ ys)) old → HasCleanDisk new → HasCleanDisk mid
     clean_between known clean = omega (arith, (second.survives (known_between known)).clean, clean)
 
+    -- the first read left all as it was, where the disk is clean after the second
     pub same_between : IsKnown (HaveTables (xs ++ ys)) old → HasCleanDisk new → IsUnchanged old mid
     same_between known clean = first.same (clean_between known clean) (known_first known)
 

@@ -69,6 +69,7 @@ module _ (db : Database) (r : OfficeRows) where
   abbrev rows : Rows
   rows = rows_of r
 
+  -- bases that were made of the meters are those of the meters
   pub present_bases : r.bases.items ≡ map present_base r.meters.items → rows.bases ≡ map (λ m. (m.0, m.1.base)) rows.meters
   present_bases are = ap (map base_entry) are ∙ map-map base_entry present_base r.meters.items
       ∙ sym (map-map (λ (m : List ℕ × Meter). (m.0, m.1.base)) meter_entry r.meters.items)
@@ -88,6 +89,7 @@ module _ (db : Database) (r : OfficeRows) where
       (are : r.sales.items ≡ map sale_entry read)
       (bases : r.bases.items ≡ map present_base r.meters.items)
       (dated_steps : r.dated_steps.items ≡ []) where
+    -- tables of the first format, each read whole, were read as these rows
     pub first_read : IsReadAs 1 db rows
     first_read = record {
       has = record {
@@ -122,6 +124,7 @@ module _ (db : Database) (r : OfficeRows) where
 -- ---- the tables that came later
 
 module _ (db : Database) (rows : Rows) where
+  -- with the totals that were read beside them, the tables of the second format
   pub second_read : IsReadAs 1 db rows → (last_ids : List LastId) (month_tenths : List MonthTenths) (shift_totals : List ShiftTotals)
       → AreListed shown_last_id AreLastIdValues last_ids_kept db last_ids
       → AreListed shown_month AreMonthValues month_tenths_kept db month_tenths
@@ -156,6 +159,7 @@ module _ (db : Database) (rows : Rows) where
     };
   }
 
+  -- with the bases of meters that were read, the tables of the third
   pub third_read : IsReadAs 2 db rows → (bases : List BaseRow) → AreListed shown_base AreBaseValues bases_kept db bases
       → IsReadAs 3 db (record rows { bases = map base_entry bases })
   third_read second bases are = record {
@@ -183,6 +187,7 @@ module _ (db : Database) (rows : Rows) where
     };
   }
 
+  -- with the steps of later days that were read, the tables of the fourth
   pub fourth_read : IsReadAs 3 db rows → (dated_steps : List DatedStepRead)
       → AreListed shown_dated_step AreDatedStepValues dated_steps_kept db dated_steps
       → IsReadAs 4 db (record rows { dated_steps = map dated_entry dated_steps })
@@ -219,9 +224,11 @@ module _ (tables : List TableName) (n format : ℕ) (reads : tables ≡ tables_o
   same_tables : tables ≡ tables_of format
   same_tables = reads ∙ ap tables_of (sym is)
 
+  -- the tables that are read are there where those of the format are
   pub known_tables : (s : State) → IsKnown (HasTablesOf format) s → IsKnown (HaveTables tables) s
   known_tables s known runs = subst (λ (ts : List TableName). HaveTables ts s.now) (sym same_tables) (have_tables format s.now (known runs))
 
+  -- a read of these tables is one of the tables of the format
   pub of_format : {T : Type 0} {old new : State} (r : Result T AuditFault)
       → ReadsOnly (IsKnown (HaveTables tables)) IsUnchanged (FailsToReadTables tables) old new r
       → ReadsOnly (IsKnown (HasTablesOf format)) IsUnchanged (FailsToReadTables (tables_of format)) old new r

@@ -36,6 +36,7 @@ use Rattle.audit_rows.specs.declared.table_name.TableName.{TableName}
 use Rattle.audit_rows.specs.AllRows.{HasRowsOf}
 use Rattle.audit_rows.specs.declared.table_name.TableName.TheVariants as table
 
+-- a row whose values are of the columns' kinds has no more values than columns
 pub typed_short : (key : Option ℕ) (at : ℕ) (cs : List Column) (vs : Row) → are_typed key at cs vs ≡ true → length vs ≤ length cs
 typed_short key at [] [] typed = omega arith
 typed_short key at [] (v ∷ vs) typed = absurd (false≢true typed)
@@ -61,6 +62,7 @@ reads_on [] at row long = sym (drop_end at row (omega (arith, long)))
 reads_on (c ∷ cs) at row long = ap (λ (r : Row). column row at ∷ r) (reads_on cs (at + 1) row (omega (arith, long)))
     ∙ sym (drop_step at row (omega (arith, long)))
 
+-- a column that is not NULL is there in the row
 pub column_there : (row : Row) (at : ℕ) → column row at ≢ Null → at < length row
 column_there [] at some = absurd (some refl)
 column_there (v ∷ row) zero some = omega arith
@@ -105,6 +107,7 @@ numbered_long c cs (n ∷ vs) typed some =
 abbrev pub IsTyped : Table → Row → Type 0
 IsTyped t row = are_typed t.key 0 t.columns (drop 1 row) ≡ true
 
+-- the values of each row of a table are of the kinds of its columns
 pub rows_typed : (db : Database) (k : Kept) → IsDatabase db → IsKept db.schema k → AllByRecursion (IsTyped k.table) (rows_in db k.table.name)
 rows_typed db k sound stands =
     let t : Table = record k.table { tree = tree_in db.schema k.table.name } in
@@ -147,6 +150,7 @@ module _ {T : Type 0} (k : Kept) (shown : T → Row) (c : Column) (cs : List Col
       let all : map (column row) (0 ∷ places_from 2 cs) ≡ shown y = ap (map (column row)) (sym numbered) ∙ is in
       numbered_whole c cs row kinds long ∙ ap keyed all
 
+  -- rows behind numbers of their own are the records that they show, with those numbers
   pub each_numbered : (rows : List Row) (ys : List T) → AllByRecursion (IsTyped k.table) rows
       → AllByRecursion (λ (r : Row). length r ≡ 2 + length cs) rows → map (columns_of k) rows ≡ map shown ys → rows ≡ map (λ y. keyed (shown y)) ys
   each_numbered [] [] typed long e = refl
@@ -157,6 +161,7 @@ module _ {T : Type 0} (k : Kept) (shown : T → Row) (c : Column) (cs : List Col
       let rest : map (columns_of k) rows ≡ map shown ys = cc in
       ap₂ ◌∷◌ (numbered_row r y typed.0 long.0 first) (each_numbered rows ys typed.1 long.1 rest)
 
+-- each table that is read is among those of an office
 pub at : (t : TableName) → Member kept (kept_of t)
 at table.Tariffs = inr (inl refl)
 at table.TariffSteps = inr (inr (inl refl))
@@ -188,6 +193,7 @@ module _ (n since : ℕ) (db : Database) (sound : IsDatabase db) {X : Type 0} (k
   -- behind hidden numbers
   module _ (hidden : places k ≡ places_from 1 k.table.columns) (key : k.table.key ≡ None)
       (last : (row : Row) (x : X) → columns_of k row ≡ columns x → column row (length k.table.columns) ≢ Null) where
+    -- a table of hidden numbers has the listed records, in the order in which they stand
     pub hidden_found : (xs : List X) → (since ≤ n → HasRowsOf columns k db xs) → StoredAs n since k db columns xs
     hidden_found xs has = elim (cases_lt n since) [
       | inl before ↦ record { rows = xs; same = IsPermutation-refl xs; before = λ _. refl; stored = λ come. absurd (omega (arith, before, come)) }
@@ -207,6 +213,7 @@ module _ {X : Type 0} (k : Kept) (columns : X → Row) (is_numbered : k.is_numbe
       (ascending_weaker _ (λ a b. by_first (columns_of k a) (columns_of k b) ≡ Less)
       (λ a b below. ap₂ value_cmp (number_first k a is_numbered) (number_first k b is_numbered) ∙ below) (rows_in db k.table.name) order.rises)
 
+  -- the rows of a table in order are those listed by their numbers, as they are listed
   pub numbered_so : IsInOrder (rows_in db k.table.name) → (xs : List X) → HasRowsOf columns k db xs → all_columns k db ≡ map columns xs
   numbered_so order xs has = sym (sorted_unique by_first (on_total (λ (r : Row). column r 0) value_cmp_total) (all_columns k db)
       (map columns xs) (columns_rise order) (IsPermutation-sym (map columns xs) (all_columns k db) has.same) (has.rises is_numbered))
@@ -229,10 +236,12 @@ module _ {X : Type 0} (k : Kept) (columns : X → Row) (is_numbered : k.is_numbe
         (subst (λ (o : Option ℕ). are_typed o 0 k.table.columns (drop 1 r) ≡ true) key typed.0) in
         (numbered_long c cs r kinds (last r x first), each_long last rows xs typed.1 rest)
 
+    -- no row of such a table lacks a column, where each has its last one
     pub long_so : ((row : Row) (x : X) → columns_of k row ≡ columns x → column row (1 + length cs) ≢ Null) → (xs : List X)
         → all_columns k db ≡ map columns xs → AreLong (rows_in db k.table.name)
     long_so last xs e = each_long last (rows_in db k.table.name) xs (rows_typed db k sound stands) e
 
+    -- the stored rows of such a table are the records with their numbers
     pub numbered_stored : (xs : List X) → all_columns k db ≡ map columns xs → AreLong (rows_in db k.table.name) → rows_in db k.table.name
         ≡ map (λ x. keyed (columns x)) xs
     numbered_stored xs e long = each_numbered k columns c cs are numbered key (rows_in db k.table.name) xs (rows_typed db k sound stands) long e

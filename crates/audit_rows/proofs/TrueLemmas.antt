@@ -66,10 +66,12 @@ use Rattle.audit_rows.specs.declared.table_name.TableName.TheVariants as table
 at_about : Member kept about_kept
 at_about = inl refl
 
+-- a database that holds rows of a format tells that format
 pub held_tells : (n : ℕ) (db : Database) (rows : Rows) → HoldsOf n n db rows → TellsFormat n db
 held_tells zero db rows held = tt
 held_tells (suc n) db rows held = of_upto (HoldsRows db (suc n) rows) (suc n) about_kept kept at_about (le-leb 1 (suc n) (omega arith)) held.are
 
+-- a database without a format stands for no office
 pub no_format_none : (db : Database) (o : Office) → HasNoFormat db → StandsFor db o → ⊥
 no_format_none db o none stands = none stands.format stands.known stands.held.1.has (held_tells stands.format db stands.held.0 stands.held.1)
 
@@ -109,6 +111,7 @@ came : (s : Schema) (n : ℕ) (k : Kept) → Member kept k → IsKept s k → Ha
 came s n k there stands has true is = is
 came s n k there stands has false is = absurd (not_free s k stands (free_later s n k kept there is has.free))
 
+-- the rows that a database holds are in each of its tables that is there
 pub holds_of : (db : Database) (n told : ℕ) (rows : Rows) (k : Kept) → Member kept k → IsKept db.schema k → HoldsOf n told db rows → HoldsRows db told rows k
 holds_of db n told rows k there stands held = of_upto (HoldsRows db told rows) n k kept there
     (came db.schema n k there stands held.has (nat_le k.since n) refl) held.are
@@ -133,6 +136,7 @@ module _ {X T : Type 0} (k : Kept) (columns : X → Row) (shown : T → Row) (ke
       → ((x : X) → Contains xs x → keeps (read x)) → All (ShowsRecord shown keeps) (all_columns k db)
   numbered_true stored so held = each_true (columns_numbered k stored columns so (rows_in db k.table.name) xs held)
 
+-- what holds of all elements holds of the one at a place
 pub all_at : {X : Type 0} (P : X → Type 0) (xs : List X) (i : ℕ) (x : X) → All P xs → slice_get xs i ≡ Some x → P x
 all_at P xs i x all is = subst P (get_or_from_slice_get xs i x x is) (all i x (slice_get_within xs i x is))
 
@@ -273,6 +277,7 @@ module _ (db : Database) (o : Office) (s : StandsFor db o) where
 
       -- ---- any table
 
+      -- each row of a table of an office shows a record
       pub true_rows : (t : TableName) → IsKept db.schema (kept_of t) → HasTrueRows db t
       true_rows table.Tariffs there = hidden_true tariffs_kept tariff_columns tariff_columns IsName (λ x. x) (λ x. refl) db rows.tariffs
           (λ v x. refl) (λ x none. cc) (holds table.Tariffs there)

@@ -33,6 +33,7 @@ use Rattle.one_table.specs.declared.read_fault.ReadFault.TheVariants as fault
 use Rattle.book_tables.proofs.ReadingLemmas.ReadLemmas as read
 use Rattle.audit_rows.specs.declared.seen.Seen.TheVariants as seen
 
+-- the text of each table asks for all columns of all its rows
 pub lists : (t : TableName) → ListsAll (kept_of t) (list_of t)
 unfolding everything is_whole meant select_meant text_meant
 lists table.Tariffs = record {
@@ -169,6 +170,7 @@ module _ (t : TableName) (sql : List ℕ) (is : sql ≡ list_of t) (old new : St
   there : IsKnown (HaveTables (t ∷ [])) old → IsKnown (λ (db : Database). IsKept db.schema (kept_of t)) old
   there known runs = All-head (λ (u : TableName). IsKept old.now.schema (kept_of u)) t [] (known runs)
 
+  -- the text only asks, where the table is there
   pub asks_by : IsKnown (HaveTables (t ∷ [])) old → OnlyAsks sql old
   asks_by known = subst (λ (text : List ℕ). OnlyAsks text old) (sym is) (read.only_asks (lists t).asks (kept_of t) (lists t).stands old (there known))
 
@@ -192,6 +194,7 @@ module _ (t : TableName) (sql : List ℕ) (is : sql ≡ list_of t) (old new : St
 
   -- one that succeeds
   module _ {V : Type 0} {v : V} (this : ReadsOnly (OnlyAsks sql) IsUnchanged (FailsToAnswer (λ _. ⊤) sql []) old new (Ok v)) where
+    -- what is answered of a list that succeeded left all as it was, and fails for its rows
     pub list_passes : {U : Type 0} (r : Result U AuditFault)
         → (HasCleanDisk new → IsKnown (HaveTables (t ∷ [])) old → IsUnchanged old new → IfErr r (FailsToReadTables (t ∷ []) old new))
         → ReadsOnly (IsKnown (HaveTables (t ∷ []))) IsUnchanged (FailsToReadTables (t ∷ [])) old new r
@@ -207,12 +210,15 @@ module _ (t : TableName) (sql : List ℕ) (is : sql ≡ list_of t) (old new : St
       given : GivesAll (Sees shown keeps) (list_of t) [] old new all
       given = subst (λ (text : List ℕ). GivesAll (Sees shown keeps) text [] old new all) is (gives clean (asks_by known))
 
+      -- where all rows were read whole, these are the rows of the table
       pub table_listed : (xs : List T) → all ≡ map seen.Whole xs → AreListed shown keeps (kept_of t) old.now xs
       table_listed = are_listed shown keeps t shows old new (there known same.0.was_open) all given
 
+      -- and each row of the table shows a record
       pub table_true : (xs : List T) → all ≡ map seen.Whole xs → All (HasTrueRows old.now) (t ∷ [])
       table_true xs are = listed_true shown keeps t shows old.now xs (table_listed xs are)
 
+      -- the first false row that a list meets is told of as the first of the table
       pub table_broken : (before : List T) (row : Row) (after : List (Seen T)) → all ≡ map seen.Whole before ++ (seen.False row ∷ after)
           → (f : Finding) → (¬ ShowsOf t row → IsBroken t row f) → FailsToReadTables (t ∷ []) old new (Found f)
       table_broken before row after are f broken = (

@@ -5,9 +5,14 @@ use Rattle.sqlite.specs.Order.{Row}
 use Rattle.sts_fields.specs.Day.{IsDay}
 use Rattle.office_rules.specs.Name.{IsMeterNo, IsName}
 use Rattle.book_tables.specs.Holds.{HasOfficeOf}
-use Rattle.book_tables.specs.Kept.{Kept, bases_kept, dated_steps_kept, last_ids_kept, meters_kept, month_tenths_kept, sales_kept, shift_totals_kept, shifts_kept, steps_kept, tariffs_kept}
-use Rattle.book_tables.specs.row.Rows.{Rows, base_columns, dated_columns, last_id_columns, meter_columns, month_columns, sale_columns, shift_columns, step_columns, tariff_columns, totals_columns}
-use Rattle.book_tables.specs.row.Values.{AreMeterValues, AreSaleValues, AreShiftValues, AreStepValues}
+use Rattle.book_tables.specs.Kept.{Kept, bases_kept, dated_steps_kept, last_ids_kept, meters_kept}
+use Rattle.book_tables.specs.Kept.{month_tenths_kept, sales_kept, shift_totals_kept, shifts_kept}
+use Rattle.book_tables.specs.Kept.{steps_kept, tariffs_kept}
+use Rattle.book_tables.specs.row.Rows.{Rows, base_columns, dated_columns, last_id_columns}
+use Rattle.book_tables.specs.row.Rows.{meter_columns, month_columns, sale_columns, shift_columns}
+use Rattle.book_tables.specs.row.Rows.{step_columns, tariff_columns, totals_columns}
+use Rattle.book_tables.specs.row.Values.{AreMeterValues, AreSaleValues, AreShiftValues}
+use Rattle.book_tables.specs.row.Values.{AreStepValues}
 use Rattle.book_tables.specs.Stands.{IsOfFormat}
 use Rattle.audit_rows.specs.Whole.{IsTableListing}
 

@@ -7,10 +7,13 @@ use Rattle.book_tables.specs.Holds.{IsKept}
 use Rattle.book_tables.specs.reading.Reading.{ShowsRecord}
 use Rattle.book_tables.specs.row.Rows.{shown_shift, tariff_columns}
 use Rattle.book_tables.specs.row.Values.{AreShiftValues}
-use Rattle.audit_rows.specs.Records.{shown_base, shown_dated_step, shown_last_id, shown_meter_row, shown_month, shown_shift_totals, shown_step_row}
+use Rattle.audit_rows.specs.Records.{shown_base, shown_dated_step, shown_last_id, shown_meter_row}
+use Rattle.audit_rows.specs.Records.{shown_month, shown_shift_totals, shown_step_row}
 use Rattle.audit_rows.specs.Sales.{AreBookedValues, AreSaleRowValues, IsInItsMonth, shown_sale_row}
 use Rattle.audit_rows.specs.Tables.{kept_of}
-use Rattle.audit_rows.specs.Values.{AreBaseValues, AreDatedStepValues, AreLastIdValues, AreMeterRowValues, AreMonthValues, AreShiftTotalsValues, AreStepRowValues}
+use Rattle.audit_rows.specs.Values.{AreBaseValues, AreDatedStepValues, AreLastIdValues}
+use Rattle.audit_rows.specs.Values.{AreMeterRowValues, AreMonthValues, AreShiftTotalsValues}
+use Rattle.audit_rows.specs.Values.{AreStepRowValues}
 use Rattle.audit_rows.specs.Whole.{IsTableListing, all_columns}
 use Rattle.audit_rows.specs.declared.finding.Finding.{Finding}
 use Rattle.audit_rows.specs.declared.finding.RowKey.{RowKey}

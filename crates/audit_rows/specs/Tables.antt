@@ -1,6 +1,8 @@
 -- The office's tables by their names.
 use Rattle.std.specs.Prelude.{ℕ, List, [], ◌∷◌, ◌++◌, codes, filter, nat_le}
-use Rattle.book_tables.specs.Kept.{Kept, bases_kept, dated_steps_kept, last_ids_kept, meters_kept, month_tenths_kept, sales_kept, shift_totals_kept, shifts_kept, steps_kept, tariffs_kept}
+use Rattle.book_tables.specs.Kept.{Kept, bases_kept, dated_steps_kept, last_ids_kept, meters_kept}
+use Rattle.book_tables.specs.Kept.{month_tenths_kept, sales_kept, shift_totals_kept, shifts_kept}
+use Rattle.book_tables.specs.Kept.{steps_kept, tariffs_kept}
 use Rattle.audit_rows.specs.declared.table_name.TableName.{TableName}
 use Rattle.audit_rows.specs.declared.table_name.TableName.TheVariants as table
 

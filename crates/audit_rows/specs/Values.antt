@@ -2,7 +2,8 @@
 use Rattle.std.specs.Prelude.{◌<◌, ◌^◌}
 use Rattle.sts_fields.specs.Day.{IsDay}
 use Rattle.office_rules.specs.Name.{IsMeterNo, IsName}
-use Rattle.book_tables.specs.row.Values.{AreMeterValues, AreStepValues, AreTotalsValues, IsNumber, IsTid, IsTotal}
+use Rattle.book_tables.specs.row.Values.{AreMeterValues, AreStepValues, AreTotalsValues, IsNumber}
+use Rattle.book_tables.specs.row.Values.{IsTid, IsTotal}
 use Rattle.audit_rows.specs.declared.rows.BaseRow.{BaseRow}
 use Rattle.audit_rows.specs.declared.rows.DatedStepRow.{DatedStepRow}
 use Rattle.audit_rows.specs.declared.rows.LastId.{LastId}

@@ -1,5 +1,6 @@
 -- A table as it is read whole: a record of each row, or the first row that shows none.
-use Rattle.std.specs.Prelude.{◌≡◌, ◌+◌, ◌++◌, ℕ, List, [], ◌∷◌, true, All, IsPermutation, IsSorted, Result, Ok, Err, drop, if◌then◌else◌, map}
+use Rattle.std.specs.Prelude.{◌≡◌, ◌+◌, ◌++◌, ℕ, List, [], ◌∷◌, true, All, IsPermutation, IsSorted}
+use Rattle.std.specs.Prelude.{Result, Ok, Err, drop, if◌then◌else◌, map}
 use Rattle.std.specs.declared.alloc.Global.{Global}
 use Rattle.std.specs.declared.vec.Vec.{Vec}
 use Rattle.sqlite.specs.Effect.{Database}

@@ -1,7 +1,9 @@
 //! The rows of the office's tables, as records of all their columns.
 
-ghost use Rattle.audit_rows.specs.Records.{shown_base, shown_dated_step, shown_last_id, shown_month, shown_shift_totals, shown_step_row};
-ghost use Rattle.audit_rows.specs.Values.{AreBaseValues, AreDatedStepValues, AreLastIdValues, AreMonthValues, AreShiftTotalsValues, AreStepRowValues};
+ghost use Rattle.audit_rows.specs.Records.{shown_base, shown_dated_step, shown_last_id};
+ghost use Rattle.audit_rows.specs.Records.{shown_month, shown_shift_totals, shown_step_row};
+ghost use Rattle.audit_rows.specs.Values.{AreBaseValues, AreDatedStepValues, AreLastIdValues};
+ghost use Rattle.audit_rows.specs.Values.{AreMonthValues, AreShiftTotalsValues, AreStepRowValues};
 
 use book_tables::{Record, Totals, cells};
 use office_rules::{MeterNo, TariffName};

@@ -4,7 +4,9 @@ ghost use Rattle.std.specs.Prelude.{◌≡◌, ◌==◌};
 ghost use Rattle.sts_fields.specs.Calendar.{month_at};
 ghost use Rattle.office_rules.specs.Decision.Requests.{IsOrder};
 ghost use Rattle.book_tables.specs.row.ReadBack.{ReadsBack};
-ghost use Rattle.audit_rows.specs.Parts.{AreSaleEntryValues, AreSaleTokenValues, sale_entry_columns, sale_order_columns, shown_sale_entry, shown_sale_order, shown_sale_token, sale_token_columns};
+ghost use Rattle.audit_rows.specs.Parts.{AreSaleEntryValues, AreSaleTokenValues};
+ghost use Rattle.audit_rows.specs.Parts.{sale_entry_columns, sale_order_columns, shown_sale_entry};
+ghost use Rattle.audit_rows.specs.Parts.{shown_sale_order, shown_sale_token, sale_token_columns};
 ghost use Rattle.audit_rows.specs.Sales.{AreBookedValues, AreSaleRowValues, shown_sale_row};
 
 use book_tables::{Record, cells};

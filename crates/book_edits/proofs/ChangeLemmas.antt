@@ -97,12 +97,14 @@ of_meters s tree none = (none.1.1.1.0, (none.1.1.1.1.1.1.1.1.1.0, tt))
 module _ (law : KeepsMembers) (old new : State) where
   -- ---- sales and shifts
 
+  -- a sale that is added with its totals makes the edit that adds it
   pub makes_sale : (s : Sale) → AddsSold s old new → MakesEdit (edits.AddSale s) old.now new.now
   makes_sale s adds =
       makes (edits.AddSale s) (codes "sales" ∷ totals_names) old new
       (λ t tree none. (none.1.1.1.1.1.0, (none.1.1.1.1.1.1.0, (none.1.1.1.1.1.1.1.0, (none.1.1.1.1.1.1.1.1.0, tt))))) adds.only
       (λ order. adds.kept (order.1.1.1.1.1.1.0, (order.1.1.1.1.1.1.1.0, (order.1.1.1.1.1.1.1.1.0, tt)))) adds.members
 
+  -- a shift that is added makes the edit that opens it
   pub makes_shift : (s : Shift) → AddsShift s old new → MakesEdit (edits.OpenShift s) old.now new.now
   makes_shift s adds =
       makes (edits.OpenShift s) (codes "shifts" ∷ []) old new (λ t tree none. (none.1.1.1.1.0, tt)) adds.only (λ order. adds.kept) (λ o office meets held.
@@ -113,6 +115,7 @@ module _ (law : KeepsMembers) (old new : State) where
       } in
       (edited (edits.OpenShift s) held.0, adds.rows held.0 held.1 next, law held.0 o (edits.OpenShift s) are meets refl))
 
+  -- a shift that is closed makes the edit that closes it
   pub makes_closing : (number moment : ℕ) → ClosesShift number moment old new → MakesEdit (edits.CloseShift number moment) old.now new.now
   makes_closing number moment closes =
       makes (edits.CloseShift number moment) (codes "shifts" ∷ []) old new (λ t tree none. (none.1.1.1.1.0, tt)) closes.only
@@ -123,6 +126,7 @@ module _ (law : KeepsMembers) (old new : State) where
 
   -- ---- tariffs and meters
 
+  -- a tariff that is set for a meter makes the edit that sets it
   pub makes_setting : (number name : List ℕ) → SetsTariff number name old new → MakesEdit (edits.SetTariff number name) old.now new.now
   makes_setting number name sets =
       makes (edits.SetTariff number name) (codes "meters" ∷ []) old new (λ t tree none. (none.1.1.1.0, tt)) sets.only
@@ -130,6 +134,7 @@ module _ (law : KeepsMembers) (old new : State) where
       let are = held.2 in
       (edited (edits.SetTariff number name) held.0, sets.rows held.0 held.1 are.meters_once, law held.0 o (edits.SetTariff number name) are meets refl))
 
+  -- a base that a meter is moved to makes the edit that moves it
   pub makes_moving : (number : List ℕ) (base : Base) → MovesBase number base old new → MakesEdit (edits.MoveBase number base) old.now new.now
   makes_moving number base moves =
       makes (edits.MoveBase number base) both_meters old new of_meters moves.only (λ order. moves.kept (order.1.1.1.0, tt)) (λ o office meets held.
@@ -142,6 +147,7 @@ module _ (law : KeepsMembers) (old new : State) where
   with_steps_row name day steps adds o meets held =
       (edited (edits.AddSteps name day steps) held.0, adds.rows held.0 held.1, law held.0 o (edits.AddSteps name day steps) held.2 meets refl)
 
+  -- steps of a later day that are added make the edit that adds them
   pub makes_steps : (name : List ℕ) (day : ℕ) (steps : List Step) → AddsSteps name day steps old new → MakesEdit (edits.AddSteps name day steps) old.now new.now
   makes_steps name day steps adds =
       makes (edits.AddSteps name day steps) (codes "dated_steps" ∷ []) old new (λ t tree none. (none.1.1.1.1.1.1.1.1.1.1.0, tt)) adds.only (λ order. adds.kept)
@@ -152,6 +158,7 @@ module _ (law : KeepsMembers) (old new : State) where
       makes_row (kinds.Steps name day steps) (codes "dated_steps" ∷ []) old new (λ t tree none. (none.1.1.1.1.1.1.1.1.1.1.0, tt)) adds.only
       adds.kept (with_steps_row name day steps adds)
 
+  -- and they make an import of their row alone
   pub makes_steps_row : (row : Row) (name : List ℕ) (day : ℕ) (steps listed : List Step) → row ≡ kinds.Steps name day steps → listed
       ≡ steps → AddsSteps name day listed old new → MakesRows (row ∷ []) old.now new.now
   makes_steps_row row name day steps listed is same adds =
@@ -169,12 +176,14 @@ module _ (law : KeepsMembers) (old new : State) where
   with_meter_row number m adds o meets held =
       (edited (edits.AddMeter number m) held.0, adds.rows held.0 held.1, law held.0 o (edits.AddMeter number m) held.2 meets refl)
 
+  -- a tariff that is added with its first steps makes the edit that adds it
   pub makes_tariff : (name : List ℕ) (steps : List Step) → AddsTariff name steps old new → MakesEdit (edits.AddTariff name steps) old.now new.now
   makes_tariff name steps adds =
       makes (edits.AddTariff name steps) (codes "tariffs" ∷ codes "tariff_steps" ∷ []) old new
       (λ t tree none. (none.1.0, (none.1.1.0, tt))) adds.only (λ order. adds.kept)
       (λ o office meets held. with_tariff_row name steps adds o meets held)
 
+  -- a meter that is added makes the edit that adds it
   pub makes_meter : (number : List ℕ) (m : Meter) → AddsMeter number m old new → MakesEdit (edits.AddMeter number m) old.now new.now
   makes_meter number m adds =
       makes (edits.AddMeter number m) both_meters old new of_meters adds.only (λ order. adds.kept)
@@ -190,11 +199,13 @@ module _ (law : KeepsMembers) (old new : State) where
   of_meter number m adds =
       makes_row (kinds.Meter number m) both_meters old new of_meters adds.only adds.kept (with_meter_row number m adds)
 
+  -- an added tariff makes an import of its row alone
   pub makes_tariff_row : (row : Row) (name : List ℕ) (steps listed : List Step) → row ≡ kinds.Tariff name steps → listed ≡ steps
       → AddsTariff name listed old new → MakesRows (row ∷ []) old.now new.now
   makes_tariff_row row name steps listed is same adds =
       subst (λ (r : Row). MakesRows (r ∷ []) old.now new.now) (sym is) (of_tariff name steps (subst (λ (l : List Step). AddsTariff name l old new) same adds))
 
+  -- an added meter makes an import of its row alone
   pub makes_meter_row : (row : Row) (number : List ℕ) (m : Meter) → row ≡ kinds.Meter number m → AddsMeter number m old new
       → MakesRows (row ∷ []) old.now new.now
   makes_meter_row row number m is adds = subst (λ (r : Row). MakesRows (r ∷ []) old.now new.now) (sym is) (of_meter number m adds)
@@ -226,6 +237,7 @@ makes_more xs y old mid new first second = record {
   sound = second.sound;
 }
 
+-- rows that are made one after another make the edit that imports them
 pub makes_import : (rows : List Row) (old new : Database) → MakesRows rows old new → MakesEdit (edits.AddRows rows) old new
 makes_import rows old new makes = record {
   members = λ o office meets held. makes.members o meets.1 held;
@@ -237,6 +249,7 @@ makes_import rows old new makes = record {
 
 -- ---- what is told where a statement succeeds
 
+-- what follows from something told of a success is told of it too
 pub on_ok : {A E : Type 0} {P Q : Type 0} (r : Result A E) → (P → Q) → OnOk r P → OnOk r Q
 on_ok (Ok x) f p = f p
 on_ok (Err e) f p = tt

@@ -50,6 +50,7 @@ module _ (edit : Edit) (prior : ℕ) (old new : State) (tables : HasAllTables ol
     now_is = λ is_open. undone.now_is is_open ∙ sym (settled (undone.was_open is_open));
   }
 
+  -- what was undone changes nothing, where a crash leaves nothing new
   pub nothing_undone : IsUndone old new → Survives old new (λ _. ⊥) → ChangesNothing old new
   nothing_undone undone survives = record { same = same_undone undone; survives = survives }
 
@@ -121,6 +122,7 @@ module _ (edit : Edit) (old mid new : State) (clean : HasCleanDisk new) (before 
     survives = survives_then old mid new _ _ (λ _. ⊥) (λ _ _ none. none) (λ _ _ none. none) before.survives after.survives;
   }
 
+  -- an edit that is there after the reads was made on what was there before them
   pub has_after : HasEdit edit mid new → HasEdit edit old new
   has_after h = record {
     was_open = before.same.was_open h.was_open;
@@ -129,6 +131,7 @@ module _ (edit : Edit) (old mid new : State) (clean : HasCleanDisk new) (before 
     limit = h.limit ∙ before.survives.limit;
   }
 
+  -- tenths that are told after the reads are those of what was there before them
   pub counted_after : (prior : ℕ) → IsTrue mid.is_open → IsCounted edit prior mid.now → IsCounted edit prior old.now
   counted_after prior is_open told = subst (IsCounted edit prior) (before.same.now_is is_open) told
 
@@ -206,6 +209,7 @@ module _ (edit : Edit) (old mid new : State) (clean : HasCleanDisk new) (before 
     cause_after error (inr (inr (inr (inr told)))) = by_state error
         (λ runs. inr (inr (inr (inr (subst (IsMiscounted edit prior) (before.same.now_is runs) told)))))
 
+  -- an edit that fails after the reads fails on what was there before them
   pub fails_after : {S : Type 0} (g : Ghosts S) (prior : ℕ) (refusal : Refusal) → FailsToEdit (HasBeen g) edit prior mid new refusal
       → FailsToEdit (HasBeen g) edit prior old new refusal
   fails_after g prior refusal (inl unmade) =

@@ -18,6 +18,7 @@ module _ (forward : BlockFunction) (at : Stamped) (next : ℕ) (old new : State)
   abbrev IsDecided : Result Decided Refusal → Type 0
   IsDecided r = (o : Office) → AreFacts o at facts → IsUnlessMemory (change_in r) (decision forward o at)
 
+  -- a refusal by the facts that were read leaves all as it was
   pub refused_by_facts : IsDecided r → r ≢ Err Store → IfErr r (RefusesUnchanged forward at next old new)
   refused_by_facts = by_result r
     where
@@ -25,6 +26,7 @@ module _ (forward : BlockFunction) (at : Stamped) (next : ℕ) (old new : State)
       by_result (Ok decided) is never = tt
       by_result (Err why) is never = inr ((λ same. never (ap (λ e. Err e) same)), record { facts = facts; read = read; decided = is })
 
+  -- a change that is granted was decided by the facts that were read
   pub granted_by_facts : IsDecided r → IfOk r (λ decided. decided.prior ≡ prior_of_account facts.account)
       → IfOk r (λ decided. IsChangeRead forward at next old decided.change decided.prior)
   granted_by_facts = by_result r

@@ -31,6 +31,7 @@ use Rattle.book_tables.specs.declared.error.TableError.TheVariants.{RowOfNoOffic
 use Rattle.book_states.specs.Members.{HasMembers}
 use Rattle.book_facts.proofs.PassedLemmas.{HasPassed, clean_before, earlier, tables_after}
 
+-- a database that holds an office's members has all its tables
 pub tables_of : (s : State) (o : Office) → HasMembers s o → HasAllTables s
 tables_of s o members is_open = (members is_open).1.has
 
@@ -59,6 +60,7 @@ pub none_if : {X : Type 0} (o : Option X) → is_none o ≡ true → None ≡ o
 none_if None none = refl
 none_if (Some x) none = absurd (false≢true none)
 
+-- what no value can be is nothing
 pub none_of : {X : Type 0} (x : Option X) → ((y : X) → x ≡ Some y → ⊥) → x ≡ None
 none_of None never = refl
 none_of (Some y) never = absurd (never y refl)
@@ -95,25 +97,30 @@ module _ {T : Type 0} {value : T} {o : Office} {old mid new : State} (office : I
   pub was_clean : HasCleanDisk mid
   was_clean = clean_before before this.survives (tables_of old o members) clean
 
+  -- what a read tells of the shifts it tells of those of this office
   pub shifts_told : {X : Type 0} (f : List Shift → X) (x : X)
       → ((rows : Rows) → HasTableRows shifts_kept mid rows → AreOfOffice rows → x ≡ f rows.shifts) → x ≡ f o.shifts
   shifts_told f x given = let it = told shifts_in (λ rows. x ≡ f rows.shifts) given in it.2 ∙ ap f it.1.shifts
 
+  -- and of the sales
   pub sales_told : {k : Kept} (in_office : IsInOffice k) {X : Type 0} (f : List Sale → X) (x : X)
       → ((rows : Rows) → HasTableRows k mid rows → AreOfOffice rows → x ≡ f rows.sales) → x ≡ f o.sales
   sales_told in_office f x given = let it = told in_office (λ rows. x ≡ f rows.sales) given in it.2 ∙ ap f it.1.sales
 
+  -- a shift that a read finds open for an operator is the office's open shift
   pub open_shift_told : (operator : List ℕ) (found : Option Shift)
       → ((rows : Rows) → HasTableRows shifts_kept mid rows → AreOfOffice rows → found
       ≡ find (λ s. bytes_eq s.operator operator && is_none s.closed) rows.shifts) → found ≡ open_shift o operator
   open_shift_told operator = shifts_told (find (λ s. bytes_eq s.operator operator && is_none s.closed))
 
+  -- whether a read finds a tariff under a name is whether the office has it
   pub tariff_told : (name : List ℕ) (there : Bool) →
       ((rows : Rows) → HasTableRows tariffs_kept mid rows → AreOfOffice rows → IsTrue there ↔ Contains rows.tariffs name) → there ≡ is_some (o.tariffs name)
   tariff_told name there given =
       let it = told tariffs_in (λ rows. IsTrue there ↔ Contains rows.tariffs name) given in
       test_is there (o.tariffs name) (Contains it.0.tariffs name) it.2 (it.1.tariffs name)
 
+  -- a meter that a read finds by its number is the office's
   pub meter_told : ((rows : Rows) (o : Office) (number : List ℕ) → AreMembersOf rows o → map (λ r. r.1) (meters_numbered rows number)
       ≡ option_to_list (o.meters number)) → (number : List ℕ) (found : Option Meter)
       → ((rows : Rows) → HasTableRows meters_kept mid rows → AreOfOffice rows → found
@@ -157,6 +164,7 @@ greatest_within bound (n ∷ ns) all =
     let rest : unwrap_or (greatest_of ns) 0 ≤ bound = greatest_within bound ns (All-tail (λ k. k ≤ bound) n ns all) in
     omega arith
 
+-- the last number, where there is one, is within the bound of all
 pub last_within : (bound : ℕ) (last : Option ℕ) (ns : List ℕ) → last ≡ greatest_of ns → All (λ n. n ≤ bound) ns → unwrap_or last 0 ≤ bound
 last_within bound last ns is all = rw is (greatest_within bound ns all)
 
@@ -201,6 +209,7 @@ pub begun_or_first : {X : Type 0} (begun first found : Option X) → is_some beg
 begun_or_first None first found none is = is
 begun_or_first (Some x) first found none is = absurd (false≢true (sym none))
 
+-- the first, where there is one
 pub begun_alone : {X : Type 0} (begun first : Option X) → is_some begun ≡ true → begun ≡ option_or begun first
 begun_alone None first some = absurd (false≢true some)
 begun_alone (Some x) first some = refl

@@ -31,6 +31,7 @@ module _ (dated : ℕ → Option (List Step)) (day : ℕ) where
 
     -- with the steps of the next day
     module _ (next : ℕ) (steps : List Step) (begins : IsNextBegun dated last next) (is : dated next ≡ Some steps) where
+      -- the steps that begin on the next day
       abbrev pub this : LaterSteps
       this = record { from = next; steps = steps }
 

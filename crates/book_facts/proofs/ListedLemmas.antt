@@ -22,6 +22,7 @@ use Rattle.book_states.specs.declared.lookup.ListedTariff.{ListedTariff}
 pub take_more : {X : Type 0} (xs : List X) (i : ℕ) (x : X) → i < length xs → x ≡ get_or xs i x → take (i + 1) xs ≡ take i xs ++ x ∷ []
 take_more xs i x within is = rw add-one (take-suc xs i x within ∙ ap (λ y. take i xs ++ y ∷ []) (sym is))
 
+-- what the first items are mapped to, and what one more is mapped to
 pub map_more : {X Y : Type 0} (f : X → Y) (xs : List X) (i : ℕ) (x : X) → i < length xs → x ≡ get_or xs i x → map f (take (i + 1) xs)
     ≡ map f (take i xs) ++ f x ∷ []
 map_more f xs i x within is = ap (map f) (take_more xs i x within is) ∙ map-append f (take i xs) (x ∷ [])
@@ -50,9 +51,11 @@ pub record TellTariffs (o : Office) (day : ℕ) (names : List (List ℕ)) (liste
   pub names_are : map (λ t. t.name) listed ≡ names
   pub told : All (TellsSteps o day) listed
 
+-- before the first name, no tariff was told of
 pub tell_none : (o : Office) (day : ℕ) → TellTariffs o day [] []
 tell_none o day = record { names_are = refl; told = all_from_contains (TellsSteps o day) [] (λ t none. absurd (contains_none t none)) }
 
+-- with the next tariff's steps, the tariffs told so far are those of one more name
 pub tell_more : (o : Office) (day : ℕ) (names : List (List ℕ)) (i : ℕ) (name : List ℕ) (listed : List ListedTariff) (t : ListedTariff)
     → i < length names → name ≡ get_or names i name
     → TellTariffs o day (take i names) listed → (t.name ≡ name) × TellsSteps o day t → TellTariffs o day (take (i + 1) names) (listed ++ t ∷ [])
@@ -81,6 +84,7 @@ pub steps_told : (o : Office) (name : List ℕ) (day : ℕ) (found : Option (Lis
     ≡ option_or (latest (o.dated_steps name) day) (o.tariffs name) → found ≡ Some steps → steps ≡ steps_on o name day
 steps_told o name day found steps is there = ap (λ (s : Option (List Step)). unwrap_or s []) (sym there ∙ is)
 
+-- where no steps are found on a day, the tariff has no first ones
 pub none_told : (begun first : Option (List Step)) → None ≡ option_or begun first → first ≡ None
 none_told None first none = sym none
 none_told (Some steps) first none = absurd (let e = none in cc)

@@ -34,6 +34,7 @@ pub looks_none : {T : Type 0} {Same : State → State → Type 0} {Says : Office
     → OnlyReads {T = T} Same old new (Err e) → LooksUp Same Says AreRead old new (Err e)
 looks_none this = record { facts = λ _ _ _ _. tt; shown = λ _ _. tt; reads = this }
 
+-- a look that ends with the error of a read says nothing of the office, and only read
 pub looks_on : {T U : Type 0} {Same : State → State → Type 0} {Says : Office → T → Type 0} {AreRead : Database → T → Type 0}
     {e : TableError} {old new : State} (r : Result T TableError)
     → IsErrAnd r (λ x. x ≡ e) → OnlyReads {T = U} Same old new (Err e) → LooksUp Same Says AreRead old new r
@@ -46,6 +47,7 @@ pub by_rules_none : {T : Type 0} {Same : State → State → Type 0} {Says : Off
     → OnlyReads {T = Result T Refusal} Same old new (Err e) → LooksUpByRules Same Says AreRead old new (Err e)
 by_rules_none this = record { looks = looks_none this; rules = tt }
 
+-- the same of a result that is known to be this error
 pub by_rules_on : {T U : Type 0} {Same : State → State → Type 0} {Says : Office → Result T Refusal → Type 0}
     {AreRead : Database → Result T Refusal → Type 0} {e : TableError} {old new : State} (r : Result (Result T Refusal) TableError)
     → IsErrAnd r (λ x. x ≡ e) → OnlyReads {T = U} Same old new (Err e) → LooksUpByRules Same Says AreRead old new r
@@ -68,6 +70,7 @@ module _ {old mid new : State} (before : HasPassed old mid) where
 
   module _ {T : Type 0} {Says : Office → T → Type 0} {AreRead : Database → T → Type 0} {r : Result T TableError}
       (this : LooksUp IsUnchanged Says AreRead mid new r) where
+    -- what a look after reads gives of the database it gives of the one from before
     pub looks_shown : HasCleanDisk new → HasAllTables old → IfOk r (AreRead old.now)
     looks_shown clean has =
         let as_was = earlier old mid new before this.reads.survives has clean in
@@ -141,9 +144,11 @@ rows_seen_more db rows i row found more f within read is rest so_far =
 
 -- what is found at the first place, and at the second
 module _ {X : Type 0} {First Second : Option X → Type 0} (x : Option X) where
+  -- what is found at the first place is found at the first or else the second
   pub or_first : is_some x ≡ true → First x → OrElse First Second x
   or_first some seen = record { at_first = x; first = seen; some = λ _. refl; none = λ none. absurd (false≢true (sym none ∙ some)) }
 
+  -- what is found at the second place is found where nothing is at the first
   pub or_second : is_some x ≡ false → First x → (found : Option X) → Second found → OrElse First Second found
   or_second none seen found second = record { at_first = x; first = seen; some = λ some. absurd (false≢true (sym none ∙ some)); none = λ _. second }
 
@@ -154,6 +159,7 @@ zip_push R [] (z ∷ zs) x y all here = absurd all
 zip_push R (z ∷ zs) [] x y all here = absurd all
 zip_push R (z ∷ zs) (w ∷ ws) x y all here = (all.0, zip_push R zs ws x y all.1 here)
 
+-- what was seen of the first items and of one more was seen of those up to it
 pub zip_more : {X Y : Type 0} (R : X → Y → Type 0) (xs : List X) (i : ℕ) (ys : List Y) (x : X) (y : Y) → i < length xs → x ≡ get_or xs i x
     → AllZip R (take i xs) ys → R x y → AllZip R (take (i + 1) xs) (ys ++ y ∷ [])
 zip_more {X} R xs i ys x y within is all here = subst (λ (taken : List X). AllZip R taken (ys ++ y ∷ []))

@@ -29,6 +29,7 @@ use Rattle.book_facts.specs.Lookups.{IsOfRules, IsQuoted, last_found, meter_foun
 use Rattle.book_states.specs.declared.lookup.Found.{Found}
 use Rattle.book_states.specs.declared.lookup.Found.TheVariants as found
 
+-- what a lookup tells of a meter with its sales
 abbrev pub told_of : List ℕ → Meter → ℕ → Option ℕ → Result Found Refusal
 told_of number m tenths last =
     Ok (found.Meter (record { number = number; base = m.base; tariff = m.tariff; tenths = tenths; last_sale = last }))
@@ -60,6 +61,7 @@ meter_is_told number m there tenths sold last is_last last_number number_is tent
 
 -- ---- refusals of the rules
 
+-- a meter that is missing is refused by the rules
 pub no_meter : IsOfRules refusals.NoMeter
 no_meter = record { not_memory = λ is. absurd cc; not_store = λ is. absurd cc; not_stopped = λ is. absurd cc }
 
@@ -93,6 +95,7 @@ next_rules count = by_test (nat_lt count greatest_count)
     by_test true = tt
     by_test false = record { not_memory = λ is. absurd cc; not_store = λ is. absurd cc; not_stopped = λ is. absurd cc }
 
+-- a quote that fails is refused by the rules
 pub quote_rules : (moment : ℕ) (number : List ℕ) (tender : ℕ) (account : Option MeterAccount) (count : ℕ)
     → IfErr (quote_for moment number tender account count) IsOfRules
 quote_rules moment number tender account count =

@@ -25,10 +25,12 @@ pub record IsUntouched (old new : State) : Type 0 where
   pub counts : KeepsCounts old new
   pub marks : new.marks ≡ old.marks
 
+-- where no read is made, nothing is touched
 pub untouched : (s : State) → IsUntouched s s
 untouched s = record { is_open = refl; now_is = refl; committed_is = refl; mode = refl; counts = record { changes = refl; last_rowid = refl }; marks = refl }
 
 module _ (old mid new : State) (before : IsUntouched old mid) where
+  -- what two reads in turn leave untouched, both together leave untouched
   pub untouched_after : IsUntouched mid new → IsUntouched old new
   untouched_after after = record {
     is_open = after.is_open ∙ before.is_open;
@@ -39,6 +41,7 @@ module _ (old mid new : State) (before : IsUntouched old mid) where
     marks = after.marks ∙ before.marks;
   }
 
+  -- what is unchanged after an untouched state is unchanged since before it
   pub unchanged_after : IsUnchanged mid new → IsUnchanged old new
   unchanged_after same = (
     record {
@@ -61,6 +64,7 @@ module _ (old mid new : State) (before : IsUntouched old mid) where
     counts = record { changes = back.counts.changes ∙ before.counts.changes; last_rowid = back.counts.last_rowid ∙ before.counts.last_rowid };
   }
 
+  -- and what is left of it is left of the one before
   pub left_after : IsLeft mid new → IsLeft old new
   left_after (inl same) = inl (unchanged_after same)
   left_after (inr back) = inr (back_after back)
@@ -83,6 +87,7 @@ module _ (old mid new : State) (before : IsUntouched old mid) where
     fails_after (table.Database e) (inr why) = inr (why.0, unchanged_after why.1)
     fails_after table.RowOfNoOffice why = (λ rows held. why.0 rows (subst (λ (db : Database). Holds db rows) (sym before.now_is) held), unchanged_after why.1)
 
+-- what is unchanged is untouched
 pub untouched_if : (old new : State) → IsUnchanged old new → IsUntouched old new
 untouched_if old new same = record {
   is_open = same.0.is_open ∙ sym same.0.was_open;
@@ -104,6 +109,7 @@ pub record HasPassed (old now : State) : Type 0 where
   pub mode : old.in_transaction ≡ false → now.in_transaction ≡ false
   pub shut : now.is_clean ≡ false → now.is_open ≡ false
 
+-- before the first read, none has failed
 pub passed_none : (s : State) → (s.is_clean ≡ false → s.is_open ≡ false) → HasPassed s s
 passed_none s shut = record {
   survives = λ _. record { clean = omega arith; shield = λ k. k; counts = omega arith; limit = refl; closes = λ _ k. inl k; crash = λ _ db k. inl k };
@@ -112,6 +118,7 @@ passed_none s shut = record {
   shut = shut;
 }
 
+-- a read that succeeds has passed
 pub passed : {T : Type 0} {x : T} {old new : State} → OnlyReads IsUnchanged old new (Ok x) → (new.is_clean ≡ false → new.is_open ≡ false) → HasPassed old new
 passed {T} {x} {old} {new} this shut = record {
   survives = this.survives;
@@ -124,6 +131,7 @@ passed {T} {x} {old} {new} this shut = record {
 clean_if_open : (s : State) → (s.is_clean ≡ false → s.is_open ≡ false) → IsTrue s.is_open → HasCleanDisk s
 clean_if_open s shut is_open = no_doubt s.is_clean (true_from_ne_false s.is_clean (λ dirty. both_ways s.is_open (shut dirty) is_open))
 
+-- the tables are there after reads that passed
 pub tables_after : {old mid : State} → HasPassed old mid → HasAllTables old → HasAllTables mid
 tables_after {old} {mid} before has is_open =
     let same = before.same (clean_if_open mid before.shut is_open) has in
@@ -142,6 +150,7 @@ pub clean_before : {old mid new : State} → HasPassed old mid → (HasAllTables
     → HasCleanDisk new → HasCleanDisk mid
 clean_before before survives has clean = omega (arith, (survives (tables_after before has)).clean, clean)
 
+-- a read that succeeds after others has passed with them
 pub passed_after : {T : Type 0} {x : T} {old mid new : State} → HasPassed old mid → OnlyReads IsUnchanged mid new (Ok x)
     → (new.is_clean ≡ false → new.is_open ≡ false) → HasPassed old new
 passed_after {T} {x} {old} {mid} {new} before this shut = record {
@@ -189,6 +198,7 @@ stops_on e this why = record { same = λ _ _. tt; kept = λ clean has. inl (this
 pub passed_same : {old now : State} → HasPassed old now → HasCleanDisk now → HasAllTables old → IsSame old now
 passed_same {old} {now} before clean has = same_if old now (before.same clean has)
 
+-- reads that all passed leave the store the same
 pub passed_reads : {T : Type 0} {x : T} {old now : State} → HasPassed old now → OnlyReads IsSame old now (Ok x)
 passed_reads before = record { same = passed_same before; kept = λ _ _. tt; mode = before.mode; faults = λ _ _. tt; survives = before.survives }
 

@@ -1,5 +1,7 @@
 -- What is found of an office where something is looked up.
-use Rattle.std.specs.Prelude.{◌≡◌, ◌≢◌, ◌⊎◌, ◌↔◌, ◌<◌, ℕ, ◌&&◌, ◌==◌, List, [], All, AllPairs, Contains, filter, find, length, map, nat_lt, take, Option, Some, None, IsSome, option_map, unwrap_or, Result, Ok, Err, bytes_eq}
+use Rattle.std.specs.Prelude.{◌≡◌, ◌≢◌, ◌⊎◌, ◌↔◌, ◌<◌, ℕ, ◌&&◌, ◌==◌, List, [], All, AllPairs}
+use Rattle.std.specs.Prelude.{Contains, filter, find, length, map, nat_lt, take, Option, Some, None}
+use Rattle.std.specs.Prelude.{IsSome, option_map, unwrap_or, Result, Ok, Err, bytes_eq}
 use Rattle.std.specs.Option.{ok_or, option_or}
 use Rattle.sts_fields.specs.Base.{base_eq}
 use Rattle.sts_fields.specs.Calendar.{month_at}
@@ -10,7 +12,8 @@ use Rattle.sts_fields.specs.Day.{day_at}
 use Rattle.tariff.specs.Purchase.{purchase_of}
 use Rattle.tariff.specs.declared.step.Step.{Step}
 use Rattle.office_rules.specs.Decision.{◌>>=◌, MeterAccount, account_of, next_number, or_refusal}
-use Rattle.office_rules.specs.Office.Lookup.{greatest_of, prior, sale_of_ref, sales_of_shift, steps_on, used}
+use Rattle.office_rules.specs.Office.Lookup.{greatest_of, prior, sale_of_ref, sales_of_shift}
+use Rattle.office_rules.specs.Office.Lookup.{steps_on, used}
 use Rattle.office_rules.specs.Office.{Office}
 use Rattle.office_rules.specs.declared.decision.change.Change.{Change}
 use Rattle.office_rules.specs.declared.decision.change.Edit.TheVariants as edits

@@ -1,6 +1,7 @@
 -- What is found where something is looked up, as it was seen of a database that has the office's
 -- tables, whatever their rows are: nothing is found where a row of an answer shows no record.
-use Rattle.std.specs.Prelude.{◌≡◌, ◌⊎◌, ◌<◌, ◌+◌, ℕ, List, [], ◌∷◌, map, Option, None, Some, IsSome, Result, Ok, Err, unwrap_or}
+use Rattle.std.specs.Prelude.{◌≡◌, ◌⊎◌, ◌<◌, ◌+◌, ℕ, List, [], ◌∷◌, map, Option, None, Some, IsSome}
+use Rattle.std.specs.Prelude.{Result, Ok, Err, unwrap_or}
 use Rattle.std.specs.List.{AllZip}
 use Rattle.sqlite.specs.Effect.{Database}
 use Rattle.sts_fields.specs.Calendar.{month_at}
@@ -14,10 +15,13 @@ use Rattle.office_rules.specs.declared.office.meter.Meter.{Meter}
 use Rattle.office_rules.specs.declared.office.sale.Sale.{Sale}
 use Rattle.office_rules.specs.declared.office.shift.Shift.{Shift}
 use Rattle.book_lists.specs.Pages.{page_size}
-use Rattle.book_lists.specs.Questions.{the_meters_after, the_next_day, the_shifts_after, the_tariffs_after}
+use Rattle.book_lists.specs.Questions.{the_meters_after, the_next_day, the_shifts_after}
+use Rattle.book_lists.specs.Questions.{the_tariffs_after}
 use Rattle.book_tables.specs.declared.reading.pages.MeterRow.{MeterRow}
 use Rattle.book_tables.specs.declared.row.totals.Totals.{Totals}
-use Rattle.book_tables.specs.reading.Questions.{the_last_id, the_meter, the_month_tenths, the_sale_of_ref, the_sale_of_tid, the_sales_after, the_steps_from}
+use Rattle.book_tables.specs.reading.Questions.{the_last_id, the_meter, the_month_tenths}
+use Rattle.book_tables.specs.reading.Questions.{the_sale_of_ref, the_sale_of_tid, the_sales_after}
+use Rattle.book_tables.specs.reading.Questions.{the_steps_from}
 use Rattle.book_tables.specs.reading.Seen.{AreStepsSeen, ShowsAll, ShowsFirst, ShowsMade}
 use Rattle.book_states.specs.FactsSeen.{AreStepsSeenOn, IsAccountSeen, OrElse}
 use Rattle.book_facts.specs.Listing.{listed_meter}

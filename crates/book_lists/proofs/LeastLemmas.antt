@@ -32,6 +32,7 @@ abbrev with_least : ℕ → Option ℕ → ℕ
 with_least n None = n
 with_least n (Some m) = min n m
 
+-- the least of some numbers, where there are any
 abbrev pub least_of : List ℕ → Option ℕ
 least_of [] = None
 least_of (n ∷ ns) = Some (with_least n (least_of ns))

@@ -6,7 +6,8 @@ use Rattle.office_rules.specs.Name.{IsMeterNo, IsName}
 use Rattle.office_rules.specs.declared.office.shift.Shift.{Shift}
 use Rattle.book_tables.specs.Kept.{dated_steps_kept, meters_kept, shifts_kept, tariffs_kept}
 use Rattle.book_tables.specs.reading.Questions.{Question, question}
-use Rattle.book_tables.specs.row.Rows.{meter_columns, number, shown_number, shown_shift, tariff_columns}
+use Rattle.book_tables.specs.row.Rows.{meter_columns, number, shown_number, shown_shift}
+use Rattle.book_tables.specs.row.Rows.{tariff_columns}
 use Rattle.book_tables.specs.row.Values.{AreMeterValues, AreShiftValues}
 use Rattle.book_tables.specs.declared.reading.pages.MeterRow.{MeterRow}
 use Rattle.book_lists.specs.Pages.{page_size}

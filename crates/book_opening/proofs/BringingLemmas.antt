@@ -13,7 +13,7 @@ use Rattle.office_rules.specs.declared.office.meter.Meter.{Meter}
 use Rattle.office_rules.specs.declared.office.sale.Sale.{Sale}
 use Rattle.book_tables.specs.Holds.{HasOfficeOf, StandsFor}
 use Rattle.book_tables.specs.format.Filling.{AreHanded}
-use Rattle.book_tables.specs.format.Making.{BringsInside, BringsOffice, FailsToBring, HandsOver, IsSoundOfFormat}
+use Rattle.book_tables.specs.format.Making.{BringsInside, FailsToBring, HandsOver, IsSoundOfFormat}
 use Rattle.book_tables.specs.reading.Reading.{meter_row}
 use Rattle.book_tables.specs.declared.reading.pages.MeterRow.{MeterRow}
 use Rattle.book_tables.specs.declared.error.TableError.{TableError}
@@ -66,9 +66,11 @@ module _ (from : ℕ) (rows : OfficeRows) where
 -- the rows of an older file are as they were after the look at them, and are handed over
 module _ (from : ℕ) (rows : OfficeRows) (old mid : State) (shut : mid.is_clean ≡ false → mid.is_open ≡ false) (same : HasCleanDisk mid → IsUnchanged old mid)
     (has : IsSoundOfFormat from old) (given : HasCleanDisk mid → AreOfficeRows from old.now rows) where
+  -- the rows of the file are still those of its office after the look
   pub rows_after : HasCleanDisk mid → AreOfficeRows from mid.now rows
   rows_after clean = subst (λ (db : Database). AreOfficeRows from db rows) (sym (same clean).0.now_is) (given clean)
 
+  -- the meters and sales of these rows are handed over, in a sound database of the format
   pub sound_with : (meters : List MeterRow) (sales : List Sale) → meters ≡ rows.meters.items → sales ≡ rows.sales.items → IsSoundWith from meters sales mid
   sound_with meters sales of_meters of_sales = known_after old mid shut same
       (λ (db : Database). IsDatabase db × HasOfficeOf from db.schema × HandsOver db meters sales) (λ clean runs. (
@@ -88,6 +90,7 @@ module _ (db : Database) (has : HasOfficeOf 0 db.schema) where
   none_stands : (o : Office) → StandsFor db o → o ≡ empty_office
   none_stands o stands = (held_as db o 0 stands (omega arith) has).1 refl
 
+  -- of a database without tables no meters and no sales are handed over
   pub hands_none : HandsOver db [] []
   hands_none o stands = subst (λ (p : Office). AreHanded p [] []) (sym (none_stands o stands)) (record {
     meters = λ number m. (λ none. absurd (let e = none in cc), λ there. absurd (omega (arith, there.1)));
@@ -129,11 +132,13 @@ module _ (from : ℕ) (meters : List MeterRow) (sales : List Sale) (old new : St
   brought_inside (Ok a) made = λ sound has hands. (made (λ _. (sound, has)) hands).brings
   brought_inside (Err e) made = tt
 
+  -- where the office is not brought, it is told why, of a sound database of the format
   pub refused_inside : {S A : Type 0} (g : Ghosts S) (r : Result A TableError) → (IsSoundOfFormat from old → IfErr r (FailsToBring g from meters sales old new))
       → IfErr r (λ e. IsSoundOfFormat from old → FailsToBring g from meters sales old new e)
   refused_inside g (Ok a) fails = tt
   refused_inside g (Err e) fails = fails
 
+  -- and no row is told to be no office's
   pub told_inside : {S A : Type 0} (g : Ghosts S) (r : Result A TableError) → (IsSoundOfFormat from old → IfErr r (FailsToBring g from meters sales old new))
       → IfErr r (λ e. IsDatabase old.now → HasOfficeOf from old.now.schema → e ≢ table.RowOfNoOffice)
   told_inside g (Ok a) fails = tt

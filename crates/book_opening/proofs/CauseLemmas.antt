@@ -90,6 +90,7 @@ module _ {S : Type 0} (g : Ghosts S) (old mid new : State) (same : IsUnchanged o
     fails = stops.fails;
   }
 
+  -- what fails an opening after looks that changed nothing fails it from before them on
   pub fails_after : (r : Result ℕ OpenFault) → IfErr r (FailsToOpen g mid new) → IfErr r (FailsToOpen g old new)
   fails_after r = IfErr-weaker r (FailsToOpen g mid new) (FailsToOpen g old new) (λ fault fails named. elim (fails named) [
     | inl look ↦ inl (look.0, look.1, look_after look.0 look.2)
@@ -99,6 +100,7 @@ module _ {S : Type 0} (g : Ghosts S) (old mid new : State) (same : IsUnchanged o
 -- ---- a bringing
 
 module _ {S : Type 0} (g : Ghosts S) (from : ℕ) (conn : Held S) (new : State) where
+  -- where bringing an older file up fails, the opening fails for that
   pub fails_bringing : (fault : OpenFault) (r : Result ℕ OpenFault) → IsErrAnd r (λ x. x ≡ fault) → from < present_format → IsTrue (state g conn).is_open
       → HasOfficeOf from (state g conn).now.schema → FailsToBringUp g from conn new fault → IfErr r (FailsToOpen g (state g conn) new)
   fails_bringing fault (Ok x) is older runs has fails = absurd is

@@ -59,10 +59,12 @@ as_shown old new table.RowOfNoOffice fault kind is has fails =
     let held : HoldsMembers old.now o = (held_as old.now o present_format (at.now fails.1.0.was_open) (omega arith) (has fails.1.0.was_open).1).0 in
     fails.0 held.0 held.1 (o, at.office, held.2))
 
+-- a sound database of the present format has all its tables
 pub tables : (s : State) → IsSoundOfFormat present_format s → HasAllTables s
 tables s has runs = (has runs).1
 
 module _ {old new : State} where
+  -- a read that changed nothing is a look at the store that succeeds, whatever it answers
   pub looks_on : {T U : Type 0} {x : T} {y : U} → OnlyReads IsUnchanged old new (Ok x) → Looks (IsSoundOfFormat present_format) old new (Ok y)
   looks_on this = record {
     same = λ clean has. this.same clean (tables old has);
@@ -72,6 +74,7 @@ module _ {old new : State} where
     survives = λ has. this.survives (tables old has);
   }
 
+  -- a read that failed is a look that fails with the fault of its error
   pub look_fails : {T U : Type 0} (e : TableError) (fault : OpenFault) → ((why : Error) → e ≡ table.Database why → (fault ≡ Store) ⊎ (fault ≡ Memory))
       → fault ≡ fault_of_table e → OnlyReads {T = T} IsUnchanged old new (Err e)
       → Looks {T = U} (IsSoundOfFormat present_format) old new (Err fault)

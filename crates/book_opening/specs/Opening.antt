@@ -1,5 +1,6 @@
 -- What the opening of an office makes of a database.
-use Rattle.std.specs.Prelude.{◌≡◌, ◌≢◌, ◌<◌, ◌⊎◌, ℕ, zero, suc, ◌+◌, List, length, Option, None, Some, Result, IfErr, IfOk, IsTrue, OnErr, OnOk}
+use Rattle.std.specs.Prelude.{◌≡◌, ◌≢◌, ◌<◌, ◌⊎◌, ℕ, zero, suc, ◌+◌, List, length, Option, None}
+use Rattle.std.specs.Prelude.{Some, Result, IfErr, IfOk, IsTrue, OnOk}
 use Rattle.sqlite.specs.Effect.{Database, IsDatabase}
 use Rattle.sqlite.specs.Held.{Held, state}
 use Rattle.sqlite.specs.State.{HasCleanDisk, IsUnchanged, State, Survives}
@@ -156,7 +157,7 @@ FailsToBringUp g from conn new fault =
     × FailsInside g (FailsToBring g from meters sales) conn new (Unmade (table.Database e)))
     ⊎ ((fault ≡ Store)
     × ((e : Error)
-        × HasBeen g (λ made. FailsAtCommit (BringsOffice from) (state g conn) made new e)))
+    × HasBeen g (λ made. FailsAtCommit (BringsOffice from) (state g conn) made new e)))
 
 -- The opening found the tables of an older format, or none, and failed to bring them up. The
 -- connection had then what it had before.

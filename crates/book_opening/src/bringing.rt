@@ -8,7 +8,8 @@ ghost use Rattle.book_tables.specs.declared.error.TableError.TheVariants.{RowOfN
 ghost use Rattle.book_tables.specs.Holds.{HasOfficeOf};
 ghost use Rattle.book_tables.specs.format.Making.{FailsToBring, IsSoundOfFormat};
 ghost use Rattle.book_tables.specs.row.Rows.{present_format};
-ghost use Rattle.book_opening.specs.Opening.{AfterStore, BringsSound, FailsToBringUp, IsBrought, IsSoundWith, LeavesPresent};
+ghost use Rattle.book_opening.specs.Opening.{AfterStore, BringsSound, FailsToBringUp, IsBrought};
+ghost use Rattle.book_opening.specs.Opening.{IsSoundWith, LeavesPresent};
 ghost use Rattle.book_states.specs.Same.{IsSame};
 
 use crate::fault::OpenFault;

@@ -5,7 +5,8 @@ ghost use Rattle.sqlite.specs.State.{HasCleanDisk};
 ghost use Rattle.one_table.specs.Over.{Over};
 ghost use Rattle.book_tables.specs.format.Making.{IsSoundOfFormat};
 ghost use Rattle.book_tables.specs.row.Rows.{present_format};
-ghost use Rattle.book_opening.specs.Opening.{EndsOpening, FailsToOpen, FollowsLast, IsNextSale, Looks, fault_of, fault_of_audit, fault_of_table};
+ghost use Rattle.book_opening.specs.Opening.{EndsOpening, FailsToOpen, FollowsLast, IsNextSale};
+ghost use Rattle.book_opening.specs.Opening.{Looks, fault_of, fault_of_audit, fault_of_table};
 
 use crate::bringing::bring_office;
 use crate::fault::OpenFault;

@@ -35,6 +35,7 @@ module _ (old new : State) (IsSpoilt : Database → Type 0) where
   plainly e is (inl why) = caused e is why.0 why.1 why.2
   plainly e is (inr limit) = inr (inr (inl limit.1))
 
+  -- a read answered as a failure of the store has one of its causes
   pub has_failed : (e : TableError) → FailsToRead old new e → (e ≡ fails.RowOfNoOffice → IsSpoilt old.now) → refusal_for e ≡ Store
       → HasFailedAt IsSpoilt old new
   has_failed (fails.Database e) (inl why) spoilt is = elim (cases_Bool old.is_open) [ inl is_open ↦ plainly e is (why is_open) | inr shut ↦ inr (inl shut) ]
@@ -42,6 +43,7 @@ module _ (old new : State) (IsSpoilt : Database → Type 0) where
   has_failed fails.RowOfNoOffice why spoilt is = inr (inr (inr (spoilt refl)))
 
 module _ (old new : State) where
+  -- a read that fails is told of by the refusal that its error is answered with
   pub told_of_read : (e : TableError) (refusal : Refusal) → refusal ≡ refusal_for e → FailsToRead old new e → HasCleanDisk new
       → Survives old new (λ _. ⊥) → IsToldOfRead refusal old new
   told_of_read e refusal answered why clean survives = record {
@@ -71,6 +73,7 @@ module _ {S : Type 0} (g : Ghosts S) (edit : Edit) (prior : ℕ) (old left : Hel
   by_cause e is (inr (inl none)) = inr (inr (inr (inl none)))
   by_cause e is (inr (inr told)) = inr (inr (inr (inr told)))
 
+  -- an edit answered as a failure of the store has one of its causes
   pub edit_failed : (e : TableError) → refusal_for e ≡ Store → HasAllTables (state g old)
       → (HasAllTables (state g begun) → FailsToMakeEdit edit prior (state g begun) (state g left) e) → EditHasFailed edit prior e (state g old) new
   edit_failed e is has why = by_cause e is (why has)

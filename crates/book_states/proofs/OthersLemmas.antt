@@ -13,6 +13,7 @@ use Rattle.book_tables.specs.writing.Writing.{IsOfNone}
 use Rattle.book_states.specs.Others.{LeavesOthers, SameOthers}
 use Rattle.book_states.specs.Same.{ChangesNothing}
 
+-- trees that have not changed have the same rows in the tables of other names
 pub same_trees : (s : Schema) (old new : Trees) → new ≡ old → SameOthers s old new
 same_trees s old new same = all_of (λ (u : Table). IsOfNone s table_names u.tree → new u.tree ≡ old u.tree) (λ u _. ap (λ (f : Trees). f u.tree) same) s.tables
 
@@ -20,11 +21,13 @@ all_both : (P Q R : Table → Type 0) → ((u : Table) → P u → Q u → R u) 
 all_both P Q R step [] p q = tt
 all_both P Q R step (t ∷ ts) p q = (step t p.0 q.0, all_both P Q R step ts p.1 q.1)
 
+-- what two steps in turn leave of the rows of other tables, both together leave
 pub trees_then : (s : Schema) (a b c : Trees) → SameOthers s a b → SameOthers s b c → SameOthers s a c
 trees_then s a b c = all_both (λ (u : Table). IsOfNone s table_names u.tree → b u.tree ≡ a u.tree)
     (λ (u : Table). IsOfNone s table_names u.tree → c u.tree ≡ b u.tree)
     (λ (u : Table). IsOfNone s table_names u.tree → c u.tree ≡ a u.tree) (λ u p q none. q none ∙ p none) s.tables
 
+-- two steps in turn that leave the tables of other names leave them together
 pub others_then : (a b c : State) → LeavesOthers a b → LeavesOthers b c → LeavesOthers a c
 others_then a b c p q = record {
   was_open = λ is_open. p.was_open (q.was_open is_open);
@@ -51,6 +54,7 @@ others_same s = record {
   limit = refl;
 }
 
+-- a step that changes nothing leaves the tables of other names
 pub nothing_others : (old new : State) → HasCleanDisk new → ChangesNothing old new → LeavesOthers old new
 nothing_others old new clean h = record {
   was_open = h.same.was_open;

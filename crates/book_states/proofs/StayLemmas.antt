@@ -10,6 +10,7 @@ use Rattle.book_tables.specs.reading.Reading.{HasAllTables}
 use Rattle.book_states.specs.Stores.{Stores}
 use Rattle.book_states.specs.Same.{ChangesNothing, IsSame}
 
+-- a store that holds an office has all its tables
 pub has_tables : (o : Office) (s : State) → Stores s o → HasAllTables s
 has_tables o s at is_open = (at.members is_open).1.has
 
@@ -21,9 +22,11 @@ clean_before old new P shut survives clean = elim (cases_Bool old.is_clean) [
   | inr dirty ↦ let early = survives (λ is_open. absurd (false≢true (sym (shut dirty) ∙ is_open))) in omega (arith, early.clean)
 ]
 
+-- a connection that is unchanged is open still and has the same database
 pub unchanged_same : (old new : State) → IsUnchanged old new → IsSame old new
 unchanged_same old new same = record { was_open = λ _. same.0.was_open; now_is = λ _. same.0.now_is }
 
+-- where no step is taken, nothing changes
 pub nothing_same : (s : State) → ChangesNothing s s
 nothing_same s = record {
   same = record { was_open = λ is_open. is_open; now_is = λ _. refl };

@@ -7,12 +7,17 @@ use Rattle.office_rules.specs.Decision.Edits.{applied, with_rows}
 use Rattle.office_rules.specs.Office.{IsOffice, Office}
 use Rattle.office_rules.specs.Law.Store.{MeetRows, Meets, MeetsNewSale}
 use Rattle.office_rules.specs.declared.decision.change.Edit.{Edit}
-use Rattle.office_rules.specs.declared.decision.change.Edit.TheVariants.{AddMeter, AddRows, AddSale, AddSteps, AddTariff, CloseShift, MoveBase, OpenShift, SetTariff}
+use Rattle.office_rules.specs.declared.decision.change.Edit.TheVariants.{AddMeter, AddRows, AddSale}
+use Rattle.office_rules.specs.declared.decision.change.Edit.TheVariants.{AddSteps, AddTariff}
+use Rattle.office_rules.specs.declared.decision.change.Edit.TheVariants.{CloseShift, MoveBase}
+use Rattle.office_rules.specs.declared.decision.change.Edit.TheVariants.{OpenShift, SetTariff}
 use Rattle.office_rules.specs.declared.office.row.Row.{Row}
 use Rattle.office_rules.specs.declared.office.row.Row.TheVariants as kinds
 use Rattle.office_rules.specs.declared.office.sale.Sale.{Sale}
 use Rattle.book_tables.specs.Holds.{HasOffice, HoldsMembers, table_names}
-use Rattle.book_tables.specs.writing.Keeping.{AreInOrder, KeepsRows, Keys, base_keys, dated_keys, meter_keys, sale_key, shift_keys, tariff_keys, totals_keys}
+use Rattle.book_tables.specs.writing.Keeping.{AreInOrder, KeepsRows, Keys, base_keys, dated_keys}
+use Rattle.book_tables.specs.writing.Keeping.{meter_keys, sale_key, shift_keys, tariff_keys}
+use Rattle.book_tables.specs.writing.Keeping.{totals_keys}
 use Rattle.book_tables.specs.writing.Writing.{AreSaleTotals, TellsSold}
 use Rattle.book_tables.specs.declared.row.totals.SaleTotals.{SaleTotals}
 use Rattle.book_states.specs.Others.{SameOthers}

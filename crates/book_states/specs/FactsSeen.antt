@@ -1,6 +1,7 @@
 -- What a request has seen of a database that has the office's tables, whatever their rows are: each
 -- of its facts is what the rows of an answer show, so there are none where one of these shows none.
-use Rattle.std.specs.Prelude.{◌≡◌, ◌≢◌, ◌⊎◌, ℕ, Bool, true, List, [], ◌∷◌, Option, Some, None, IsNone, IsSome, Err, is_some, unwrap_or}
+use Rattle.std.specs.Prelude.{◌≡◌, ◌≢◌, ◌⊎◌, ℕ, Bool, true, List, [], ◌∷◌, Option, Some, None}
+use Rattle.std.specs.Prelude.{IsNone, IsSome, Err, is_some, unwrap_or}
 use Rattle.sqlite.specs.Effect.{Database}
 use Rattle.sts_fields.specs.Calendar.{month_at}
 use Rattle.sts_fields.specs.Day.{day_at}
@@ -12,7 +13,12 @@ use Rattle.office_rules.specs.declared.decision.facts.Facts.{Facts}
 use Rattle.office_rules.specs.declared.decision.refusal.Refusal.TheVariants.{Differs}
 use Rattle.office_rules.specs.declared.decision.request.Order.{Order}
 use Rattle.office_rules.specs.declared.decision.request.Request.{Request}
-use Rattle.office_rules.specs.declared.decision.request.Request.TheVariants.{AddTariff, AddSteps, AddMeter, Import, SetTariff, MoveBase, OpenShift, CloseShift, Sell, Reprint, ShiftReport}
+use Rattle.office_rules.specs.declared.decision.request.Request.TheVariants.{AddTariff, AddSteps}
+use Rattle.office_rules.specs.declared.decision.request.Request.TheVariants.{AddMeter, Import}
+use Rattle.office_rules.specs.declared.decision.request.Request.TheVariants.{SetTariff, MoveBase}
+use Rattle.office_rules.specs.declared.decision.request.Request.TheVariants.{OpenShift, CloseShift}
+use Rattle.office_rules.specs.declared.decision.request.Request.TheVariants.{Sell, Reprint}
+use Rattle.office_rules.specs.declared.decision.request.Request.TheVariants.{ShiftReport}
 use Rattle.office_rules.specs.declared.decision.request.Stamped.{Stamped}
 use Rattle.office_rules.specs.declared.decision.row_facts.RowFacts.{RowFacts}
 use Rattle.office_rules.specs.declared.decision.row_facts.RowFacts.TheVariants as found
@@ -21,8 +27,12 @@ use Rattle.office_rules.specs.declared.office.row.Row.{Row}
 use Rattle.office_rules.specs.declared.office.row.Row.TheVariants as kinds
 use Rattle.office_rules.specs.declared.office.sale.Sale.{Sale}
 use Rattle.office_rules.specs.declared.office.shift.Shift.{Shift}
-use Rattle.book_tables.specs.reading.Questions.{the_last_id, the_last_shift, the_meter, the_month_tenths, the_open_shift, the_sale, the_sale_of_ref, the_sales_of_shift, the_shift, the_steps, the_steps_from, the_tariff}
-use Rattle.book_tables.specs.reading.Seen.{AreLatestSeen, AreStepsSeen, ShowsAll, ShowsFirst, ShowsMade}
+use Rattle.book_tables.specs.reading.Questions.{the_last_id, the_last_shift, the_meter}
+use Rattle.book_tables.specs.reading.Questions.{the_month_tenths, the_open_shift, the_sale}
+use Rattle.book_tables.specs.reading.Questions.{the_sale_of_ref, the_sales_of_shift, the_shift}
+use Rattle.book_tables.specs.reading.Questions.{the_steps, the_steps_from, the_tariff}
+use Rattle.book_tables.specs.reading.Seen.{AreLatestSeen, AreStepsSeen, ShowsAll, ShowsFirst}
+use Rattle.book_tables.specs.reading.Seen.{ShowsMade}
 
 -- whether there is a tariff of the name
 abbrev pub IsTariffSeen : List ℕ → Database → Bool → Type 0

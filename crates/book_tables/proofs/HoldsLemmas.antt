@@ -61,6 +61,7 @@ of_first P n k j ks true is all (inr later) came rest = rest later all.1
 of_first P n k j ks false is all (inl same) came rest = absurd (false≢true (sym is ∙ ap (λ (k : Kept). nat_le k.since n) (sym same) ∙ came))
 of_first P n k j ks false is all (inr later) came rest = rest later all
 
+-- what holds of all tables of a format holds of each table that came by that format
 pub of_upto : (P : Kept → Type 0) (n : ℕ) (k : Kept) (ks : List Kept) → Member ks k → nat_le k.since n ≡ true
     → AllByRecursion P (filter (λ k. nat_le k.since n) ks) → P k
 of_upto P n k [] there came all = absurd there
@@ -79,6 +80,7 @@ free_first s n k j ks true is free (inr there) later rest = rest there free
 free_first s n k j ks false is free (inl same) later rest = ap (λ (k : Kept). not (is_used s k.table.name)) same ∙ first_true _ _ free
 free_first s n k j ks false is free (inr there) later rest = rest there (second_true _ _ free)
 
+-- a table that comes after a format has a free name, where all such tables have
 pub free_later : (s : Schema) (n : ℕ) (k : Kept) (ks : List Kept) → Member ks k → nat_le k.since n ≡ false
     → AreFree s (filter (λ k. not (nat_le k.since n)) ks) → not (is_used s k.table.name) ≡ true
 free_later s n k [] there later free = absurd there
@@ -150,6 +152,7 @@ module _ (n : ℕ) (some : 1 ≤ n) (db : Database) (a b : Rows) (o p : Office) 
     dated_steps = dated_are;
   }
 
+  -- two offices whose members a database holds in the tables of one format are one office
   pub held_once : o ≡ p
   held_once = one_office a b same_members o p are_a are_b is_o is_p
 
@@ -181,6 +184,7 @@ module _ (s : Schema) (m n : ℕ) (in_m : HasOfficeOf m s) (in_n : HasOfficeOf n
     ]
   ]
 
+-- a schema has the office's tables of one format alone
 pub one_format : (s : Schema) (m n : ℕ) → m ≤ present_format → n ≤ present_format → HasOfficeOf m s → HasOfficeOf n s → m ≡ n
 one_format s m n known_m known_n in_m in_n = elim (cases_lt m n) [
   | inl below ↦ absurd (not_below s m n in_m in_n known_n below)
@@ -197,6 +201,7 @@ held_as db o n stands known has =
     let same = one_format db.schema stands.format n stands.known known stands.held.1.has has in
     (subst (λ n. HoldsMembersOf n db o) same stands.held, λ none. stands.empty (same ∙ none))
 
+-- a database that holds an office's members in the present format stands for the office
 pub stands_present : (db : Database) (o : Office) → IsOffice o → HoldsMembers db o → StandsFor db o
 stands_present db o office held = record {
   office = office;
@@ -206,6 +211,7 @@ stands_present db o office held = record {
   empty = λ none. absurd (omega (arith, none));
 }
 
+-- where none of the tables' names is taken, the database stands for the empty office
 pub untaken_stands : (db : Database) → IsUntaken db.schema → StandsFor db empty_office
 untaken_stands db untaken = record {
   office = empty_is_office;
@@ -215,6 +221,7 @@ untaken_stands db untaken = record {
   empty = λ none. refl;
 }
 
+-- a database stands for one office at most
 pub stands_once : (db : Database) (o p : Office) → StandsFor db o → StandsFor db p → o ≡ p
 stands_once db o p these those =
     let held = held_as db p these.format those these.known these.held.1.has in

@@ -27,9 +27,11 @@ pub record ChangesOnly (name : List ℕ) (a b : Database) : Type 0 where
   pub schema : b.schema ≡ a.schema
   pub tables : AllByRecursion (λ u. u.tree ≢ tree_in a.schema name → b.trees u.tree ≡ a.trees u.tree) a.schema.tables
 
+-- names that the comparison of their bytes tells apart are not the same
 pub names_differ : (a b : List ℕ) → bytes_eq a b ≡ false → a ≢ b
 names_differ a b apart same = false≢true (sym apart ∙ (bytes_eq-Decides a b).1 same)
 
+-- what holds of all tables of a list holds of the one at a place
 pub listed_holds : (P : Table → Type 0) (ts : List Table) (at : ℕ) (t : Table) → slice_get ts at ≡ Some t → AllByRecursion P ts → P t
 listed_holds P [] at t e all = cc
 listed_holds P (u ∷ ts) zero t e all = subst P (same_Some u t e) all.0
@@ -73,6 +75,7 @@ module _ (before told : ℕ) (a b : Database) (rows new : Rows) (k : Kept) (ther
   all_still [] stand hold become = tt
   all_still (j ∷ ks) stand hold become = (held_still j stand.0 hold.0 become.0, all_still ks stand.1 hold.1 become.1)
 
+  -- where one table changes, new rows are held if each table has them or is as before
   pub changed : HoldsOf present_format before a rows → AllByRecursion (Becomes b before told rows new k.table.name) (upto present_format)
       → HoldsOf present_format told b new
   changed held become = record {
@@ -92,6 +95,7 @@ own_hidden : (a b : Database) (name : List ℕ) (stored : List Row) → b.schema
 own_hidden a b name stored same are order = (ap (map (drop 1)) (own_rows a b name same) ∙ are, subst IsInOrder (sym (own_rows a b name same)) order)
 
 module _ (told : ℕ) (a b : Database) (rows : Rows) (in_a : HoldsOf present_format told a rows) where
+  -- where `tariffs` alone changes, the database holds the same rows but for the tariffs
   pub tariffs_changed : (new : List (List ℕ)) → ChangesOnly (codes "tariffs") a b
       → map (drop 1) (b.trees (tree_in a.schema (codes "tariffs"))) ≡ map tariff_columns new
       → IsInOrder (b.trees (tree_in a.schema (codes "tariffs"))) → HoldsOf present_format told b (record rows { tariffs = new })
@@ -122,6 +126,7 @@ module _ (told : ℕ) (a b : Database) (rows : Rows) (in_a : HoldsOf present_for
         ),
       )
 
+  -- the same of `tariff_steps` and the steps of the tariffs
   pub steps_changed : (new : List StepRow) → ChangesOnly (codes "tariff_steps") a b
       → map (drop 1) (b.trees (tree_in a.schema (codes "tariff_steps"))) ≡ map step_columns new
       → IsInOrder (b.trees (tree_in a.schema (codes "tariff_steps"))) → HoldsOf present_format told b (record rows { steps = new })
@@ -155,6 +160,7 @@ module _ (told : ℕ) (a b : Database) (rows : Rows) (in_a : HoldsOf present_for
         ),
       )
 
+  -- the same of `meters` and the meters
   pub meters_changed : (new : List (List ℕ × Meter)) → ChangesOnly (codes "meters") a b
       → map (drop 1) (b.trees (tree_in a.schema (codes "meters"))) ≡ map meter_columns new
       → IsInOrder (b.trees (tree_in a.schema (codes "meters"))) → HoldsOf present_format told b (record rows { meters = new })
@@ -185,6 +191,7 @@ module _ (told : ℕ) (a b : Database) (rows : Rows) (in_a : HoldsOf present_for
         ),
       )
 
+  -- the same of `shifts`, whose rows have numbers of their own, and the shifts
   pub shifts_changed : (new : List Shift) → ChangesOnly (codes "shifts") a b → b.trees (tree_in a.schema (codes "shifts"))
       ≡ map shift_row new → HoldsOf present_format told b (record rows { shifts = new })
   shifts_changed new only are =
@@ -217,6 +224,7 @@ module _ (told : ℕ) (a b : Database) (rows : Rows) (in_a : HoldsOf present_for
         ),
       )
 
+  -- the same of `sales`, whose rows have numbers of their own, and the sales
   pub sales_changed : (new : List Sale) → ChangesOnly (codes "sales") a b → b.trees (tree_in a.schema (codes "sales")) ≡ map sale_row new
       → HoldsOf present_format told b (record rows { sales = new })
   sales_changed new only are =
@@ -246,6 +254,7 @@ module _ (told : ℕ) (a b : Database) (rows : Rows) (in_a : HoldsOf present_for
         ),
       )
 
+  -- the same of `last_ids` and the last identifiers
   pub last_ids_changed : (new : List ((List ℕ × Base) × ℕ)) → ChangesOnly (codes "last_ids") a b
       → map (drop 1) (b.trees (tree_in a.schema (codes "last_ids"))) ≡ map last_id_columns new
       → IsInOrder (b.trees (tree_in a.schema (codes "last_ids"))) → HoldsOf present_format told b (record rows { last_ids = new })
@@ -279,6 +288,7 @@ module _ (told : ℕ) (a b : Database) (rows : Rows) (in_a : HoldsOf present_for
         ),
       )
 
+  -- the same of `month_tenths` and the sums of the months
   pub month_tenths_changed : (new : List ((List ℕ × ℕ) × ℕ)) → ChangesOnly (codes "month_tenths") a b
       → map (drop 1) (b.trees (tree_in a.schema (codes "month_tenths"))) ≡ map month_columns new
       → IsInOrder (b.trees (tree_in a.schema (codes "month_tenths"))) → HoldsOf present_format told b (record rows { month_tenths = new })
@@ -309,6 +319,7 @@ module _ (told : ℕ) (a b : Database) (rows : Rows) (in_a : HoldsOf present_for
         ),
       )
 
+  -- the same of `shift_totals`, whose rows have the numbers of the shifts, and the totals
   pub shift_totals_changed : (new : List (ℕ × Totals)) → ChangesOnly (codes "shift_totals") a b
       → b.trees (tree_in a.schema (codes "shift_totals")) ≡ map totals_row new → HoldsOf present_format told b (record rows { shift_totals = new })
   shift_totals_changed new only are =
@@ -338,6 +349,7 @@ module _ (told : ℕ) (a b : Database) (rows : Rows) (in_a : HoldsOf present_for
         ),
       )
 
+  -- the same of `meter_bases` and the bases that the meters had
   pub bases_changed : (new : List (List ℕ × Base)) → ChangesOnly (codes "meter_bases") a b
       → map (drop 1) (b.trees (tree_in a.schema (codes "meter_bases"))) ≡ map base_columns new
       → IsInOrder (b.trees (tree_in a.schema (codes "meter_bases"))) → HoldsOf present_format told b (record rows { bases = new })
@@ -374,6 +386,7 @@ module _ (told : ℕ) (a b : Database) (rows : Rows) (in_a : HoldsOf present_for
         ),
       )
 
+  -- the same of `dated_steps` and the steps of later days
   pub dated_steps_changed : (new : List DatedStepRow) → ChangesOnly (codes "dated_steps") a b
       → map (drop 1) (b.trees (tree_in a.schema (codes "dated_steps"))) ≡ map dated_columns new
       → IsInOrder (b.trees (tree_in a.schema (codes "dated_steps"))) → HoldsOf present_format told b (record rows { dated_steps = new })

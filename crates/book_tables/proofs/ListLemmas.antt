@@ -7,15 +7,19 @@ use Rattle.office_rules.specs.Office.{AreNumbered}
 use Rattle.std.proofs.lemmas.List.{get_or-map, get_or_append_left, get_or-append_right, length-append, length-map}
 use Rattle.std.proofs.lemmas.List.Elements.{Contains-append_cases, Contains-append_left, Contains-append_right, Contains-get_or, Contains-push, Contains-push_cases}
 
+-- a list contains its first element
 pub contains_first : {X : Type 0} (x : X) (xs : List X) → Contains (x ∷ xs) x
 contains_first x xs = Contains-append_left (x ∷ []) xs x (Contains-push [] x)
 
+-- a list contains what its rest contains
 pub contains_further : {X : Type 0} (x y : X) (xs : List X) → Contains xs y → Contains (x ∷ xs) y
 contains_further x y xs there = Contains-append_right (x ∷ []) xs y there
 
+-- the empty list contains nothing
 pub contains_none : {X : Type 0} (x : X) → Contains [] x → ⊥
 contains_none x there = omega (arith, there.1)
 
+-- what a list contains is its first element, or stands in the rest
 pub contains_cases : {X : Type 0} (x y : X) (xs : List X) → Contains (x ∷ xs) y → (x ≡ y) ⊎ Contains xs y
 contains_cases x y xs there = elim (Contains-append_cases (x ∷ []) xs y there) [
   | inl first ↦ elim (Contains-push_cases [] x y first) [
@@ -37,6 +41,7 @@ contains_map f xs x there =
     let within : there.0 < length (map f xs) = omega (arith, length-map xs f, there.1) in
     (there.0, within, get_or-map f xs there.0 x (f x) there.1 ∙ ap f there.2)
 
+-- what stands in a changed list is the change of an element of the list
 pub map_source : {X Y : Type 0} (f : X → Y) (xs : List X) (y : Y) → Contains (map f xs) y → (x : X) × Contains xs x × (f x ≡ y)
 map_source f [] y there = absurd (contains_none y there)
 map_source f (x ∷ xs) y there =
@@ -70,12 +75,15 @@ pairs_append R xs ys in_xs in_ys across i j d before within =
           ]
     ]
 
+-- any relation holds of the pairs of the empty list, as it has none
 pub no_pairs : {X : Type 0} (R : X → X → Type 0) → AllPairs R []
 no_pairs R i j d before within = absurd (omega arith)
 
+-- any relation holds of the pairs of a list of one element, as it has none
 pub pairs_of_one : {X : Type 0} (R : X → X → Type 0) (x : X) → AllPairs R (x ∷ [])
 pairs_of_one R x i j d before within = absurd (omega arith)
 
+-- pairs stay related where the new first element is related to each of the others
 pub pairs_cons : {X : Type 0} (R : X → X → Type 0) (x : X) (xs : List X) → AllPairs R xs → ((y : X) → Contains xs y → R x y) → AllPairs R (x ∷ xs)
 pairs_cons R x xs pairs each =
     pairs_append R (x ∷ []) xs (pairs_of_one R x) pairs (λ a y first there. elim (contains_cases x a [] first) [
@@ -83,6 +91,7 @@ pairs_cons R x xs pairs each =
       | inr none ↦ absurd (contains_none a none)
     ])
 
+-- pairs stay related where each element is related to the one put at the end
 pub pairs_push : {X : Type 0} (R : X → X → Type 0) (xs : List X) (y : X) → AllPairs R xs → ((x : X) → Contains xs x → R x y) → AllPairs R (xs ++ y ∷ [])
 pairs_push R xs y pairs each =
     pairs_append R xs (y ∷ []) pairs (pairs_of_one R y) (λ x b there last. elim (contains_cases y b [] last) [
@@ -90,6 +99,7 @@ pairs_push R xs y pairs each =
       | inr none ↦ absurd (contains_none b none)
     ])
 
+-- pairs stay related where each element is changed and the change keeps the relation
 pub pairs_map : {X : Type 0} (R : X → X → Type 0) (f : X → X) (xs : List X) → ((a b : X) → R a b → R (f a) (f b)) → AllPairs R xs → AllPairs R (map f xs)
 pairs_map R f xs keeps pairs i j d before within =
     let j_in : j < length xs = omega (arith, length-map xs f) in
@@ -97,9 +107,11 @@ pairs_map R f xs keeps pairs i j d before within =
     subst (λ a. R a (get_or (map f xs) j d)) (sym (get_or-map f xs i d d i_in))
     (subst (λ b. R (f (get_or xs i d)) b) (sym (get_or-map f xs j d d j_in)) (keeps (get_or xs i d) (get_or xs j d) (pairs i j d before j_in)))
 
+-- the pairs of the rest are related where those of the list are
 pub pairs_rest : {X : Type 0} (R : X → X → Type 0) (x : X) (xs : List X) → AllPairs R (x ∷ xs) → AllPairs R xs
 pairs_rest R x xs pairs i j d before within = pairs (suc i) (suc j) d (omega arith) (omega arith)
 
+-- where all pairs are related, the first element is related to each of the rest
 pub pairs_first : {X : Type 0} (R : X → X → Type 0) (x y : X) (xs : List X) → AllPairs R (x ∷ xs) → Contains xs y → R x y
 pairs_first R x y xs pairs there = subst (R x) there.2 (pairs 0 (suc there.0) y (omega arith) (omega (arith, there.1)))
 
@@ -109,6 +121,7 @@ passes_not : {X : Type 0} (p : X → Bool) (x : X) (xs : List X) (b : Bool) → 
 passes_not p x xs true is fails rest = absurd (false≢true (sym fails))
 passes_not p x xs false is fails rest = rest
 
+-- where none passes the test, nothing is left of the list
 pub none_pass : {X : Type 0} (p : X → Bool) (xs : List X) → ((x : X) → Contains xs x → p x ≡ false) → filter p xs ≡ []
 none_pass p [] fails = refl
 none_pass p (x ∷ xs) fails =
@@ -153,6 +166,7 @@ pub first_is_all : {X : Type 0} (p : X → Bool) (xs : List X) → AllPairs (Not
 first_is_all p [] pairs = refl
 first_is_all p (x ∷ xs) pairs = first_here p x xs (p x) refl pairs (first_is_all p xs (pairs_rest (NotBothPass p) x xs pairs))
 
+-- pairs that are related are related by each weaker relation
 pub pairs_weaker : {X : Type 0} (R S : X → X → Type 0) (xs : List X) → ((a b : X) → R a b → S a b) → AllPairs R xs → AllPairs S xs
 pairs_weaker R S xs weaker pairs i j d before within = weaker (get_or xs i d) (get_or xs j d) (pairs i j d before within)
 

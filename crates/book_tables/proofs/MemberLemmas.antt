@@ -110,6 +110,7 @@ module _ (a b : Rows) (same : SameMembers a b) (o p : Office) (these : AreMember
   one_tariff name (Some xs) None e f =
       absurd (none_is (p.tariffs name) (name_of_other a b same o p these those name (subst (λ (v : Option (List Step)). IsSome v) (sym e) refl)) f)
 
+  -- offices whose members are the same rows have the same tariff under each name
   pub same_tariff : (name : List ℕ) → o.tariffs name ≡ p.tariffs name
   same_tariff name = one_tariff name (o.tariffs name) (p.tariffs name) refl refl
 
@@ -121,6 +122,7 @@ module _ (a b : Rows) (same : SameMembers a b) (o p : Office) (these : AreMember
     one_dated name day None (Some ys) e f = absurd (some_dated b a back p o those these name day ys f (is_p.dated_steps name day ys f).priced.count.0 e)
     one_dated name day (Some xs) None e f = absurd (some_dated a b same o p these those name day xs e (is_o.dated_steps name day xs e).priced.count.0 f)
 
+    -- two offices whose members are the same rows are one office
     pub one_office : o ≡ p
     one_office =
         let tariffs : o.tariffs ≡ p.tariffs = fun_ext same_tariff in

@@ -16,46 +16,60 @@ pub record IsInOffice (k : Kept) : Type 0 where
   pub there : (s : Schema) → HasOffice s → IsKept s k
   pub holds : (told : ℕ) (db : Database) (rows : Rows) → HoldsOf present_format told db rows → HoldsRows db told rows k
 
+-- `about` is a table of the present format
 pub about_in : IsInOffice about_kept
 about_in = record { there = λ s has. has.tables.0; holds = λ told db rows held. held.are.0 }
 
+-- `tariffs` is a table of the present format
 pub tariffs_in : IsInOffice tariffs_kept
 tariffs_in = record { there = λ s has. has.tables.1.0; holds = λ told db rows held. held.are.1.0 }
 
+-- `tariff_steps` is a table of the present format
 pub steps_in : IsInOffice steps_kept
 steps_in = record { there = λ s has. has.tables.1.1.0; holds = λ told db rows held. held.are.1.1.0 }
 
+-- `meters` is a table of the present format
 pub meters_in : IsInOffice meters_kept
 meters_in = record { there = λ s has. has.tables.1.1.1.0; holds = λ told db rows held. held.are.1.1.1.0 }
 
+-- `shifts` is a table of the present format
 pub shifts_in : IsInOffice shifts_kept
 shifts_in = record { there = λ s has. has.tables.1.1.1.1.0; holds = λ told db rows held. held.are.1.1.1.1.0 }
 
+-- `sales` is a table of the present format
 pub sales_in : IsInOffice sales_kept
 sales_in = record { there = λ s has. has.tables.1.1.1.1.1.0; holds = λ told db rows held. held.are.1.1.1.1.1.0 }
 
+-- `last_ids` is a table of the present format
 pub last_ids_in : IsInOffice last_ids_kept
 last_ids_in = record { there = λ s has. has.tables.1.1.1.1.1.1.0; holds = λ told db rows held. held.are.1.1.1.1.1.1.0 }
 
+-- `month_tenths` is a table of the present format
 pub month_tenths_in : IsInOffice month_tenths_kept
 month_tenths_in = record { there = λ s has. has.tables.1.1.1.1.1.1.1.0; holds = λ told db rows held. held.are.1.1.1.1.1.1.1.0 }
 
+-- `shift_totals` is a table of the present format
 pub shift_totals_in : IsInOffice shift_totals_kept
 shift_totals_in = record { there = λ s has. has.tables.1.1.1.1.1.1.1.1.0; holds = λ told db rows held. held.are.1.1.1.1.1.1.1.1.0 }
 
+-- `meter_bases` is a table of the present format
 pub bases_in : IsInOffice bases_kept
 bases_in = record { there = λ s has. has.tables.1.1.1.1.1.1.1.1.1.0; holds = λ told db rows held. held.are.1.1.1.1.1.1.1.1.1.0 }
 
+-- `dated_steps` is a table of the present format
 pub dated_steps_in : IsInOffice dated_steps_kept
 dated_steps_in = record { there = λ s has. has.tables.1.1.1.1.1.1.1.1.1.1.0; holds = λ told db rows held. held.are.1.1.1.1.1.1.1.1.1.1.0 }
 
 module _ {k : Kept} (in_office : IsInOffice k) where
+  -- a database that holds all rows of the office holds those of the table
   pub table_holds : (db : Database) (rows : Rows) → Holds db rows → TableHolds k db rows
   table_holds db rows held = (in_office.there db.schema held.has, (present_format, in_office.holds present_format db rows held))
 
+  -- a connection that has all tables has this one
   pub has_table : (s : State) → HasAllTables s → HasTable k s
   has_table s has runs = in_office.there s.now.schema (has runs)
 
+  -- a connection that has all rows of the office has those of the table
   pub has_table_rows : (s : State) (rows : Rows) → HasRows s rows → HasTableRows k s rows
   has_table_rows s rows has runs = table_holds s.now rows (has runs)
 

@@ -20,6 +20,7 @@ use Rattle.book_tables.proofs.ListLemmas.{NotBothPass, contains_cases, contains_
 
 -- ---- lists
 
+-- a member of a list, as it is found from the front, stands at a place of it
 pub member_contains : {X : Type 0} (xs : List X) (x : X) → Member xs x → Contains xs x
 member_contains [] x there = absurd there
 member_contains (y ∷ ys) x (inl is) = subst (Contains (y ∷ ys)) (sym is) (contains_first y ys)
@@ -33,6 +34,7 @@ none_left p (x ∷ xs) none = by_test (p x) refl none (none_left p xs)
     by_test true is none rest = absurd (true≢false none)
     by_test false is none rest = rest none
 
+-- a pair of the two parts of a row is the row
 pub same_pair : {K V : Type 0} (k : K) (v : V) (r : K × V) → r.0 ≡ k → r.1 ≡ v → (k, v) ≡ r
 same_pair k v r e f = let pair : (k, v) ≡ (r.0, r.1) = cc in pair
 
@@ -50,6 +52,7 @@ module _ {K V : Type 0} (is_key : K → Bool) (key : K) (tells : (k : K) → (is
   abbrev picks : K × V → Bool
   picks r = is_key r.0
 
+  -- the row of the key with a value
   abbrev pub under : V → K × V
   under v = (key, v)
 
@@ -78,6 +81,7 @@ module _ {K V : Type 0} (is_key : K → Bool) (key : K) (tells : (k : K) → (is
   few_such None = omega arith
   few_such (Some v) = omega arith
 
+  -- at most one row has the key
   pub few_under : length (filter picks rows) ≤ 1
   few_under = subst (λ (l : List (K × V)). length l ≤ 1) (sym found_under) (few_such (has key))
 
@@ -89,6 +93,7 @@ module _ {K V : Type 0} (is_key : K → Bool) (key : K) (tells : (k : K) → (is
   pub free_under : list_any picks rows ≡ false → has key ≡ None
   free_under free = none_such (has key) (sym found_under ∙ none_left picks rows free)
 
+  -- the value in the row of the key is what there is under the key
   pub value_under : (r : K × V) → Member rows r → picks r ≡ true → has key ≡ Some r.1
   value_under r there is = under_key r (member_contains rows r there) is
 

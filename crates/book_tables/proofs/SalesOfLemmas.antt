@@ -25,12 +25,14 @@ use Rattle.book_tables.proofs.RowLemmas.RecordLemmas.{one_base}
 
 -- ---- keys
 
+-- the comparison with a number passes that number alone
 pub tells_number : (n k : ℕ) → ((k == n) ≡ true) ↔ (k ≡ n)
 tells_number n k = ((Decides-eqb k n).0, (Decides-eqb k n).1)
 
 both_true : (a b : Bool) → a ≡ true → b ≡ true → (a && b) ≡ true
 both_true a b e f = rw (e, f) refl
 
+-- the comparison with a key of a meter and a base passes that key alone
 pub tells_under : (key k : List ℕ × Base) → (is_under key k ≡ true) ↔ (k ≡ key)
 tells_under key k = (
   λ is.
@@ -43,6 +45,7 @@ tells_under key k = (
       ((Decides-eqb (year_of k.1) (year_of key.1)).1 (ap (λ (x : List ℕ × Base). year_of x.1) same)),
 )
 
+-- the comparison with a key of a meter and a month passes that key alone
 pub tells_month : (key k : List ℕ × ℕ) → (is_in_month key k ≡ true) ↔ (k ≡ key)
 tells_month key k = (
   λ is.
@@ -57,13 +60,16 @@ tells_month key k = (
 
 -- ---- totals and sums
 
+-- the tenths of some sales, or 0 where there are none, are the sum over them
 pub tenths_sum : (xs : List Sale) → unwrap_or (tenths_of xs) 0 ≡ sum_by (λ s. s.tenths) xs
 tenths_sum [] = refl
 tenths_sum (x ∷ xs) = refl
 
+-- the count of some sales, and the sums of their tenths and their prices
 abbrev pub all_totals : List Sale → Totals
 all_totals xs = record { sales = length xs; tenths = sum_by (λ s. s.tenths) xs; cash = cash_of xs }
 
+-- the totals of some sales, or zeros where there are none, are the count and the sums
 pub totals_sum : (xs : List Sale) → unwrap_or (totals_of xs) no_totals ≡ all_totals xs
 totals_sum [] = refl
 totals_sum (x ∷ xs) = refl
@@ -88,6 +94,7 @@ totals_more (x ∷ xs) s =
 
 -- ---- one sale more
 
+-- a new sale that passes a test comes last of those that pass
 pub kept_last : (p : Sale → Bool) (sales : List Sale) (s : Sale) → p s ≡ true → filter p (sales ++ s ∷ []) ≡ filter p sales ++ s ∷ []
 kept_last p sales s is = filter-append p sales (s ∷ []) ∙ ap (λ (b : Bool). filter p sales ++ cond b (s ∷ []) []) is
 
@@ -95,6 +102,7 @@ left_last : (p : Sale → Bool) (sales : List Sale) (s : Sale) → p s ≡ false
 left_last p sales s not =
     filter-append p sales (s ∷ []) ∙ ap (λ (b : Bool). filter p sales ++ cond b (s ∷ []) []) not ∙ append-nil (filter p sales)
 
+-- two tests are the same where each passes if the other does
 pub same_test : (a b : Bool) → (a ≡ true → b ≡ true) → (b ≡ true → a ≡ true) → a ≡ b
 same_test true b to from = sym (to refl)
 same_test false true to from = from refl
@@ -119,40 +127,50 @@ module _ {K V : Type 0} (is_key : K → K → Bool) (tells : (key k : K) → (is
       ≡ put_under (is_key (key_of s)) value (λ x. found (of sales x)) k
   found_more own k = by_test k (is_key (key_of s) k) refl own
 
+-- the sum over the sales that pass a test is at most the sum over all
 pub sum_of_some : (p : Sale → Bool) (f : Sale → ℕ) (xs : List Sale) → sum_by f (filter p xs) ≤ sum_by f xs
 sum_of_some p f xs = omega (arith, sum_by-filter_both p (λ x. not (p x)) (λ _. refl) f xs)
 
 module _ (sales : List Sale) (s : Sale) where
+  -- the key of a sale's last identifier: its meter and its base
   abbrev pub base_key : Sale → List ℕ × Base
   base_key t = (t.meter, t.base)
 
+  -- the key of a sale's tenths: its meter and its month
   abbrev pub month_key : Sale → List ℕ × ℕ
   month_key t = (t.meter, month_at t.moment)
 
   abbrev greatest : List Sale → Option ℕ
   greatest xs = greatest_of (map (λ t. t.tid) xs)
 
+  -- a new sale changes the last identifier of its own meter and base alone
   pub last_more : (last : ℕ) → greatest (sales_under (sales ++ s ∷ []) (base_key s)) ≡ Some last
       → (k : List ℕ × Base) → greatest (sales_under (sales ++ s ∷ []) k) ≡ put_under (is_under (base_key s)) last (λ x. greatest (sales_under sales x)) k
   last_more last own = found_more is_under tells_under base_key greatest sales s last own
 
+  -- the tenths of the new sale's meter in its month, the new sale's among them
   abbrev pub month_sum : ℕ
   month_sum = unwrap_or (tenths_of (sales_in_month sales (month_key s))) 0 + s.tenths
 
+  -- that is the sum of the month once the new sale is one of the sales
   pub month_own : tenths_of (sales_in_month (sales ++ s ∷ []) (month_key s)) ≡ Some month_sum
   month_own = ap tenths_of (kept_last (λ t. is_in_month (month_key s) (month_key t)) sales s
       ((tells_month (month_key s) (month_key s)).1 refl)) ∙ tenths_more (sales_in_month sales (month_key s)) s
 
+  -- a new sale changes the tenths of its own meter and month alone
   pub month_more : (k : List ℕ × ℕ) → tenths_of (sales_in_month (sales ++ s ∷ []) k)
       ≡ put_under (is_in_month (month_key s)) month_sum (λ x. tenths_of (sales_in_month sales x)) k
   month_more = found_more is_in_month tells_month month_key tenths_of sales s month_sum month_own
 
+  -- the totals of the new sale's shift, the new sale among them
   abbrev pub shift_sum : Totals
   shift_sum = one_more s.tenths s.price (unwrap_or (totals_of (sales_in_shift sales s.shift)) no_totals)
 
+  -- these are the totals of the shift once the new sale is one of the sales
   pub shift_own : totals_of (sales_in_shift (sales ++ s ∷ []) s.shift) ≡ Some shift_sum
   shift_own = ap totals_of (kept_last (λ t. t.shift == s.shift) sales s ((tells_number s.shift s.shift).1 refl)) ∙ totals_more (sales_in_shift sales s.shift) s
 
+  -- a new sale changes the totals of its own shift alone
   pub shift_more : (k : ℕ) → totals_of (sales_in_shift (sales ++ s ∷ []) k)
       ≡ put_under (λ n. n == s.shift) shift_sum (λ x. totals_of (sales_in_shift sales x)) k
   shift_more = found_more (λ n k. k == n) tells_number (λ t. t.shift) totals_of sales s shift_sum shift_own
@@ -185,27 +203,33 @@ module _ (sales : List Sale) (s : Sale) where
         omega (arith, all_cash, sum_of_some in_shift (λ (t : Sale). t.price) sales, sum_by_push (λ (t : Sale). t.price) sales s),
       )
 
+  -- where the sums over all sales fit in columns, so does that of the new sale's month
   pub room_in_month : FitColumns (sales ++ s ∷ []) → month_sum < 2 ^ 63
   room_in_month fit = omega (arith, month_within, fit.tenths)
 
+  -- where the sums over all sales fit in columns, so do those of the new sale's shift
   pub room_in_shift : FitColumns (sales ++ s ∷ []) → HasRoomFor shift_sum
   room_in_shift fit =
       let within = shift_within in
       (omega (arith, within.0, fit.count), omega (arith, within.1, fit.tenths), omega (arith, within.2, fit.cash))
 
+  -- where the sums over all sales are within the greatest total, so is that of the month
   pub total_in_month : AreWithinTotals (sales ++ s ∷ []) → IsTotal month_sum
   total_in_month few = omega (arith, month_within, few.1)
 
+  -- where the sums over all sales are within the greatest total, so are those of the shift
   pub totals_in_shift : AreWithinTotals (sales ++ s ∷ []) → AreTotalsValues shift_sum
   totals_in_shift few =
       let within = shift_within in
       record { sales = omega (arith, within.0, few.0); tenths = omega (arith, within.1, few.1); cash = omega (arith, within.2, few.2) }
 
+-- sums that are within the greatest total fit in columns
 pub fit_within : (sales : List Sale) → AreWithinTotals sales → FitColumns sales
 fit_within sales few = record { count = omega (arith, few.0); tenths = omega (arith, few.1); cash = omega (arith, few.2) }
 
 -- ---- the sales of an office
 
+-- where all numbers are at most some last one, so is the greatest of them
 pub greatest_within : (last : ℕ) (ns : List ℕ) → All (λ n. n ≤ last) ns → IfSome (greatest_of ns) (λ n. n ≤ last)
 greatest_within last [] all = _
 greatest_within last (n ∷ ns) all = by_rest (greatest_of ns) (All-head (λ m. m ≤ last) n ns all) (greatest_within last ns (All-tail (λ m. m ≤ last) n ns all))

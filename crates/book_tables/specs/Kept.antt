@@ -3,9 +3,16 @@
 use Rattle.std.specs.Prelude.{ℕ, Bool, true, false, not, List, [], ◌∷◌, filter, map, nat_le}
 use Rattle.sqlite.specs.Order.{Row}
 use Rattle.sqlite.specs.Table.{Table}
-use Rattle.book_tables.specs.row.Rows.{Rows, about_rows, base_columns, dated_columns, last_id_columns, meter_columns, month_columns, sale_row, shift_row, step_columns, tariff_columns, totals_row}
-use Rattle.book_tables.specs.Tables.{about_table, dated_steps_table, last_ids_table, meter_bases_table, meters_table, month_tenths_table, sales_table, shift_totals_table, shifts_table, tariff_steps_table, tariffs_table}
-use Rattle.book_tables.specs.Texts.{about_text, dated_steps_text, last_ids_text, meter_bases_text, meters_text, month_tenths_text, sales_text, shift_totals_text, shifts_text, tariff_steps_text, tariffs_text}
+use Rattle.book_tables.specs.row.Rows.{Rows, about_rows, base_columns, dated_columns}
+use Rattle.book_tables.specs.row.Rows.{last_id_columns, meter_columns, month_columns, sale_row}
+use Rattle.book_tables.specs.row.Rows.{shift_row, step_columns, tariff_columns, totals_row}
+use Rattle.book_tables.specs.Tables.{about_table, dated_steps_table, last_ids_table}
+use Rattle.book_tables.specs.Tables.{meter_bases_table, meters_table, month_tenths_table}
+use Rattle.book_tables.specs.Tables.{sales_table, shift_totals_table, shifts_table}
+use Rattle.book_tables.specs.Tables.{tariff_steps_table, tariffs_table}
+use Rattle.book_tables.specs.Texts.{about_text, dated_steps_text, last_ids_text, meter_bases_text}
+use Rattle.book_tables.specs.Texts.{meters_text, month_tenths_text, sales_text, shift_totals_text}
+use Rattle.book_tables.specs.Texts.{shifts_text, tariff_steps_text, tariffs_text}
 
 -- a table, the text that makes it, the format that brings it, whether its rows have numbers of
 -- their own, and what is stored of the rows of an office where `about` tells this format: without

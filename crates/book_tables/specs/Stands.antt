@@ -1,5 +1,7 @@
 -- Which office the rows of the tables are.
-use Rattle.std.specs.Prelude.{◌≡◌, ◌≢◌, ◌↔◌, ◌<◌, ◌==◌, ◌&&◌, ℕ, pos, true, List, [], ◌∷◌, Option, None, Some, IsSome, AllPairs, Contains, bytes_eq, filter, length, map, slice_get, sum_by}
+use Rattle.std.specs.Prelude.{◌≡◌, ◌≢◌, ◌↔◌, ◌<◌, ◌==◌, ◌&&◌, ℕ, pos, true, List, [], ◌∷◌, Option}
+use Rattle.std.specs.Prelude.{None, Some, IsSome, AllPairs, Contains, bytes_eq, filter, length, map}
+use Rattle.std.specs.Prelude.{slice_get, sum_by}
 use Rattle.sqlite_keyed.specs.Keyed.{IsKeyedBy}
 use Rattle.sts_fields.specs.Base.{base_eq}
 use Rattle.sts_fields.specs.Calendar.{month_at}

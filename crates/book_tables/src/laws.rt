@@ -1,6 +1,7 @@
 //! What holds of the office's tables, whatever statement is run on them.
 
-ghost use Rattle.std.specs.Prelude.{◌≡◌, ◌≤◌, ◌&&◌, ◌==◌, ℕ, true, false, List, Option, Some, All, Ok, bytes_eq, filter, is_none, map, option_map};
+ghost use Rattle.std.specs.Prelude.{◌≡◌, ◌≤◌, ◌&&◌, ◌==◌, ℕ, false, List, Option, Some, All, Ok};
+ghost use Rattle.std.specs.Prelude.{bytes_eq, filter, is_none, map, option_map};
 ghost use Rattle.std.specs.List.{AllByRecursion};
 ghost use Rattle.std.specs.Option.{option_to_list};
 ghost use Rattle.sqlite.specs.Effect.{Database};
@@ -8,7 +9,8 @@ ghost use Rattle.sqlite_resolve.specs.Compile.{table_defined_by};
 ghost use Rattle.sqlite_schema.specs.declared.schema.Schema.{Schema};
 ghost use Rattle.tariff.specs.declared.step.Step.{Step};
 ghost use Rattle.office_rules.specs.Decision.Edits.{applied};
-ghost use Rattle.office_rules.specs.Office.Lookup.{open_shift, sale_numbered, sale_of_ref, shift_numbered};
+ghost use Rattle.office_rules.specs.Office.Lookup.{open_shift, sale_numbered, sale_of_ref};
+ghost use Rattle.office_rules.specs.Office.Lookup.{shift_numbered};
 ghost use Rattle.office_rules.specs.Office.{IsOffice, Office, empty_office};
 ghost use Rattle.office_rules.specs.Law.Store.{Meets};
 ghost use Rattle.office_rules.specs.declared.decision.change.Edit.{Edit};
@@ -17,12 +19,15 @@ ghost use Rattle.office_rules.specs.declared.office.sale.Sale.{Sale};
 ghost use Rattle.office_rules.specs.declared.office.shift.Shift.{Shift};
 ghost use Rattle.book_tables.specs.writing.Edited.{edited, is_sale, no_rows};
 ghost use Rattle.book_tables.specs.reading.Found.{meters_numbered, tariffs_named};
-ghost use Rattle.book_tables.specs.Holds.{HasOfficeOf, HoldsMembers, HoldsMembersOf, IsUntaken, StandsFor};
+ghost use Rattle.book_tables.specs.Holds.{HasOfficeOf, HoldsMembers, HoldsMembersOf, IsUntaken};
+ghost use Rattle.book_tables.specs.Holds.{StandsFor};
 ghost use Rattle.book_tables.specs.Kept.{kept};
 ghost use Rattle.book_tables.specs.row.ReadBack.{ReadsBack};
-ghost use Rattle.book_tables.specs.row.Rows.{Rows, present_format, shown_meter, shown_number, shown_sale, shown_shift, shown_step};
+ghost use Rattle.book_tables.specs.row.Rows.{Rows, present_format, shown_meter, shown_number};
+ghost use Rattle.book_tables.specs.row.Rows.{shown_sale, shown_shift, shown_step};
 ghost use Rattle.book_tables.specs.Stands.{AreMembersOf};
-ghost use Rattle.book_tables.specs.row.Values.{AreMeterValues, AreSaleValues, AreShiftValues, AreStepValues, IsNumber, IsSoldAmount, IsTid};
+ghost use Rattle.book_tables.specs.row.Values.{AreMeterValues, AreSaleValues, AreShiftValues};
+ghost use Rattle.book_tables.specs.row.Values.{AreStepValues, IsNumber, IsSoldAmount, IsTid};
 
 /// Which office a database stands for.
 pub fn stands_law()

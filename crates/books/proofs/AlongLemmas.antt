@@ -34,6 +34,7 @@ none_served stopped = record {
   stops = (λ h. inl h, λ h. elim h [ inl was ↦ was | inr failed ↦ absurd (omega (arith, failed.1)) ]);
 }
 
+-- before the first request, the books have served none
 pub served_none : (books : Seen) → ((life : Life) → extended_along life [] [] ≡ life) → HaveServed books books [] []
 served_none books law = record {
   count = refl;
@@ -87,6 +88,7 @@ stops_more old mid new replies reply stops last then = record {
   );
 }
 
+-- books that served some requests have served one more with its reply
 pub served_more : (old mid new : Seen) (ats : List Stamped) (replies : List (Result Answer Refusal)) (at : Stamped)
     (reply : Result Answer Refusal) → HaveServed old mid ats replies
     → ((life : Life) → length ats ≡ length replies → extended_by (extended_along life ats replies) at reply

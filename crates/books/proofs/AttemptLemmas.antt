@@ -38,6 +38,7 @@ rows_add_no_sale (kinds.Tariff name steps ∷ rows) o = rows_add_no_sale rows (w
 rows_add_no_sale (kinds.Steps name day steps ∷ rows) o = rows_add_no_sale rows (with_row (kinds.Steps name day steps) o)
 rows_add_no_sale (kinds.Meter number m ∷ rows) o = rows_add_no_sale rows (with_row (kinds.Meter number m) o)
 
+-- an edit that adds no sale leaves the sales as they were
 pub next_stays : (edit : Edit) (o : Office) → ((s : Sale) → edit ≡ AddSale s → ⊥) → (applied edit o).sales ≡ o.sales
 next_stays (AddTariff name steps) o none = refl
 next_stays (AddSteps name day steps) o none = refl
@@ -86,9 +87,11 @@ refused_ends forward o at refusal old new held decided clean nothing next =
     ]
 
 module _ (forward : BlockFunction) (o : Office) (at : Stamped) (change : Change) (granted : IsDecided forward o at (Ok change)) where
+  -- a change that was granted is the office's decision
   pub is_decision : decision forward o at ≡ Ok change
   is_decision = elim granted [ inl is ↦ sym is | inr (inl none) ↦ absurd cc | inr (inr failed) ↦ absurd cc ]
 
+  -- its answer is what the office replies
   pub replies : Ok change.answer ≡ reply forward o at
   replies = sym (ap reply_of is_decision)
 
@@ -100,10 +103,12 @@ module _ (forward : BlockFunction) (o : Office) (at : Stamped) (change : Change)
         inl (replies, subst (λ (p : Office). HoldsOffice p new) (sym same) held)
 
     module _ (edit : Edit) (some : change.edit ≡ Some edit) where
+      -- the office after the request is the one after the change's edit
       pub is_applied : step forward o at ≡ applied edit o
       is_applied = ap (office_after o) is_decision ∙ ap (λ (e : Option Edit). option_map_or (λ edit. applied edit o) e o) some
 
       module _ (mid : State) (held : Stores mid o) (meets : Meets edit o) (office : IsOffice (applied edit o)) where
+        -- where the edit was committed, the books hold the office after the request
         pub committed_ends : {Been : (State → Type 0) → Type 0} (prior : ℕ) → Commits Been edit prior (Ok tt) mid new.state
             → new.next_number ≡ length (applied edit o).sales + 1 → ServingEnds forward o at (Ok change.answer) new
         committed_ends prior commits next =
@@ -113,6 +118,7 @@ module _ (forward : BlockFunction) (o : Office) (at : Stamped) (change : Change)
                   (record { at = edit_held edit o mid new.state held meets office commits.done; next = next }),
             )
 
+        -- where it was not, they hold the office from before, or the store may leave either
         pub failed_ends : {Been : (State → Type 0) → Type 0} (prior : ℕ) (refusal : Refusal) → HasCleanDisk new.state
             → Commits Been edit prior (Err refusal) mid new.state → new.next_number ≡ length o.sales + 1 → ServingEnds forward o at (Err refusal) new
         failed_ends prior refusal clean commits next = elim commits.failed [

@@ -21,6 +21,7 @@ shown_if_stored true rows stored same = same
 shown_if_stored false rows stored both = both.0
 
 module _ (db : Database) where
+  -- the rows of each table stand in the order of their numbers
   abbrev pub AreTablesInOrder : Type 0
   AreTablesInOrder = (t : Table) → Stands db.schema t → IsInOrder (rows_in db t.name)
 
@@ -37,6 +38,7 @@ module _ (db : Database) where
   each_shown n rows (k ∷ ks) held = (shown_if_stored k.is_numbered _ _ held.0, each_shown n rows ks held.1)
 
   module _ (o : Office) where
+    -- a database that shows an office stands for it, where its tables are in order
     pub stands_if_ordered : AreTablesInOrder → ShowsOffice db o → StandsFor db o
     stands_if_ordered ordered it = record {
       office = it.office;
@@ -54,6 +56,7 @@ module _ (db : Database) where
       empty = it.empty;
     }
 
+    -- and one that stands for an office shows it
     pub shows_if_stands : StandsFor db o → ShowsOffice db o
     shows_if_stands it = record {
       office = it.office;

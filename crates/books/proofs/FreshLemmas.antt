@@ -15,9 +15,11 @@ use Rattle.book_opening.specs.declared.fault.OpenFault.TheVariants.{NotAnOffice,
 abbrev pub bare : Schema
 bare = record { tables = []; indexes = []; views = [] }
 
+-- nothing in it takes a name that the office's tables need
 pub bare_untaken : IsUntaken bare
 bare_untaken = record { tables = tt; free = refl; unreferred = refl; harmless = refl }
 
+-- an empty store in memory stands for the empty office
 pub memory_stands : (c : Held MemStore) → ((db : Database) → IsUntaken db.schema → StandsFor db empty_office)
     → IsEmpty (state over_memory c) → StoreStandsFor (state over_memory c) empty_office
 memory_stands c untaken h =
@@ -29,6 +31,7 @@ memory_stands c untaken h =
       left = λ trees leaves. (s.committed, (h.1 h.0.is_open).1, leaves, subst (λ (db : Database). StandsFor db empty_office) h.0.clean stands);
     }
 
+-- a fault that does not name the file is one of the store or of memory
 pub store_or_memory : (fault : OpenFault) → fault ≢ NotAnOffice → (fault ≡ Store) ⊎ (fault ≡ Memory)
 store_or_memory NotAnOffice other = absurd (other refl)
 store_or_memory Store other = inl refl

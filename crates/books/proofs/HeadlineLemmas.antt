@@ -14,6 +14,7 @@ module _ (goes_on : (lives : List Life) (life : Life) (o p : Office) → AreLive
   pub lead_to : (p : Office) → MayLeave life p → AreLives (with_last lives life) p
   lead_to p left = goes_on lives life life.opening p h.led (h.kept h.clean).is_life refl left
 
+  -- the lives up to the present one lead to the office as it is now
   pub lead_on : AreLives (with_last lives life) (present life)
   lead_on = lead_to (present life) (inl refl)
 

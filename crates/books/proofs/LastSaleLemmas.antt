@@ -180,6 +180,7 @@ module _ (o : Office) (has_last : HasLast o) (number : List ℕ) where
         let falls : t.tid ≤ s.tid = latest.last.greatest t there same (one_base ∙ under) in
         omega (arith, rises, falls)
 
+    -- what is found as the last sale to a meter has the greatest number of those to it
     pub last_by_number : (s : Sale) → last_sale o number ≡ Some s → IsLastTo o number s
     last_by_number s is =
         let latest = is_latest s is in

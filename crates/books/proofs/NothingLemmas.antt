@@ -32,6 +32,7 @@ module _ (size : ℕ) (image : Image) (pages : PageMap) (found : Adopts size ima
       (found.whole.sized 1 page is) (omega arith) (begins ∙ sym gate) (λ none. let no = sym gate ∙ none in omega arith) in
       elim nothing [ inl plain ↦ never (used_size 4096 false) (omega arith) plain | inr summed ↦ never (used_size 4096 true) (omega arith) summed ]
 
+-- trees that are found in files with no database are empty
 pub found_nothing : (image : Image) (trees : Trees) → IsNothing image → AreFoundIn image trees → IsEmpty trees
 found_nothing image trees nothing (inl some) = absurd (∥∥₁_elim some.4 (λ x y. absurd x) (λ ours. is_made some.0 image some.1 some.3 ours.file.sound nothing))
 found_nothing image trees nothing (inr none) = none.1

@@ -12,6 +12,7 @@ use Rattle.book_states.specs.Stores.{Stores}
 use Rattle.books.specs.Keeps.{IsRepresented, Seen}
 use Rattle.book_opening.specs.Opening.{OpensAs}
 
+-- books that hold the office they were opened with represent the life that begins there
 pub keeps_opened : (forward : BlockFunction) (o : Office) (books : Seen) → IsRunning (opened forward o) o
     → ((p : Office) → MayLeave (opened forward o) p ↔ (p ≡ o)) → forward ≡ books.forward
     → Stores books.state o × (books.next_number ≡ length o.sales + 1) → IsRepresented (opened forward o) books

@@ -30,6 +30,7 @@ module _ {D : Type 0} {g : Ghosts D} where
   module _ (image : Image) (first last : Held (FileStore D g)) (opens : HasCleanDisk (file_state first) → Opens (file_state first) × IsLive (file_state first))
       (finds : HasCleanDisk (file_state first) → FindsIn image (file_state first)) (ordered : OpensInOrder D g)
       (none : (file_state first).step_limit ≡ None) where
+    -- a connection that opens over files and has what they hold is connected to them
     pub connected : HasCleanDisk (file_state first) → IsConnected image (file_state first)
     connected clean =
         let it = finds clean in
@@ -42,6 +43,7 @@ module _ {D : Type 0} {g : Ghosts D} where
           unlimited = none;
         }
 
+    -- an opening over such a connection opens the files
     pub opens_files : (HasCleanDisk (file_state first) → IsBlankAs false image → (view first.store).has_sums ≡ false)
         → (HasCleanDisk (file_state last) → OpensAs (file_state first) (file_state last))
         → Survives (file_state first) (file_state last) (LeavesBrought (file_state first)) → OpensFiles image last
@@ -55,9 +57,11 @@ module _ {D : Type 0} {g : Ghosts D} where
     }
 
     module _ (again : OpensAgain D g) where
+      -- the connection first stands for the office that the files stand for
       pub stands_first : (o : Office) → HasCleanDisk (file_state first) → StandsIn image o → StoreStandsFor (file_state first) o
       stands_first o clean stands = let it = connected clean in again first o it.opens it.live (stands (file_state first).committed.trees it.found)
 
+      -- an opening that fails over such a connection refuses the files for the same reason
       pub refuses_connection : (fault : OpenFault) → RefusesOver {S = FileStore D g} over_files first last fault → RefusesConnection image fault last
       refuses_connection fault told =
           let early : HasCleanDisk (file_state last) → HasCleanDisk (file_state first) = λ clean. omega (arith, told.survives.clean) in record {

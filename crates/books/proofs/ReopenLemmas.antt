@@ -40,6 +40,7 @@ opened_stands s o settled opens live left =
       left = λ trees may. subst (λ (t : Trees). RecoversTo t o) (sym (settled trees may opens.is_open)) left;
     }
 
+-- what a crash leaves stands for no two offices, as a database does not
 pub one_office_left : ((db : Database) (o p : Office) → StandsFor db o → StandsFor db p → o ≡ p) → (trees : Trees) (o p : Office)
     → RecoversTo trees o → RecoversTo trees p → o ≡ p
 one_office_left once trees o p a b =

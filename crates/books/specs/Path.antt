@@ -1,7 +1,8 @@
 -- What the files at a path stand for, by what they hold, and what an opening makes of them.
 use Rattle.std.specs.Prelude.{◌≡◌, ◌⊎◌, false, Option, Some, None}
 use Rattle.sqlite.specs.Closing.{files_left}
-use Rattle.sqlite.specs.Files.{AreFoundIn, FailsToOpenFiles, HoldsDatabase, IsBlankAs, IsCleanLeft, IsClosed, LeavesFiles, file_state, image_of, over_files}
+use Rattle.sqlite.specs.Files.{AreFoundIn, FailsToOpenFiles, HoldsDatabase, IsBlankAs, IsCleanLeft}
+use Rattle.sqlite.specs.Files.{IsClosed, LeavesFiles, file_state, image_of, over_files}
 use Rattle.sqlite.specs.Held.{Held}
 use Rattle.sqlite.specs.State.{HasCleanDisk, IsLive, Opens, State, Survives}
 use Rattle.sqlite.specs.declared.error.Error.{Error}

@@ -1,5 +1,6 @@
 -- When books are stopped along many requests.
-use Rattle.std.specs.Prelude.{◌≡◌, ◌⊎◌, ◌↔◌, ℕ, Bool, true, List, Some, Result, Err, Contains, slice_get, take}
+use Rattle.std.specs.Prelude.{◌≡◌, ◌⊎◌, ◌↔◌, ℕ, Bool, true, List, Some, Result, Err, Contains}
+use Rattle.std.specs.Prelude.{slice_get, take}
 use Rattle.office_rules.specs.declared.decision.answer.Answer.{Answer}
 use Rattle.office_rules.specs.declared.decision.refusal.Refusal.{Refusal}
 use Rattle.office_rules.specs.declared.decision.refusal.Refusal.TheVariants.{Store, Stopped}

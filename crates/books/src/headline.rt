@@ -1,4 +1,5 @@
-ghost use Rattle.std.specs.Prelude.{◌≡◌, ◌-◌, ◌<◌, ◌≤◌, ◌^◌, ◌↔◌, ◌++◌, ◌∷◌, ℕ, List, Ok, All, Contains, map, sum_by};
+ghost use Rattle.std.specs.Prelude.{◌≡◌, ◌-◌, ◌<◌, ◌≤◌, ◌^◌, ◌↔◌, ◌++◌, ◌∷◌, ℕ, List, Ok, All};
+ghost use Rattle.std.specs.Prelude.{Contains, map, sum_by};
 ghost use Rattle.sqlite.specs.Held.{Held, state};
 ghost use Rattle.sqlite.specs.State.{IsLive, Opens};
 ghost use Rattle.sqlite_trees.specs.Tree.{Trees};
@@ -10,7 +11,8 @@ ghost use Rattle.vend_core.specs.Law.Imports.{AsksNoMeterChange, ImportsNothing}
 ghost use Rattle.vend_core.specs.Law.Life.{Answered, AreLives, Exchange, IsHanded, Life};
 ghost use Rattle.office_rules.specs.Law.NewSale.{fields_of};
 ghost use Rattle.office_rules.specs.Office.{Office};
-ghost use Rattle.vend_core.specs.Law.SoldTokens.{AreSalesTo, SimMeter, accepted_of, later_sales_come, reads_by, tokens_of};
+ghost use Rattle.vend_core.specs.Law.SoldTokens.{AreSalesTo, SimMeter, accepted_of};
+ghost use Rattle.vend_core.specs.Law.SoldTokens.{later_sales_come, reads_by, tokens_of};
 ghost use Rattle.office_rules.specs.declared.decision.answer.Answer.{Answer};
 ghost use Rattle.office_rules.specs.declared.decision.request.Request.{Request};
 ghost use Rattle.office_rules.specs.declared.decision.request.Stamped.{Stamped};

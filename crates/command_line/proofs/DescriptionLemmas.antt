@@ -50,6 +50,7 @@ one_description_more before descriptions i description line sub new within is de
 in_order_joined : (a b c d e f g : List Shape) → (((((a ++ b) ++ c) ++ d) ++ e) ++ f) ++ g ≡ a ++ (b ++ (c ++ (d ++ (e ++ (f ++ g)))))
 in_order_joined a b c d e f g = simp append_assoc
 
+-- the seven groups of commands stand in the line in the order in which they were added
 pub in_order : (a b c d e f g : List Shape) (r : Result Command AllocError) → a ≡ shop_commands → b ≡ reading_commands → c ≡ care_commands
     → d ≡ officeless_commands → e ≡ desk_shop_commands → f ≡ desk_reading_commands → g ≡ desk_base_command ∷ []
     → IfOk r (λ line. app_of line ≡ line_of_commands ((((((([] ++ a) ++ b) ++ c) ++ d) ++ e) ++ f) ++ g))

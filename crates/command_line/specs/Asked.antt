@@ -2,10 +2,15 @@
 use Rattle.std.specs.Prelude.{◌≡◌, List, [], Option, Some, None, codes}
 use Rattle.clap.specs.Walk.{Row}
 use Rattle.sts_fields.specs.Text.{Text}
-use Rattle.command_line.specs.Commands.{SaysAudit, SaysDeskWords, SaysImport, SaysList, SaysMeterCommand, SaysOffer, SaysQuote, SaysReport, SaysRequestWords, SaysSelfcheck, SaysServe, SaysShow, SaysTrial}
+use Rattle.command_line.specs.Commands.{SaysAudit, SaysDeskWords, SaysImport, SaysList}
+use Rattle.command_line.specs.Commands.{SaysMeterCommand, SaysOffer, SaysQuote, SaysReport}
+use Rattle.command_line.specs.Commands.{SaysRequestWords, SaysSelfcheck, SaysServe, SaysShow}
+use Rattle.command_line.specs.Commands.{SaysTrial}
 use Rattle.command_line.specs.Line.{command_in, faults_in}
 use Rattle.command_line.specs.declared.asked.Asked.{Asked}
-use Rattle.command_line.specs.declared.asked.Asked.TheVariants.{Trial, Import, Request, Report, Show, Meter, Quote, Offer, Serve, Selfcheck, Audit}
+use Rattle.command_line.specs.declared.asked.Asked.TheVariants.{Trial, Import, Request, Report}
+use Rattle.command_line.specs.declared.asked.Asked.TheVariants.{Show, Meter, Quote, Offer, Serve}
+use Rattle.command_line.specs.declared.asked.Asked.TheVariants.{Selfcheck, Audit}
 use Rattle.command_line.specs.declared.asked.Asked.TheVariants as variants
 
 -- the command of this name asks for this, as its rows say

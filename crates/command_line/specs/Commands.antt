@@ -5,8 +5,12 @@ use Rattle.papers.specs.declared.file_kind.FileKind.{FileKind}
 use Rattle.papers.specs.declared.file_kind.FileKind.TheVariants.{Meters, Tariffs}
 use Rattle.sts_fields.specs.Text.{Text}
 use Rattle.command_line.specs.Address.{SaysAddress}
-use Rattle.command_line.specs.Said.{IsArgument, IsOptionalArgument, parsed_arguments, parsed_argument}
-use Rattle.command_line.specs.Values.{SayEach, SaysAfter, SaysAmount, SaysBase, SaysConnections, SaysFlag, SaysItem, SaysKey, SaysMeterNo, SaysMoment, SaysOperator, SaysPrior, SaysRef, SaysSteps, SaysTariff, SaysTender, SaysText, SaysTransform, SaysWait}
+use Rattle.command_line.specs.Said.{IsArgument, IsOptionalArgument, parsed_arguments}
+use Rattle.command_line.specs.Said.{parsed_argument}
+use Rattle.command_line.specs.Values.{SayEach, SaysAfter, SaysAmount, SaysBase, SaysConnections}
+use Rattle.command_line.specs.Values.{SaysFlag, SaysItem, SaysKey, SaysMeterNo, SaysMoment}
+use Rattle.command_line.specs.Values.{SaysOperator, SaysPrior, SaysRef, SaysSteps, SaysTariff}
+use Rattle.command_line.specs.Values.{SaysTender, SaysText, SaysTransform, SaysWait}
 use Rattle.command_line.specs.declared.commands.at_desk.DeskQuestion.{DeskQuestion}
 use Rattle.command_line.specs.declared.commands.at_desk.DeskQuestion.TheVariants as desk
 use Rattle.command_line.specs.declared.commands.at_desk.DeskWords.{DeskWords}
@@ -19,7 +23,8 @@ use Rattle.command_line.specs.declared.commands.meter.MeterWords.{MeterWords}
 use Rattle.command_line.specs.declared.commands.offer.OfferWords.{OfferWords}
 use Rattle.command_line.specs.declared.commands.quote.QuoteWords.{QuoteWords}
 use Rattle.command_line.specs.declared.commands.report.Paper.{Paper}
-use Rattle.command_line.specs.declared.commands.report.Paper.TheVariants.{Shift, Receipt, Totals, Sales}
+use Rattle.command_line.specs.declared.commands.report.Paper.TheVariants.{Shift, Receipt, Totals}
+use Rattle.command_line.specs.declared.commands.report.Paper.TheVariants.{Sales}
 use Rattle.command_line.specs.declared.commands.report.ReportWords.{ReportWords}
 use Rattle.command_line.specs.declared.commands.selfcheck.SelfcheckWords.{SelfcheckWords}
 use Rattle.command_line.specs.declared.commands.serve.ServeWords.{ServeWords}
@@ -30,7 +35,8 @@ use Rattle.command_line.specs.declared.commands.trial.TrialWords.{TrialWords}
 use Rattle.command_line.specs.declared.request_words.RequestWords.{RequestWords}
 use Rattle.office_rules.specs.declared.decision.request.Order.{Order}
 use Rattle.office_rules.specs.declared.decision.request.Request.{Request}
-use Rattle.office_rules.specs.declared.decision.request.Request.TheVariants.{MoveBase, OpenShift, CloseShift, Sell}
+use Rattle.office_rules.specs.declared.decision.request.Request.TheVariants.{MoveBase, OpenShift}
+use Rattle.office_rules.specs.declared.decision.request.Request.TheVariants.{CloseShift, Sell}
 
 pub record SaysTrial (rows : List Row) (words : TrialWords) : Type 0 where
   pub transform : IsArgument SaysTransform

@@ -1,5 +1,6 @@
 -- The command line: the options and the words of each command, as `clap` has them.
-use Rattle.std.specs.Prelude.{◌≡◌, ◌&&◌, ◌||◌, Bool, true, false, if◌then◌else◌, eqb, List, [], ◌∷◌, ◌++◌, Option, Some, codes}
+use Rattle.std.specs.Prelude.{◌≡◌, ◌&&◌, ◌||◌, Bool, true, false, if◌then◌else◌, eqb, List, [], ◌∷◌}
+use Rattle.std.specs.Prelude.{◌++◌, Option, Some, codes}
 use Rattle.std.specs.Cmp.Lexicographic.{pointwise}
 use Rattle.std.specs.List.{starts_with}
 use Rattle.clap.specs.Lexer.{usize_max}

@@ -1,7 +1,8 @@
 -- The two ways of a transform that ships, and what holds of each.
 use Rattle.std.specs.Prelude.{◌≡◌, ◌<◌, ◌^◌, ℕ, refl}
 use Rattle.sts_token.specs.Demo.{demo_forward, demo_inverse}
-use Rattle.sts_token.specs.DemoLaws.{demo_forward_range, demo_forward_undoes, demo_inverse_range, demo_inverse_undoes}
+use Rattle.sts_token.specs.DemoLaws.{demo_forward_range, demo_forward_undoes, demo_inverse_range}
+use Rattle.sts_token.specs.DemoLaws.{demo_inverse_undoes}
 use Rattle.sts_token.specs.Token.{BlockFunction}
 use Rattle.sts_token.specs.declared.transform.BlockTransform.{Ghosts}
 use Rattle.command_line.specs.declared.transform.Shipped.{Shipped}

@@ -2,7 +2,8 @@
 
 ghost use Rattle.std.specs.Prelude.{MatchOption, ℕ};
 ghost use Rattle.sts_fields.specs.Text.{Text};
-ghost use Rattle.command_line.specs.Address.{BeginsWithOctet, EndsWithPort, IsSocketOf, SaysAddress};
+ghost use Rattle.command_line.specs.Address.{BeginsWithOctet, EndsWithPort, IsSocketOf};
+ghost use Rattle.command_line.specs.Address.{SaysAddress};
 ghost use Rattle.command_line.specs.Values.{ReadsBy};
 
 use crate::values;

@@ -7,7 +7,7 @@ use std::alloc::Global;
 
 /// How an argument is written, with what help calls its value.
 #[derive(Clone, Copy)]
-pub(crate) enum Form {
+pub(crate) enum ArgumentKind {
     /// `--NAME VALUE`, which may be left out.
     Optional(&'static str),
     /// `--NAME VALUE`, which has to be there.
@@ -26,7 +26,7 @@ pub(crate) enum Form {
 #[derive(Clone, Copy)]
 pub(crate) struct Argument {
     pub name: &'static str,
-    pub form: Form,
+    pub kind: ArgumentKind,
     pub help: &'static str,
 }
 
@@ -37,13 +37,16 @@ impl Argument {
         ensures own { result.global ≡ false }
     {
         let arg = Arg::new(alloc, self.name).help(self.help);
-        match self.form {
-            Form::Optional(value) => arg.long(self.name).value_name(value),
-            Form::Needed(value) => arg.long(self.name).value_name(value).required(true),
-            Form::Default(value, text) => arg.long(self.name).value_name(value).default_value(text),
-            Form::Flag => arg.long(self.name).action(ArgAction::SetTrue),
-            Form::Word(value) => arg.value_name(value).required(true),
-            Form::Words(value) => arg.value_name(value).required(true).num_args(1..),
+        match self.kind {
+            ArgumentKind::Optional(value) => arg.long(self.name).value_name(value),
+            ArgumentKind::Needed(value) => arg.long(self.name).value_name(value).required(true),
+            ArgumentKind::Default(value, text) => arg
+                .long(self.name)
+                .value_name(value)
+                .default_value(text),
+            ArgumentKind::Flag => arg.long(self.name).action(ArgAction::SetTrue),
+            ArgumentKind::Word(value) => arg.value_name(value).required(true),
+            ArgumentKind::Words(value) => arg.value_name(value).required(true).num_args(1..),
         }
     }
 }

@@ -1,13 +1,14 @@
 //! The options that commands share, each with its reader.
 ghost use Rattle.std.specs.Prelude.{codes};
 ghost use Rattle.command_line.specs.Address.{SaysAddress};
-ghost use Rattle.command_line.specs.Said.{IsArgument, IsOptionalArgument, ReadsWhat, argument_rows, parsed_argument};
+ghost use Rattle.command_line.specs.Said.{IsArgument, IsOptionalArgument, ReadsWhat, argument_rows};
+ghost use Rattle.command_line.specs.Said.{parsed_argument};
 ghost use Rattle.command_line.specs.Values.{SaysBase, SaysFlag, SaysKey, SaysMeterNo, SaysMoment};
 ghost use Rattle.command_line.specs.Values.{SaysOperator, SaysRef};
 ghost use Rattle.command_line.specs.Values.{SaysTender, SaysText, SaysTransform, SaysWait};
 
 use crate::address::Address;
-use crate::argument::{Argument, Form};
+use crate::argument::{Argument, ArgumentKind};
 use crate::transform::Shipped;
 use crate::{said, values};
 use clap::ArgMatches;
@@ -19,7 +20,7 @@ use tariff::Tender;
 /// `--transform`, which is `plain` where it is left out.
 pub(crate) const TRANSFORM: Argument = Argument {
     name: "transform",
-    form: Form::Default("NAME", "plain"),
+    kind: ArgumentKind::Default("NAME", "plain"),
     help: "How the meter's tokens are mixed with its key: plain or demo",
 };
 
@@ -33,7 +34,7 @@ pub(crate) fn read_transform(matches: &ArgMatches) -> Option<Shipped>
 /// `--transform`, of a command that tests tokens only where it is given.
 pub(crate) const TESTED_TRANSFORM: Argument = Argument {
     name: "transform",
-    form: Form::Optional("NAME"),
+    kind: ArgumentKind::Optional("NAME"),
     help: "Also check that each token was made with its meter's key and this transform: \
         plain or demo",
 };
@@ -52,7 +53,7 @@ pub(crate) fn read_tested_transform(matches: &ArgMatches) -> Option<Option<Shipp
 /// `--at`, which may be left out.
 pub(crate) const AT: Argument = Argument {
     name: "at",
-    form: Form::Optional("SECONDS"),
+    kind: ArgumentKind::Optional("SECONDS"),
     help: "The moment in Unix seconds, 725846400 to 4102444799 (1993 to 2099, UTC); \
         default: the computer's clock",
 };
@@ -71,21 +72,21 @@ pub(crate) fn read_at(matches: &ArgMatches) -> Option<Option<Moment>>
 /// `--file`.
 pub(crate) const FILE: Argument = Argument {
     name: "file",
-    form: Form::Needed("FILE"),
+    kind: ArgumentKind::Needed("FILE"),
     help: "The office's file, created if it does not exist",
 };
 
 /// `--file`, of a command that makes no file.
 pub(crate) const PRESENT_FILE: Argument = Argument {
     name: "file",
-    form: Form::Needed("FILE"),
+    kind: ArgumentKind::Needed("FILE"),
     help: "The office's file, which has to exist",
 };
 
 /// `--file`, of a command that a running desk can be asked too.
 pub(crate) const FILE_OR_DESK: Argument = Argument {
     name: "file",
-    form: Form::Needed("FILE"),
+    kind: ArgumentKind::Needed("FILE"),
     help: "The office's file, created if it does not exist; --desk ADDRESS in its place asks \
         a running desk",
 };
@@ -93,7 +94,7 @@ pub(crate) const FILE_OR_DESK: Argument = Argument {
 /// The same, of a command that makes no file.
 pub(crate) const PRESENT_FILE_OR_DESK: Argument = Argument {
     name: "file",
-    form: Form::Needed("FILE"),
+    kind: ArgumentKind::Needed("FILE"),
     help: "The office's file, which has to exist; --desk ADDRESS in its place asks a running \
         desk",
 };
@@ -108,7 +109,7 @@ pub(crate) fn read_file<'a>(matches: &ArgMatches<'a>) -> Option<&'a str>
 /// `--wait`, which is 5 where it is left out.
 pub(crate) const WAIT: Argument = Argument {
     name: "wait",
-    form: Form::Default("SECONDS", "5"),
+    kind: ArgumentKind::Default("SECONDS", "5"),
     help: "Wait up to this many seconds while another program uses the file, 0 to 3600",
 };
 
@@ -122,7 +123,7 @@ pub(crate) fn read_wait(matches: &ArgMatches) -> Option<u32>
 /// `--desk`, of a command that asks a running desk.
 pub(crate) const DESK: Argument = Argument {
     name: "desk",
-    form: Form::Needed("ADDRESS"),
+    kind: ArgumentKind::Needed("ADDRESS"),
     help: "Where a desk runs ('vend serve'): four numbers and a port, e.g. 127.0.0.1:8080",
 };
 
@@ -136,7 +137,7 @@ pub(crate) fn read_desk(matches: &ArgMatches) -> Option<Address>
 /// `--operator`.
 pub(crate) const OPERATOR: Argument = Argument {
     name: "operator",
-    form: Form::Needed("NAME"),
+    kind: ArgumentKind::Needed("NAME"),
     help: "The cashier, 1 to 16 ASCII letters or digits",
 };
 
@@ -164,7 +165,7 @@ pub(crate) fn read_json(matches: &ArgMatches) -> Option<bool>
 /// `--meter`.
 pub(crate) const METER: Argument = Argument {
     name: "meter",
-    form: Form::Needed("NUMBER"),
+    kind: ArgumentKind::Needed("NUMBER"),
     help: "The meter's number, eleven digits of which the last is a Luhn check",
 };
 
@@ -178,7 +179,7 @@ pub(crate) fn read_meter(matches: &ArgMatches) -> Option<MeterNo>
 /// `--base`.
 pub(crate) const BASE: Argument = Argument {
     name: "base",
-    form: Form::Needed("YEAR"),
+    kind: ArgumentKind::Needed("YEAR"),
     help: "The year of the base date that the meter's identifiers count from: 1993, 2014 or 2035",
 };
 
@@ -192,7 +193,7 @@ pub(crate) fn read_base(matches: &ArgMatches) -> Option<Base>
 /// `--key`.
 pub(crate) const KEY: Argument = Argument {
     name: "key",
-    form: Form::Needed("KEY"),
+    kind: ArgumentKind::Needed("KEY"),
     help: "The meter's key, sixteen lower-case hexadecimal digits",
 };
 

@@ -1,4 +1,5 @@
-ghost use Rattle.command_line.specs.Transform.{forward_of, forward_range, forward_undoes, inverse_of, inverse_range, inverse_undoes};
+ghost use Rattle.command_line.specs.Transform.{forward_of, forward_range, forward_undoes};
+ghost use Rattle.command_line.specs.Transform.{inverse_of, inverse_range, inverse_undoes};
 ghost use Rattle.command_line.specs.Values.{ReadsBy, SaysTransform};
 
 use sts_token::{BlockTransform, Demo, Plain};

@@ -191,6 +191,7 @@ pub bytes_after : {O : Type 0} (step : Step O) (refusal : MessageFault → List 
 bytes_after step refusal old mid new a b c input rest first end before p (second, written, ends) =
     (first ++ second, Appends-trans a b c first second before written, early_after step refusal old mid new input rest first second end p ends)
 
+-- the same of an end where the input ended
 pub bytes_here_after : {O : Type 0} (step : Step O) (refusal : MessageFault → List ℕ) (old mid new : Timed O) (a b c : Option (List ℕ))
     (input rest : List ℕ) (first : List ℕ) (end : End) → Appends a b first → Progress (timed step) input rest old first mid
     → WrittenBytes b c (λ text. EndsHere step refusal mid text new rest end)
@@ -205,6 +206,7 @@ abbrev pub left_of : Option (List ℕ) → List ℕ
 left_of None = []
 left_of (Some bytes) = bytes
 
+-- what was taken and what is left are all that was to be read
 pub all_left : (unread left : Option (List ℕ)) (taken : List ℕ) → Consumes unread left taken → IsAll unread (taken ++ left_of left)
 all_left None left taken c = tt
 all_left (Some xs) None taken c = absurd c

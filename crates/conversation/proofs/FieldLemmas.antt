@@ -60,6 +60,7 @@ some_found values Absent is other = absurd (other refl)
 some_found values (One value) is other = omega (arith, ap length is)
 some_found values Several is other = omega arith
 
+-- a value behind one that was found makes more than one
 pub more_than_one : (before after : List (List ℕ)) (value : List ℕ) → 0 < length before
     → 1 < length (before ++ value ∷ after)
 more_than_one before after value h = omega (arith, length-append before (value ∷ after))

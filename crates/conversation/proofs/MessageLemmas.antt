@@ -149,6 +149,7 @@ refused_ever input head rest fault begins e stop more =
 pub some_head : RequestHead
 some_head = record { blank = []; method = 71 ∷ []; target = 47 ∷ []; minor = 0; line_end = lf; fields = []; last = lf }
 
+-- `G / HTTP/1.0` is the head of a request
 pub some_head_is : IsRequestHead some_head
 unfolding some_head is_token_byte
 some_head_is =

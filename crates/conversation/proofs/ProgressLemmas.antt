@@ -9,9 +9,11 @@ use Rattle.conversation.specs.Exchanges.{MessageExchange, Exchanged, BeginsMessa
 use Rattle.conversation.specs.message.Messages.{Stop, Message, BeginsMessage, Ending, closing, Messages}
 use Rattle.conversation.proofs.MessageLemmas.{BeginsWith-append}
 
+-- how a message and its reply lead from one state to the next
 abbrev pub Step : Type 0 → Type 1
 Step O = O → MessageExchange → O → Type 0
 
+-- a message at the front of an input is still there when more input follows
 pub BeginsMessage-append : (input : List ℕ) (m : Message) (after more : List ℕ) → BeginsMessage input m after
     → BeginsMessage (input ++ more) m (after ++ more)
 BeginsMessage-append input m after more x = record {
@@ -51,9 +53,11 @@ messages_of-append = map-append _
 replies_of-append : (xs ys : List MessageExchange) → replies_of (xs ++ ys) ≡ replies_of xs ++ replies_of ys
 replies_of-append = flat_map-append _
 
+-- where nothing was answered, the whole input is left
 pub progress_none : {O : Type 0} (step : O → MessageExchange → O → Type 0) (input : List ℕ) (old : O) → Progress step input input old [] old
 progress_none step input old = record { exchanges = []; begins = refl; served = refl; text_is = refl }
 
+-- an answered message that does not close the conversation is progress by its reply
 pub progress_one : {O : Type 0} (step : O → MessageExchange → O → Type 0) (input : List ℕ) (m : Message) (after : List ℕ) (x : MessageExchange) (old new : O)
     → BeginsMessage input m after → m.closes ≡ false → x.message ≡ m → step old x new → Progress step input after old x.reply new
 progress_one step input m after x old new begins goes_on same answered = record {
@@ -63,6 +67,7 @@ progress_one step input m after x old new begins goes_on same answered = record 
   text_is = sym (append-nil x.reply);
 }
 
+-- messages that were answered, and then more of what they left, are progress together
 pub progress_trans : {O : Type 0} (step : O → MessageExchange → O → Type 0) (a b c : List ℕ) (old mid new : O) (first second : List ℕ)
     → Progress step a b old first mid → Progress step b c mid second new → Progress step a c old (first ++ second) new
 progress_trans step a b c old mid new first second x y = record {
@@ -72,6 +77,7 @@ progress_trans step a b c old mid new first second x y = record {
   text_is = ap (λ bytes. bytes ++ second) x.text_is ∙ ap (λ bytes. replies_of x.exchanges ++ bytes) y.text_is ∙ sym (replies_of-append x.exchanges y.exchanges);
 }
 
+-- what was answered stays so when more input follows, which is left too
 pub progress-append : {O : Type 0} (step : O → MessageExchange → O → Type 0) (input rest more : List ℕ) (old new : O) (text : List ℕ)
     → Progress step input rest old text new → Progress step (input ++ more) (rest ++ more) old text new
 progress-append step input rest more old new text x = record {
@@ -81,6 +87,7 @@ progress-append step input rest more old new text x = record {
   text_is = x.text_is;
 }
 
+-- a conversation on what answered messages left is one with them on the whole input
 pub conversation_after : {O : Type 0} (step : O → MessageExchange → O → Type 0) (refusal : MessageFault → List ℕ) (stop : Stop)
     (input rest : List ℕ) (old mid new : O) (first second : List ℕ) (ending : Ending) → Progress step input rest old first mid
     → Conversation step refusal stop rest mid second ending new → Conversation step refusal stop input old (first ++ second) ending new
@@ -94,6 +101,7 @@ conversation_after step refusal stop input rest old mid new first second ending 
       ∙ ap (λ bytes. bytes ++ last_words refusal ending) (sym (replies_of-append x.exchanges y.exchanges));
 }
 
+-- the same where the writer failed within a text
 pub cut_off_after : {O : Type 0} (step : O → MessageExchange → O → Type 0) (refusal : MessageFault → List ℕ)
     (input rest : List ℕ) (old mid new : O) (first second : List ℕ) → Progress step input rest old first mid
     → IsCutOff step refusal rest mid second new → IsCutOff step refusal input old (first ++ second) new
@@ -109,6 +117,7 @@ cut_off_after step refusal input rest old mid new first second x y = record {
   written_is = ap (λ bytes. first ++ bytes) y.written_is ∙ sym (append_assoc first y.whole (take y.part y.last));
 }
 
+-- the same where memory was short
 pub given_up_after : {O : Type 0} (step : O → MessageExchange → O → Type 0) (gave_up : O → Message → O → Type 0)
     (input rest : List ℕ) (old mid new : O) (first second : List ℕ) → Progress step input rest old first mid
     → IsGivenUp step gave_up rest mid second new → IsGivenUp step gave_up input old (first ++ second) new

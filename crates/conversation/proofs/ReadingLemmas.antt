@@ -22,6 +22,7 @@ fronts_same a b r q e n = (
   sym (drop-append_seam a r) ∙ ap (λ k. drop k (a ++ r)) n ∙ ap (drop (length b)) e ∙ drop-append_seam b q,
 )
 
+-- an input begins with one head only, and one rest follows it
 pub head_unique : (input : List ℕ) (h k : RequestHead) (r q : List ℕ) → BeginsWithHead input h r → BeginsWithHead input k q
     → (h ≡ k) × (r ≡ q)
 head_unique input h k r q x y = request_unique input h k r q x.reads y.reads
@@ -42,9 +43,11 @@ head_some : (h : RequestHead) → 0 < length (print_request h)
 unfolding print_request
 head_some h = simp length-append (omega arith)
 
+-- an empty input begins with no head
 pub no_empty_head : (h : RequestHead) (rest : List ℕ) → ¬ (BeginsWithHead [] h rest)
 no_empty_head h rest begins = omega (arith, head_some h, length-append (print_request h) rest, ap length begins.reads.1)
 
+-- an input begins with one message only, and one rest follows it
 pub message_unique : (input : List ℕ) (m n : Message) (r q : List ℕ) → BeginsMessage input m r → BeginsMessage input n q
     → (m ≡ n) × (r ≡ q)
 message_unique input m n r q x y =
@@ -216,6 +219,7 @@ faulty_or_headless : (input : List ℕ) (fault : MessageFault) → HasNoHead inp
 faulty_or_headless input fault none (inl x) = absurd (none x.head _ x.begins)
 faulty_or_headless input fault none (inr x) = x.word
 
+-- an answer that holds is the one for what stands at the front of the input
 pub finds_next : (input : List ℕ) (next : Next) → BeginsAs input next → FindsNext input next
 finds_next input (Whole r) is = record {
   whole = λ m rest x. message_unique input (message_of r) m _ rest is.begins x;

@@ -104,6 +104,7 @@ pub record Used
   pub told_are : Grows told tells uses
   pub paced : IsPaced step old unread left held holds uses
 
+-- before any use nothing was read, written or told
 pub used_none : {O : Type 0} (step : Step O) (old : Timed O) (told : Option (List Use)) (unread held : Option (List ℕ))
     → Used step old told told unread unread held held []
 used_none step old told unread held =
@@ -161,6 +162,7 @@ abbrev pub Paced : {O : Type 0} → Step O → Timed O → (told tells : Option 
 Paced step old told tells unread left held holds end =
     (uses : List Use) × Grows told tells uses × IsPaced step old unread left held holds uses × EndsBy end uses
 
+-- the uses of a run and how they end are what `run` says of them
 pub paced : {O : Type 0} (step : Step O) (old : Timed O) (told tells : Option (List Use)) (unread left held holds : Option (List ℕ))
     (end : End) (uses : List Use)
     → Used step old told tells unread left held holds uses → EndsBy end uses → Paced step old told tells unread left held holds end

@@ -16,26 +16,32 @@ use Rattle.conversation.specs.Exchanges.{Timed}
 use Rattle.conversation.specs.Uses.{Use, asked, sent, Passed, moved, interrupted, failed, AreInTurn, AreOpen, AreSound, EndsBy, UsesEndWith, EndsWriting, GoesOn, Grows, IsOpen, IsSoundUse, Stops, bytes_in, came_by, interrupts, most_tries, passed_of, reads_in, received, taken_by, writes_in, written}
 use Rattle.conversation.proofs.ProgressLemmas.{Step}
 
+-- with no use more, what is told stays
 pub Grows-nil : (a : Option (List Use)) → Grows a a []
 Grows-nil None = tt
 Grows-nil (Some told) = sym (append-nil told)
 
+-- uses that are told grow by some, and then by others
 pub Grows-trans : (a b c : Option (List Use)) (xs ys : List Use) → Grows a b xs → Grows b c ys → Grows a c (xs ++ ys)
 Grows-trans None b c xs ys p q = tt
 Grows-trans (Some x) None c xs ys p q = absurd p
 Grows-trans (Some x) (Some y) None xs ys p q = absurd q
 Grows-trans (Some x) (Some y) (Some z) xs ys p q = q ∙ ap (λ l. l ++ ys) p ∙ append_assoc x xs ys
 
+-- what came by some uses and then by others came by all of them
 pub received-append : (xs ys : List Use) → received (xs ++ ys) ≡ received xs ++ received ys
 received-append = flat_map-append came_by
 
+-- what was written by some uses and then by others was written by all of them
 pub written-append : (xs ys : List Use) → written (xs ++ ys) ≡ written xs ++ written ys
 written-append = flat_map-append taken_by
 
+-- uses that neither failed nor ended the input, and such ones after them, are such
 pub AreOpen-append : (xs ys : List Use) → AreOpen xs → AreOpen ys → AreOpen (xs ++ ys)
 AreOpen-append [] ys p q = q
 AreOpen-append (x ∷ xs) ys p q = (p.0, AreOpen-append xs ys p.1 q)
 
+-- uses by which nothing failed, and such ones after them, are such
 pub AreSound-append : (xs ys : List Use) → AreSound xs → AreSound ys → AreSound (xs ++ ys)
 AreSound-append [] ys p q = q
 AreSound-append (x ∷ xs) ys p q = (p.0, AreSound-append xs ys p.1 q)
@@ -46,6 +52,7 @@ open_sound (asked count interrupted) p = tt
 open_sound (asked count failed) p = absurd p
 open_sound (sent passed) p = p
 
+-- nothing failed by uses that neither failed nor ended the input
 pub are_sound : (xs : List Use) → AreOpen xs → AreSound xs
 are_sound [] p = tt
 are_sound (x ∷ xs) p = (open_sound x p.0, are_sound xs p.1)
@@ -56,12 +63,14 @@ AreSends-append (asked count passed ∷ xs) ys p o q = absurd p
 AreSends-append (sent passed ∷ xs) ys (inl (on, p)) o q = inl (on, AreSends-append xs ys p o.1 q)
 AreSends-append (sent passed ∷ xs) ys (inr (stops, none)) o q = absurd (stops o.0)
 
+-- nothing comes by writes
 pub sends_receive : (xs : List Use) → AreSends xs → received xs ≡ []
 sends_receive [] p = refl
 sends_receive (asked count passed ∷ xs) p = absurd p
 sends_receive (sent passed ∷ xs) (inl (on, p)) = sends_receive xs p
 sends_receive (sent passed ∷ xs) (inr (stops, none)) = ap received none
 
+-- the reads of some uses and of others add up
 pub reads_in-append : (xs ys : List Use) → reads_in (xs ++ ys) ≡ reads_in xs + reads_in ys
 reads_in-append [] ys = omega arith
 reads_in-append (asked count passed ∷ xs) ys = omega (arith, reads_in-append xs ys)
@@ -72,6 +81,7 @@ writes_in-append [] ys = omega arith
 writes_in-append (asked count passed ∷ xs) ys = writes_in-append xs ys
 writes_in-append (sent passed ∷ xs) ys = omega (arith, writes_in-append xs ys)
 
+-- none of the uses that write is a read
 pub sends_read_none : (xs : List Use) → AreSends xs → reads_in xs ≡ 0
 sends_read_none [] p = refl
 sends_read_none (asked count passed ∷ xs) p = absurd p
@@ -102,12 +112,14 @@ ends_by Closed xs ys o p = AreSound-append xs ys o (are_sound ys p)
 ends_by BadMessage xs ys o p = AreSound-append xs ys o (are_sound ys p)
 ends_by Memory xs ys o p = AreSound-append xs ys o (are_sound ys p)
 
+-- uses in turn, and more uses in turn after them, are in turn
 pub AreInTurn-append : {O : Type 0} (step : Step O) (old : Timed O) (before xs ys : List Use) → AreInTurn step old before xs
     → AreInTurn step old (before ++ xs) ys → AreInTurn step old before (xs ++ ys)
 AreInTurn-append step old before [] ys p q = subst (λ l. AreInTurn step old l ys) (append-nil before) q
 AreInTurn-append step old before (x ∷ xs) ys p q =
     (p.0, AreInTurn-append step old (before ++ x ∷ []) xs ys p.1 (subst (λ l. AreInTurn step old l ys) (sym (append_assoc before (x ∷ []) xs)) q))
 
+-- writes are in turn where nothing failed before
 pub sends_in_turn : {O : Type 0} (step : Step O) (old : Timed O) (before xs : List Use) → AreSound before → AreSends xs
     → AreInTurn step old before xs
 sends_in_turn step old before [] o p = tt
@@ -117,12 +129,14 @@ sends_in_turn step old before (sent passed ∷ xs) o (inl (on, p)) =
 sends_in_turn step old before (sent passed ∷ xs) o (inr (stops, none)) =
     (o, subst (λ l. AreInTurn step old (before ++ sent passed ∷ []) l) (sym none) tt)
 
+-- the empty text is written whole by no use at all
 pub whole_none : (a : Output) → WritesWhole a a []
 whole_none a = record {
   writes = record { uses = []; told = Grows-nil a.1; sends = tt; text_is = refl; holds = Appends-nil a.0 };
   open_still = tt;
 }
 
+-- a text written whole, and what was written of one after it, are written together
 pub writes_after : (a b c : Output) (first second : List ℕ) → WritesWhole a b first → Writes b c second → Writes a c (first ++ second)
 writes_after a b c first second x y = record {
   uses = x.writes.uses ++ y.uses;
@@ -134,6 +148,7 @@ writes_after a b c first second x y = record {
   holds = Appends-trans a.0 b.0 c.0 first second x.writes.holds y.holds;
 }
 
+-- the same where writing the second one ends
 pub last_after : (end : End) (a b c : Output) (first second : List ℕ) → WritesWhole a b first → WritesLast end b c second
     → WritesLast end a c (first ++ second)
 unfolding writes_after
@@ -142,6 +157,7 @@ last_after end a b c first second x y = record {
   ends = sends_end_after end x.writes.uses y.writes.uses x.open_still y.ends;
 }
 
+-- two texts of which each was written whole are written whole together
 pub whole_after : (a b c : Output) (first second : List ℕ) → WritesWhole a b first → WritesWhole b c second
     → WritesWhole a c (first ++ second)
 unfolding writes_after
@@ -200,10 +216,12 @@ pub record AreInterrupted (a b : Output) (count : ℕ) : Type 0 where
   pub whole : WritesWhole a b []
   pub counted : writes_in whole.writes.uses ≡ count
 
+-- where no write was made, none was interrupted
 pub interrupted_none : (a : Output) → AreInterrupted a a 0
 unfolding whole_none
 interrupted_none a = record { whole = whole_none a; counted = refl }
 
+-- one more write that was interrupted counts as one more
 pub interrupted_again : (a b c : Output) (count : ℕ) → AreInterrupted a b count → Grows b.1 c.1 (sent interrupted ∷ []) → Keeps b.0 c.0
     → AreInterrupted a c (count + 1)
 unfolding writes_after whole_after some_taken
@@ -233,10 +251,12 @@ pub passed_by : (buffer : List ℕ) (error : Error) (test : Bool) → (IsTrue te
 passed_by buffer error true is = ap (λ kind. if interrupts kind then interrupted else failed) (is.0 refl)
 passed_by buffer error false is = ap (λ b. if b then interrupted else failed) (not_interrupted (error_kind error) (λ kind. false≢true (is.1 kind)))
 
+-- a call that moved some bytes of a text goes on
 pub some_go_on : (n : ℕ) (text : List ℕ) → ¬ (n ≡ 0) → 0 < length text → GoesOn (moved (take n text))
 some_go_on zero text some long = absurd (some refl)
 some_go_on (suc n) [] some long = omega (arith, long)
 some_go_on (suc n) (byte ∷ bytes) some long = tt
 
+-- a call that moved no byte of a text stops
 pub none_stops : (n : ℕ) (text : List ℕ) → n ≡ 0 → Stops (moved (take n text))
 none_stops n text none on = subst (λ k. GoesOn (moved (take k text))) none on

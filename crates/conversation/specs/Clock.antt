@@ -1,5 +1,6 @@
 -- The answers of a clock.
-use Rattle.std.specs.Prelude.{◌≡◌, ℕ, ◌<◌, ◌≤◌, ℤ, pos, negsuc, List, [], ◌∷◌, Option, None, Some, ⊤}
+use Rattle.std.specs.Prelude.{◌≡◌, ℕ, ◌<◌, ◌≤◌, ℤ, pos, negsuc, List, [], ◌∷◌, Option, None, Some}
+use Rattle.std.specs.Prelude.{⊤}
 use Rattle.conversation.specs.declared.clock.Script.{Script}
 
 -- the clock gave its first answer, and keeps the last one

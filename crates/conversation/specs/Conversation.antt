@@ -4,7 +4,9 @@ use Rattle.std.specs.Prelude.{◌≡◌, ℕ, ◌<◌, ◌⊎◌, List, [], ◌+
 use Rattle.std.specs.List.{flat_map}
 use Rattle.conversation.specs.declared.message.message_fault.MessageFault.{MessageFault}
 use Rattle.conversation.specs.Exchanges.{MessageExchange, Exchanged, BeginsMessages}
-use Rattle.conversation.specs.message.Messages.{Stop, ended, Message, BeginsMessage, IsMessageRefused, Ending, finished, closing, broken, refused, Messages}
+use Rattle.conversation.specs.message.Messages.{Stop, ended, Message, BeginsMessage}
+use Rattle.conversation.specs.message.Messages.{IsMessageRefused, Ending, finished, closing, broken}
+use Rattle.conversation.specs.message.Messages.{refused, Messages}
 
 abbrev pub messages_of : List MessageExchange → List Message
 messages_of xs = map (λ x. x.message) xs

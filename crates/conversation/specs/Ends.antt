@@ -1,10 +1,13 @@
 -- What reading and writing do to what a reader has left and a writer holds, and which uses that
 -- were, where this is known.
-use Rattle.std.specs.Prelude.{◌≡◌, ◌⊎◌, ℕ, ◌<◌, ◌≤◌, ⊤, List, [], ◌∷◌, ◌++◌, length, take, Option, Some, None, Result, Ok, Err}
+use Rattle.std.specs.Prelude.{◌≡◌, ◌⊎◌, ℕ, ◌<◌, ◌≤◌, ⊤, List, [], ◌∷◌, ◌++◌, length, take, Option}
+use Rattle.std.specs.Prelude.{Some, None, Result, Ok, Err}
 use Rattle.std.specs.Io.KnownBytes.{Appends, Consumes, IsAtEnd, Keeps}
 use Rattle.conversation.specs.declared.end.End.{End}
-use Rattle.conversation.specs.declared.end.End.TheVariants.{Closed, BadMessage, ReadFault, WriteFault, Memory}
-use Rattle.conversation.specs.Uses.{Use, asked, sent, Passed, moved, interrupted, failed, AreOpen, EndsWriting, GoesOn, Grows, Stops, bytes_in, written}
+use Rattle.conversation.specs.declared.end.End.TheVariants.{Closed, BadMessage, ReadFault}
+use Rattle.conversation.specs.declared.end.End.TheVariants.{WriteFault, Memory}
+use Rattle.conversation.specs.Uses.{Use, asked, sent, Passed, moved, interrupted, failed, AreOpen}
+use Rattle.conversation.specs.Uses.{EndsWriting, GoesOn, Grows, Stops, bytes_in, written}
 
 -- the bytes that a writer holds, and the uses that a line tells
 abbrev pub Output : Type 0

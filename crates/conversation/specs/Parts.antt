@@ -2,14 +2,16 @@
 -- and where the input ended.
 use Rattle.std.specs.Prelude.{◌≡◌, ℕ, ◌≤◌, List, [], ◌++◌, length, drop, Result, Ok, Err}
 use Rattle.conversation.specs.declared.end.End.{End}
-use Rattle.conversation.specs.declared.end.End.TheVariants.{Closed, BadMessage, ReadFault, WriteFault, Memory}
+use Rattle.conversation.specs.declared.end.End.TheVariants.{Closed, BadMessage, ReadFault}
+use Rattle.conversation.specs.declared.end.End.TheVariants.{WriteFault, Memory}
 use Rattle.conversation.specs.declared.conversation.Awaiting.{Awaiting}
 use Rattle.conversation.specs.declared.message.message_fault.MessageFault.{MessageFault}
 use Rattle.conversation.specs.declared.message.message_fault.MessageFault.TheVariants.{Head}
 use Rattle.conversation.specs.Conversation.{Conversation, Progress, IsCutOff, IsGivenUp}
 use Rattle.conversation.specs.Ends.{IsBeginning, Output, WritesLast, WritesWhole}
 use Rattle.conversation.specs.Exchanges.{MessageExchange, Timed, timed, GaveUp}
-use Rattle.conversation.specs.message.Messages.{Stop, ended, Message, EndsAs, IsMessageRefused, finished, closing, refused}
+use Rattle.conversation.specs.message.Messages.{Stop, ended, Message, EndsAs, IsMessageRefused}
+use Rattle.conversation.specs.message.Messages.{finished, closing, refused}
 use Rattle.conversation.specs.Wants.{IsAwaited}
 
 -- an end that was written as this text, whatever follows the input and however that stops

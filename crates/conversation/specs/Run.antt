@@ -3,11 +3,13 @@
 use Rattle.std.specs.Prelude.{◌≡◌, ℕ, ◌⊎◌, List, Option, None, Some, ⊤}
 use Rattle.std.specs.Io.KnownBytes.{Appends, Consumes}
 use Rattle.conversation.specs.declared.end.End.{End}
-use Rattle.conversation.specs.declared.end.End.TheVariants.{Closed, BadMessage, ReadFault, WriteFault, Memory}
+use Rattle.conversation.specs.declared.end.End.TheVariants.{Closed, BadMessage, ReadFault}
+use Rattle.conversation.specs.declared.end.End.TheVariants.{WriteFault, Memory}
 use Rattle.conversation.specs.declared.message.message_fault.MessageFault.{MessageFault}
 use Rattle.conversation.specs.Conversation.{Conversation, IsCutOff, IsGivenUp}
 use Rattle.conversation.specs.Exchanges.{MessageExchange, Timed, timed, GaveUp}
-use Rattle.conversation.specs.message.Messages.{Stop, ended, failed, Ending, finished, closing, broken, refused}
+use Rattle.conversation.specs.message.Messages.{Stop, ended, failed, Ending, finished, closing}
+use Rattle.conversation.specs.message.Messages.{broken, refused}
 
 -- all that a reader has left is the input, where that is known
 abbrev pub IsAll : Option (List ℕ) → List ℕ → Type 0

@@ -1,5 +1,6 @@
 -- How a conversation uses its reader and its writer, in order, and which use may follow which.
-use Rattle.std.specs.Prelude.{◌≡◌, ◌⊎◌, ℕ, ◌+◌, ◌≤◌, Bool, true, false, List, [], ◌∷◌, ◌++◌, length, take, if◌then◌else◌, Option, None, Some, Result, Ok, Err, ⊤}
+use Rattle.std.specs.Prelude.{◌≡◌, ◌⊎◌, ℕ, ◌+◌, ◌≤◌, Bool, true, false, List, [], ◌∷◌, ◌++◌, length}
+use Rattle.std.specs.Prelude.{take, if◌then◌else◌, Option, None, Some, Result, Ok, Err, ⊤}
 use Rattle.std.specs.List.{AllByRecursion, flat_map}
 use Rattle.std.specs.Io.KnownBytes.{Appends, Consumes}
 use Rattle.std.specs.IoError.{error_kind}
@@ -7,7 +8,8 @@ use Rattle.std.specs.declared.io.Error.{Error}
 use Rattle.std.specs.declared.io.ErrorKind.{ErrorKind}
 use Rattle.std.specs.declared.io.ErrorKind.TheVariants.{Interrupted}
 use Rattle.conversation.specs.declared.end.End.{End}
-use Rattle.conversation.specs.declared.end.End.TheVariants.{Closed, BadMessage, ReadFault, WriteFault, Memory}
+use Rattle.conversation.specs.declared.end.End.TheVariants.{Closed, BadMessage, ReadFault}
+use Rattle.conversation.specs.declared.end.End.TheVariants.{WriteFault, Memory}
 use Rattle.conversation.specs.declared.wants.Wants.{Wants}
 use Rattle.conversation.specs.Conversation.{Progress}
 use Rattle.conversation.specs.Exchanges.{MessageExchange, Timed, timed}

@@ -1,6 +1,7 @@
 ghost use Rattle.conversation.specs.Exchanges.{clocked};
 ghost use Rattle.conversation.specs.message.Next.{message_of};
-ghost use Rattle.conversation.specs.Parts.{RepliesAreWritten, ReplyIsWritten, IsOver, RefusalIsWritten};
+ghost use Rattle.conversation.specs.Parts.{RepliesAreWritten, ReplyIsWritten, IsOver};
+ghost use Rattle.conversation.specs.Parts.{RefusalIsWritten};
 ghost use Rattle.conversation.specs.Run.{IsRun};
 ghost use Rattle.conversation.specs.Uses.{EndsBy, Grows, IsPaced, Use};
 ghost use Rattle.conversation.specs.Wants.{IsAwaited};

@@ -1,5 +1,5 @@
 ghost use Rattle.std.specs.Prelude.{◌≡◌, ◌∷◌, ◌+◌, ◌<◌, ◌≤◌, [], length, take, drop, IfOk, vec_len};
-ghost use Rattle.conversation.specs.Ends.{AsksOnce, IsInputRead, ReadsAt};
+ghost use Rattle.conversation.specs.Ends.{IsInputRead, ReadsAt};
 ghost use Rattle.conversation.specs.Uses.{Grows, asked, longest_message, passed_of};
 
 use crate::end::End;

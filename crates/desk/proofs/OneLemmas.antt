@@ -141,6 +141,7 @@ module _ (are : AreOne) (m : Message) (now : Option ℤ) where
       let faults_same : f ≡ g = cc in
       is ∙ ap told_for faults_same ∙ sym also
 
+-- a message has one meaning, where the records, rows and faults of files are one
 pub one_meaning : AreOne → (m : Message) (now : Option ℤ) → HasOneMeaning m now
 one_meaning are m now = record {
   asks = one_asked are m now;
@@ -162,6 +163,7 @@ at_other : (Holds : Message → Option ℤ → Type 0) (x y : MessageExchange) �
 at_other Holds x y message now holds =
     subst (λ m. Holds m x.now) (sym message) (subst (λ n. Holds y.message n) (sym now) holds)
 
+-- the same messages at the same moments with the same replies make the same exchanges
 pub same_exchanges : ((m : Message) (now : Option ℤ) → HasOneMeaning m now) → (xs ys : List MessageExchange) (ats bts : List Stamped)
     (replies : List (Result Answer Refusal)) (finds : List (Result Found Refusal)) → messages_of xs ≡ messages_of ys → moments_of xs ≡ moments_of ys
     → AreAsked xs ats replies finds → AreAsked ys bts replies finds → (xs ≡ ys) × (asked_at ats ≡ asked_at bts)
@@ -247,6 +249,7 @@ same_text : (stop : Stop) (xs ys : List MessageExchange) (e f : Ending) → xs �
 same_text ended xs ys e f same ends over = ap (λ zs. conversation_text zs e) same ∙ ap (λ g. conversation_text ys g) ends
 same_text failed xs ys e f same ends over = absurd (cc)
 
+-- conversations with the same exchanges and agreeing ends are one, and written alike
 pub one_conversation : (stop : Stop) (xs ys : List MessageExchange) (e f : Ending) (ats bts : List Stamped) → xs ≡ ys
     → asked_at ats ≡ asked_at bts → AgreeBy stop e f → IsOneConversation stop xs ys e f ats bts
 one_conversation stop xs ys e f ats bts same asked ends =

@@ -1,5 +1,6 @@
 -- How an office answers messages, by how it serves requests and what it finds.
-use Rattle.std.specs.Prelude.{◌≡◌, ◌≢◌, ℕ, ◌+◌, ◌%◌, ℤ, ◌⊎◌, true, List, length, Option, Result, Err}
+use Rattle.std.specs.Prelude.{◌≡◌, ◌≢◌, ℕ, ◌+◌, ◌%◌, ℤ, ◌⊎◌, true, List, length, Option, Result}
+use Rattle.std.specs.Prelude.{Err}
 use Rattle.books.specs.Asking.{ReplyAt}
 use Rattle.books.specs.Keeps.{Seen}
 use Rattle.books.specs.Looking.{FoundAt, IsFoundAt}

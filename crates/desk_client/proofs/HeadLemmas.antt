@@ -111,6 +111,7 @@ refused_is asked categories.Unfit = tt
 refused_is asked (categories.UnfitRow row cause) = tt
 refused_is asked categories.Unable = tt
 
+-- the reply to what was wanted begins as a grant of that, as a refusal or as a fault
 pub start_is : (asked : Wanted) (t : Told) → IsTellable asked t → IsStart asked (told_start t)
 start_is asked (told.Granted granted) h = subst (λ w. IsStart asked (granted_start w)) (sym h.1) (granted_is asked)
 start_is asked (told.Refused refusal) h = refused_is asked (refusal_category refusal)
@@ -154,6 +155,7 @@ no_reply asked input long none more t reply =
     none s n (drop (length (front s n)) input) (start_is asked t reply.tellable) (omega (arith, reply.short))
     (there ∙ sym (behind_front (start_text s) (decimal n) (drop (length (front s n)) input)))
 
+-- a text does not begin with this start and a head behind it, whatever follows
 abbrev pub BeginsNot : List ℕ → Start → Type 0
 BeginsNot input s = (n : ℕ) (r : List ℕ) → n < 2 ^ 64 → input ≢ head_bytes s n r
 

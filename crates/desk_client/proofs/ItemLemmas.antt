@@ -17,6 +17,7 @@ abbrev pub behind_first : List (List ℕ) → List ℕ → List ℕ
 behind_first [] rest = 93 ∷ rest
 behind_first (t ∷ ts) rest = 44 ∷ (t ++ behind_first ts rest)
 
+-- the text of a list is that of its first item, and what stands behind the first
 pub closed-first : (t : List ℕ) (ts : List (List ℕ)) (rest : List ℕ) → closed_list_text (t ∷ ts) ++ rest ≡ t ++ behind_first ts rest
 closed-first t [] rest = append_assoc t (93 ∷ []) rest
 closed-first t (u ∷ ts) rest =
@@ -44,6 +45,7 @@ pub front_found : {A : Type 0} (is_told : A → Type 0) (text_of : A → List �
     → r ≡ Some (item, behind) → IsFrontItem is_told text_of text r → is_told item × (text ≡ text_of item ++ behind.now)
 front_found is_told text_of text r item behind is found = subst (IsFrontItem is_told text_of text) is found
 
+-- where no item was found at the front of a text, the text begins with none
 pub none_found : {A : Type 0} (is_told : A → Type 0) (text_of : A → List ℕ) (text : List ℕ) (r : Option (A × Bor (List ℕ))) → r ≡ None
     → IsFrontItem is_told text_of text r → (item : A) (rest : List ℕ) → is_told item → text ≢ text_of item ++ rest
 none_found is_told text_of text r is found = subst (IsFrontItem is_told text_of text) is found
@@ -52,6 +54,7 @@ none_found is_told text_of text r is found = subst (IsFrontItem is_told text_of 
 pub begins_with : (b : ℕ) (text p rest : List ℕ) → p ≡ b ∷ [] → text ≡ p ++ rest → text ≡ b ∷ rest
 begins_with b text p rest is e = e ∙ ap (λ (f : List ℕ). f ++ rest) is
 
+-- nor does a text begin with a byte, where a text of one was not found at the front
 pub begins_not : (b : ℕ) (text p : List ℕ) → p ≡ b ∷ [] → ((rest : List ℕ) → text ≢ p ++ rest) → (rest : List ℕ) → text ≢ b ∷ rest
 begins_not b text p is none rest e = none rest (e ∙ ap (λ (f : List ℕ). f ++ rest) (sym is))
 
@@ -71,6 +74,7 @@ module _ {A : Type 0} (text_of : A → List ℕ) where
       so ∙ ap (led (map text_of xs)) (found ∙ ap (λ (b : List ℕ). text_of x ++ b) comma)
       ∙ led-more (map text_of xs) (text_of x) next ∙ ap (λ (ts : List (List ℕ)). led ts next) (texts-push xs x pushed is)
 
+  -- the last item, and the bracket behind it: the text is the whole list and what follows
   pub closed_by : (text rest behind after : List ℕ) (xs : List A) (x : A) (pushed : List A) → pushed ≡ xs ++ x ∷ []
       → text ≡ led (map text_of xs) rest → rest ≡ text_of x ++ behind → behind ≡ 93 ∷ after → text ≡ closed_list_text (map text_of pushed) ++ after
   closed_by text rest behind after xs x pushed is so found bracket =

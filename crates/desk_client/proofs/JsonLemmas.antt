@@ -36,9 +36,11 @@ in_quotes text = 34 ∷ (text ++ 34 ∷ [])
 
 -- ---- an operator
 
+-- the body that opens or closes a shift, as JSON: its operator
 abbrev pub operator_json : List ℕ → Data
 operator_json operator = object (member (codes "operator") (string operator) no_members)
 
+-- the text that is sent for an operator is read as that body
 pub operator_read : (operator : List ℕ) → flat_map escape_byte operator ≡ operator
     → read (codes "{\"operator\":\"" ++ (operator ++ codes "\"}")) ≡ Some (operator_json operator)
 unfolding serde_json_on_literals escape_byte
@@ -49,15 +51,18 @@ operator_read operator plain =
 
 -- ---- a base date
 
+-- the body that moves a base date, as JSON: its year
 abbrev pub base_json : ℕ → Data
 base_json year = object (member (codes "base") (number (unsigned year)) no_members)
 
+-- the text that is sent for a base date is read as that body
 pub base_read : (year : ℕ) → year < 2 ^ 64 → read (codes "{\"base\":" ++ (decimal year ++ codes "}")) ≡ Some (base_json year)
 unfolding serde_json_on_literals escape_byte
 base_read year small = read_back (base_json year) (IsNumber-decimal year small, tt) (omega arith) (rw (number_of-decimal year small) refl)
 
 -- ---- an order
 
+-- the body of an order, as JSON: its meter, operator, ref and tender
 abbrev pub order_json : (meter operator order_ref : List ℕ) → ℕ → Data
 order_json meter operator order_ref tender =
     object (member (codes "meter") (string meter) (member (codes "operator") (string operator)
@@ -78,6 +83,7 @@ regrouped : (meter operator order_ref : List ℕ) (tender : ℕ)
     → quoted_text meter operator order_ref tender ≡ order_text meter operator order_ref tender
 regrouped meter operator order_ref tender = rw (append_assoc meter, append_assoc operator, append_assoc order_ref) refl
 
+-- the text that is sent for an order is read as that body
 pub order_read : (meter operator order_ref : List ℕ) (tender : ℕ) → tender < 2 ^ 64
     → flat_map escape_byte meter ≡ meter → flat_map escape_byte operator ≡ operator → flat_map escape_byte order_ref ≡ order_ref
     → read (order_text meter operator order_ref tender) ≡ Some (order_json meter operator order_ref tender)

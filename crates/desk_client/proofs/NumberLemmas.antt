@@ -51,5 +51,6 @@ alike a b same = grind (arith, slice_eq-Decides Decides-eqb a b true same)
 pub unlike_not : (a b : List ℕ) → true ≡ not (pointwise eqb a b) → a ≢ b
 unlike_not a b differ = unlike a b (not_true (pointwise eqb a b) differ)
 
+-- texts that failed that test are alike
 pub not_unlike : (a b : List ℕ) → false ≡ not (pointwise eqb a b) → a ≡ b
 not_unlike a b same = alike a b (not_false (pointwise eqb a b) same)

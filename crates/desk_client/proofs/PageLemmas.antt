@@ -57,20 +57,25 @@ page_written Rule data_of text_of name is lists written xs told =
 named : (name : List ℕ) → 1 ≤ length name → length name ≤ 32 → list_all is_name_byte name ≡ true → IsName name
 named name some short bytes = record { some = some; short = short; bytes = AllPass-from_list_all is_name_byte name bytes }
 
+-- `tariffs` is a name
 pub tariffs-named : IsName (codes "tariffs")
 tariffs-named = named (codes "tariffs") (omega arith) (omega arith) refl
 
+-- `meters` is a name
 pub meters-named : IsName (codes "meters")
 meters-named = named (codes "meters") (omega arith) (omega arith) refl
 
+-- `shifts` is a name
 pub shifts-named : IsName (codes "shifts")
 shifts-named = named (codes "shifts") (omega arith) (omega arith) refl
 
+-- `sales` is a name
 pub sales-named : IsName (codes "sales")
 sales-named = named (codes "sales") (omega arith) (omega arith) refl
 
 -- ---- what a told page is
 
+-- a told page of tariffs is a list of tariffs that keep the rules, and nothing else
 pub by_tariffs : (P : Found → Type 0) → ((items : Vec ListedTariff Global) → AreTold IsToldTariff items.items → P (found.Tariffs items))
     → (page : Found) → IsToldPage Tariffs page → P page
 by_tariffs P such (found.SaleCount n) told = absurd told
@@ -83,6 +88,7 @@ by_tariffs P such (found.Meters items) told = absurd told
 by_tariffs P such (found.Shifts items) told = absurd told
 by_tariffs P such (found.Sales items) told = absurd told
 
+-- the same of a page of meters
 pub by_meters : (P : Found → Type 0) → ((items : Vec ListedMeter Global) → AreTold IsToldListedMeter items.items → P (found.Meters items))
     → (page : Found) → IsToldPage Meters page → P page
 by_meters P such (found.SaleCount n) told = absurd told
@@ -95,6 +101,7 @@ by_meters P such (found.Meters items) told = such items told
 by_meters P such (found.Shifts items) told = absurd told
 by_meters P such (found.Sales items) told = absurd told
 
+-- the same of a page of shifts
 pub by_shifts : (P : Found → Type 0) → ((items : Vec ListedShift Global) → AreTold IsToldListedShift items.items → P (found.Shifts items))
     → (page : Found) → IsToldPage Shifts page → P page
 by_shifts P such (found.SaleCount n) told = absurd told
@@ -107,6 +114,7 @@ by_shifts P such (found.Meters items) told = absurd told
 by_shifts P such (found.Shifts items) told = such items told
 by_shifts P such (found.Sales items) told = absurd told
 
+-- the same of a page of sales
 pub by_sales : (P : Found → Type 0) → ((items : Vec Sale Global) → AreTold IsSaleTold items.items → P (found.Sales items))
     → (page : Found) → IsToldPage Sales page → P page
 by_sales P such (found.SaleCount n) told = absurd told
@@ -138,6 +146,7 @@ module _ {A : Type 0} (Rule : A → Type 0) (data_of : A → Data) (text_of : A 
   pub is_page : (text : List ℕ) (xs : List A) → AreTold Rule xs → text ≡ page_of name (map text_of xs) → text ≡ json_text (list_members name (map data_of xs))
   is_page text xs told e = e ∙ sym (page_written Rule data_of text_of name is lists written xs told.each)
 
+  -- and this page's text is made of those of the members
   pub of_page : (text : List ℕ) (xs : List A) → AreTold Rule xs → text ≡ json_text (list_members name (map data_of xs)) → text ≡ page_of name (map text_of xs)
   of_page text xs told e = e ∙ page_written Rule data_of text_of name is lists written xs told.each
 

@@ -25,12 +25,14 @@ letter_passes b e = grind (arith, nat_tests)
 name_passes : (b : ℕ) → is_name_byte b ≡ true → is_stop b ≡ false
 name_passes b e = grind (arith, nat_tests)
 
+-- the decimal digits of a number have no stop among them
 pub plain_number : (n : ℕ) → n < 2 ^ 64 → LacksStop (decimal n)
 plain_number n small =
     recursion_from_All (λ byte. is_stop byte ≡ false) (decimal n) (All-from_get_or (λ byte. is_stop byte ≡ false) (decimal n) 0 (λ i inside.
     let is = digit_at (decimal n) i (decimal_is_IsNumeral n small).0.1 inside in
     digit (get_or (decimal n) i 0) is.0 is.1))
 
+-- nor have those of the year of a base date
 pub plain_year : (base : Base) → LacksStop (decimal (year_of base))
 plain_year Y1993 = plain_number 1993 (omega arith)
 plain_year Y2014 = plain_number 2014 (omega arith)
@@ -41,12 +43,15 @@ passing : (test : ℕ → Bool) → ((b : ℕ) → test b ≡ true → is_stop b
 passing test each text passes =
     recursion_from_All (λ byte. is_stop byte ≡ false) text (λ i d inside. each _ (passes i d inside))
 
+-- a text of digits has no stop in it, as a meter's number has none
 pub plain_digits : (text : List ℕ) → AllPass is_ascii_digit text → LacksStop text
 plain_digits = passing is_ascii_digit digit_passes
 
+-- a text of letters and digits has no stop in it, as an operator has none
 pub plain_letters : (text : List ℕ) → AllPass is_ascii_alphanumeric text → LacksStop text
 plain_letters = passing is_ascii_alphanumeric letter_passes
 
+-- a text of the bytes of names has no stop in it
 pub plain_name : (text : List ℕ) → AllPass is_name_byte text → LacksStop text
 plain_name = passing is_name_byte name_passes
 

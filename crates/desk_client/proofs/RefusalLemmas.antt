@@ -170,6 +170,7 @@ neither_tells text rows plain Stopped h = plain Stopped ((λ row cause e. cc), h
 neither_tells text rows plain NotLater h = plain NotLater ((λ row cause e. cc), h.1)
 neither_tells text rows plain refusals.DayPast h = plain refusals.DayPast ((λ row cause e. cc), h.1)
 
+-- where a text tells no row, what was read of it as another refusal is all that it tells
 pub read_of_either : (text : List ℕ) (r : Option Refusal) → ((found : ℕ × RowCause) → ¬ (IsRowCause found.0 found.1 × (text ≡ row_text found.0 found.1)))
     → IsFound (λ refusal. IsPlain refusal × (text ≡ plain_text refusal)) r
     → IsFound (λ refusal. IsTellableRefusal refusal × (text ≡ refusal_text refusal)) r

@@ -17,6 +17,7 @@ use Rattle.std.proofs.lemmas.List.{length-map, take_all}
 
 -- thirteen values, each by an equation of its own
 
+-- lists of thirteen values are the same where each value is
 pub same_values : (a b c d e f g h i j k l m a2 b2 c2 d2 e2 f2 g2 h2 i2 j2 k2 l2 m2 : List ℕ)
     → a ≡ a2 → b ≡ b2 → c ≡ c2 → d ≡ d2 → e ≡ e2 → f ≡ f2 → g ≡ g2 → h ≡ h2 → i ≡ i2 → j ≡ j2 → k ≡ k2 → l ≡ l2 → m ≡ m2
     → a ∷ b ∷ c ∷ d ∷ e ∷ f ∷ g ∷ h ∷ i ∷ j ∷ k ∷ l ∷ m ∷ [] ≡ a2 ∷ b2 ∷ c2 ∷ d2 ∷ e2 ∷ f2 ∷ g2 ∷ h2 ∷ i2 ∷ j2 ∷ k2 ∷ l2 ∷ m2 ∷ []

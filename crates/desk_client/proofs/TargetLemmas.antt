@@ -24,30 +24,37 @@ apart x b less = grind (arith, nat_tests)
 
 -- ---- targets without a value
 
+-- the target of an import of meters finds its endpoint
 pub found_imports_meters : IsFoundFor (codes "/imports/meters") MeterImports
 unfolding matchit_on_literals table
 found_imports_meters = refl
 
+-- the target of an import of tariffs finds its endpoint
 pub found_imports_tariffs : IsFoundFor (codes "/imports/tariffs") TariffImports
 unfolding matchit_on_literals table
 found_imports_tariffs = refl
 
+-- the target at which shifts are opened finds its endpoint
 pub found_shifts : IsFoundFor (codes "/shifts") Shifts
 unfolding matchit_on_literals table
 found_shifts = refl
 
+-- the target at which shifts are closed finds its endpoint
 pub found_close : IsFoundFor (codes "/shifts/close") ShiftClosing
 unfolding matchit_on_literals table
 found_close = refl
 
+-- the target at which sales are made finds its endpoint
 pub found_sales : IsFoundFor (codes "/sales") Sales
 unfolding matchit_on_literals table
 found_sales = refl
 
+-- the target of the first page of tariffs finds its endpoint
 pub found_first_tariffs : IsFoundFor (codes "/tariffs?after=") FirstTariffs
 unfolding matchit_on_literals table
 found_first_tariffs = refl
 
+-- the target of the first page of meters finds its endpoint
 pub found_first_meters : IsFoundFor (codes "/meters?after=") FirstMeters
 unfolding matchit_on_literals table
 found_first_meters = refl
@@ -66,16 +73,19 @@ at_meter b text more endpoint small inside leads =
     through value_of (codes "/meters/") table ((b ∷ text) ++ 47 ∷ more) endpoint
     (before_slash value_of meter_rows b text more endpoint inside (rw (apart 256 b (omega arith)) refl) (λ seg e. rw e refl) leads)
 
+-- the target of a meter's base date finds its endpoint
 pub found_base : (meter : List ℕ) → IsValue meter → IsFoundFor (codes "/meters/" ++ (meter ++ codes "/base")) MeterBase
 unfolding matchit_on_literals table
 found_base (b ∷ text) is = at_meter b text (codes "base") MeterBase is.0 is.1 refl
 found_base [] is = absurd is
 
+-- the target of a meter's last sale finds its endpoint
 pub found_last : (meter : List ℕ) → IsValue meter → IsFoundFor (codes "/meters/" ++ (meter ++ codes "/last")) LastSale
 unfolding matchit_on_literals table
 found_last (b ∷ text) is = at_meter b text (codes "last") LastSale is.0 is.1 refl
 found_last [] is = absurd is
 
+-- the target of a meter finds its endpoint
 pub found_meter : (meter : List ℕ) → IsValue meter → IsFoundFor (codes "/meters/" ++ (meter ++ [])) Meter
 unfolding matchit_on_literals table
 found_meter (b ∷ text) is =
@@ -95,6 +105,7 @@ at_query (b ∷ text) is =
     (at_end value_of quote_rows b text Quote is.1 (rw (apart 256 b (omega (arith, is.0))) refl) (λ seg e. refl) refl)
 at_query [] is = absurd is
 
+-- the target of a quote for a meter and a tender finds its endpoint
 pub found_quote : (meter digits : List ℕ) → IsValue meter → IsValue digits
     → IsFoundFor (codes "/meters/" ++ (meter ++ (codes "/quote?tender=" ++ (digits ++ [])))) Quote
 found_quote (b ∷ text) digits is also = at_meter b text (codes "quote?tender=" ++ (digits ++ [])) Quote is.0 is.1 (at_query digits also)
@@ -108,6 +119,7 @@ shift_rows = behind value_of (codes "/shifts/") table
 abbrev sale_rows : Table
 sale_rows = behind value_of (codes "/sales/") table
 
+-- the target of a shift, by its number, finds its endpoint
 pub found_shift : (digits : List ℕ) → IsNumberText digits → IsFoundFor (codes "/shifts/" ++ (digits ++ [])) Shift
 unfolding matchit_on_literals table
 found_shift (b ∷ text) is =
@@ -115,6 +127,7 @@ found_shift (b ∷ text) is =
     (at_end value_of shift_rows b text Shift is.1 (rw (apart 99 b (omega (arith, is.0)), apart 256 b (omega (arith, is.0))) refl) (λ seg e. rw e refl) refl)
 found_shift [] is = absurd is
 
+-- the target of a shift's totals finds its endpoint
 pub found_totals : (digits : List ℕ) → IsNumberText digits → IsFoundFor (codes "/shifts/" ++ (digits ++ codes "/totals")) ShiftTotals
 unfolding matchit_on_literals table
 found_totals (b ∷ text) is =
@@ -123,6 +136,7 @@ found_totals (b ∷ text) is =
     (rw (apart 99 b (omega (arith, is.0)), apart 256 b (omega (arith, is.0))) refl) (λ seg e. rw e refl) refl)
 found_totals [] is = absurd is
 
+-- the target of a sale's receipt finds its endpoint
 pub found_receipt : (digits : List ℕ) → IsNumberText digits → IsFoundFor (codes "/sales/" ++ (digits ++ codes "/receipt")) SaleReceipt
 unfolding matchit_on_literals table
 found_receipt (b ∷ text) is =
@@ -146,6 +160,7 @@ at_ref (b ∷ text) is =
     (at_end value_of ref_rows b text SaleOfRef is.1 (rw (apart 256 b (omega (arith, is.0))) refl) (λ seg e. refl) refl)
 at_ref [] is = absurd is
 
+-- the target of a sale by its operator and ref finds its endpoint
 pub found_ref : (operator order_ref : List ℕ) → IsValue operator → IsValue order_ref
     → IsFoundFor (codes "/operators/" ++ (operator ++ (codes "/sales/" ++ (order_ref ++ [])))) SaleOfRef
 unfolding matchit_on_literals table
@@ -168,18 +183,22 @@ module _ (front : List ℕ) (endpoint : Endpoint)
       (at_end value_of (behind value_of front table) b text endpoint is.1 (apart_from b is.0) longest ends)
   found_after [] is = absurd is
 
+-- the target of the tariffs after a name finds the endpoint of such pages
 pub found_tariffs_after : (name : List ℕ) → IsValue name → IsFoundFor (codes "/tariffs?after=" ++ (name ++ [])) TariffsAfter
 unfolding matchit_on_literals table
 found_tariffs_after = found_after (codes "/tariffs?after=") TariffsAfter (λ b h. rw (apart 256 b (omega (arith, h))) refl) (λ seg e. refl) refl
 
+-- the target of the meters after a number finds the endpoint of such pages
 pub found_meters_after : (meter : List ℕ) → IsValue meter → IsFoundFor (codes "/meters?after=" ++ (meter ++ [])) MetersAfter
 unfolding matchit_on_literals table
 found_meters_after = found_after (codes "/meters?after=") MetersAfter (λ b h. rw (apart 256 b (omega (arith, h))) refl) (λ seg e. refl) refl
 
+-- the target of the shifts after a number finds the endpoint of such pages
 pub found_shifts_after : (digits : List ℕ) → IsValue digits → IsFoundFor (codes "/shifts?after=" ++ (digits ++ [])) ShiftsAfter
 unfolding matchit_on_literals table
 found_shifts_after = found_after (codes "/shifts?after=") ShiftsAfter (λ b h. rw (apart 256 b (omega (arith, h))) refl) (λ seg e. refl) refl
 
+-- the target of the sales after a number finds the endpoint of such pages
 pub found_sales_after : (digits : List ℕ) → IsValue digits → IsFoundFor (codes "/sales?after=" ++ (digits ++ [])) SalesAfter
 unfolding matchit_on_literals table
 found_sales_after = found_after (codes "/sales?after=") SalesAfter (λ b h. rw (apart 256 b (omega (arith, h))) refl) (λ seg e. refl) refl

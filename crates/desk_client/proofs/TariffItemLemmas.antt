@@ -49,6 +49,7 @@ open_text t = codes "{\"later\":[" ++ (closed_list_text (map later_text t.later.
 abbrev pub Spells : Type 0
 Spells = (l : LaterSteps) → IsDay l.from → IsSteps l.steps → compact_text (later_data l) ≡ later_text l
 
+-- an array is written as the texts of its elements, with commas between them
 abbrev pub IsArray : Type 0
 IsArray = (items : List Data) → compact_text (array_of items) ≡ array_text items
 

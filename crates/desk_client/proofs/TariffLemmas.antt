@@ -76,6 +76,7 @@ plain_day civil ranges day is =
 abbrev pub behind : List Step → List ℕ → List ℕ
 behind steps rest = codes "\",\"steps\":\"" ++ (steps_text steps ++ (codes "\"}" ++ rest))
 
+-- a value and its steps before what follows: the front, the value and what is behind it
 pub spread : (front value : List ℕ) (steps : List Step) (rest : List ℕ) → with_steps front value steps ++ rest ≡ front ++ (value ++ behind steps rest)
 spread front value steps rest =
     append_assoc front _ rest

@@ -23,14 +23,17 @@ use Rattle.desk_client.proofs.TariffLemmas.{one_with_steps}
 abbrev pub IsOneDay : Type 0
 IsOneDay = (day other : ℕ) → IsDay day → IsDay other → day_text day ≡ day_text other → day ≡ other
 
+-- the text of some steps is that of no other steps
 abbrev pub AreOneSteps : Type 0
 AreOneSteps = (steps others : List Step) → IsSteps steps → IsSteps others → steps_text steps ≡ steps_text others → steps ≡ others
 
+-- a day's text is of one day, where a text is read as one day and this reads as its own
 pub one_day : ((day : ℕ) → IsDay day → IsDayText (day_text day) day)
     → ((day other : ℕ) (text : Text) → IsDayText text day → IsDayText text other → day ≡ other) → IsOneDay
 one_day days one day other is also e =
     one day other (day_text other) (subst (λ text. IsDayText text day) e (days day is)) (days other also)
 
+-- the same of steps, where a text is read as one list of steps
 pub one_steps : ((steps : List Step) → IsSteps steps → IsStepsText (steps_text steps) steps)
     → ((text : Text) (steps others : List Step) → IsStepsText text steps → IsStepsText text others → steps ≡ others) → AreOneSteps
 one_steps written one steps others are also e =

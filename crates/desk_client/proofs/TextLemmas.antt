@@ -64,14 +64,17 @@ closed text rest = ap (λ (all : List ℕ). 34 ∷ all) (append_assoc text (34 �
 
 -- ---- what is granted
 
+-- the body that tells only that something was done
 pub done-text : json_text ((codes "done", boolean true) ∷ []) ≡ codes "{\"done\":true}"
 unfolding json_text serde_json_on_literals
 done-text = refl
 
+-- the body that tells how many rows an import added
 pub added-text : (n : ℕ) → json_text ((codes "added", whole_number n) ∷ []) ≡ codes "{\"added\":" ++ (decimal n ++ codes "}")
 unfolding json_text serde_json_on_literals
 added-text n = refl
 
+-- the body that tells the number of a shift
 pub shift-text : (n : ℕ) → json_text ((codes "shift", whole_number n) ∷ []) ≡ codes "{\"shift\":" ++ (decimal n ++ codes "}")
 unfolding json_text serde_json_on_literals
 shift-text n = refl
@@ -194,6 +197,7 @@ refusal-text refusals.Stopped h = refl
 refusal-text refusals.NotLater h = refl
 refusal-text refusals.DayPast h = refl
 
+-- the body that tells that the clock gave no moment
 pub clock-text : json_text (fault_members (codes "Clock")) ≡ codes "{\"error\":\"Clock\"}"
 unfolding json_text serde_json_on_literals escape_byte
 clock-text = refl

@@ -41,6 +41,7 @@ year_known Y1993 = search rules
 year_known Y2014 = search rules
 year_known Y2035 = search rules
 
+-- the base date that is read of a value is the one whose year the value writes
 pub read_base : (value : List ℕ) (n : ℕ) (r : Option Base) → n < 2 ^ 64 → value ≡ decimal n
     → (IsSome r ↔ IsYear n) → IfSome r (λ base. year_of base ≡ n)
     → IsFound (λ base. value ≡ decimal (year_of base)) r
@@ -55,6 +56,7 @@ no_base value none Y1993 e = none 1993 (omega arith, e)
 no_base value none Y2014 e = none 2014 (omega arith, e)
 no_base value none Y2035 e = none 2035 (omega arith, e)
 
+-- the moment that is read of a value is the one that the value writes
 pub read_moment : (value : List ℕ) (n : ℕ) (z : ℤ) (r : Option ℕ) → n < 2 ^ 64 → value ≡ decimal n → z ≡ pos n
     → (IsSome r ↔ ((pos first_moment ≤ℤ z) × (z ≤ℤ pos last_moment))) → IfSome r (λ m. pos m ≡ z)
     → IsFound (λ m. IsMoment m × (value ≡ decimal m)) r

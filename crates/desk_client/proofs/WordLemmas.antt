@@ -52,12 +52,15 @@ word_by test is text some short passes = record {
 
 -- ---- names and numbers
 
+-- a meter's number is a word: short, and of bytes that stand as they are
 pub meter_word : (meter : List ℕ) → IsMeterNo meter → IsWord meter
 meter_word meter is = word_by is_ascii_digit of_digit meter (omega (arith, is.eleven)) (omega (arith, is.eleven)) is.digits
 
+-- an operator is a word
 pub operator_word : (operator : List ℕ) → IsOperator operator → IsWord operator
 operator_word operator is = word_by is_ascii_alphanumeric of_letter operator is.some (omega (arith, is.short)) is.bytes
 
+-- a name is a word
 pub name_word : (name : List ℕ) → IsName name → IsWord name
 name_word name is = word_by is_name_byte of_name name is.some is.short is.bytes
 
@@ -71,6 +74,7 @@ each_digit P holds n h =
 is_digit : (b : ℕ) → 48 ≤ b → b ≤ 57 → is_ascii_digit b ≡ true
 is_digit b low high = grind (arith, nat_tests)
 
+-- the digits of a number up to a thousand million are a word
 pub number_word : (n : ℕ) → n ≤ 1000000000 → IsWord (decimal n)
 number_word n h = record {
   some = decimal_nonempty n (omega (arith, h));
@@ -80,6 +84,7 @@ number_word n h = record {
 
 -- ---- what a word has
 
+-- no byte of a word parts a target
 pub word_inside : (text : List ℕ) → AllByRecursion IsWordByte text → IsInside text
 word_inside [] all = tt
 word_inside (b ∷ text) all = (all.0.inside, word_inside text all.1)
@@ -89,6 +94,7 @@ abbrev pub IsValue : List ℕ → Type 0
 IsValue [] = ⊥
 IsValue (b ∷ text) = (b < 128) × IsInside (b ∷ text)
 
+-- a word is such a text
 pub word_value : (text : List ℕ) → IsWord text → IsValue text
 word_value [] is = absurd (omega (arith, is.some))
 word_value (b ∷ text) is = (omega (arith, is.bytes.0.seen.1), word_inside (b ∷ text) is.bytes)
@@ -102,6 +108,7 @@ first_digit : (text : List ℕ) → IsWord text → AllByRecursion (λ b. b < 58
 first_digit [] is digits = absurd (omega (arith, is.some))
 first_digit (b ∷ text) is digits = (digits.0, word_inside (b ∷ text) is.bytes)
 
+-- the digits of a number up to a thousand million are such a text
 pub number_text : (n : ℕ) → n ≤ 1000000000 → IsNumberText (decimal n)
 number_text n h = first_digit (decimal n) (number_word n h) (each_digit (λ b. b < 58) (λ b low high. omega (arith, high)) n h)
 
@@ -132,6 +139,7 @@ pub record IsPart (text : List ℕ) : Type 0 where
   pub short : length text ≤ 100
   pub seen : list_all is_seen text ≡ true
 
+-- a word is a part
 pub word_part : (text : List ℕ) → IsWord text → IsPart text
 word_part text is = record { short = omega (arith, is.short); seen = word_seen text is.bytes }
 
@@ -141,10 +149,12 @@ seen_append (x ∷ a) b p q =
     let parts = and_parts (is_seen x) (list_all is_seen a) p in
     both (is_seen x) (list_all is_seen (a ++ b)) parts.0 (seen_append a b parts.1 q)
 
+-- parts put one behind another are visible throughout
 pub parts_seen : (parts : List (List ℕ)) → AllByRecursion IsPart parts → list_all is_seen (concat parts) ≡ true
 parts_seen [] all = refl
 parts_seen (part ∷ parts) all = seen_append part (concat parts) all.0.seen (parts_seen parts all.1)
 
+-- and together no longer than a hundred bytes for each of them
 pub parts_short : (parts : List (List ℕ)) → AllByRecursion IsPart parts → length (concat parts) ≤ 100 * length parts
 parts_short [] all = omega arith
 parts_short (part ∷ parts) all = omega (arith, length-append part (concat parts), all.0.short, parts_short parts all.1)
@@ -156,11 +166,13 @@ ascii text seen = IsAscii-from_all text (λ i d inside. small _ (AllPass-from_li
     small : (b : ℕ) → is_seen b ≡ true → b < 128
     small b e = grind (arith, nat_tests)
 
+-- visible bytes are a text in UTF-8
 pub seen_text : (text : List ℕ) → list_all is_seen text ≡ true → IsUtf8 text
 seen_text text seen = IsUtf8-from_ascii text (ascii text seen)
 
 visible_byte : (b : ℕ) → is_seen b ≡ true → is_uri_byte b ≡ true
 visible_byte b e = grind (arith, nat_tests)
 
+-- and each of them may stand in a target
 pub seen_visible : (text : List ℕ) → list_all is_seen text ≡ true → AllPass is_uri_byte text
 seen_visible text seen = λ i d inside. visible_byte (get_or text i d) (AllPass-from_list_all is_seen text seen i d inside)

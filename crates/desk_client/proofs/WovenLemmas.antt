@@ -38,6 +38,7 @@ begins_more (c ∷ x) y u = u
 
 -- ---- one value
 
+-- a front without a stop, with the end behind it, is the value
 pub is_value : (text end value rest behind : List ℕ) (n : ℕ) → value ≡ take n text → rest ≡ drop n text
     → All (λ byte. is_stop byte ≡ false) (take n text) → rest ≡ end ++ behind
     → LacksStop value × (text ≡ value ++ (end ++ behind))
@@ -46,6 +47,7 @@ is_value text end value rest behind n front back before is = (
   sym (take-append-drop n text) ∙ ap (λ v. v ++ drop n text) (sym front) ∙ ap (λ r. value ++ r) (sym back ∙ is),
 )
 
+-- where the end does not stand at the first stop, the text has no value before an end
 pub no_value : (text end rest : List ℕ) (n : ℕ) → rest ≡ drop n text
     → All (λ byte. is_stop byte ≡ false) (take n text)
     → (n < length text → is_stop (slice_index text n) ≡ true)

@@ -1,5 +1,6 @@
 -- What the message of a question asks of a desk.
-use Rattle.std.specs.Prelude.{◌≢◌, ℕ, ℤ, pos, ◌≤◌, false, List, length, Some, None, Result, Ok, Err, ⊤}
+use Rattle.std.specs.Prelude.{◌≢◌, ℕ, ℤ, pos, ◌≤◌, false, List, length, Some, None, Result, Ok, Err}
+use Rattle.std.specs.Prelude.{⊤}
 use Rattle.std.specs.List.{concat}
 use Rattle.book_states.specs.declared.lookup.Lookup.{Lookup}
 use Rattle.book_states.specs.declared.lookup.Lookup.TheVariants as lookups
@@ -25,7 +26,11 @@ use Rattle.office_rules.specs.declared.decision.request.Request.TheVariants as r
 use Rattle.office_rules.specs.declared.office.row.Row.{Row}
 use Rattle.desk_client.specs.Question.{body_pieces, question_method, target_pieces}
 use Rattle.desk_client.specs.declared.question.Question.{Question}
-use Rattle.desk_client.specs.declared.question.Question.TheVariants.{Import, MoveBase, OpenShift, CloseShift, Sell, ShiftReport, Receipt, ShiftTotals, Meter, LastSale, SaleOfRef, Quote, Tariffs, Meters, Shifts, Sales}
+use Rattle.desk_client.specs.declared.question.Question.TheVariants.{Import, MoveBase, OpenShift}
+use Rattle.desk_client.specs.declared.question.Question.TheVariants.{CloseShift, Sell, ShiftReport}
+use Rattle.desk_client.specs.declared.question.Question.TheVariants.{Receipt, ShiftTotals, Meter}
+use Rattle.desk_client.specs.declared.question.Question.TheVariants.{LastSale, SaleOfRef, Quote}
+use Rattle.desk_client.specs.declared.question.Question.TheVariants.{Tariffs, Meters, Shifts, Sales}
 
 -- the message that asks a question; the conversation goes on after it
 abbrev pub question_message : Question → Message

@@ -1,5 +1,6 @@
 -- The bytes of a message to a desk.
-use Rattle.std.specs.Prelude.{◌≡◌, ℕ, ◌<◌, ◌≤◌, false, List, [], ◌∷◌, ◌++◌, length, codes, decimal, IsUtf8}
+use Rattle.std.specs.Prelude.{◌≡◌, ℕ, ◌<◌, ◌≤◌, false, List, [], ◌∷◌, ◌++◌, length, codes, decimal}
+use Rattle.std.specs.Prelude.{IsUtf8}
 use Rattle.httparse.specs.Grammar.{AllPass, is_uri_byte}
 use Rattle.conversation.specs.declared.message.method.Method.{Method}
 use Rattle.conversation.specs.declared.message.method.Method.TheVariants.{Get, Post}

@@ -1,5 +1,6 @@
 -- The text of a meter in a reply, and the meters that it tells.
-use Rattle.std.specs.Prelude.{ℕ, ◌^◌, ◌<◌, List, [], ◌∷◌, ◌++◌, Option, Some, None, codes, decimal, ⊤}
+use Rattle.std.specs.Prelude.{ℕ, ◌^◌, ◌<◌, List, [], ◌∷◌, ◌++◌, Option, Some, None, codes, decimal}
+use Rattle.std.specs.Prelude.{⊤}
 use Rattle.book_states.specs.declared.lookup.MeterSummary.{MeterSummary}
 use Rattle.sts_fields.specs.Base.{year_of}
 use Rattle.office_rules.specs.Name.{IsMeterNo, IsName}

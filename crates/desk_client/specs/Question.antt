@@ -11,7 +11,11 @@ use Rattle.desk_client.specs.Message.{message_bytes}
 use Rattle.desk_client.specs.declared.told.Wanted.{Wanted}
 use Rattle.desk_client.specs.declared.told.Wanted.TheVariants as wanted
 use Rattle.desk_client.specs.declared.question.Question.{Question}
-use Rattle.desk_client.specs.declared.question.Question.TheVariants.{Import, MoveBase, OpenShift, CloseShift, Sell, ShiftReport, Receipt, ShiftTotals, Meter, LastSale, SaleOfRef, Quote, Tariffs, Meters, Shifts, Sales}
+use Rattle.desk_client.specs.declared.question.Question.TheVariants.{Import, MoveBase, OpenShift}
+use Rattle.desk_client.specs.declared.question.Question.TheVariants.{CloseShift, Sell, ShiftReport}
+use Rattle.desk_client.specs.declared.question.Question.TheVariants.{Receipt, ShiftTotals, Meter}
+use Rattle.desk_client.specs.declared.question.Question.TheVariants.{LastSale, SaleOfRef, Quote}
+use Rattle.desk_client.specs.declared.question.Question.TheVariants.{Tariffs, Meters, Shifts, Sales}
 
 -- what changes an office is asked by POST, and what is looked up by GET
 abbrev pub question_method : Question → Method

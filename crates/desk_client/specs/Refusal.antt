@@ -5,7 +5,10 @@ use Rattle.office_rules.specs.Decision.RowCauses.{cause_text}
 use Rattle.office_rules.specs.declared.decision.refusal.Refusal.{Refusal}
 use Rattle.office_rules.specs.declared.decision.refusal.Refusal.TheVariants.{ImportRow}
 use Rattle.office_rules.specs.declared.decision.row_cause.RowCause.{RowCause}
-use Rattle.office_rules.specs.declared.decision.row_cause.RowCause.TheVariants.{Header, Columns, Field, TooManyRows, Differs, NoTariff, DayPast}
+use Rattle.office_rules.specs.declared.decision.row_cause.RowCause.TheVariants.{Header, Columns}
+use Rattle.office_rules.specs.declared.decision.row_cause.RowCause.TheVariants.{Field, TooManyRows}
+use Rattle.office_rules.specs.declared.decision.row_cause.RowCause.TheVariants.{Differs, NoTariff}
+use Rattle.office_rules.specs.declared.decision.row_cause.RowCause.TheVariants.{DayPast}
 use Rattle.desk_client.specs.Text.{woven}
 
 -- the refusal of no row

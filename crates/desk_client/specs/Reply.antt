@@ -3,9 +3,11 @@ use Rattle.std.specs.Prelude.{◌≡◌, ◌<◌, ◌≤◌, ℕ, List, ◌++◌
 use Rattle.desk_client.specs.Start.{head_end, start_text}
 use Rattle.desk_client.specs.Told.{IsTellable, told_start, told_text}
 use Rattle.desk_client.specs.declared.reply.Reading.{Reading}
-use Rattle.desk_client.specs.declared.reply.Reading.TheVariants.{Whole, NeedHead, NeedBody, OutOfForm}
+use Rattle.desk_client.specs.declared.reply.Reading.TheVariants.{Whole, NeedHead, NeedBody}
+use Rattle.desk_client.specs.declared.reply.Reading.TheVariants.{OutOfForm}
 use Rattle.desk_client.specs.declared.start.Start.{Start}
-use Rattle.desk_client.specs.declared.start.Start.TheVariants.{Json, Paper, Missing, Forbidden, Unfit, Unable}
+use Rattle.desk_client.specs.declared.start.Start.TheVariants.{Json, Paper, Missing, Forbidden}
+use Rattle.desk_client.specs.declared.start.Start.TheVariants.{Unfit, Unable}
 use Rattle.desk_client.specs.declared.told.Told.{Told}
 use Rattle.desk_client.specs.declared.told.Wanted.{Wanted}
 

@@ -3,7 +3,8 @@ use Rattle.std.specs.Prelude.{ℕ, List, [], ◌∷◌, codes}
 use Rattle.office_rules.specs.declared.decision.category.Category.{Category}
 use Rattle.office_rules.specs.declared.decision.category.Category.TheVariants as categories
 use Rattle.desk_client.specs.declared.start.Start.{Start}
-use Rattle.desk_client.specs.declared.start.Start.TheVariants.{Json, Paper, Missing, Forbidden, Unfit, Unable}
+use Rattle.desk_client.specs.declared.start.Start.TheVariants.{Json, Paper, Missing, Forbidden}
+use Rattle.desk_client.specs.declared.start.Start.TheVariants.{Unfit, Unable}
 
 abbrev pub start_text : Start → List ℕ
 start_text Json =

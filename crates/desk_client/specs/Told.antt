@@ -2,7 +2,9 @@
 use Rattle.std.specs.Prelude.{◌≡◌, ℕ, ◌^◌, ◌<◌, List, ◌++◌, codes, decimal, ⊤}
 use Rattle.office_rules.specs.Decision.Refusals.{refusal_category}
 use Rattle.office_rules.specs.declared.decision.category.Category.{Category}
-use Rattle.office_rules.specs.declared.decision.category.Category.TheVariants.{Missing, Forbidden, Unfit, UnfitRow, Unable}
+use Rattle.office_rules.specs.declared.decision.category.Category.TheVariants.{Missing, Forbidden}
+use Rattle.office_rules.specs.declared.decision.category.Category.TheVariants.{Unfit, UnfitRow}
+use Rattle.office_rules.specs.declared.decision.category.Category.TheVariants.{Unable}
 use Rattle.office_rules.specs.declared.decision.refusal.Refusal.{Refusal}
 use Rattle.desk_client.specs.Meter.{IsToldMeter, meter_text}
 use Rattle.desk_client.specs.Quote.{IsToldQuote, quote_as_read}
@@ -13,7 +15,8 @@ use Rattle.desk_client.specs.Totals.{IsToldTotals, totals_as_read}
 use Rattle.desk_client.specs.declared.start.Start.{Start}
 use Rattle.desk_client.specs.declared.start.Start.TheVariants as starts
 use Rattle.desk_client.specs.declared.told.Granted.{Granted}
-use Rattle.desk_client.specs.declared.told.Granted.TheVariants.{Done, Imported, Shift, Sale, Meter, Quote, Totals, Paper, Page}
+use Rattle.desk_client.specs.declared.told.Granted.TheVariants.{Done, Imported, Shift, Sale, Meter}
+use Rattle.desk_client.specs.declared.told.Granted.TheVariants.{Quote, Totals, Paper, Page}
 use Rattle.desk_client.specs.declared.told.Told.{Told}
 use Rattle.desk_client.specs.declared.told.Told.TheVariants as told
 use Rattle.desk_client.specs.declared.told.Wanted.{Wanted}

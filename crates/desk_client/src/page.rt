@@ -4,7 +4,8 @@ ghost use Rattle.std.specs.Prelude.{◌≡◌, IfOk};
 ghost use Rattle.book_states.specs.declared.lookup.Found.{Found as WhatIsFound};
 ghost use Rattle.desk_client.specs.Page.{AreAlike, IsToldPage, page_as_read};
 ghost use Rattle.desk_client.specs.Text.{IsFound};
-ghost use Rattle.desk_client.specs.declared.page.PageKind.TheVariants.{Meters, Sales, Shifts, Tariffs};
+ghost use Rattle.desk_client.specs.declared.page.PageKind.TheVariants.{Meters, Sales, Shifts};
+ghost use Rattle.desk_client.specs.declared.page.PageKind.TheVariants.{Tariffs};
 
 use crate::items::{Item, read_list};
 use crate::tariff_items::tariff_law;

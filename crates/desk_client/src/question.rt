@@ -3,7 +3,8 @@
 ghost use Rattle.std.specs.Prelude.{◌≡◌, ◌∷◌, ◌++◌, [], IfOk, decimal, map};
 ghost use Rattle.std.specs.List.{concat};
 ghost use Rattle.desk_client.specs.Question.{body_pieces, import_target, order_pieces};
-ghost use Rattle.desk_client.specs.Question.{question_method, question_text, quote_pieces, target_pieces};
+ghost use Rattle.desk_client.specs.Question.{question_method, question_text, quote_pieces};
+ghost use Rattle.desk_client.specs.Question.{target_pieces};
 ghost use Rattle.desk_client.specs.Question.{wanted_by};
 ghost use Rattle.desk_client.specs.Text.{now};
 

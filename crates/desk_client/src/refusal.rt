@@ -3,7 +3,8 @@
 ghost use Rattle.std.specs.Prelude.{◌≡◌};
 ghost use Rattle.office_rules.specs.Decision.Refusals.{refusal_number};
 ghost use Rattle.office_rules.specs.Decision.RowCauses.{cause_text};
-ghost use Rattle.desk_client.specs.Refusal.{IsCause, IsPlain, IsRowCause, IsWord, plain_text, row_text};
+ghost use Rattle.desk_client.specs.Refusal.{IsCause, IsPlain, IsRowCause, IsWord, plain_text};
+ghost use Rattle.desk_client.specs.Refusal.{row_text};
 ghost use Rattle.desk_client.specs.Text.{IsFound};
 
 use crate::text::{read_values, small_number};

@@ -1,8 +1,9 @@
 //! What stands in a text between fixed words, and the numbers that are written there.
 
-ghost use Rattle.std.specs.Prelude.{◌≡◌, ◌≢◌, ◌++◌, ◌<◌, ◌≤◌, ◌^◌, ◌↔◌, ℕ, List, All, IsTrue, MatchOption, [], decimal, false, length, map, slice_index, take, true};
-ghost use Rattle.std.specs.Borrow.{Bor};
-ghost use Rattle.desk_client.specs.Text.{BeginsWithStop, IsFound, LackStops, LacksStop, is_stop, now, woven};
+ghost use Rattle.std.specs.Prelude.{◌≡◌, ◌≢◌, ◌++◌, ◌<◌, ◌≤◌, ◌^◌, ◌↔◌, ℕ, List, All, MatchOption};
+ghost use Rattle.std.specs.Prelude.{[], decimal, false, length, map, slice_index, take, true};
+ghost use Rattle.desk_client.specs.Text.{BeginsWithStop, IsFound, LackStops, LacksStop, is_stop};
+ghost use Rattle.desk_client.specs.Text.{now, woven};
 
 use itoa::Buffer;
 use std::str;

@@ -1,5 +1,7 @@
 ghost use Rattle.std.specs.Prelude.{◌≡◌};
-ghost use Rattle.desk_client.specs.Told.{IsAnswer, IsStart, IsTellable, IsTellableRefusal, granted_start, granted_text, refusal_start, refusal_text, told_start, told_text, wanted_of};
+ghost use Rattle.desk_client.specs.Told.{IsAnswer, IsStart, IsTellable, IsTellableRefusal};
+ghost use Rattle.desk_client.specs.Told.{granted_start, granted_text, refusal_start, refusal_text};
+ghost use Rattle.desk_client.specs.Told.{told_start, told_text, wanted_of};
 ghost use Rattle.desk_client.specs.Text.{IsFound};
 
 use crate::count::read_count;

@@ -77,6 +77,7 @@ module _ {N S : Type 0} (of : loopback.Ghosts N S) (remaining contents : S → H
     pub are : TellPages (Some list) rounds pages (Some next)
     pub count : length pages ≡ page
 
+  -- before the first page nothing was asked for and nothing printed
   pub none_asked : (fresh : S) → of.calls net desk fresh → AskedSoFar fresh before list 0
   none_asked fresh calls = record { fresh = fresh; rounds = []; pages = []; calls = calls; held = refl; put = takes_none before; are = refl; count = refl }
 
@@ -111,6 +112,7 @@ module _ {N S : Type 0} (of : loopback.Ghosts N S) (remaining contents : S → H
         let text = ap (λ n. pages_text json so_far.pages ++ page_text json (n == 0) found) (sym so_far.count) ∙ more_text json so_far.pages found in
         takes_as before after _ _ text (takes_next before part after (pages_text json so_far.pages) (page_text json (page == 0) found) so_far.put put)
 
+    -- a page was printed and a list follows it: there is one page more
     pub page_more : (behind : Listed) → IsPagePrinted remaining contents next json (page == 0) now last part after (Ok (Some behind))
         → AskedSoFar last after behind (page + 1)
     page_more behind (found, (came, round, told), (put, follows)) = record {
@@ -126,6 +128,7 @@ module _ {N S : Type 0} (of : loopback.Ghosts N S) (remaining contents : S → H
       count = length-append so_far.pages (found ∷ []) ∙ ap (λ n. n + 1) so_far.count;
     }
 
+    -- a page that no list follows was printed: the list ends as done
     pub page_last : (err : Sink) (behind : Option Listed) → behind ≡ None
         → IsPagePrinted remaining contents next json (page == 0) now last part after (Ok behind)
         → IsListedAtDesk (calls_of of remaining contents net) desk list json (outputs before after err err) how.Done
@@ -161,6 +164,7 @@ module _ {N S : Type 0} (of : loopback.Ghosts N S) (remaining contents : S → H
     stops_at faults.OutOfForm (came, round, why) = (next, refl, came, holds_more came round, why)
     stops_at faults.Memory (came, round, why) = (next, refl, came, holds_more came round, why)
 
+    -- a page could not be had: the list ends with those before it and a line on the fault
     pub page_stopped : (err told : Sink) (fault : PageFault)
         → IsPagePrinted remaining contents next json (page == 0) now last part after (Err fault) → Takes err told (page_fault_line fault)
         → IsListedAtDesk (calls_of of remaining contents net) desk list json (outputs before after err told) how.Refused

@@ -24,7 +24,8 @@ use Rattle.command_line.specs.declared.commands.at_desk.DeskQuestion.TheVariants
 use Rattle.command_line.specs.declared.commands.at_desk.DeskWords.{DeskWords}
 use Rattle.command_line.specs.declared.commands.show.Shown.{Shown}
 use Rattle.command_line.specs.declared.commands.show.Shown.TheVariants as shown
-use Rattle.vend_ports.specs.print.Printed.{added_line, clock_line, done_line, file_line, net_line, read_fault_line, refusal_line, shift_line}
+use Rattle.vend_ports.specs.print.Printed.{added_line, clock_line, done_line, file_line, net_line}
+use Rattle.vend_ports.specs.print.Printed.{read_fault_line, refusal_line, shift_line}
 use Rattle.desk_commands.specs.ListedAtDesk.{IsListedAtDesk, exchange_fault_line, page_question}
 use Rattle.desk_commands.specs.Exchanged.{Calls, IsUnsent, one_round}
 use Rattle.vend_ports.specs.port.Texts.{Texts}

@@ -1,6 +1,7 @@
 -- What is printed of a list that a running desk has: its members, page by page, each page asked for
 -- by a message of one connection.
-use Rattle.std.specs.Prelude.{◌≡◌, ◌≢◌, ◌⊎◌, ⊤, Bool, true, List, [], ◌∷◌, ◌++◌, length, Option, Some, None, Result, Ok, Err}
+use Rattle.std.specs.Prelude.{◌≡◌, ◌≢◌, ◌⊎◌, ⊤, Bool, true, List, [], ◌∷◌, ◌++◌, length, Option}
+use Rattle.std.specs.Prelude.{Some, None, Result, Ok, Err}
 use Rattle.std.specs.Borrow.{Bor}
 use Rattle.book_states.specs.declared.lookup.Found.{Found}
 use Rattle.command_line.specs.declared.address.Address.{Address}

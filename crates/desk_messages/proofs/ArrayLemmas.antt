@@ -81,6 +81,7 @@ pub rest_at : (later : Bool) (steps others : List Step) (i : ℕ) (old whole : L
     → old ++ steps_rest later (drop i steps) ≡ whole → old ++ steps_rest later (drop i others) ≡ whole
 rest_at later steps others i old whole same is = ap (λ ys. old ++ steps_rest later (drop i ys)) same ∙ is
 
+-- behind the last step nothing is to be added, so the text is whole
 pub steps_done : (later : Bool) (steps : List Step) (i : ℕ) (old whole : List ℕ) → length steps ≤ i
     → old ++ steps_rest later (drop i steps) ≡ whole → old ≡ whole
 steps_done later steps i old whole past is =
@@ -96,6 +97,7 @@ items-joined d (e ∷ ds) =
     ap (λ (text : List ℕ). compact_text d ++ 44 ∷ text) (items-joined e ds)
     ∙ sym (append_assoc (compact_text d) (44 ∷ join_with_byte comma (map compact_text (e ∷ ds))) (93 ∷ []))
 
+-- the text of an array is those of its elements, with commas between them, in brackets
 pub array-text : (ds : List Data) → compact_text (array_of ds) ≡ 91 ∷ (join_with_byte comma (map compact_text ds) ++ 93 ∷ [])
 array-text [] = refl
 array-text (d ∷ ds) = ap (λ (text : List ℕ). 91 ∷ text) (items-joined d ds)

@@ -54,6 +54,7 @@ held-no_float (x ∷ xs) f each held p = held-no_float xs f each (put (f x).0 (f
 pub put_all-no_float : {X : Type 0} (xs : List X) (f : X → Pair) → ((x : X) → has_float (f x).1 ≡ false) → members_have_float (put_all (map f xs)) ≡ false
 put_all-no_float xs f each = held-no_float xs f each no_members refl
 
+-- the value of a single member is no float
 pub data_of-no_float : (m : Member) → has_float (data_of m) ≡ false
 data_of-no_float (Truth holds) = refl
 data_of-no_float (Number n) = refl

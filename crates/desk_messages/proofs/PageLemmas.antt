@@ -74,6 +74,7 @@ later-object : (from steps : List ℕ)
 unfolding serde_json_on_literals
 later-object from steps = refl
 
+-- later steps as JSON are their day and steps, between fixed words
 pub later-text : (l : LaterSteps) → IsWithinRanges (civil_at (beginning l.from)) → IsSteps l.steps
     → compact_text (later_data l) ≡ later_text l
 later-text l shown are =
@@ -85,6 +86,7 @@ later-text l shown are =
       closed (steps_text l.steps),
     ) refl
 
+-- the pieces of later steps, added one behind another, add that text
 pub later-made : (l : LaterSteps) → IsWithinRanges (civil_at (beginning l.from)) → IsSteps l.steps
     → (t0 t1 t2 t3 t4 t5 : List ℕ)
     → t1 ≡ t0 ++ codes "{\"from\":\""
@@ -108,6 +110,7 @@ tariff-object : (later : Data) (name steps : List ℕ)
 unfolding serde_json_on_literals
 tariff-object later name steps = refl
 
+-- a tariff as JSON is its later steps, name and steps, between fixed words
 pub tariff-text : (t : ListedTariff) → IsName t.name → IsSteps t.steps → compact_text (tariff_data t) ≡ tariff_text t
 tariff-text t rule are =
     rw (
@@ -118,6 +121,7 @@ tariff-text t rule are =
       closed (steps_text t.steps),
     ) refl
 
+-- and the pieces of a tariff, added one behind another, add that text
 pub tariff-made : (t : ListedTariff) → IsName t.name → IsSteps t.steps
     → (later : List LaterSteps) (name t0 t1 t2 t3 t4 t5 t6 t7 : List ℕ) → later ≡ t.later.items → name ≡ t.name
     → t1 ≡ t0 ++ codes "{\"later\":"
@@ -145,6 +149,7 @@ meter-object : (base : ℕ) (meter tariff : List ℕ)
 unfolding serde_json_on_literals
 meter-object base meter tariff = refl
 
+-- a listed meter as JSON is its base year, number and tariff, between fixed words
 pub meter-text : (m : ListedMeter) → IsMeterNo m.number → IsName m.tariff → compact_text (listed_meter_data m) ≡ listed_meter_text m
 meter-text m digits rule =
     rw (
@@ -155,6 +160,7 @@ meter-text m digits rule =
       closed m.tariff,
     ) refl
 
+-- and the pieces of a meter, added one behind another, add that text
 pub meter-made : (m : ListedMeter) → IsMeterNo m.number → IsName m.tariff
     → (base : ℕ) (number tariff t0 t1 t2 t3 t4 t5 t6 t7 : List ℕ) → base ≡ year_of m.base → number ≡ m.number → tariff ≡ m.tariff
     → t1 ≡ t0 ++ codes "{\"base\":"
@@ -187,6 +193,7 @@ shift-object : (cash number opened sales tenths : ℕ) (closed : Data) (operator
 unfolding serde_json_on_literals
 shift-object cash number opened sales tenths closed operator = refl
 
+-- a listed shift as JSON is its numbers, times and operator, between fixed words
 pub shift-text : (l : ListedShift) → IsOperator l.shift.operator → compact_text (listed_shift_data l) ≡ listed_shift_text l
 shift-text l rule =
     rw (
@@ -195,6 +202,7 @@ shift-text l rule =
       closed l.shift.operator,
     ) refl
 
+-- and the pieces of a shift, added one behind another, add that text
 pub shift-made : (l : ListedShift) → IsOperator l.shift.operator
     → (number opened : ℕ) (operator t0 t1 t2 t3 t4 t5 t6 t7 t8 t9 t10 t11 t12 t13 t14 t15 : List ℕ)
     → number ≡ l.shift.number → opened ≡ l.shift.opened → operator ≡ l.shift.operator
@@ -233,18 +241,22 @@ shift-made l rule number opened operator t0 t1 t2 t3 t4 t5 t6 t7 t8 t9 t10 t11 t
 
 -- ---- the object of a list
 
+-- the object of a list of tariffs is the list behind the name `tariffs`
 pub tariffs-object : (d : Data) → json_text ((codes "tariffs", d) ∷ []) ≡ codes "{\"tariffs\":" ++ (compact_text d ++ codes "}")
 unfolding json_text serde_json_on_literals
 tariffs-object d = refl
 
+-- the same of meters, whose list has the name `meters`
 pub meters-object : (d : Data) → json_text ((codes "meters", d) ∷ []) ≡ codes "{\"meters\":" ++ (compact_text d ++ codes "}")
 unfolding json_text serde_json_on_literals
 meters-object d = refl
 
+-- the same of shifts, whose list has the name `shifts`
 pub shifts-object : (d : Data) → json_text ((codes "shifts", d) ∷ []) ≡ codes "{\"shifts\":" ++ (compact_text d ++ codes "}")
 unfolding json_text serde_json_on_literals
 shifts-object d = refl
 
+-- the same of sales, whose list has the name `sales`
 pub sales-object : (d : Data) → json_text ((codes "sales", d) ∷ []) ≡ codes "{\"sales\":" ++ (compact_text d ++ codes "}")
 unfolding json_text serde_json_on_literals
 sales-object d = refl

@@ -84,6 +84,7 @@ not_letter b e = grind (arith, nat_tests)
 pub digits_lack : (text : List ℕ) → AllPass is_ascii_digit text → LacksSlash text
 digits_lack text passes = λ i d inside. not_digit _ (passes i d inside)
 
+-- nor does a text of letters and digits, such as an operator
 pub letters_lack : (text : List ℕ) → AllPass is_ascii_alphanumeric text → LacksSlash text
 letters_lack text passes = λ i d inside. not_letter _ (passes i d inside)
 
@@ -103,6 +104,7 @@ no_middle text front middle rest a b is lacks cut none first second some same =
     let e = append_cancel_left front rest (first ++ 47 ∷ (middle ++ second)) (sym is ∙ same) in
     none second (same_cut a first b (middle ++ second) lacks some (sym cut ∙ e)).1
 
+-- a text cut at the front, at the slash and at the middle is put together again
 pub is_two : (text front middle rest a b second : List ℕ) → text ≡ front ++ rest → rest ≡ a ++ 47 ∷ b → b ≡ middle ++ second
     → text ≡ front ++ (a ++ 47 ∷ (middle ++ second))
 is_two text front middle rest a b second is cut behind =
@@ -120,17 +122,21 @@ same_two front middle a b x y la lb same =
 module _ {A B : Type 0} (Rule : A → Type 0) (write : A → List ℕ) (Other : B → Type 0) (put : B → List ℕ)
     (text front middle first second : List ℕ) (lacks : (value : A) → Rule value → LacksSlash (write value))
     (cut : LacksSlash first) (is : text ≡ front ++ (first ++ 47 ∷ (middle ++ second))) where
+  -- the target names these two values, and each is as its rule says
   abbrev pub AreRead : A × B → Type 0
   AreRead named = (text ≡ front ++ (write named.0 ++ 47 ∷ (middle ++ put named.1))) × Rule named.0 × Other named.1
 
+  -- where no value is written as the first part, the target names no two
   pub no_first : ReadsWritten Rule write first None → (named : A × B) → ¬ AreRead named
   no_first none named (same, rule, other) =
       none named.0 rule (same_two front middle first (write named.0) second (put named.1) cut (lacks named.0 rule) (sym is ∙ same)).0
 
+  -- nor does it where no value is written as the second part
   pub no_second : ReadsWritten Other put second None → (named : A × B) → ¬ AreRead named
   no_second none named (same, rule, other) =
       none named.1 other (same_two front middle first (write named.0) second (put named.1) cut (lacks named.0 rule) (sym is ∙ same)).1
 
+  -- where both parts were read as values, the target names these two
   pub are_read : (named : A × B) → ReadsWritten Rule write first (Some named.0) → ReadsWritten Other put second (Some named.1) → AreRead named
   are_read named a b =
       (is ∙ ap (λ f. front ++ (f ++ 47 ∷ (middle ++ second))) a.1 ∙ ap (λ s. front ++ (write named.0 ++ 47 ∷ (middle ++ s))) b.1, a.0, b.0)
@@ -144,6 +150,7 @@ own = numerals_by_value (AllDigits 10) tells_digits
 abbrev pub Leads : List ℕ → Type 0
 Leads digits = (49 ≤ get_or digits 0 0) × (get_or digits 0 0 ≤ 57)
 
+-- a number that a target may name is written with a digit other than 0 in front
 pub leads_decimal : (number : ℕ) → IsTargetNumber number → Leads (decimal number)
 leads_decimal number is =
     let small : number < 2 ^ 64 = omega (arith, is.most) in
@@ -163,6 +170,7 @@ parsed_decimal {E} digits (Ok read) number is parsed leads =
     ∙ ap decimal (sym ok.1 ∙ same)
 parsed_decimal digits (Err error) number is parsed leads = absurd (cc)
 
+-- a number whose first digit is not 0 is at least 1
 pub from_one : (digits : List ℕ) (number : ℕ) → digits ≡ decimal number → Leads digits → 1 ≤ number
 from_one digits zero e leads =
     absurd (omega (arith, ap (λ ds. get_or ds 0 0) (e ∙ decimal_digit 0 (omega arith)), leads.0))

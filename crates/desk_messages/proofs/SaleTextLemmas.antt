@@ -18,14 +18,17 @@ use Rattle.desk_messages.proofs.SaleLemmas.{digits-kept}
 use Rattle.office_rules.specs.Name.{is_name_byte}
 use Rattle.office_rules.specs.declared.office.sale.Sale.{Sale}
 
+-- a digit needs no escape in JSON
 pub plain_digit : (b : ℕ) → is_ascii_digit b ≡ true → escape_byte b ≡ b ∷ []
 unfolding escape_byte
 plain_digit b e = grind (arith, nat_tests)
 
+-- nor does a letter or digit, as operators have them
 pub plain_letter : (b : ℕ) → is_ascii_alphanumeric b ≡ true → escape_byte b ≡ b ∷ []
 unfolding escape_byte
 plain_letter b e = grind (arith, nat_tests)
 
+-- nor does a byte of a name
 pub plain_name : (b : ℕ) → is_name_byte b ≡ true → escape_byte b ≡ b ∷ []
 unfolding escape_byte
 plain_name b e = grind (arith, nat_tests)
@@ -59,6 +62,7 @@ object-text base change moment number price shift tender tenths tid meter operat
 pub closed : (text rest : List ℕ) → (34 ∷ (text ++ 34 ∷ [])) ++ rest ≡ 34 ∷ (text ++ 34 ∷ rest)
 closed text rest = ap (λ (all : List ℕ). 34 ∷ all) (append_assoc text (34 ∷ []) rest)
 
+-- the JSON of a sale that can be told is its text, whose values need no escape
 pub sale_text-is : (s : Sale) → IsTellableSale s → json_text (sale_members s) ≡ sale_text s
 sale_text-is s told =
     rw (

@@ -13,7 +13,8 @@ use Rattle.desk_messages.specs.declared.body_fault.BodyFault.{BodyFault}
 use Rattle.desk_messages.specs.declared.body_fault.BodyFault.TheVariants as faults
 use Rattle.desk_messages.specs.declared.route.Route.{Route}
 use Rattle.desk_messages.specs.declared.json_body.kind.JsonKind.{JsonKind}
-use Rattle.desk_messages.specs.declared.route.Route.TheVariants.{Object, Import, ShiftReport, Reprint, Receipt, LookUp}
+use Rattle.desk_messages.specs.declared.route.Route.TheVariants.{Object, Import, ShiftReport}
+use Rattle.desk_messages.specs.declared.route.Route.TheVariants.{Reprint, Receipt, LookUp}
 use Rattle.desk_messages.specs.json_body.Body.{IsJson, BodySays}
 use Rattle.desk_messages.specs.Reads.{IsFoundInBody}
 

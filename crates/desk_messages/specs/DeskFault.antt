@@ -1,7 +1,8 @@
 -- The status codes and the words of the faults of whole messages.
 use Rattle.std.specs.Prelude.{ℕ, List, codes}
 use Rattle.desk_messages.specs.declared.desk_fault.DeskFault.{DeskFault}
-use Rattle.desk_messages.specs.declared.desk_fault.DeskFault.TheVariants.{NoRoute, Method, Clock, Body}
+use Rattle.desk_messages.specs.declared.desk_fault.DeskFault.TheVariants.{NoRoute, Method, Clock}
+use Rattle.desk_messages.specs.declared.desk_fault.DeskFault.TheVariants.{Body}
 
 -- each fault has a status code of its own
 abbrev pub desk_fault_status : DeskFault → ℕ

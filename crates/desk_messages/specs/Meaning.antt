@@ -19,7 +19,8 @@ use Rattle.desk_messages.specs.declared.meaning.Meaning.TheVariants as meanings
 use Rattle.desk_messages.specs.declared.reply.outcome.Outcome.{Outcome}
 use Rattle.desk_messages.specs.declared.reply.outcome.Outcome.TheVariants.{Faulty, Replied}
 use Rattle.desk_messages.specs.declared.route.Route.{Route}
-use Rattle.desk_messages.specs.declared.route.Route.TheVariants.{Object, Import, ShiftReport, Reprint, Receipt, LookUp}
+use Rattle.desk_messages.specs.declared.route.Route.TheVariants.{Object, Import, ShiftReport}
+use Rattle.desk_messages.specs.declared.route.Route.TheVariants.{Reprint, Receipt, LookUp}
 use Rattle.desk_messages.specs.Asking.{BodyAsks}
 use Rattle.desk_messages.specs.route.Route.{IsRouted}
 

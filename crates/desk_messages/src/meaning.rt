@@ -4,7 +4,8 @@ ghost use Rattle.std.specs.Prelude.{◌≡◌, ◌≢◌, ℤ, IfSome, MatchOpti
 ghost use Rattle.conversation.specs.Exchanges.{ReadsClock};
 ghost use Rattle.conversation.specs.message.Next.{message_of};
 ghost use Rattle.book_states.specs.declared.lookup.Lookup.{Lookup};
-ghost use Rattle.desk_messages.specs.Meaning.{AsksRequest, IsFor, IsMeaning, lookup_form, sale_form_of};
+ghost use Rattle.desk_messages.specs.Meaning.{AsksRequest, IsFor, IsMeaning, lookup_form};
+ghost use Rattle.desk_messages.specs.Meaning.{sale_form_of};
 ghost use Rattle.desk_messages.specs.declared.route.Route.{Route};
 
 use crate::asking::request_of;

@@ -1,5 +1,6 @@
 -- The last commit of a store in memory is in order.
-use Rattle.std.proofs.Common.{◌≡◌, ◌==◌, ℕ, zero, suc, true, false, if◌then◌else◌, List, [], ◌∷◌, map, refl, sym, subst}
+use Rattle.std.proofs.Common.{◌≡◌, ◌==◌, ℕ, zero, suc, true, false, if◌then◌else◌, List, [], ◌∷◌}
+use Rattle.std.proofs.Common.{map, refl, sym, subst}
 use Rattle.std.proofs.Math.Logic.{∥∥₁_elim}
 use Rattle.sqlite_catalog.specs.Listing.{IsSound}
 use Rattle.sqlite_schema.specs.declared.schema.Schema.{Schema}
@@ -7,7 +8,8 @@ use Rattle.sqlite_trees.specs.declared.memory.MemStore.{MemStore}
 use Rattle.sqlite_trees.specs.declared.memory.tree.Tree.{Tree}
 use Rattle.sqlite_trees.specs.declared.store.Shape.TheVariants.{Table}
 use Rattle.sqlite_trees.specs.Listing.{objects_are_listed, objects_are_ordered}
-use Rattle.sqlite_trees.specs.Memory.{all_shapes, forest, heading, memory_view, objects_of, rows_of, shape_of, shapes}
+use Rattle.sqlite_trees.specs.Memory.{all_shapes, forest, heading, memory_view, objects_of, rows_of}
+use Rattle.sqlite_trees.specs.Memory.{shape_of, shapes}
 use Rattle.sqlite_trees.specs.Objects.{catalog_tree, version_rows, version_tree, with_version}
 use Rattle.sqlite_trees.specs.Props.{IsShaped-prop}
 use Rattle.sqlite_trees.specs.Tree.{Trees}

@@ -22,6 +22,7 @@ use Rattle.vend_ports.specs.declared.command_end.CommandEnd.TheVariants as how
 abbrev pub export_from : List Sale → ℕ → List ℕ
 export_from sales page = export_of (page == 0) (drop (page * 1000) sales)
 
+-- sales behind others are exported behind them, without the names of the columns
 abbrev pub PagesLaw : Type 0
 PagesLaw = (header : Bool) (front back : List Sale) → export_of header (front ++ back) ≡ export_of header front ++ export_of false back
 
@@ -38,6 +39,7 @@ page_split law sales page =
     ∙ ap (λ l. text ++ export_of false l) further
     ∙ ap (λ b. text ++ export_of b (drop ((page + 1) * 1000) sales)) (sym later)
 
+-- an export of no sales without the names of the columns is empty
 pub export_none : (header : Bool) → header ≡ false → export_of header [] ≡ []
 unfolding export_of
 export_none true later = cc
@@ -59,6 +61,7 @@ pub record SoFar (old now : Seen) (before after : Sink) (page : ℕ) (front : Li
   pub reads : AreOnlyRead old now
   pub stopped : now.stopped ≡ old.stopped
 
+-- before the first page nothing was printed, and the books were not read
 pub no_pages : (books : Seen) (before : Sink) → SoFar books books before before 0 []
 no_pages books before = record { put = takes_none before; left = λ clean life kept. refl; reads = read_none books; stopped = refl }
 
@@ -81,6 +84,7 @@ module _ (old mid new : Seen) (before part after : Sink) (page : ℕ) (front : L
       ∙ ap (λ l. front ++ l) (sym (page_split law all page))
       ∙ so_far.left (reads.clean clean) life kept
 
+  -- a page was printed and another follows it: the export is printed up to that one
   pub page_more : (page_put : IsPage mid new page part after (Ok true)) → SoFar old new before after (page + 1) (front ++ export_of (page == 0) page_put.0)
   page_more put = record {
     put = takes_next before part after front (export_of (page == 0) put.0) so_far.put put.2;
@@ -89,6 +93,7 @@ module _ (old mid new : Seen) (before part after : Sink) (page : ℕ) (front : L
     stopped = put.4 ∙ so_far.stopped;
   }
 
+  -- the last page was printed: the export is done, and whole where no write failed
   pub page_last : (err : Sink) (more : Bool) → more ≡ false → IsPage mid new page part after (Ok more)
       → IsExported old new (outputs before after err err) how.Done
   page_last err more none put =
@@ -108,6 +113,7 @@ module _ (old mid new : Seen) (before part after : Sink) (page : ℕ) (front : L
         reads = read_then old mid new so_far.reads reads;
       }
 
+  -- a page was refused: the pages before it were printed, and then the refusal
   pub page_refused : (err told : Sink) (refusal : Refusal) → IsPage mid new page part after (Err refusal) → Takes err told (refusal_line refusal)
       → IsExported old new (outputs before after err told) how.Refused
   page_refused err told refusal same says =

@@ -223,6 +223,7 @@ module _ {D : Type 0} {g : Ghosts D} where
         survives = survives_both (Err e) looks;
       }
 
+    -- the audit of a file is that of its database, and of its shifts where it looked at them
     pub audit_of_file : (found told : Result Audited AuditFault) → IsAuditOf given (file_state first) (file_state read) found
         → LooksAtShifts read last found told
         → IsAuditOfFile given first last told

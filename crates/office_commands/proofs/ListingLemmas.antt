@@ -87,6 +87,7 @@ pub record ListedSoFar (moment : ℕ) (list : Listed) (json : Bool) (old now : S
   pub reads : AreOnlyRead old now
   pub stopped : now.stopped ≡ old.stopped
 
+-- before the first page nothing was printed, and the books were not read
 pub no_pages : (moment : ℕ) (list : Listed) (json : Bool) (books : Seen) (before : Sink) → ListedSoFar moment list json books books before before list 0 []
 no_pages moment list json books before = record {
   put = takes_none before;
@@ -109,6 +110,7 @@ module _ (moment : ℕ) (list : Listed) (json : Bool) (old mid new : Seen) (befo
       let text = ap (λ n. pages_text json pages ++ page_text json (n == 0) found) (sym so_far.count) ∙ more_text json pages found in
       takes_as before after _ _ text (takes_next before part after (pages_text json pages) (page_text json (page == 0) found) so_far.put put)
 
+  -- a page was printed and a list follows it: there is one page more
   pub page_more : (behind : Listed) (put : IsListPage moment next json (page == 0) mid new part after (Ok (Some behind)))
       → ListedSoFar moment list json old new before after behind (page + 1) (pages ++ put.0 ∷ [])
   page_more behind put =
@@ -122,6 +124,7 @@ module _ (moment : ℕ) (list : Listed) (json : Bool) (old mid new : Seen) (befo
         stopped = put.4 ∙ so_far.stopped;
       }
 
+  -- a page that no list follows was printed: the list ends as done
   pub page_last : (err : Sink) (behind : Option Listed) → behind ≡ None
       → IsListPage moment next json (page == 0) mid new part after (Ok behind) → IsListed moment list json old new (outputs before after err err) how.Done
   page_last err behind none put = record {
@@ -136,6 +139,7 @@ module _ (moment : ℕ) (list : Listed) (json : Bool) (old mid new : Seen) (befo
     reads = read_then old mid new so_far.reads reads;
   }
 
+  -- a page was refused: the pages before it were printed, and then the refusal
   pub page_refused : (err told : Sink) (refusal : Refusal) → IsListPage moment next json (page == 0) mid new part after (Err refusal)
       → Takes err told (refusal_line refusal)
       → IsListed moment list json old new (outputs before after err told) how.Refused

@@ -40,6 +40,7 @@ pub record FactsAt (o : Office) (today : ℕ) (rows : List Row) (fs : List RowFa
   pub found : slice_get fs i ≡ Some (row_facts o row)
   pub rest : (row_decision o today row ≡ Err refusals.Differs) ⊎ AreRowsFacts o today (drop (i + 1) rows) (drop (i + 1) fs)
 
+-- the facts of the row at a place are found there, and those of the rows after it follow
 pub facts_at : (o : Office) (today : ℕ) (rows : List Row) (fs : List RowFacts) (i : ℕ) (row : Row) → i < length rows → row
     ≡ get_or rows i row → AreRowsFacts o today (drop i rows) (drop i fs) → FactsAt o today rows fs i row
 facts_at o today rows fs i row within is facts =
@@ -65,6 +66,7 @@ get_copied (Some x) xs i there is = let within : i < length xs = grind (arith, n
 abbrev pub taken_more : List Row → Row → Change → List Row
 taken_more taken row change = taken ++ (if is_some change.edit then row ∷ [] else [])
 
+-- the office with the rows taken, and this one if new, is the one after its decision
 pub office_more : (taken : List Row) (row : Row) (change : Change) (o : Office) → Grants (with_rows taken o) row change
     → with_rows (taken_more taken row change) o ≡ office_after (with_rows taken o) (Ok change)
 office_more taken row change o (inl (none, same)) =
@@ -83,6 +85,7 @@ module _ (o : Office) (today : ℕ) (rows : List Row) (taken : List Row) (i : �
   at_this : new_rows o today 1 rows ≡ ahead taken (new_rows (with_rows taken o) today (i + 1) (row ∷ drop (i + 1) rows))
   at_this = invariant ∙ ap (λ (l : List Row). ahead taken (new_rows (with_rows taken o) today (i + 1) l)) (rows_at rows i row within is)
 
+  -- the import's new rows are those taken so far and those of the rows to come
   pub walks_on : (change : Change) → row_decision (with_rows taken o) today row ≡ Ok change
       → new_rows o today 1 rows ≡ ahead (taken_more taken row change)
       (new_rows (with_rows (taken_more taken row change) o) today (i + 1 + 1) (drop (i + 1) rows))
@@ -96,6 +99,7 @@ module _ (o : Office) (today : ℕ) (rows : List Row) (taken : List Row) (i : �
       ∙ ap (λ (q : Office). ahead (taken_more taken row change) (new_rows q today (i + 1 + 1) (drop (i + 1) rows)))
       (sym (office_more taken row change o (row_grants p today row change granted)))
 
+-- tariffs and meters still stay when one row more is taken
 pub stays_on : (o : Office) (today : ℕ) (taken : List Row) (row : Row) (change : Change) → HaveStayed o (with_rows taken o)
     → row_decision (with_rows taken o) today row ≡ Ok change → HaveStayed o (with_rows (taken_more taken row change) o)
 stays_on o today taken row change stayed granted =
@@ -127,6 +131,7 @@ module _ (o : Office) (today : ℕ) (rows : List Row) (taken : List Row) (i : �
   in_office : (r : Result Bool Refusal) → taken ≡ [] → is_new (row_decision (with_rows taken o) today row) ≡ r → is_new (row_decision o today row) ≡ r
   in_office r none new = subst (λ (l : List Row). is_new (row_decision (with_rows l o) today row) ≡ r) none new
 
+  -- a row that is found new here is one for which the import has a new row
   pub new_here : SeesNew o today rows taken i → is_new (row_decision (with_rows taken o) today row) ≡ Ok true → HasNewRow o today rows
   new_here (inl has) new = has
   new_here (inr (none, back)) new = from_here back (inl (in_office (Ok true) none new))
@@ -137,6 +142,7 @@ module _ (o : Office) (today : ℕ) (rows : List Row) (taken : List Row) (i : �
   sees_after true (inr (none, back)) new = inl (from_here back (inl (in_office (Ok true) none new)))
   sees_after false (inr (none, back)) new = inr (append-nil taken ∙ none, λ rest. from_here back (inr (in_office (Ok false) none new, rest)))
 
+  -- what is known of a new row so far is known with one row further
   pub sees_further : (change : Change) → SeesNew o today rows taken i → row_decision (with_rows taken o) today row ≡ Ok change
       → SeesNew o today rows (taken_more taken row change) (i + 1)
   sees_further change sees granted = sees_after (is_some change.edit) sees (ap is_new granted)

@@ -27,6 +27,7 @@ none_here : {A : Type 0} (o : Option (Bor A)) → is_some o ≡ false → option
 none_here None none = refl
 none_here (Some x) none = cc
 
+-- where a look-up by a key gives nothing, nothing is under its bytes
 pub none_under : {A : Type 0} (m : BTreeMap (Bor (List ℕ)) (Bor A)) (key name : List ℕ)
     → is_some (get_by (λ k. slice_cmp nat_cmp key k.now) m) ≡ false → key ≡ name → under m name ≡ None
 none_under m key name none same = ap (λ (k : List ℕ). under m k) (sym same) ∙ none_here (get_by (λ k. slice_cmp nat_cmp key k.now) m) none
@@ -50,6 +51,7 @@ bytes_eq-turned a b false false e f = refl
 bytes_eq-turned a b true false e f = sym ((bytes_eq-Decides b a).1 (sym ((bytes_eq-Decides a b).0 e))) ∙ f
 bytes_eq-turned a b false true e f = sym e ∙ (bytes_eq-Decides a b).1 (sym ((bytes_eq-Decides b a).0 f))
 
+-- a row put under a name is what is found there, and the other names keep theirs
 pub put_under : {A : Type 0} (m n : BTreeMap (Bor (List ℕ)) (Bor A)) (key : Bor (List ℕ)) (x : Bor A) (name : List ℕ)
     → Updates (λ (a b : Bor (List ℕ)). slice_cmp nat_cmp a.now b.now) m n key (Some x) → key.now ≡ name
     → (q : List ℕ) → under n q ≡ (if bytes_eq q name then Some x.now else under m q)
@@ -75,6 +77,7 @@ both_equal Greater b = refl
 days_turned : (a b : ℕ) → (a == b) ≡ (b == a)
 days_turned a b = grind (arith, nat_tests)
 
+-- steps put under a name and a day are found there, and the others stay
 pub put_dated : {A : Type 0} (m n : BTreeMap (Bor (List ℕ) × ℕ) (Bor A)) (key : Bor (List ℕ) × ℕ) (x : Bor A) (name : List ℕ) (day : ℕ)
     → Updates (λ (a b : Bor (List ℕ) × ℕ). ordering_then (slice_cmp nat_cmp a.0.now b.0.now) (nat_cmp a.1 b.1)) m n key (Some x)
     → key.0.now ≡ name → key.1 ≡ day
@@ -94,6 +97,7 @@ or_put : {A : Type 0} (b : Bool) (x : A) (taken there then_there : Option A) →
 or_put true x taken there then_there found = refl
 or_put false x taken there then_there found = found
 
+-- with one row more put, a look-up still finds what was put or what the office had
 pub found_put : {A : Type 0} (b : Bool) (x : A) (taken now there later : Option A) → later ≡ (if b then Some x else taken)
     → now ≡ option_or taken there → (if b then Some x else now) ≡ option_or later there
 found_put {A} b x taken now there later put found =

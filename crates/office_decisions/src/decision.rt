@@ -3,8 +3,11 @@ ghost use Rattle.std.specs.Prelude.{◌≡◌, ◌≢◌, IsSome, Ok, Err, Some,
 ghost use Rattle.std.specs.Option.{option_copied};
 ghost use Rattle.sts_fields.specs.Base.{base_date};
 ghost use Rattle.sts_fields.specs.Day.{day_at};
-ghost use Rattle.office_rules.specs.Decision.{add_meter, add_steps, add_tariff, close_shift, decision, is_new, move_base, next_number, open_a_shift, reprint, sell, sell_again, set_tariff};
-ghost use Rattle.office_rules.specs.Decision.Facts.{AreFacts, IsUnlessMemory, TakesMemory, report_found};
+ghost use Rattle.office_rules.specs.Decision.{add_meter, add_steps, add_tariff, close_shift};
+ghost use Rattle.office_rules.specs.Decision.{decision, is_new, move_base, next_number};
+ghost use Rattle.office_rules.specs.Decision.{open_a_shift, reprint, sell, sell_again, set_tariff};
+ghost use Rattle.office_rules.specs.Decision.Facts.{AreFacts, IsUnlessMemory, TakesMemory};
+ghost use Rattle.office_rules.specs.Decision.Facts.{report_found};
 ghost use Rattle.office_rules.specs.Office.{Office};
 
 use additions::{is_new_meter, is_new_steps, is_new_tariff};

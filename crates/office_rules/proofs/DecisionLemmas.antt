@@ -35,10 +35,12 @@ pub after_test : {A B : Type 0} (P : Result B Refusal → Type 0) (r : Result A 
 after_test P (Ok x) f refused granted = granted x refl
 after_test P (Err refusal) f refused granted = refused refusal
 
+-- a value that passed the test for being there was there
 pub ok_or_ok : {A : Type 0} (o : Option A) (refusal : Refusal) (x : A) → ok_or o refusal ≡ Ok x → o ≡ Some x
 ok_or_ok None refusal x e = cc
 ok_or_ok (Some y) refusal x e = cc
 
+-- a value that was not refused for a fault of identifiers was had without a fault
 pub or_refusal_ok : {A : Type 0} (r : Result A TidFault) (x : A) → or_refusal r ≡ Ok x → r ≡ Ok x
 or_refusal_ok (Ok y) x e = cc
 or_refusal_ok (Err fault) x e = cc
@@ -48,6 +50,7 @@ room_at : (count number : ℕ) (b : Bool) → b ≡ nat_lt count greatest_count 
 room_at count number true is e = (grind (arith, nat_tests), cc)
 room_at count number false is e = cc
 
+-- a next number is given only below the greatest count, and is one more
 pub next_number_ok : (count number : ℕ) → next_number count ≡ Ok number → (count < greatest_count) × (number ≡ count + 1)
 next_number_ok count number e = room_at count number (nat_lt count greatest_count) refl e
 
@@ -69,9 +72,11 @@ sale_made forward moment nibble order opened facts tid buy number = record {
   digits = token_of forward facts.meter.key (record { rnd = nibble; tid = tid; tenths = buy.tenths });
 }
 
+-- the change that adds a sale and answers with it
 abbrev pub sale_change : Sale → Change
 sale_change s = record { edit = Some (edits.AddSale s); answer = answers.Sold s }
 
+-- two granted results that are the same grant the same
 pub same_Ok : {A : Type 0} (x y : A) → ◌≡◌ {A = Result A Refusal} (Ok x) (Ok y) → x ≡ y
 same_Ok x y e = cc
 
@@ -98,6 +103,7 @@ made_is : (forward : ℕ → ℕ → ℕ) (moment nibble : ℕ) (order : Order) 
 made_is forward moment nibble order opened facts tid buy number next change e is =
     sym (same_Ok _ _ e) ∙ ap (λ n. sale_change (sale_made forward moment nibble order opened facts tid buy n)) is
 
+-- a sale that is granted passed each test, and is made of what it found there
 pub sell_ok : (forward : ℕ → ℕ → ℕ) (moment nibble : ℕ) (order : Order) (shift : Option Shift) (meter : Option MeterAccount) (count : ℕ)
     (change : Change) → sell forward moment nibble order shift meter count ≡ Ok change → Selling forward moment nibble order shift meter count change
 sell_ok forward moment nibble order shift meter count change e =

@@ -104,6 +104,7 @@ module _ (o : Office) (office : IsOffice o) where
   by_move_base number base moment None at = office
   by_move_base number base moment (Some m) at = by_later number base moment m (base_eq m.base base) (is_earlier base m.base) at refl
 
+  -- whatever is decided on a row of an import leads to an office
   pub by_row : (today : ℕ) (row : Row) → IsRow row → IsOffice (office_after o (row_decision o today row))
   by_row today (kinds.Tariff name steps) is = by_add_tariff name steps (o.tariffs name) is.0 is.1
   by_row today (kinds.Steps name day steps) is = by_add_steps name day today steps (is_some (o.tariffs name)) (o.dated_steps name day) refl is.1 is.2
@@ -143,6 +144,7 @@ module _ (o : Office) (office : IsOffice o) where
       let u = used_by a order.meter new.to_meter.base there (same_meter ∙ new.meter) (same_base ∙ new.base) in
       All-contains (λ u. u < s.tid) (used o order.meter new.to_meter.base) a.tid new.tid.0.may_sell.above_used u
 
+  -- a new sale under a ref not used before comes after each sale that stands
   pub after_sales : (forward : ℕ → ℕ → ℕ) (at : Stamped) (order : Order) (s a : Sale) → sale_of_ref o order.operator order.order_ref ≡ None
       → IsNewSale forward o at order s → Contains o.sales a → IsBefore a s
   after_sales forward at order s a alone new there = record {

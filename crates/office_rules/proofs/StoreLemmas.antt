@@ -35,6 +35,7 @@ last_is_one ns (Some a) (Some b) x y =
     let above : b ≤ a = All-contains (λ u. u ≤ a) ns b x.1 y.0 in
     ap (λ (k : ℕ). let o : Option ℕ = Some k in o) (omega arith)
 
+-- the last of some identifiers is exactly the greatest of them
 pub last_is_greatest : (ns : List ℕ) (last : Option ℕ) → IsLast ns last ↔ (last ≡ greatest_of ns)
 last_is_greatest ns last = (
   λ is. last_is_one ns last (greatest_of ns) is (greatest_is_last ns),
@@ -53,6 +54,7 @@ same_base Y2035 Y1993 e = cc
 same_base Y2035 Y2014 e = cc
 same_base Y2035 Y2035 e = refl
 
+-- whether a sale is to a meter and under a base
 abbrev pub is_to : List ℕ → Base → Sale → Bool
 is_to number base s = bytes_eq s.meter number && base_eq s.base base
 
@@ -66,6 +68,7 @@ used_from o number base tid there =
     let p = parts_true _ _ from.1 in
     (at.0, from.0, (bytes_eq-Decides _ _).0 p.0, same_base _ _ p.1, at.2)
 
+-- the identifier of a meter's last sale under a base is the greatest one used
 pub last_sale_is : (o : Office) (number : List ℕ) (base : Base) (s : Sale) → IsOffice o
     → IsLastSale o number base s → greatest_of (used o number base) ≡ Some s.tid
 last_sale_is o number base s office is =
@@ -77,6 +80,7 @@ last_sale_is o number base s office is =
           omega (arith, below, from.4)),
     ))
 
+-- the greatest identifier used of a meter under a base is its last sale's
 pub last_is_of_a_sale : (o : Office) (number : List ℕ) (base : Base) (tid : ℕ) → IsOffice o
     → greatest_of (used o number base) ≡ Some tid
     → (s : Sale) × IsLastSale o number base s × (s.tid ≡ tid)
@@ -100,6 +104,7 @@ empty_if_none : (ns : List ℕ) → ((n : ℕ) → Contains ns n → ⊥) → ns
 empty_if_none [] none = refl
 empty_if_none (n ∷ ns) none = absurd (none n (contains_first n ns))
 
+-- no identifier is used where no sale is to the meter under the base
 pub no_last_sale_is : (o : Office) (number : List ℕ) (base : Base)
     → ((s : Sale) → Contains o.sales s → s.meter ≡ number → s.base ≢ base)
     → greatest_of (used o number base) ≡ None
@@ -161,6 +166,7 @@ one_open_shift o name s t office s_there t_there s_passes t_passes =
       | inr (inr after) ↦ absurd (after t_is.1 s_is.1 (t_is.0 ∙ sym s_is.0))
     ]
 
+-- the shift found for an operator is exactly the open one
 pub open_shift_is : (o : Office) (name : List ℕ) (s : Shift) → IsOffice o
     → (open_shift o name ≡ Some s) ↔ IsOpenShift o name s
 open_shift_is o name s office =
@@ -172,6 +178,7 @@ open_shift_is o name s office =
       λ is. finds.1 (is.stands, passes_open_shift name s is.operator is.still_open),
     )
 
+-- no shift is found for an operator exactly where none is open
 pub no_open_shift_is : (o : Office) (name : List ℕ)
     → (open_shift o name ≡ None) ↔ ((s : Shift) → ¬ IsOpenShift o name s)
 no_open_shift_is o name =
@@ -183,6 +190,7 @@ no_open_shift_is o name =
 
 -- rows by their numbers
 module _ {X : Type 0} (number : X → ℕ) (xs : List X) where
+  -- a row is found under a number exactly where it stands and has that number
   pub numbered_is : AreNumbered number xs → (n : ℕ) (x : X)
       → (find (λ y. number y == n) xs ≡ Some x) ↔ (Contains xs x × (number x ≡ n))
   numbered_is numbered n x =
@@ -194,6 +202,7 @@ module _ {X : Type 0} (number : X → ℕ) (xs : List X) where
         λ is. finds.1 (is.0, (Decides-eqb (number x) n).1 is.1),
       )
 
+  -- nothing is found under a number exactly where no row has it
   pub no_number_is : (n : ℕ)
       → (find (λ y. number y == n) xs ≡ None) ↔ ((x : X) → Contains xs x → number x ≢ n)
   no_number_is n =
@@ -217,6 +226,7 @@ module _ {X : Type 0} (number : X → ℕ) (xs : List X) where
       let place : there.0 ≡ n - 1 = omega (arith, numbered there.0 x here) in
       let both = sym at ∙ ap (λ i. slice_get xs i) (sym place) ∙ here in cc)
 
+  -- the row of a number is the one at that place in the list
   pub row_at : AreNumbered number xs → (n : ℕ) → 1 ≤ n
       → find (λ y. number y == n) xs ≡ slice_get xs (n - 1)
   row_at numbered n from_one = row_at_place numbered n (slice_get xs (n - 1)) refl from_one
@@ -235,6 +245,7 @@ passes_under_ref : (name order_ref : List ℕ) (s : Sale) → s.operator ≡ nam
 passes_under_ref name order_ref s operator under =
     both_true _ _ ((bytes_eq-Decides _ _).1 operator) ((bytes_eq-Decides _ _).1 under)
 
+-- the sale found under an operator's ref is exactly the one made under it
 pub sale_of_ref_is : (o : Office) (name order_ref : List ℕ) (s : Sale) → IsOffice o
     → (sale_of_ref o name order_ref ≡ Some s) ↔ IsUnderRef o name order_ref s
 sale_of_ref_is o name order_ref s office =
@@ -248,6 +259,7 @@ sale_of_ref_is o name order_ref s office =
       λ is. finds.1 (is.stands, passes_under_ref name order_ref s is.operator is.order_ref),
     )
 
+-- no sale is found under an operator's ref exactly where none was made under it
 pub no_sale_of_ref_is : (o : Office) (name order_ref : List ℕ)
     → (sale_of_ref o name order_ref ≡ None) ↔ ((s : Sale) → ¬ IsUnderRef o name order_ref s)
 no_sale_of_ref_is o name order_ref =

@@ -5,13 +5,16 @@ pub mod Fold
 pub mod Refusals
 pub mod Requests
 pub mod RowCauses
-use Rattle.std.specs.Prelude.{ℕ, ◌+◌, ◌&&◌, ◌==◌, Bool, true, false, List, [], ◌∷◌, length, nat_lt, if◌then◌else◌, Option, Some, None, Result, Ok, Err, is_some, option_map, bytes_eq}
+use Rattle.std.specs.Prelude.{ℕ, ◌+◌, ◌&&◌, ◌==◌, Bool, true, false, List, [], ◌∷◌, length, nat_lt}
+use Rattle.std.specs.Prelude.{if◌then◌else◌, Option, Some, None, Result, Ok, Err, is_some}
+use Rattle.std.specs.Prelude.{option_map, bytes_eq}
 use Rattle.std.specs.Option.{ok_or}
 use Rattle.sts_fields.specs.Calendar.{month_at}
 use Rattle.sts_fields.specs.Day.{day_at}
 use Rattle.sts_fields.specs.Tid.{fresh_after, minute_of}
 use Rattle.sts_fields.specs.declared.fault.TidFault.{TidFault}
-use Rattle.sts_fields.specs.declared.fault.TidFault.TheVariants.{BeforeBase, PastEnd, IdentifiersSpent, IdentifierAhead}
+use Rattle.sts_fields.specs.declared.fault.TidFault.TheVariants.{BeforeBase, PastEnd}
+use Rattle.sts_fields.specs.declared.fault.TidFault.TheVariants.{IdentifiersSpent, IdentifierAhead}
 use Rattle.sts_token.specs.Token.{BlockFunction, token_of}
 use Rattle.tariff.specs.Purchase.{purchase_of}
 pub use Rattle.tariff.specs.StepsEq.{step_eq, steps_eq}
@@ -19,7 +22,9 @@ use Rattle.tariff.specs.declared.step.Step.{Step}
 use Rattle.office_rules.specs.Decision.Edits.{office_after}
 use Rattle.sts_fields.specs.Base.{base_date, base_eq, year_of}
 use Rattle.sts_fields.specs.declared.base.Base.{Base}
-use Rattle.office_rules.specs.Office.Lookup.{greatest_of, open_shift, prior, sale_numbered, sale_of_ref, sales_of_shift, shift_numbered, steps_on, used}
+use Rattle.office_rules.specs.Office.Lookup.{greatest_of, open_shift, prior, sale_numbered}
+use Rattle.office_rules.specs.Office.Lookup.{sale_of_ref, sales_of_shift, shift_numbered, steps_on}
+use Rattle.office_rules.specs.Office.Lookup.{used}
 use Rattle.office_rules.specs.Office.{Office, greatest_count}
 use Rattle.office_rules.specs.declared.decision.answer.Answer.{Answer}
 use Rattle.office_rules.specs.declared.decision.answer.Answer.TheVariants as answers

@@ -1,7 +1,8 @@
 -- The office: what it holds, and what all that it holds keeps.
 pub mod Lookup
 pub mod Rows
-use Rattle.std.specs.Prelude.{◌≡◌, ◌≢◌, ℕ, ◌+◌, ◌^◌, ◌<◌, ◌≤◌, Bool, true, false, List, [], length, Option, Some, None, IsSome, IsNone, All, AllPairs, slice_get}
+use Rattle.std.specs.Prelude.{◌≡◌, ◌≢◌, ℕ, ◌+◌, ◌^◌, ◌<◌, ◌≤◌, Bool, true, false, List, [], length}
+use Rattle.std.specs.Prelude.{Option, Some, None, IsSome, IsNone, All, AllPairs, slice_get}
 use Rattle.sts_fields.specs.Amount.{IsRepresentable}
 use Rattle.sts_fields.specs.Base.{year_of}
 use Rattle.sts_fields.specs.Day.{IsDay}

@@ -52,5 +52,6 @@ module _ (s : Schema) (at : ℕ) (t : Table) (listed : slice_get s.tables at ≡
       by_place None h some = absurd (true≢false (sym some))
       by_place (Some k) h some = record { slot = 1; at = k; place = at; other = 0; found = found_here c k h; found_there = found_there c k h; tables = listed }
 
+  -- the bare columns of a table are the same here and where the table stands alone
   pub alike : AreAlike (bare t) here there
   alike = record { finds = finds_bare; affine = of_column_same; aggregates = refl }

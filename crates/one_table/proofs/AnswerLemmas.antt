@@ -19,6 +19,7 @@ use Rattle.one_table.specs.declared.read_fault.ReadFault.TheVariants.{Database a
 use Rattle.one_table.specs.ReadFaults.{OnlyWhere}
 use Rattle.one_table.specs.Answer.{OnlyAsks, IsLeft, FailsToRead}
 
+-- one more row that reads as a value, behind those that were read so far
 pub read_push : {X : Type 0} (R : Row → X → Type 0) (rows : List Row) (xs : List X) (row : Row) (x : X) → AllZip R rows xs → R row x
     → AllZip R (rows ++ row ∷ []) (xs ++ x ∷ [])
 read_push R [] [] row x all here = (here, tt)
@@ -43,6 +44,7 @@ rolled_back_then old mid new same back = record {
   counts = record { changes = back.counts.changes ∙ same.1.changes; last_rowid = back.counts.last_rowid ∙ same.1.last_rowid };
 }
 
+-- what is left of a connection that was first unchanged is left of it as it was before
 pub left_then : (old mid new : State) → IsUnchanged old mid → IsLeft mid new → IsLeft old new
 left_then old mid new same (inl kept) = inl (unchanged_then old mid new same kept)
 left_then old mid new same (inr back) = inr (rolled_back_then old mid new same back)
@@ -80,6 +82,7 @@ module _ (sql : List ℕ) (params : Row) (old mid new : State) (same : IsUnchang
     none_shown : (c : _) → IsStatement mid sql params c → (c.returning ≡ None)
     none_shown c it = (subst IsPlain (statement_before c it).is plain).0
 
+    -- rows shown after a step that changed nothing are shown of what was there before it
     pub shown_before : (rows : List Row) → Shown sql params mid new rows → Shown sql params old new rows
     unfolding Shown
     shown_before rows h =
@@ -92,6 +95,7 @@ module _ (sql : List ℕ) (params : Row) (old mid new : State) (same : IsUnchang
               (it.0, subst (λ (d : Database). IsSourceOf (reads_listing d.schema sql) d it.0) same.0.now_is it.1, it.2, unchanged_then old mid new same it.3),
         )
 
+    -- a query that fails after such a step fails on what was there before it
     pub fails_before : (e : Error) → old.faults ≤ mid.faults → mid.step_limit ≡ old.step_limit → FailsToQuery sql params mid new e
         → FailsToQuery sql params old new e
     unfolding FailsToQuery
@@ -111,12 +115,14 @@ module _ (sql : List ℕ) (params : Row) (old mid new : State) (same : IsUnchang
         )
 
 module _ (sql : List ℕ) (params : Row) (old new : State) (plain : IsPlain (understood old.now.schema sql)) where
+  -- a text that only asks changes nothing where it shows rows
   pub shown_same : (rows : List Row) → Shown sql params old new rows → IsUnchanged old new
   unfolding Shown
   shown_same rows h =
       let none = (subst IsPlain h.1.is plain).0 in
       (subst (ShowsRows old new sql h.0 (timed params h.0.formats h.1.now) rows) none h.2).3
 
+-- a text that was not run leaves all as it was, or its transaction is undone
 pub not_run_left : (sql : List ℕ) (params : Row) (old new : State) (e : Error) → IsNotRun old new sql params e → IsLeft old new
 unfolding IsNotRun
 not_run_left sql params old new e (inl h) = inl h.1
@@ -127,6 +133,7 @@ pub failed_not_run : (sql : List ℕ) (params : Row) (old new : State) (e : Erro
 unfolding IsNotRun
 failed_not_run sql params old new e h = inr h
 
+-- a text that was not run fails as a query
 pub not_run_fails : (sql : List ℕ) (params : Row) (old new : State) (e : Error) → IsNotRun old new sql params e → FailsToQuery sql params old new e
 unfolding FailsToQuery
 not_run_fails sql params old new e h = inl h
@@ -169,6 +176,7 @@ pub record HasAsked {V : Type 0} (items : V → List Row) (sql : List ℕ) (para
   pub kept : OnErr r (IsLeft old new)
   pub faults : IfErr r (FailsToQuery sql params old new)
 
+-- a text that only asks, compiled first and run then, leaves what one query leaves
 pub has_asked : {V : Type 0} (items : V → List Row) (sql text : List ℕ) (params : Row) (old mid new : State) (r : Result V Error)
     → OnlyAsks sql old → text ≡ sql → IsUnchanged old mid → Survives old mid (λ _. ⊥)
     → IfOk r (λ v. Shown text params mid new (items v)) → IfErr r (FailsToQuery text params mid new) → HasAsked items sql params old new r
@@ -181,6 +189,7 @@ has_asked items sql text params old mid new (Err e) asks is same kept none h =
     let fails = fails_before sql params old mid new same plain e kept.counts kept.limit (rw is at h) in
     record { given = tt; same = tt; kept = fails_left sql params old new e fails; faults = fails }
 
+-- a row that is refused for one reason is refused for each that follows from it
 pub only_where : {A B : Type 0} (why : ReadFault) → (A → B) → OnlyWhere A why → OnlyWhere B why
 only_where why implies (inl none) = inl none
 only_where why implies (inr bad) = inr (bad.0, implies bad.1)

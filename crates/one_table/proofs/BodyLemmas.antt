@@ -53,6 +53,7 @@ module _ (known : Known) (here there : Context) (alike : AreAlike known here the
   unfolding shown
   output_same inside outside done x h = output_at_same inside outside done (out-Shown x) h
 
+  -- the columns that a query shows are the same here and there
   pub outputs_same : (inside outside : List Bound) (done : List Output) (all : List Shown) → list_all (is_simple_output known) all ≡ true
       → outputs_from lower here inside done all ≡ outputs_from lower there outside done all
   outputs_same inside outside done [] h = refl
@@ -61,6 +62,7 @@ module _ (known : Known) (here there : Context) (alike : AreAlike known here the
 
   -- ---- WHERE and ORDER BY
 
+  -- the tests of WHERE are the same here and there
   pub tests_same : (done : List Term) (o : Option Expr) → is_simple_or_absent known o ≡ true → tests lower here done o ≡ tests lower there done o
   unfolding tests
   tests_same done None h = refl
@@ -80,6 +82,7 @@ module _ (known : Known) (here there : Context) (alike : AreAlike known here the
   unfolding sort
   sort_same outputs done x h = rw (aliased_same outputs (peeled (out-Sort x).key) (alias_in outputs (peeled (out-Sort x).key)) h)
 
+  -- the terms of ORDER BY are the same here and there
   pub sorts_same : (outputs : List Output) (done : List (Term × Key)) (all : List Sort) → list_all (is_simple_sort known) all ≡ true
       → sorts_from lower here outputs done all ≡ sorts_from lower there outputs done all
   sorts_same outputs done [] h = refl

@@ -10,10 +10,12 @@ either : (b : Bool) (x : Value) → cond b x x ≡ x
 either true x = refl
 either false x = refl
 
+-- an INTEGER column keeps a whole number as it is
 pub cast_int : (n : ℤ) → cast Integer (Int n) ≡ Int n
 unfolding unary
 cast_int n = either _ (Int n)
 
+-- an INTEGER column keeps NULL as it is
 pub cast_no_int : cast Integer Null ≡ Null
 unfolding unary
 cast_no_int = either _ Null

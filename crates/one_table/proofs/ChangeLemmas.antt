@@ -30,6 +30,7 @@ pub went : {B E R : Type 0} {b : B} {Stops : E → Type 0} → ((stop : E) × St
 went (inl stopped) = absurd (let e = stopped.2 in cc)
 went (inr on) = on
 
+-- successes that are equal have equal values
 pub same_value : {B E : Type 0} {a b : B} → ◌≡◌ {A = Result B E} (Ok a) (Ok b) → a ≡ b
 same_value e = cc
 
@@ -45,6 +46,7 @@ pub record HasWritten (t : Table) (returning : Option Returning) (command : Comm
   pub shows : Returns (task_on old params t) written returning (Ok shown)
   pub now_is : new.now ≡ record { schema = old.now.schema; trees = written.trees }
 
+-- a command that ran on the rows of a table wrote rows, and shows what RETURNING says
 pub has_written : (t : Table) (at : ℕ) (returning : Option Returning) (command : Command) (params : Row) (old new : State) (tally : Tally)
     → slice_get old.now.schema.tables at ≡ Some t
     → AtPlace (λ table. OnRows (task_on old params table) (mode_of old) returning command old.now.trees)
@@ -83,6 +85,7 @@ has_changed t edit command text params count old new h is applies inside w =
 
 -- what ran inside a transaction, from the text's meaning
 module _ (sql : List ℕ) (params : Row) (old new : State) (command : Command) (means : IsTrue old.is_open → Means old.now.schema sql command) where
+  -- a text executed inside a transaction ran as its command, and nothing was committed
   pub ran_inside : (count : ℕ) → ExecutesInside 0 sql params old new (Ok count)
       → Means old.now.schema sql command × Runs old new None command (statement_of sql (understood old.now.schema sql)) params count
       × Shows old new new.now old.committed true
@@ -109,6 +112,7 @@ fails_to_run g sql params old new e ended runs = elim (cases_Bool old.in_transac
       })
 ]
 
+-- what follows from something known of a success is known of it too
 pub on_ok : {A E P Q : Type 0} (r : Result A E) → (P → Q) → OnOk r P → OnOk r Q
 on_ok (Ok a) f p = f p
 on_ok (Err e) f p = tt
@@ -118,10 +122,12 @@ pub all_ok : {A E P : Type 0} (r : Result A E) → P → OnOk r P
 all_ok (Ok a) p = p
 all_ok (Err e) p = tt
 
+-- what follows from something known of the error is known of it too
 pub if_err : {A E : Type 0} {P Q : E → Type 0} (r : Result A E) → ((e : E) → P e → Q e) → IfErr r P → IfErr r Q
 if_err (Ok a) f p = tt
 if_err (Err e) f p = f e p
 
+-- what follows from something known of the value is known of it too
 pub if_ok : {A E : Type 0} {P Q : A → Type 0} (r : Result A E) → ((a : A) → P a → Q a) → IfOk r P → IfOk r Q
 if_ok (Ok a) f p = f a p
 if_ok (Err e) f p = tt
@@ -131,9 +137,11 @@ pub told_as : {A E : Type 0} (P : E → Type 0) (r : Result A E) (f : E) → IsE
 told_as P (Ok a) f is p = tt
 told_as P (Err e) f is p = subst P (sym is) p
 
+-- a step that stays inside the transaction commits nothing
 pub keeps_inside : (old new : State) → Shows old new new.now old.committed true → KeepsCommit old new
 keeps_inside old new h = record { was_open = λ _. h.was_open; committed = λ _. h.committed_is }
 
+-- two steps that commit nothing, one after the other, commit nothing
 pub keeps_then : (a b c : State) → KeepsCommit a b → KeepsCommit b c → KeepsCommit a c
 keeps_then a b c p q = record { was_open = λ k. p.was_open (q.was_open k); committed = λ k. q.committed k ∙ p.committed (q.was_open k) }
 
@@ -145,6 +153,7 @@ keeps_failed sql params old new e (inr (inr ends)) = unchanged_keeps old new (in
 
 -- ---- statements one after another inside a transaction
 
+-- two steps that stay inside the transaction, one after the other, stay inside it
 pub stays_then : (old mid new : State) → StaysInside old mid → StaysInside mid new → StaysInside old new
 stays_then old mid new p q = record { was_open = p.was_open; is_open = q.is_open; now_is = refl; committed_is = q.committed_is ∙ p.committed_is; mode = q.mode }
 
@@ -173,6 +182,7 @@ module _ {T U E F : Type 0} {old new : State} where
 
 -- where it fails
 module _ {U F : Type 0} {old new : State} where
+  -- a part that failed and committed nothing leaves what any part of a transaction leaves
   pub transaction_off : (f : F) (r : Result U F) → IsErrAnd r (λ x. x ≡ f) → (HasCleanDisk new → IsUnderWay old → KeepsCommit old new)
       → Survives old new (λ _. ⊥) → KeepsTransaction old new r
   transaction_off f (Ok y) failed kept survives = absurd failed

@@ -206,6 +206,7 @@ makes_as old new sql c params count t is defined ran =
     let w : Writes old new None CreateTable sql params count = rw (is.returning, is.command, is.whole) at ran in
     made_by sql old.now new.now t defined w.sound (done_by old.step_limit (mode_of old) params old.now new.now sql w.tally w.changed)
 
+-- a text that creates a table, once executed, has made the table that it defines
 pub executes_as : (old new : State) (sql : List ℕ) (params : Row) (count : ℕ) (t : Table) → is_creation sql ≡ true → table_defined_by sql
     ≡ Ok t → Executes sql params old new (Ok count) → MakesTable t old.now new.now
 unfolding ExecutesIn

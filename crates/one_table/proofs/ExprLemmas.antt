@@ -67,6 +67,7 @@ module _ (known : Known) (here there : Context) (alike : AreAlike known here the
   no_alias_here : (table : Option Name) (c : Name) → known table c ≡ true → is_alias (find here table c) ≡ is_alias (find there table c)
   no_alias_here table c h = let f = alike.finds table c h in rw (f.found, f.found_there)
 
+  -- a known column has the same heading here and there
   pub heading_same_at : (table : Option Name) (text c : Name) → known table c ≡ true → heading_at here text (Expr-F.Column table c)
       ≡ heading_at there text (Expr-F.Column table c)
   unfolding declared
@@ -152,6 +153,7 @@ module _ (known : Known) (here there : Context) (alike : AreAlike known here the
     unfolding opened
     opened_same e h = layer_same (out-Expr e) h
 
+    -- what is done before and after the parts of an expression are lowered
     pub around : Expr → Lowering Term → Lowering Term
     around e part = do
       spend 1
@@ -164,6 +166,7 @@ module _ (known : Known) (here there : Context) (alike : AreAlike known here the
     unfolding node around
     node_same e h = ap (around e) (opened_same e h)
 
+  -- a simple expression is the same term here and there, at any depth
   pub lower_same : (depth n : ℕ) (e : Expr) → is_simple n known e ≡ true → lower_to depth here e ≡ lower_to depth there e
   unfolding lower_to
   lower_same zero n e h = refl

@@ -87,6 +87,7 @@ module _ {s : Schema} {sql : List ℕ} (q : Query) (names : List Name) (means : 
   refuses_plainly db is (inr (inl h)) same = absurd (never_overflows q t.tree from no_group (overlay db.trees []) params h.1)
   refuses_plainly db is (inr (inr h)) same = inr (h.0, h.1, same)
 
+  -- a whole SELECT over one table that fails does so for want of memory, the disk or the limit
   pub fails_plainly : is_whole sql (length params) ≡ true → FailsToQuery sql params old new e → FailsPlainly old new e
   unfolding FailsToQuery IsNotRun
   fails_plainly whole (inl (inl h)) = absurd (is_statement means params old new has e whole h.0)

@@ -110,6 +110,7 @@ module _ (s : Schema) (t : Table) (count : ℕ) where
           tables = last_is;
         })
 
+    -- in what an upsert sets, the names find the same here and where the table stands alone
     pub settings_alike : AreAlike (settable t count) here there
     settings_alike = record { finds = finds; affine = affine; aggregates = refl }
 
@@ -160,5 +161,6 @@ module _ (s : Schema) (t : Table) (count : ℕ) where
         tables = last_is;
       })
 
+  -- the same in what an upsert shows
   pub shown_alike : AreAlike (showable t count) shows_here shows_there
   shown_alike = record { finds = finds_shown; affine = shown_affine; aggregates = refl }

@@ -20,11 +20,13 @@ use Rattle.one_table.specs.Standing.{place_in, tree_in, key_of, keys_on, own_key
 -- ---- lists that grow at the end
 
 module _ {X : Type 0} where
+  -- the first place that passes stays the first
   pub position_stays : (p : X → Bool) (from at : ℕ) (xs ys : List X) → position_from p from xs ≡ Some at → position_from p from (xs ++ ys) ≡ Some at
   position_stays p from at [] ys h = absurd (cc)
   position_stays p from at (x ∷ xs) ys h = elim (cases_Bool (p x))
       [ inl is ↦ rw is (rw is at h) | inr not ↦ rw not (position_stays p (from + 1) at xs ys (rw not at h)) ]
 
+  -- where none passed before, what is put at the end is the first that passes
   pub position_next : (p : X → Bool) (from : ℕ) (xs : List X) (y : X) (ys : List X) → position_from p from xs ≡ None → p y ≡ true
       → position_from p from (xs ++ y ∷ ys) ≡ Some (from + length xs)
   position_next p from [] y ys none is = rw is (ap Some (omega arith))
@@ -33,31 +35,38 @@ module _ {X : Type 0} where
     | inr not ↦ rw not (position_next p (from + 1) xs y ys (rw not at none) is ∙ ap Some (omega arith))
   ]
 
+  -- what stands at a place stays there
   pub got_stays : (xs ys : List X) (at : ℕ) (x : X) → slice_get xs at ≡ Some x → slice_get (xs ++ ys) at ≡ Some x
   got_stays [] ys at x h = absurd (cc)
   got_stays (y ∷ xs) ys zero x h = h
   got_stays (y ∷ xs) ys (suc at) x h = got_stays xs ys at x h
 
+  -- what is put at the end stands at the place after the last
   pub got_next : (xs : List X) (y : X) (ys : List X) → slice_get (xs ++ y ∷ ys) (length xs) ≡ Some y
   got_next [] y ys = refl
   got_next (x ∷ xs) y ys = got_next xs y ys
 
+  -- the first one that is found stays the one found
   pub found_stays : (p : X → Bool) (xs ys : List X) (x : X) → find p xs ≡ Some x → find p (xs ++ ys) ≡ Some x
   found_stays p xs ys x h = rw (find-append p xs ys, h)
 
+  -- where none was found before, what is put at the end is found, if it passes
   pub found_next : (p : X → Bool) (xs : List X) (y : X) (ys : List X) → ((x : X) → Member xs x → p x ≡ false) → p y ≡ true → find p (xs ++ y ∷ ys) ≡ Some y
   found_next p [] y ys none is = rw is
   found_next p (x ∷ xs) y ys none is = rw (none x (inl refl)) (found_next p xs y ys (λ z h. none z (inr h)) is)
 
+  -- where none passes, none is kept
   pub none_kept : (p : X → Bool) (xs : List X) → ((x : X) → Member xs x → p x ≡ false) → filter p xs ≡ []
   none_kept p [] none = refl
   none_kept p (x ∷ xs) none = rw (none x (inl refl)) (none_kept p xs (λ z h. none z (inr h)))
 
 -- ---- numbers that differ
 
+-- a number is not equal to a greater one
 pub below_differs : (a b : ℕ) → a < b → (a == b) ≡ false
 below_differs a b low = elim (cases_Bool (a == b)) [ inl same ↦ absurd (omega (arith, eqb-true a b same)) | inr not ↦ not ]
 
+-- a number is not equal to a lesser one
 pub above_differs : (a b : ℕ) → b < a → (a == b) ≡ false
 above_differs a b low = elim (cases_Bool (a == b)) [ inl same ↦ absurd (omega (arith, eqb-true a b same)) | inr not ↦ not ]
 
@@ -81,6 +90,7 @@ next_rises a b g =
     (λ t h. table_below b t (subst (λ l. Member l t) (sym g.tables) (has_left a.tables g.more t h))))
     (λ i h. index_below b i (subst (λ l. Member l i) (sym g.indexes) (has_left a.indexes g.extra i h)))
 
+-- a schema that grows twice grows
 pub grows_then : (a b c : Schema) → Grows a b → Grows b c → Grows a c
 grows_then a b c p q = record {
   more = p.more ++ q.more;
@@ -91,6 +101,7 @@ grows_then a b c p q = record {
   beyond = λ i h. elim (has_either p.extra q.extra i h) [ inl early ↦ p.beyond i early | inr late ↦ omega (arith, q.beyond i late, next_rises a b p) ];
 }
 
+-- a schema to which nothing is added grows by nothing
 pub grows_none : (a : Schema) → Grows a a
 grows_none a = record {
   more = [];
@@ -119,9 +130,11 @@ still_keys a b tree g low =
 
 -- ---- by name
 
+-- the place of a table is where its name is found
 pub place_of_has : (s : Schema) (at : ℕ) (t : Table) (name : List ℕ) → table_named s name ≡ Some at → place_in s name ≡ at
 place_of_has s at t name h = ap (λ o. unwrap_or o 0) h
 
+-- the tree of a table's rows is that of the table found under its name
 pub tree_of_has : (s : Schema) (at : ℕ) (t : Table) (name : List ℕ) → table_named s name ≡ Some at → slice_get s.tables at ≡ Some t → tree_in s name ≡ t.tree
 tree_of_has s at t name named listed =
     ap (λ p. unwrap_or (option_map (λ (u : Table). u.tree) (slice_get s.tables p)) 0) (place_of_has s at t name named)

@@ -47,12 +47,14 @@ none_joined : {A B : Type 0} (f : A → List B) → ((a : A) → f a ≡ []) →
 none_joined f none [] = refl
 none_joined f none (x ∷ xs) = rw (none x, none_joined f none xs)
 
+-- where no row is taken out, no foreign key has anything to do
 pub no_works : (schema : Schema) (keys : Keys) (tree : ℕ) (news : List Row) → works schema keys 0 tree [] news ≡ []
 no_works schema keys tree news =
     none_joined _ (λ child. none_kept (work_for schema keys 0 tree [] news child) (λ ref. no_work 0 tree child ref _ _) child.references) schema.tables
 
 -- ---- the parts of the statement
 
+-- where the first of two tests fails, it is the case in which not both pass
 pub by_false : (P Q : Type 0) (b c : Bool) → b ≡ false → MatchBool (if b then c else false) P Q → Q
 by_false P Q true c is h = absurd cc
 by_false P Q false c is h = h
@@ -75,6 +77,7 @@ module _ (task : Task) (terms : List Term) (db : Trees) where
     unstamped_is : stamped task.table task.params ≡ task.params
     unstamped_is = rw (unstamped, append-nil)
 
+    -- the rows that VALUES gives are one row of its terms, where the table adds no times
     pub sourced : (rows : List Row) → Sourced task.limit (record { schema = task.schema; trees = db }) (stamped task.table task.params)
         (Values terms width) (Ok rows) → rows ≡ eval_all terms (task.params ∷ []) ∷ []
     sourced rows h = h.1 ∙ ap (λ params. value_rows params width (length terms / width) terms) unstamped_is
@@ -111,6 +114,7 @@ module _ (sql : List ℕ) (params : Row) (old new : State) (t : Table) (at : ℕ
         fresh = not-true _ (and_parts _ _ a.fresh).0;
       }
 
+  -- an INSERT executed inside a transaction puts in its one row, where none had the rowid
   pub puts_row : (count : ℕ) → ExecutesInside 0 sql params old new (Ok count) → PutsRow t (new_row t terms params (old.now.trees t.tree)) old new
   puts_row count h =
       let ran = ran_inside sql params old new (insert_as at t terms) (λ open_now. inserts old.now.schema at t (has open_now) terms sql is) count h in

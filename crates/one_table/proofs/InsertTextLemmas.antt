@@ -84,6 +84,7 @@ module _ (s u : Schema) where
       by_program (Ok q) h = absurd cc
       by_program (Err e) h = absurd cc
 
+  -- the new row of an INSERT means the same in two schemas, where it holds plain values alone
   pub new_rows_same : (t : Table) (terms : List Term) (base : ℕ) (names : List Name) (es : List Expr) → list_all is_value es ≡ true
       → new_rows u t base names (rows.Values (es ∷ [])) ≡ Ok (source_of_row t terms) → new_rows s t base names (rows.Values (es ∷ []))
       ≡ Ok (source_of_row t terms)

@@ -13,6 +13,7 @@ key_from orders from [] at = refl
 key_from orders from (key ∷ keys) zero = let e : from + 0 ≡ from = omega arith in rw e
 key_from orders from (key ∷ keys) (suc at) = let e : from + 1 + at ≡ from + suc at = omega arith in key_from orders (from + 1) keys at ∙ rw e
 
+-- a table's own key at a place is the UNIQUE that it declares there, in its order
 pub own_key : (t : Table) (at : ℕ) → slice_get (own_keys t) at
     ≡ option_map (λ columns. (true, columns, slice_index_or t.orders at plain)) (slice_get t.uniques at)
 own_key t at = let e : 0 + at ≡ at = omega arith in key_from t.orders 0 t.uniques at ∙ rw e
@@ -21,16 +22,20 @@ length_from : (orders : List Order) (from : ℕ) (keys : List (List ℕ)) → le
 length_from orders from [] = refl
 length_from orders from (key ∷ keys) = ap suc (length_from orders (from + 1) keys)
 
+-- a table has as many own keys as it declares UNIQUE
 pub length-own_keys : (t : Table) → length (own_keys t) ≡ length t.uniques
 length-own_keys t = length_from t.orders 0 t.uniques
 
+-- at a place with a UNIQUE the table has the key of these columns, in its order
 pub own_key_at : (t : Table) (at : ℕ) (columns : List ℕ) → Some columns ≡ slice_get t.uniques at → slice_get (own_keys t) at
     ≡ Some (true, columns, slice_index_or t.orders at plain)
 own_key_at t at columns h = own_key t at ∙ ap (option_map (λ cs. (true, cs, slice_index_or t.orders at plain))) (sym h)
 
+-- at a place without a UNIQUE the table has no own key
 pub no_own_key : (t : Table) (at : ℕ) → None ≡ slice_get t.uniques at → slice_get (own_keys t) at ≡ None
 no_own_key t at h = own_key t at ∙ ap (option_map (λ cs. (true, cs, slice_index_or t.orders at plain))) (sym h)
 
+-- past the orders that a table declares, a key has the plain order
 pub past_orders : (orders : List Order) (at : ℕ) → None ≡ slice_get orders at → slice_index_or orders at plain ≡ plain
 past_orders [] at h = refl
 past_orders (o ∷ orders) zero h = absurd (cc)
@@ -57,12 +62,15 @@ module _ (tree : ℕ) (ks : List Key) (next : ℕ) (i : Index) (rest : List Inde
   abbrev on : Index → Bool
   on j = j.table == tree
 
+  -- an index on another tree adds no key
   pub key_passed : (i.table == tree) ≡ false → map key_of (filter on (i ∷ rest)) ≡ map key_of (filter on rest)
   key_passed not = rw not
 
+  -- an index on the tree that is not the next key makes the keys differ
   pub key_missed : (i.table == tree) ≡ true → ¬ (slice_get ks next ≡ Some (key_of i)) → ¬ (map key_of (filter on (i ∷ rest)) ≡ drop next ks)
   key_missed is not same = not (at_drop ks next (key_of i) (map key_of (filter on rest)) (rw is at same))
 
+  -- an index on the tree that is the next key leaves the others to meet
   pub key_met : (i.table == tree) ≡ true → slice_get ks next ≡ Some (key_of i)
       → (map key_of (filter on rest) ≡ drop (next + 1) ks) ↔ (map key_of (filter on (i ∷ rest)) ≡ drop next ks)
   key_met is met = (
@@ -96,16 +104,20 @@ module _ (tree : ℕ) (ks : List Key) (whole : Type 0) (next : ℕ) (items : Lis
   here : Left tree ks whole next (i ∷ drop (at + 1) items)
   here = subst (Left tree ks whole next) (left_more items at i i low is) left
 
+  -- an index that is the next key is met, and the keys after it are left
   pub left_met : i.table ≡ tree → slice_get ks next ≡ Some (key_of i) → Left tree ks whole (next + 1) (drop (at + 1) items)
   left_met on met = let one = key_met tree ks next i (drop (at + 1) items) (eq-eqb i.table tree on) met in (λ h. here.0 (one.0 h), λ h. one.1 (here.1 h))
 
+  -- an index on another tree is passed, and the same keys are left
   pub left_passed : i.table ≢ tree → Left tree ks whole next (drop (at + 1) items)
   left_passed off =
       let one = key_passed tree ks next i (drop (at + 1) items) (eqb_not i.table tree off) in (λ h. here.0 (one ∙ h), λ h. sym one ∙ here.1 h)
 
+  -- an index on the tree that is not the next key: the whole is not so
   pub left_missed : i.table ≡ tree → ¬ (slice_get ks next ≡ Some (key_of i)) → ¬ whole
   left_missed on not all = key_missed tree ks next i (drop (at + 1) items) (eq-eqb i.table tree on) not (here.1 all)
 
+-- after all indexes the whole is so exactly if all keys were met
 pub left_ended : (tree : ℕ) (ks : List Key) (whole : Type 0) (next : ℕ) (items : List Index) (at : ℕ) → length items ≤ at
     → next ≤ length ks → Left tree ks whole next (drop at items) → (next ≡ length ks) ↔ whole
 left_ended tree ks whole next items at past within left =

@@ -32,10 +32,12 @@ use Rattle.one_table.specs.Listed.{IsListing, query_on, no_limit, rising, fallin
 
 -- ---- from what the connection shows to an answer
 
+-- with no other tables laid over them, the trees are as they were
 pub none_laid : (db : Trees) (t : ℕ) → overlay db [] t ≡ db t
 none_laid db t = elim (nat_le (2 ^ 31) t) as (λ b. unwrap_or (if b then slice_get [] (t - 2 ^ 31) else None) (db t) ≡ db t) [ true ↦ refl | false ↦ refl ]
 
 module _ {s : Schema} {sql : List ℕ} {c : Command} (means : Means s sql c) where
+  -- the command that is understood is the one that the text means
   pub command_is : command_of (understood s sql) ≡ c
   command_is = ap command_of means.understands ∙ means.command
 

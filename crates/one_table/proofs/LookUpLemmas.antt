@@ -1,5 +1,4 @@
--- What follows for a caller: the one row of a look-up, the last row, the values that a reader
--- gives, and rows with a hidden number.
+-- What follows for a caller: the one row of a look-up, the last row, and rows with a hidden number.
 use Rattle.std.proofs.Common.{◌≡◌, ℤ, ◌≤◌, ◌<ℤ◌, arith, Bool, true, false, List, [], ◌∷◌, map, filter, find, take, length, reverse, option_map, slice_get, refl, sym, ap, ap₂, ◌∙◌, true≢false}
 use Rattle.std.proofs.lemmas.Int.{ints}
 use Rattle.std.proofs.lemmas.Option.{slice_get-map}
@@ -13,6 +12,7 @@ use Rattle.one_table.specs.Numbered.{AreHidden}
 
 -- ---- at most one row
 
+-- a test that cannot pass is false
 pub unless_true : (b : Bool) → (b ≡ true → ⊥) → b ≡ false
 unless_true true h = absurd (h refl)
 unless_true false h = refl
@@ -41,6 +41,7 @@ few_apart clash p xs apart clashes = few_pass (λ a b. clash a b ≡ false) p xs
 
 -- ---- the first row
 
+-- the first row of an answer is that of the first value that passes
 pub first_row : {X : Type 0} (show : X → Row) (p : X → Bool) (xs : List X) (rows : List Row) → rows ≡ map show (filter p xs)
     → slice_get rows 0 ≡ option_map show (find p xs)
 first_row show p xs rows is = ap (λ l. slice_get l 0) is ∙ slice_get-map show (filter p xs) 0 ∙ ap (option_map show) (slice_get-filter p xs)
@@ -50,11 +51,10 @@ pub last_row : {X : Type 0} (show : X → Row) (ys : List X) (rows : List Row) �
     ≡ option_map show (slice_get (reverse ys) 0)
 last_row show ys rows is = ap (λ l. slice_get l 0) is ∙ first_taken (map show (reverse ys)) ∙ slice_get-map show (reverse ys) 0
 
--- ---- what a reader gives of rows that are known
-
 -- ---- rows with a hidden number
 
 module _ {X : Type 0} (stored : X → Row) where
+  -- the row of a value, behind its hidden number
   abbrev pub with_number : Value × X → Row
   with_number x = x.0 ∷ stored x.1
 

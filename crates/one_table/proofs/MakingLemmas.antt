@@ -42,6 +42,7 @@ free_before a b name g free =
     let views : view_named a name ≡ None = ap (position_from (λ v. same_name v.name name) 0) (sym g.views) ∙ no_view b name free in
     rw (tables, indexes, views)
 
+-- a schema grows as tables are made in it
 pub all_grow : (s : Schema) (ts : List Table) → Grows s (fold made s ts)
 all_grow s [] = grows_none s
 all_grow s (t ∷ ts) = grows_then s (made s t) (fold made (made s t) ts) (made_grows s t) (all_grow (made s t) ts)
@@ -52,6 +53,7 @@ rows_of_standing a db after u h kept =
     all_has (λ t. after t.tree ≡ db t.tree) a.tables (record u { tree = tree_in a u.name }) kept
     (has_got a.tables (place_in a u.name) (record u { tree = tree_in a u.name }) h.has.listed)
 
+-- with no tables to make, a sound database stays as it is
 pub makes_none : (a : Database) → IsDatabase a → MakesTables [] a a
 makes_none a sound = record {
   schema = refl;
@@ -95,6 +97,7 @@ module _ (ts : List Table) (t : Table) (a mid b : Database) (early : MakesTables
       ap (is_left_alone b.schema) (still_stands mid.schema b.schema u step stands).1
       ∙ still_left_alone mid.schema t b.schema added (tree_in mid.schema u.name) low idle alone
 
+  -- tables that were made, and one more that is made after them, are made in turn
   pub makes_more : IsDatabase a → MakesTables (ts ++ t ∷ []) a b
   makes_more sound =
       let new = made_stands t mid b early.sound last in

@@ -23,6 +23,7 @@ use Rattle.one_table.specs.Upserting.{Merging, is_of_key}
 use Rattle.one_table.proofs.OneRowLemmas.{only_kept}
 use Rattle.one_table.proofs.UpdateLemmas.{replaced}
 
+-- whether any passes is the same of the values and of what they are mapped to
 pub any_map : {X Y : Type 0} (q : Y → Bool) (f : X → Y) (p : X → Bool) → ((x : X) → q (f x) ≡ p x) → (xs : List X) → list_any q (map f xs) ≡ list_any p xs
 any_map q f p same [] = refl
 any_map q f p same (x ∷ xs) = ap₂ ◌||◌ (same x) (any_map q f p same xs)

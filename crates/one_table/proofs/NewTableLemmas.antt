@@ -45,6 +45,7 @@ counters_grow s = elim (cases_Bool (lacks_sequence s)) [
   | inr not ↦ rw not (grows_none s)
 ]
 
+-- a schema grows as a table is made in it
 pub made_grows : (s : Schema) (t : Table) → Grows s (made s t)
 made_grows s t = grows_then s (created s t) (made s t) (created_grows s t) (counters_grow (created s t))
 

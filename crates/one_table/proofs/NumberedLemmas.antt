@@ -15,19 +15,23 @@ use Rattle.sqlite_keyed.proofs.ListLemmas.{map-map, map_same, filter-map, ascend
 use Rattle.sqlite_keyed.proofs.SliceLemmas.{insert_next}
 use Rattle.one_table.specs.Numbered.{AreHidden, IsInOrder}
 
+-- the hidden number of a value
 abbrev pub number : {X : Type 0} → ℤ × X → ℤ
 number n = n.0
 
+-- the value behind its hidden number
 abbrev pub value : {X : Type 0} → ℤ × X → X
 value n = n.1
 
 -- ---- what is found and set by the values alone
 
 module _ {X : Type 0} (p : X → Bool) where
+  -- the value passes, whatever its number
   abbrev pub picks : ℤ × X → Bool
   picks n = p n.1
 
   module _ (f : X → X) where
+    -- the value is changed behind its number
     abbrev pub makes : ℤ × X → ℤ × X
     makes n = (n.0, f n.1)
 
@@ -55,9 +59,11 @@ module _ {X : Type 0} (p : X → Bool) where
         by_test n false = refl
 
 module _ {X : Type 0} (stored : X → Row) where
+  -- the row of a value, behind its whole number
   abbrev pub with_number : ℤ × X → Row
   with_number n = Int n.0 ∷ stored n.1
 
+  -- rows that hide whole numbers are the rows of values beside these numbers
   pub as_pairs : (rows : List Row) (xs : List X) → AreHidden stored rows xs → AllByRecursion (λ r. IsTrue (is_int (rowid r))) rows
       → (ns : List (ℤ × X)) × (rows ≡ map with_number ns) × (map value ns ≡ xs)
   as_pairs [] [] hidden ints = ([], refl, refl)
@@ -98,12 +104,15 @@ module _ {X : Type 0} (stored : X → Row) where
     abbrev pub beside : List (ℤ × X)
     beside = both.0
 
+    -- the rows of the table are those of the values beside their numbers
     pub rows_are : rows ≡ map with_number beside
     rows_are = both.1
 
+    -- without their numbers they are the values that the table holds
     pub values_are : map value beside ≡ xs
     values_are = both.2
 
+    -- the numbers rise
     pub rise : IsKeyedBy number beside
     rise = ascending_weaker _ _ (λ a b h. lt_from_Less _ _ (sym (value_cmp-Int _ _) ∙ h)) beside
         (ascending_from_map _ with_number beside (subst IsTable rows_are order.rises))
@@ -112,6 +121,7 @@ module _ {X : Type 0} (stored : X → Row) where
     abbrev pub with_last : X → List (ℤ × X)
     with_last x = insert_by number beside (next_rowid rows, x)
 
+    -- a value put in behind the next number comes last, and the rows are still in order
     pub gains : (x : X) → AreHidden stored (map with_number (with_last x)) (xs ++ x ∷ []) × IsInOrder (map with_number (with_last x))
     gains x =
         let new : ℤ × X = (next_rowid rows, x) in
@@ -120,9 +130,11 @@ module _ {X : Type 0} (stored : X → Row) where
           in_order (with_last x) (IsKeyedBy-insert_by number beside new rise),
         )
 
+    -- as many values pass with their numbers as without them
     pub as_many : (p : X → Bool) → length (filter (picks p) beside) ≡ length (filter p xs)
     as_many p = sym (length-map (filter (picks p) beside) value) ∙ ap length (sym (filter-map p value beside) ∙ ap (filter p) values_are)
 
+    -- values set behind their numbers are set among the values, and the rows are still in order
     pub changes : (p : X → Bool) (f : X → X) → AreHidden stored (map with_number (set_in p f beside)) (update_where p f xs)
         × IsInOrder (map with_number (set_in p f beside))
     changes p f = (
@@ -132,8 +144,10 @@ module _ {X : Type 0} (stored : X → Row) where
 
 -- ---- rows of any columns
 
+-- a row without its number, as the value that the table holds
 abbrev pub columns : Row → Row
 columns row = row
 
+-- rows of any columns hide their numbers before what the columns hold
 pub hides_all : (rows : List Row) → AreHidden columns rows (map (drop 1) rows)
 hides_all rows = sym (map-id (map (drop 1) rows))

@@ -5,6 +5,7 @@ use Rattle.sqlite_value.specs.declared.value.Value.{Value}
 use Rattle.sqlite_value.specs.Order.{Row, column}
 use Rattle.sqlite_rules.specs.Lists.{Has as Member}
 
+-- one that is there and passes is kept
 pub kept_member : {X : Type 0} (p : X → Bool) (xs : List X) (x : X) → Member xs x → p x ≡ true → Member (filter p xs) x
 kept_member p [] x h is = absurd h
 kept_member p (y ∷ ys) x (inl same) is = rw (ap p (sym same) ∙ is) (inl same)

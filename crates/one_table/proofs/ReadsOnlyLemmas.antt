@@ -147,10 +147,12 @@ module _ (sql : List ℕ) (params : Row) (old new : State) where
             mode = same.mode ∙ way;
           }
 
+  -- a text that fails to show rows leaves all as it was, or its transaction is undone
   pub show_left : (e : Error) → FailsToShow sql params old new e → IsLeft old new
   show_left e (inl h) = fails_left sql params old new e h
   show_left e (inr late) = inl late.5
 
+  -- a text that shows rows, or fails to, keeps the transaction
   pub showing : {V : Type 0} (items : V → List Row) (r : Result V Error)
       → (HasCleanDisk new → IfOk r (λ v. Shown sql params old new (items v))) → (HasCleanDisk new → IfErr r (FailsToShow sql params old new))
       → Survives old new (λ _. ⊥) → KeepsTransaction old new r
@@ -171,6 +173,7 @@ module _ (sql : List ℕ) (params : Row) (old new : State) where
     fails_inside e (inl h) = h
     fails_inside e (inr late) = absurd (let none = (subst IsPlain late.1.is (asks late.5.0.was_open)).0 in let some = rw none at late.2 in cc)
 
+    -- a text that only asks changes nothing where its rows are shown
     pub asked_same : (rows : List Row) → Shown sql params old new rows → IsUnchanged old new
     asked_same rows h = shown_same sql params old new (asks (shown_open sql params old new rows h)) rows h
 

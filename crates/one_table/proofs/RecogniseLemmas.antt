@@ -13,6 +13,7 @@ each_left P xs i d whole low here left =
     let split = subst (λ l. AllByRecursion P l ↔ whole) next left in
     (λ h. split.0 (here, h), λ h. (split.1 h).1)
 
+-- each of the texts defines a table
 pub defined_at : (texts : List (Bor (List ℕ))) (ts : List Table) (i : ℕ) (d : Bor (List ℕ)) → AreDefined (map (λ t. t.now) texts) ts
     → i < length texts → (t : Table) × (table_defined_by (get_or texts i d).now ≡ Ok t)
 defined_at [] ts i d h low = absurd (omega arith)

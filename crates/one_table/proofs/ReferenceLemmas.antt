@@ -26,6 +26,7 @@ pub record Added (s : Schema) (t : Table) (b : Schema) : Type 0 where
   pub bare : (u : Table) → Member tail u → u.references ≡ []
   pub above : (u : Table) → Member tail u → next_tree s < u.tree
 
+-- a table that is made stands behind the others so, with at most the counters after it
 pub made_adds : (s : Schema) (t : Table) → Added s t (made s t)
 made_adds s t =
     let new : Table = record t { tree = next_tree s } in
@@ -85,10 +86,12 @@ module _ (s : Schema) (t : Table) (b : Schema) (added : Added s t b) where
     | inr later ↦ elim later [ inl is ↦ ap p is ∙ new | inr tail ↦ bare u (added.bare u tail) ]
   ])
 
+  -- where no other table refers to these names, none does with the new one, if it is of them
   pub still_unreferred : (names : List (List ℕ)) → is_among names t.name ≡ true → is_unreferred names s ≡ true → is_unreferred names b ≡ true
   still_unreferred names ours old = all_added (is_apart names) old (or_left _ _ ours)
       (λ u none. or_right _ _ (ap (list_all (λ r. not (is_among names r.parent))) none))
 
+  -- references onto these names still take no action, if none of the new table's does
   pub still_harmless : (names : List (List ℕ)) → list_all is_idle t.references ≡ true → is_harmless names s ≡ true → is_harmless names b ≡ true
   still_harmless names idle old = all_added (λ u. list_all (λ r. is_idle r || not (is_among names r.parent)) u.references) old
       (test_from (λ r. is_idle r || not (is_among names r.parent)) t.references (λ r h. or_left _ _ (test_has is_idle t.references r idle h)))
@@ -115,6 +118,7 @@ module _ (s : Schema) (t : Table) (b : Schema) (added : Added s t b) where
       (test_from p t.references (λ r h. idle r (test_has is_idle t.references r own h)))
       (λ u none. ap (list_all p) none)
 
+  -- a table that stood is still left alone, if no reference of the new one takes an action
   pub still_left_alone : (tree : ℕ) → tree < next_tree s → list_all is_idle t.references ≡ true → is_left_alone s tree ≡ true → is_left_alone b tree ≡ true
   still_left_alone tree low idle old = each_reference (λ r. is_idle r || not (points_to b tree r))
       (λ u r h k. elim (or_cases (is_idle r) (not (points_to s tree r)) (at_reference s tree u r old h k)) [
@@ -136,6 +140,7 @@ module _ (s : Schema) (t : Table) (b : Schema) (added : Added s t b) where
         | inr tail ↦ above_differs u.tree (next_tree s) (added.above u tail)
       ])
 
+  -- the new table is left alone, if no reference onto its name or of its own takes an action
   pub new_left_alone : (names : List (List ℕ)) → is_among names t.name ≡ true → list_all is_idle t.references ≡ true → is_harmless names s
       ≡ true → is_left_alone b (next_tree s) ≡ true
   new_left_alone names ours idle old = each_reference (λ r. is_idle r || not (points_to b (next_tree s) r))

@@ -32,6 +32,7 @@ pub record ChangesRows (shows : Option Returning) (command : Command) : Type 1 w
   pub textless : (s : State) (params : Row) (text : List ℕ) (out : _) → Does s.step_limit (mode_of s) params s.now text shows command out
       → Does s.step_limit (mode_of s) params s.now [] shows command out
 
+-- an INSERT changes rows
 pub insert_changes : (at : ℕ) (from : Source) → ChangesRows None (Insert at from)
 insert_changes at from = record {
   silent = refl;
@@ -53,6 +54,7 @@ insert_changes at from = record {
   textless = λ s params text out does. does;
 }
 
+-- an UPDATE changes rows
 pub update_changes : (at : ℕ) (q : Program) → ChangesRows None (Update at q)
 update_changes at q = record {
   silent = refl;
@@ -74,6 +76,7 @@ update_changes at q = record {
   textless = λ s params text out does. does;
 }
 
+-- an upsert changes rows, whatever it shows of them
 pub upsert_changes : (shows : Option Returning) (at : ℕ) (way : Conflict) (from : Source) (clauses : List Upsert)
     → ChangesRows shows (InsertOr at way from clauses)
 upsert_changes shows at way from clauses = record {
@@ -173,6 +176,7 @@ module _ (sql : List ℕ) (params : Row) (old new : State) (command : Command) (
   unfolding EndsScope
   ends_none h same = changes.stays old (subst (Escapes 0 old) (command_is sql params old new None command changes means whole e h.0 h.1 same.0.was_open) h.2)
 
+  -- a text of a write that fails inside a transaction fails as its command does
   pub fails_to_write : FailsToRun sql params old new e → FailsToWrite command params old new e
   fails_to_write (inl had) = inl had
   fails_to_write (inr (inl failed)) = by_text failed.0
@@ -204,6 +208,7 @@ module _ (sql : List ℕ) (params : Row) (old new : State) (what : Returning) (c
   by_query (inl none) = by_not_run sql params old new (Some what) command changes means whole e none
   by_query (inr ran) = by_returning ran.0 ran.1 ran.0.returning refl ran.2
 
+  -- the same of a write that shows rows
   pub fails_showing : FailsToShow sql params old new e → FailsToWriteAs (Some what) command params old new e
   fails_showing (inl fails) = by_query fails
   fails_showing (inr late) = inl (had_ended old new e late.3 late.4 late.5)

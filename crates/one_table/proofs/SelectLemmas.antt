@@ -34,14 +34,17 @@ use Rattle.one_table.specs.Simple.{one, bare, is_simple_or_absent, is_simple_out
 use Rattle.one_table.proofs.AlikeLemmas.{alike}
 use Rattle.one_table.proofs.BodyLemmas.{outputs_same, tests_same, sorts_same}
 
+-- an option that holds nothing is none
 pub none_is : {A : Type 0} (o : Option A) → not (is_some o) ≡ true → o ≡ None
 none_is None h = refl
 none_is (Some x) h = absurd (true≢false (sym h))
 
+-- a test whose negation passes is false
 pub false_is : (b : Bool) → not b ≡ true → b ≡ false
 false_is false h = refl
 false_is true h = absurd (true≢false (sym h))
 
+-- a list of length 0 is empty
 pub nil_is : {A : Type 0} (xs : List A) → (length xs == 0) ≡ true → xs ≡ []
 nil_is [] h = refl
 nil_is (x ∷ xs) h = absurd (grind arith)
@@ -72,6 +75,7 @@ plain_source t x h =
       using_is = nil_is y.using d.1;
     }
 
+-- FROM binds the one table, at its place, in the first slot
 pub bounds_are : (s : Schema) (at : ℕ) (t : Table) (x : Source) → table_named s t.name ≡ Some at → IsPlainSource t x
     → bounds s (x ∷ []) (fresh 1 max_budget) ≡ Ok (bound_at at t.name ∷ [], fresh 2 max_budget)
 unfolding bounds bound table_in take_slot
@@ -149,6 +153,7 @@ from_source t [] h = absurd (true≢false (sym h))
 from_source t (x ∷ []) h = (x, refl, plain_source t x h)
 from_source t (x ∷ y ∷ more) h = absurd (true≢false (sym h))
 
+-- the core of a SELECT that passes the test has these parts
 pub plain_core : (t : Table) (core : Core) → is_simple_core t core ≡ true → IsPlainCore t core
 plain_core t core h =
     let y = out-Core core in
@@ -206,6 +211,7 @@ module _ (t : Table) (core : Core) (order : List Sort) (plain : IsPlainCore t co
     unfolding sorts
     ordered_same shown is_grouped = sorts_same (bare t) _ _ (alike s at t has.listed t.name shown is_grouped) shown [] order sorted
 
+    -- the query and its names are the same here and where the table stands alone
     pub named_same : named s core order page ≡ named (one t) core order page
     unfolding named
     named_same =

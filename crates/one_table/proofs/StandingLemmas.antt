@@ -21,14 +21,17 @@ own_tree_of s tree first t found low =
       λ h. (same_some first (record t { tree = tree }) (found ∙ h.first) ∙ ap (λ n. record t { tree = n }) (sym at), h.plain),
     )
 
+-- a tree that no table has is no table's own
 pub no_own_tree : (s : Schema) (tree : ℕ) (t : Table) → None ≡ find (λ u. u.tree == tree) s.tables → ¬ IsOwnTree s tree t
 no_own_tree s tree t none h = let e = none ∙ h.first in absurd (cc)
 
 module _ (s : Schema) (found t : Table) (at : ℕ) (named : table_named s t.name ≡ Some at) (listed : slice_get s.tables at ≡ Some found) where
+  -- a table that is found alike, with its own tree and keys, stands
   pub stands_from : StandsAt s found t → Stands s t
   stands_from h = stands_by s at found.tree t (record
       { named = named; listed = listed ∙ ap Some h.alike; by_tree = h.own_tree.first; low = lt-leb (2 ^ 31) found.tree h.own_tree.low }) h.keys
 
+  -- and a plain table that stands is found alike, with its own tree and keys
   pub stands_when : Stands s t → IsPlainTable t → StandsAt s found t
   stands_when h plain =
       let same : found ≡ record t { tree = tree_in s t.name } =

@@ -11,15 +11,19 @@ use Rattle.sqlite_sql.specs.Ops.{binary, is_true}
 use Rattle.sqlite_typed.specs.Columns.{or_null}
 use Rattle.sqlite_typed.proofs.TestLemmas.{at_ints, at_texts, at_is_null}
 
+-- `=` at two numbers tells whether they are equal
 pub number_is : (a b : ℕ) → is_true (binary (Compare Eq Binary) (Int (pos a)) (Int (pos b))) ≡ (a == b)
 number_is a b = at_ints false Eq (pos a) (pos b) ∙ grind (arith, ints)
 
+-- `>` at two numbers tells whether the first is greater
 pub number_above : (a b : ℕ) → is_true (binary (Compare Gt Binary) (Int (pos a)) (Int (pos b))) ≡ nat_lt b a
 number_above a b = at_ints false Gt (pos a) (pos b)
 
+-- `<=` at two numbers tells whether the first is no greater
 pub number_up_to : (a b : ℕ) → is_true (binary (Compare Le Binary) (Int (pos a)) (Int (pos b))) ≡ nat_le a b
 number_up_to a b = at_ints false Le (pos a) (pos b)
 
+-- `=` at two texts tells whether their bytes are equal
 pub text_is : (a b : List ℕ) → is_true (binary (Compare Eq Binary) (Text a) (Text b)) ≡ bytes_eq a b
 text_is a b = at_texts false Eq a b ∙ is_eq-slice_cmp a b
 

@@ -85,12 +85,14 @@ module _ (sql : List ℕ) (params : Row) (old new : State) (t : Table) (at : ℕ
     touched_so = let done = judged_well task m.given db (clause ∷ []) given_now one.0 one.1 in by_conflicts done.0 done.2
 
   module _ (stands : IsTrue old.is_open → StandsForUpserts old.now.schema at t) where
+    -- an upsert that showed rows inside a transaction changed the rows of its table alone
     pub touched : (rows : List Row) → Shown sql params old new rows → IsUnderWay old → HasTouched
     touched rows h way =
         let k = stands (shown_open sql params old new rows h) in
         let wrote = was_written sql params old new t at m is k.has k.keys rows h in
         touched_so k (shown_stays sql params old new rows h way) wrote.text wrote.count wrote.writes
 
+    -- an upsert that showed rows was carried out as the command that it means
     pub carried : (rows : List Row) → Shown sql params old new rows → CarriesOut sql params old new
     carried rows h =
         let k = stands (shown_open sql params old new rows h) in

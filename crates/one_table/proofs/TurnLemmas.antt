@@ -23,6 +23,7 @@ pub record HasMadeNone (texts : List (List ℕ)) (old now : State) : Type 0 wher
   pub committed : now.committed ≡ old.committed
   pub mode : now.in_transaction ≡ old.in_transaction
 
+-- the tables of these texts, of which there may be none, are made
 abbrev pub HasMadeSo : List (List ℕ) → State → State → Type 0
 HasMadeSo texts old now = HasMadeNone texts old now ⊎ HasMade texts old now
 
@@ -95,6 +96,7 @@ pub made_some : (texts : List (List ℕ)) (old now : State) → ¬ (texts ≡ []
 made_some texts old now some (inl none) = absurd (some none.none)
 made_some texts old now some (inr it) = it
 
+-- once all tables are made, of at least one text, the transaction goes on
 pub all_made : (texts : List (List ℕ)) (old now : State) {U E : Type 0} {x : U} → ¬ (texts ≡ [])
     → (HasCleanDisk now → HasMadeSo texts old now) → Survives old now (λ _. ⊥) → KeepsTransaction {E = E} old now (Ok x)
 all_made texts old now some made survives = record {

@@ -61,13 +61,16 @@ same_name_itself : (name : Name) → same_name name name ≡ true
 unfolding same_name
 same_name_itself name = let low = map to_ascii_lowercase name in is_eq-slice_cmp low low ∙ (bytes_eq-Decides low low).1 refl
 
+-- a table that stands alone is found under its name
 pub named_alone : (t : Table) → table_named (one t) t.name ≡ Some 0
 named_alone t = rw (same_name_itself t.name)
 
+-- whether a query over the table goes by its types is the same in any schema that has it
 pub typed_alike : (s : Schema) (at : ℕ) (t : Table) → Has s at t → (q : Query) → q.from ≡ inner t.tree end → (params : Row)
     → accepts_program s [] q params ≡ is_typed t q params
 typed_alike s at t has q from params = rw (from, has.low, has.by_tree)
 
+-- a query over the table that goes by its types is a program in any such schema
 pub program_is : (s : Schema) (at : ℕ) (t : Table) → Has s at t → (d : Draft) → d.from ≡ inner t.tree end → is_typed t (query_of d) []
     ≡ true → program s [] d ≡ Ok (record { lets = []; body = query_of d })
 unfolding program
@@ -76,14 +79,17 @@ program_is s at t has d from typed = rw (typed_alike s at t has (query_of d) fro
 -- a statement that was planned is what the text means
 module _ (s : Schema) (sql : List ℕ) (p : Parsed) (plan : List Name × (Command × Option Returning)) (parsed : first sql ≡ Ok p)
     (planned_is : planned s p ≡ Ok plan) where
+  -- the text compiles to the plan
   pub compiled_by : compiled s sql ≡ Ok (with_command p plan)
   unfolding compiled
   compiled_by = rw (parsed, planned_is)
 
+  -- and it is understood as the plan
   pub understood_by : understood s sql ≡ Ok (with_command p plan)
   unfolding understood
   understood_by = rw compiled_by
 
+-- a text that is planned as a command, and reads no time, means that command
 abbrev pub understood_as : (s : Schema) (sql : List ℕ) (p : Parsed) (c : Command) (shows : Option Returning) → first sql ≡ Ok p
     → planned s p ≡ Ok ([], (c, shows)) → MeansAs s sql c shows
 understood_as s sql p c shows parsed plan = record {

@@ -127,6 +127,7 @@ none_joined : {A B : Type 0} (f : A → List B) (ok : A → Bool) → ((a : A) �
 none_joined f ok none [] h = refl
 none_joined f ok none (x ∷ xs) h = let parts = and_parts (ok x) (list_all ok xs) h in rw (none x parts.0, none_joined f ok none xs parts.1)
 
+-- where no reference to the table takes an action, no foreign key has anything to do
 pub idle_works : (schema : Schema) (tree : ℕ) (olds news : List Row) → is_left_alone schema tree ≡ true → works schema Enforced 0 tree olds news ≡ []
 idle_works schema tree olds news h =
     none_joined _ _ (λ child ok. none_kept (work_for schema Enforced 0 tree olds news child) _
@@ -145,6 +146,7 @@ fold_over_map step g c (x ∷ xs) = fold_over_map step g (step c (g x)) xs
 -- rows that are taken out and put back changed are changed in their places
 module _ {X : Type 0} (key : X → ℤ) (stored : X → Row) (keyed : (x : X) → rowid (stored x) ≡ Int (key x)) (p : X → Bool) (f : X → X)
     (stays : (x : X) → key (f x) ≡ key x) where
+  -- the table then has the rows of the values, with those set that pass
   pub replaced : (xs : List X) → IsKeyedBy key xs → put_all (without_all (map stored xs) (map key (filter p xs)))
       (map stored (map f (filter p xs))) ≡ map stored (update_where p f xs)
   replaced xs up =
@@ -165,6 +167,7 @@ module _ {X : Type 0} (t : Table) (tests terms : List Term) (params : Row) (key 
   news_are : (ys : List X) → map (λ s. cast_row t (drop 1 s)) (map show ys) ≡ map stored (map f ys)
   news_are ys = map-map (λ s. cast_row t (drop 1 s)) show ys ∙ map_same _ (λ x. stored (f x)) sets.becomes ys ∙ sym (map-map stored f ys)
 
+  -- an UPDATE leaves in the table the rows of the values, where those that pass are set
   pub set_rows : (db : Trees) (xs : List X) → db t.tree ≡ map stored xs → IsKeyedBy key xs
       → edited db (edit_of db t (ids_of (map show (filter p xs))) Given 1 (map show (filter p xs))) ≡ map stored (update_where p f xs)
   set_rows db xs holds up =
@@ -206,6 +209,7 @@ module _ (sql : List ℕ) (params : Row) (old new : State) (t : Table) (at : ℕ
         changed = has_changed t edit (update_as at q) text params count old new h refl a inside w;
       }
 
+  -- an UPDATE executed inside a transaction sets the rows that its query finds
   pub sets_rows : (count : ℕ) → ExecutesInside 0 sql params old new (Ok count) → SetsRows t q params old new
   sets_rows count h =
       let ran = ran_inside sql params old new (update_as at q) (λ open_now. updates old.now.schema at t (has open_now).0 q sql is) count h in

@@ -54,6 +54,7 @@ module _ (known : Known) (here there : Context) (alike : AreAlike known here the
   unfolding picked
   picked_same project test h = rw (tests_same known here there alike [] test h)
 
+  -- the query of an UPDATE is the same here and there
   pub updated_same : (all : List (Name × Expr)) (test : Option Expr) → are_simple all ≡ true → is_simple_or_absent known test ≡ true
       → updated_in here t all test ≡ updated_in there t all test
   unfolding updated_in

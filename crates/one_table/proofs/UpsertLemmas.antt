@@ -123,6 +123,7 @@ module _ (task : Task) (terms : List Term) (db : Trees) where
   judged_well clauses new one (inr (None, judged, done)) = done
   judged_well clauses new one (inr (Some why, judged, done)) = absurd (let e = done in cc)
 
+  -- with ABORT a row is put in with nothing taken out of its way
   pub puts_only : (new : Row) (one : Written) (found : List Row) → Clears task Abort new db found (Ok one) → Puts task new db (Ok one)
   puts_only new one [] h = h
   puts_only new one (x ∷ more) h = h
@@ -293,6 +294,7 @@ module _ (sql : List ℕ) (params : Row) (old new : State) (t : Table) (at : ℕ
     pub shows : rows ≡ writes.tally.shown
     pub counted : length params ≡ m.count
 
+  -- the rows that the text showed are those of what its command wrote
   pub was_written : Has old.now.schema at t → keys_on old.now.schema t.tree ≡ own_keys t → (rows : List Row) → Shown sql params old new rows → WasWritten rows
   unfolding Shown
   was_written has keys rows h =

@@ -72,6 +72,7 @@ module _ (t : Table) (at : List ℕ) where
           by_columns true same = rw (is, unique, same)
           by_columns false same = rw (is, unique, same, rest)
 
+  -- the key of ON CONFLICT is found among the table's own, where the schema has no other on it
   pub key_same : (s : Schema) → keys_on s t.tree ≡ own_keys t → key_at s t at ≡ key_among (own_keys t) at
   unfolding key_at
   key_same s keys = ap (λ o. if bytes_eq at (0 ∷ []) then Ok at else or_else o Misuse)
@@ -79,6 +80,7 @@ module _ (t : Table) (at : List ℕ) where
 
 -- ---- the parts
 
+-- what succeeds in two steps succeeds in the first, and then in the second
 pub ok_then : {A B : Type 0} (m : Checked A) (f : A → Checked B) (b : B) → and_then m f ≡ Ok b → (a : A) × (m ≡ Ok a) × (f a ≡ Ok b)
 ok_then (Ok a) f b h = (a, refl, h)
 ok_then (Err e) f b h = absurd cc

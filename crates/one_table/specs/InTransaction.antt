@@ -1,6 +1,7 @@
 -- What a statement inside a transaction leaves.
 use denote.Triple.Both.{Both}
-use Rattle.std.specs.Prelude.{◌≡◌, ◌≢◌, ◌⊎◌, ℕ, true, false, List, [], None, Err, Ok, OnOk, Option, Result, Some, IsTrue}
+use Rattle.std.specs.Prelude.{◌≡◌, ◌≢◌, ◌⊎◌, ℕ, true, false, List, [], None, Err, Ok, OnOk, Option}
+use Rattle.std.specs.Prelude.{Result, Some, IsTrue}
 use Rattle.std.specs.Borrow.{MutBor}
 use Rattle.std.specs.List.{AllByRecursion}
 use Rattle.sqlite_value.specs.Order.{Row}
@@ -14,7 +15,8 @@ use Rattle.sqlite_rules.specs.Edit.{edit_of, edited, is_taken, IsNoIndex}
 use Rattle.sqlite.specs.Does.{Does, Tally}
 use Rattle.sqlite.specs.Effect.{IsDatabase, SparesFrozen}
 use Rattle.sqlite.specs.Held.{state}
-use Rattle.sqlite.specs.State.{ExecutesInside, Fails, FailsToQuery, HasCleanDisk, IsTooLate, IsUnchanged, KeepsCommit, Shows, State, Survives, mode_of}
+use Rattle.sqlite.specs.State.{ExecutesInside, Fails, FailsToQuery, HasCleanDisk, IsTooLate}
+use Rattle.sqlite.specs.State.{IsUnchanged, KeepsCommit, Shows, State, Survives, mode_of}
 use Rattle.sqlite.specs.declared.error.Error.{Error}
 use Rattle.sqlite.specs.declared.error.Error.TheVariants.{SqliteFailure}
 use Rattle.sqlite.specs.declared.error.ErrorCode.TheVariants.{TransactionState}

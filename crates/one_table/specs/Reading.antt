@@ -1,5 +1,6 @@
 -- What a SELECT over one table means, and that a statement means a command.
-use Rattle.std.specs.Prelude.{◌≡◌, ◌⊎◌, ℕ, Bool, false, ◌&&◌, ◌==◌, if◌then◌else◌, List, [], ◌∷◌, length, nat_le, IsSome, Option, Some, None, Ok, Err}
+use Rattle.std.specs.Prelude.{◌≡◌, ◌⊎◌, ℕ, Bool, false, ◌&&◌, ◌==◌, if◌then◌else◌, List, [], ◌∷◌}
+use Rattle.std.specs.Prelude.{length, nat_le, IsSome, Option, Some, None, Ok, Err}
 use Rattle.sqlite_value.specs.Order.{Row}
 use Rattle.sqlite_ast.specs.declared.Select.{Select, out-Select}
 use Rattle.sqlite_ast.specs.declared.Statement.{Statement}
@@ -14,7 +15,8 @@ use Rattle.sqlite_schema.specs.declared.command.Command.TheVariants as command
 use Rattle.sqlite_draft.specs.Query.{query_of}
 use Rattle.sqlite_typing.specs.Types.{row_classes, accepts_after, is_count}
 use Rattle.sqlite_resolve.specs.declared.compiled.Compiled.{Compiled}
-use Rattle.sqlite_resolve.specs.declared.error.CompileError.TheVariants.{Misuse, Mismatch, Unsupported}
+use Rattle.sqlite_resolve.specs.declared.error.CompileError.TheVariants.{Misuse, Mismatch}
+use Rattle.sqlite_resolve.specs.declared.error.CompileError.TheVariants.{Unsupported}
 use Rattle.sqlite_resolve.specs.Lowering.{Checked, and_then, or_else}
 use Rattle.sqlite_resolve.specs.Scope.{Name}
 use Rattle.sqlite_resolve.specs.Select.{paging, named}

@@ -1,6 +1,7 @@
 -- A table that stands in a database exactly as a text defines it, whatever other tables the
 -- database has.
-use Rattle.std.specs.Prelude.{◌≡◌, ℕ, ◌+◌, ◌==◌, Bool, true, List, [], ◌∷◌, map, filter, slice_get, slice_index_or, option_map, unwrap_or}
+use Rattle.std.specs.Prelude.{◌≡◌, ℕ, ◌+◌, ◌==◌, Bool, true, List, [], ◌∷◌, map, filter, slice_get}
+use Rattle.std.specs.Prelude.{slice_index_or, option_map, unwrap_or}
 use Rattle.sqlite_value.specs.declared.keys.Order.{Order}
 use Rattle.sqlite_value.specs.Keys.{plain}
 use Rattle.sqlite_schema.specs.Names.{table_named}

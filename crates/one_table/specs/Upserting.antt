@@ -1,6 +1,8 @@
 -- What an upsert of one row means: an INSERT whose row is merged into the one that has its key, and
 -- which shows the row as it is afterwards.
-use Rattle.std.specs.Prelude.{◌≡◌, ℕ, ◌+◌, Bool, true, false, not, ◌&&◌, ◌||◌, ◌==◌, if◌then◌else◌, List, [], ◌∷◌, codes, length, bytes_eq, find, option_map, Option, Some, None, is_some, Ok, Err}
+use Rattle.std.specs.Prelude.{◌≡◌, ℕ, ◌+◌, Bool, false, not, ◌&&◌, ◌||◌, ◌==◌, if◌then◌else◌, List}
+use Rattle.std.specs.Prelude.{[], ◌∷◌, codes, length, bytes_eq, find, option_map, Option, Some}
+use Rattle.std.specs.Prelude.{None, is_some, Ok, Err}
 use Rattle.std.specs.List.{list_all, list_any}
 use Rattle.sqlite_value.specs.declared.keys.Collation.TheVariants.{Binary}
 use Rattle.sqlite_value.specs.Order.{Row}
@@ -26,7 +28,8 @@ use Rattle.sqlite_schema.specs.declared.schema.Schema.{Schema}
 use Rattle.sqlite_schema.specs.declared.schema.Table.{Table}
 use Rattle.sqlite_resolve.specs.declared.error.CompileError.TheVariants.{Misuse, Unsupported}
 use Rattle.sqlite_resolve.specs.Compile.{first, small, source_of}
-use Rattle.sqlite_resolve.specs.Given.{are_among, at_rowid, given, given_level, id_name, nested, no_name, returned, with_given}
+use Rattle.sqlite_resolve.specs.Given.{are_among, at_rowid, given, given_level, id_name, nested}
+use Rattle.sqlite_resolve.specs.Given.{no_name, returned, with_given}
 use Rattle.sqlite_resolve.specs.Lowering.{Checked, and_then, or_else}
 use Rattle.sqlite_resolve.specs.Scope.{Context, Name, is_among}
 use Rattle.sqlite_resolve.specs.Terms.{equal}

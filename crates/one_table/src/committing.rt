@@ -1,10 +1,11 @@
-ghost use Rattle.std.specs.Prelude.{◌≡◌, false, IsTrue, IfErr, OnOk, OnErr, MatchResult};
+ghost use Rattle.std.specs.Prelude.{◌≡◌, false, IsTrue, IfErr, OnOk, OnErr};
 ghost use Rattle.sqlite_trees.specs.Tree.{Trees};
 ghost use Rattle.sqlite.specs.Effect.{Database};
 ghost use Rattle.sqlite.specs.State.{HasCleanDisk, State, Survives};
 ghost use Rattle.one_table.specs.Over.{Inside, Over};
 ghost use Rattle.one_table.specs.InTransaction.{IsUnderWay, WorksInside};
-ghost use Rattle.one_table.specs.Committing.{FailsInside, IsUndone, HasCommitted, LeavesMade, Risks, TellsCommit, WasMade};
+ghost use Rattle.one_table.specs.Committing.{FailsInside, IsUndone, HasCommitted, LeavesMade};
+ghost use Rattle.one_table.specs.Committing.{Risks, TellsCommit, WasMade};
 
 use sqlite::{Alter, Connection, Error, Transaction};
 

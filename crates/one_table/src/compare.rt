@@ -1,7 +1,8 @@
 //! Whether a found table is the one that a text defines, but for the tree that has its rows.
 ghost use Rattle.std.specs.Prelude.{◌≡◌, ◌↔◌, true, [], IsTrue};
 ghost use Rattle.std.specs.List.{list_all};
-ghost use Rattle.one_table.specs.Comparing.{is_null, has_no_default, HasSameRows, HasSameRules, IsPlainTable, IsAlike};
+ghost use Rattle.one_table.specs.Comparing.{is_null, has_no_default, HasSameRows, HasSameRules};
+ghost use Rattle.one_table.specs.Comparing.{IsPlainTable, IsAlike};
 
 use sqlite_items::Items;
 use sqlite_schema::code::Terms;

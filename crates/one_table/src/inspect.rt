@@ -1,13 +1,15 @@
 //! Tests of a schema that was found in a file: which names are free, which tables stand in it
 //! exactly so, and which references there are.
-ghost use Rattle.std.specs.Prelude.{◌≡◌, ◌↔◌, ◌==◌, ◌||◌, ◌<◌, true, not, Option, None, Some, find, map, filter, slice_get, slice_index_or, length, IsTrue, OnSome};
+ghost use Rattle.std.specs.Prelude.{◌≡◌, ◌↔◌, ◌==◌, ◌||◌, ◌<◌, true, not, Option, None, Some, find};
+ghost use Rattle.std.specs.Prelude.{map, slice_get, slice_index_or, IsTrue};
 ghost use Rattle.std.specs.List.{list_all};
 ghost use Rattle.std.specs.Option.{option_copied};
 ghost use Rattle.sqlite_value.specs.Keys.{plain};
 ghost use Rattle.sqlite_catalog.specs.Change.{is_used};
 ghost use Rattle.one_table.specs.Comparing.{IsPlainTable, IsOwnTree, StandsAt};
-ghost use Rattle.one_table.specs.Referring.{is_among, is_apart, is_unreferred, is_no_action, is_idle, points_to, is_harmless, is_left_alone};
-ghost use Rattle.one_table.specs.Standing.{Key, key_of, own_keys, keys_on, place_in, tree_in, Stands};
+ghost use Rattle.one_table.specs.Referring.{is_among, is_apart, is_unreferred, is_no_action};
+ghost use Rattle.one_table.specs.Referring.{is_idle, points_to, is_harmless, is_left_alone};
+ghost use Rattle.one_table.specs.Standing.{key_of, own_keys, keys_on, tree_in, Stands};
 
 use crate::compare::{is_table, same_places};
 use sqlite_items::Items;

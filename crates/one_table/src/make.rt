@@ -1,5 +1,6 @@
 //! CREATE TABLE inside a transaction: what it makes, and what it leaves as it was.
-ghost use Rattle.std.specs.Prelude.{◌≡◌, ◌<◌, ◌⊎◌, true, List, [], Ok, IfErr, OnOk, OnErr, IsTrue, map, length};
+ghost use Rattle.std.specs.Prelude.{◌≡◌, ◌<◌, ◌⊎◌, true, List, [], Ok, IfErr, OnOk, IsTrue, map};
+ghost use Rattle.std.specs.Prelude.{length};
 ghost use Rattle.std.specs.List.{list_all};
 ghost use Rattle.sqlite.specs.Effect.{IsDatabase};
 ghost use Rattle.one_table.specs.Over.{Inside};
@@ -7,7 +8,8 @@ ghost use Rattle.sqlite.specs.State.{HasCleanDisk};
 ghost use Rattle.sqlite_resolve.specs.Compile.{table_defined_by};
 ghost use Rattle.sqlite_schema.specs.declared.schema.Table.{Table};
 ghost use Rattle.one_table.specs.InTransaction.{FailsToRun, StaysInside, WorksInside};
-ghost use Rattle.one_table.specs.Making.{is_creation, AreDefined, FailsToMake, MakesTable, MakesTables};
+ghost use Rattle.one_table.specs.Making.{is_creation, AreDefined, FailsToMake, MakesTable};
+ghost use Rattle.one_table.specs.Making.{MakesTables};
 
 use crate::writing::run;
 use sqlite::{Alter, Error, Transaction};

@@ -5,7 +5,8 @@ ghost use Rattle.one_table.specs.Over.{Inside};
 ghost use Rattle.sqlite_value.specs.Order.{Row as Stored};
 ghost use Rattle.sqlite.specs.Table.{Table};
 ghost use Rattle.one_table.specs.InTransaction.{CarriesOut, IsUnderWay, WorksInside};
-ghost use Rattle.one_table.specs.Merges.{FailsToTouch, FailsToUpsert, StandsForUpserts, TakesUpserts, Touches, Upserts, shown_row};
+ghost use Rattle.one_table.specs.Merges.{FailsToTouch, FailsToUpsert, StandsForUpserts};
+ghost use Rattle.one_table.specs.Merges.{TakesUpserts, Touches, Upserts, shown_row};
 ghost use Rattle.one_table.specs.Reading.{is_whole};
 ghost use Rattle.one_table.specs.Upserting.{IsUpsert, Merging};
 

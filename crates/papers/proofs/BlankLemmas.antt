@@ -134,6 +134,7 @@ pub marked : (text bytes : List ℕ) → bytes ≡ (239 ∷ 187 ∷ 191 ∷ []) 
 unfolding strip_bom
 marked text bytes is = rw is refl
 
+-- of bytes that begin with no mark all are the text
 pub unmarked : (bytes : List ℕ) → ((rest : List ℕ) → bytes ≢ (239 ∷ 187 ∷ 191 ∷ []) ++ rest) → bytes ≡ strip_bom bytes
 unfolding strip_bom
 unmarked [] other = refl

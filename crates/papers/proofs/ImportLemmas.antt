@@ -60,6 +60,7 @@ dated-rules fields from name steps place says dated within = rw says.are (at pla
     at (suc (suc zero)) h = dated
     at (suc (suc (suc n))) h = absurd (omega (arith, h))
 
+-- each field of a record that says a row keeps its rule
 pub says-rules : (form : FileForm) (fields : Fields) (row : Row) (place : ℕ) → RecordSays form fields row → place < length fields
     → KeepsRuleAt form fields place
 says-rules Meters fields (Meter number m) place says within = rw says.four (at place (rw says.four at within))
@@ -128,6 +129,7 @@ from-outside fields rest name steps says count wrong = record {
 pub no-from : (text : List ℕ) → text ≢ [] → ((day : ℕ) → ¬ IsDayText text day) → ¬ IsFromText text
 no-from text some none h = elim h [ inl empty ↦ some empty | inr dated ↦ none dated.0 dated.1 ]
 
+-- a text whose length is found not to be zero is not empty
 pub not-empty : (found : Bool) (text : List ℕ) → found ≡ (length text == 0) → found ≡ false → text ≢ []
 not-empty found [] is full none = cc
 not-empty found (c ∷ text) is full none = cc

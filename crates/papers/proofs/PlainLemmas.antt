@@ -131,8 +131,10 @@ module _ (most : (t : ℕ) → IsRepresentable t → t ≤ greatest_amount) (o :
         ),
       )
 
+  -- each field of an exported sale is plain
   pub sale-fields : All IsPlainField (export_fields s)
   sale-fields = All-from_recursion IsPlainField (export_fields s) sale_plain
 
+  -- so its record has the fields as they are, without quotes
   pub sale-unquoted : sale_record s ≡ plain_record (export_fields s)
   sale-unquoted = plain-record _ _ _ sale_plain

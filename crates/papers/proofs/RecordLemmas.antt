@@ -63,6 +63,7 @@ exist (suc n) s xs short = by (exist n) (next_record default_config s [] [] xs) 
     by rest None none h = none-left s xs none
     by rest (Some p) some h = one-more s xs p some (elim h [ inl less ↦ rest p.1 p.2 (omega (arith, short, less)) | inr done ↦ rw (done.0, done.1) at-end ])
 
+-- every text has records, whatever state the reader is in
 pub records-exist : (s : State) (xs : List ℕ) → (records : List (List (List ℕ))) × AreRecords default_config s xs records
 records-exist s xs = exist (length xs + 1) s xs (omega arith)
 

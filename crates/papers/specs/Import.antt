@@ -1,5 +1,6 @@
 -- What a file of rows reads as: its rows, or the first fault.
-use Rattle.std.specs.Prelude.{◌≡◌, ◌≢◌, ℕ, ◌+◌, ◌<◌, ◌≤◌, ⊤, List, [], ◌∷◌, length, slice_get, Some, Result, Ok, Err}
+use Rattle.std.specs.Prelude.{◌≡◌, ◌≢◌, ℕ, ◌+◌, ◌<◌, ◌≤◌, ⊤, List, [], ◌∷◌, length, slice_get, Some}
+use Rattle.std.specs.Prelude.{Result, Ok, Err}
 use Rattle.papers.specs.File.{Fields, IsFirstOutside, KeepsRuleAt, RecordSays, header_of, kind_of}
 use Rattle.papers.specs.declared.file_form.FileForm.{FileForm}
 use Rattle.papers.specs.declared.file_form.FileForm.TheVariants.{Meters, Tariffs, DatedTariffs}
@@ -9,7 +10,10 @@ use Rattle.papers.specs.declared.row_fault.RowFault.TheVariants.{At, Memory}
 use Rattle.office_rules.specs.Office.Rows.{greatest_rows}
 use Rattle.office_rules.specs.declared.office.row.Row.{Row}
 use Rattle.office_rules.specs.declared.decision.row_cause.RowCause.{RowCause}
-use Rattle.office_rules.specs.declared.decision.row_cause.RowCause.TheVariants.{Header, Columns, Field, TooManyRows, Differs, NoTariff, DayPast}
+use Rattle.office_rules.specs.declared.decision.row_cause.RowCause.TheVariants.{Header, Columns}
+use Rattle.office_rules.specs.declared.decision.row_cause.RowCause.TheVariants.{Field, TooManyRows}
+use Rattle.office_rules.specs.declared.decision.row_cause.RowCause.TheVariants.{Differs, NoTariff}
+use Rattle.office_rules.specs.declared.decision.row_cause.RowCause.TheVariants.{DayPast}
 
 -- a file of a kind has a form: the record that stands first is the header of that form
 pub record HasForm (kind : FileKind) (records : List Fields) (form : FileForm) : Type 0 where

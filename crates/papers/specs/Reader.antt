@@ -1,7 +1,8 @@
 -- Where the reader of a file stands.
 use Rattle.std.specs.Prelude.{◌≡◌, ℕ, ◌<◌, List, Option, Some}
 use Rattle.std.specs.Borrow.{Bor}
-use Rattle.csv.specs.Reading.{Reached, Ready, default_config, owned_rows_left, owned_rows_reader, reader_config, reader_state, reader_trim, source_of, strip_bom}
+use Rattle.csv.specs.Reading.{Reached, Ready, default_config, owned_rows_left, owned_rows_reader}
+use Rattle.csv.specs.Reading.{reader_config, reader_state, reader_trim, source_of, strip_bom}
 use Rattle.csv.specs.declared.iter.ByteRecordsIntoIter.{ByteRecordsIntoIter}
 use Rattle.csv.specs.declared.parser.State.TheVariants.{StartRecord}
 use Rattle.csv.specs.declared.reader.Trim.TheVariants as trims

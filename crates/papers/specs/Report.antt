@@ -1,5 +1,6 @@
 -- The report of a shift.
-use Rattle.std.specs.Prelude.{ℕ, List, [], ◌∷◌, ◌++◌, length, sum_by, codes, decimal, Option, Some, None}
+use Rattle.std.specs.Prelude.{ℕ, List, [], ◌∷◌, ◌++◌, length, sum_by, codes, decimal, Option, Some}
+use Rattle.std.specs.Prelude.{None}
 use Rattle.std.specs.List.{flat_map, join_with_byte}
 use Rattle.papers.specs.Text.{change_of, line, line_feed, right, space, time_text}
 use Rattle.office_rules.specs.Law.Cash.{cash_of}

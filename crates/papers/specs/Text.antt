@@ -1,5 +1,6 @@
 -- The parts that the lines of papers are made of.
-use Rattle.std.specs.Prelude.{ℕ, ◌-◌, ◌*◌, ◌/◌, ◌%◌, ◌+◌, List, [], ◌∷◌, ◌++◌, length, map, replicate, slice_range, codes, decimal}
+use Rattle.std.specs.Prelude.{ℕ, ◌-◌, ◌*◌, ◌/◌, ◌%◌, ◌+◌, List, [], ◌∷◌, ◌++◌, length, map}
+use Rattle.std.specs.Prelude.{replicate, slice_range, codes, decimal}
 use Rattle.std.specs.List.{join_with_byte, range_with_len}
 use Rattle.sts_fields.specs.Calendar.{civil_at}
 use Rattle.sts_fields.specs.Day.{iso_date, two_digits}

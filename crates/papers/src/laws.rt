@@ -1,5 +1,6 @@
 ghost use Rattle.std.specs.Prelude.{◌≡◌, ◌++◌, ℕ, All, Contains, List, Bool, false};
-ghost use Rattle.papers.specs.Export.{IsPlainField, export_fields, export_of, plain_record, sale_record};
+ghost use Rattle.papers.specs.Export.{IsPlainField, export_fields, export_of, plain_record};
+ghost use Rattle.papers.specs.Export.{sale_record};
 ghost use Rattle.papers.specs.File.{AreFileRecords, Fields};
 ghost use Rattle.papers.specs.Import.{AreRows, FileHasFault, IsFirstFault};
 ghost use Rattle.papers.specs.declared.file_kind.FileKind.{FileKind};

@@ -1,6 +1,8 @@
-ghost use Rattle.std.specs.Prelude.{◌≡◌, ◌≤◌, ◌↔◌, IsSome, IsTrue, IfOk, IfErr, IfSome, drop, length};
+ghost use Rattle.std.specs.Prelude.{◌≡◌, ◌≤◌, ◌↔◌, IsSome, IsTrue, IfOk, IfErr, IfSome, drop};
+ghost use Rattle.std.specs.Prelude.{length};
 ghost use Rattle.csv.specs.Records.{fields_of};
-ghost use Rattle.papers.specs.File.{IsBaseText, RecordSays, RecordSaysTariff, base_text, header_of, kind_of};
+ghost use Rattle.papers.specs.File.{IsBaseText, RecordSays, RecordSaysTariff, base_text, header_of};
+ghost use Rattle.papers.specs.File.{kind_of};
 ghost use Rattle.papers.specs.Import.{HasCause, IsRowFault};
 ghost use Rattle.papers.specs.declared.file_kind.FileKind.TheVariants as kinds;
 ghost use Rattle.papers.specs.declared.file_form.FileForm.{FileForm};

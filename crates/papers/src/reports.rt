@@ -1,4 +1,4 @@
-ghost use Rattle.std.specs.Prelude.{◌≡◌, ◌+◌, ◌++◌, ◌∷◌, ℕ, List, length, IfOk, OnOk, string_bytes};
+ghost use Rattle.std.specs.Prelude.{◌≡◌, ◌+◌, ◌++◌, ◌∷◌, ℕ, List, length, IfOk, OnOk};
 ghost use Rattle.office_rules.specs.declared.office.sale.Sale.{Sale};
 ghost use Rattle.office_rules.specs.declared.office.shift.Shift.{Shift};
 ghost use Rattle.papers.specs.Output.{BlamesWriter, IsWritten};

@@ -66,6 +66,7 @@ module _ (laws : OrderLaws) (forward : BlockFunction) (o : Office) (at : Stamped
       let same = gets_same _ order first s refl again in
       subst (λ (t : Sale). IsSaleOf order t) same.0 (record { operator = there.operator; order_ref = there.order_ref; same = same.1 })
 
+  -- the sale that an order gets is its own, made now or found under its ref
   pub sold_for : IsSaleOf order s
   sold_for = sold_under (sale_of_ref o order.operator order.order_ref) refl
 

@@ -58,6 +58,7 @@ run_opening old new unread left held holds Memory (input, all, text, appends, gi
 module _ {D R W B : Type 0} (way : Way D R W) (forward : BlockFunction) (see : B → Seen)
     (goes_on : (lives : List Life) (life : Life) (o p : Office) → AreLives lives o → IsLife life → life.opening ≡ o → MayLeave life p
     → AreLives (lives ++ life ∷ []) p) where
+  -- books that were made ready and have a clean disk had one before
   pub ready_clean : (old new : B) → AreReady see forward old new → HasCleanDisk (see new).state → HasCleanDisk (see old).state
   ready_clean old new (inl (runs, same)) clean = subst (λ b. HasCleanDisk (see b).state) same clean
   ready_clean old new (inr (stopped, reopened)) clean = (reopened.next clean).clean
@@ -85,6 +86,7 @@ module _ {D R W B : Type 0} (way : Way D R W) (forward : BlockFunction) (see : B
 module _ {D R W B : Type 0} (way : Way D R W) (gives : ℤ → Type 0) (forward : BlockFunction) (see : B → Seen)
     (goes_on : (lives : List Life) (life : Life) (o p : Office) → AreLives lives o → IsLife life → life.opening ≡ o → MayLeave life p
     → AreLives (lives ++ life ∷ []) p) where
+  -- the lives of the books go on along all connections held, where the disk is clean
   pub live_on : (count : ℕ) (old new : Service D B) (printed : Text) → AreHeld way gives forward see count old new printed
       → HasCleanDisk (see new.books).state → (start : Course) → RepresentTheLast start.over start.life (see old.books)
       → ∥ LiveOn way forward see count (service old.door start old.answers) new ∥₁

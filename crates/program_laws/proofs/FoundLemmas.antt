@@ -159,5 +159,6 @@ pub found_hands : (life : Life) (moment : ℕ) (lookup : Lookup) (result : Resul
     → IsFoundAt life moment lookup result → Contains (sales_found result) s → HandsOut life s
 found_hands life moment lookup result s found told = present_hands life s (found_in life moment lookup result s found told)
 
+-- a life hands out a sale that was read in a list of its office
 pub read_hands : (life : Life) (moment : ℕ) (reading : Reading) (s : Sale) → IsReadIn life moment reading → IsSaleRead life reading s → HandsOut life s
 read_hands life moment reading s is told = present_hands life s (read_in life moment reading s is told)

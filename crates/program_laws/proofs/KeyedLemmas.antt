@@ -104,6 +104,7 @@ module _ {Y : Type 0} (key : Y → Text) (Has : Text → Type 0) where
       pub text_is : text_from named pages ≡ text named members
 
     module _ (reads : (at : Option Text) (page : Found) → Finds o moment (page_lookup (list at)) (Ok page) → IsKeyedPage at page) where
+      -- the pages of a list, up to the last one, have all members after a text, each once
       pub whole_list : (pages : List Found) (named : Bool) (at : Option Text) → ArePages o moment (Some (list at)) pages None → AreKeyedPages at named pages
       whole_list [] named at none = cc
       whole_list (page ∷ pages) named at (finds, rest) =
@@ -160,6 +161,7 @@ tariffs_read : (o : Office) (moment : ℕ) (at : Option Text) (page : Found) →
 tariffs_read o moment at (found.Tariffs page) are = record { members = page.items; each = are.each; first = are.first; text_is = λ named. refl; behind = refl }
 tariffs_read o moment at page none = absurd none
 
+-- the pages of a list of tariffs print all tariffs after a name, each once
 pub whole_tariffs : (o : Office) (moment : ℕ) (after : Option Text) (pages : List Found) → ArePages o moment (Some (listed.Tariffs after)) pages None
     → (tariffs : List ListedTariff) × AreAllTariffs o (day_at moment) (unwrap_or after []) tariffs × (pages_text false pages ≡ whole_tariffs_text true tariffs)
 whole_tariffs o moment after pages are =
@@ -173,6 +175,7 @@ meters_read : (o : Office) (moment : ℕ) (at : Option Text) (page : Found) → 
 meters_read o moment at (found.Meters page) are = record { members = page.items; each = are.each; first = are.first; text_is = λ named. refl; behind = refl }
 meters_read o moment at page none = absurd none
 
+-- the pages of a list of meters print all meters after a number, each once
 pub whole_meters : (o : Office) (moment : ℕ) (after : Option Text) (pages : List Found) → ArePages o moment (Some (listed.Meters after)) pages None
     → (meters : List ListedMeter) × AreAllMeters o (unwrap_or after []) meters × (pages_text false pages ≡ whole_meters_text true meters)
 whole_meters o moment after pages are =

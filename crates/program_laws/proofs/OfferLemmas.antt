@@ -65,6 +65,7 @@ bought_for office moment number tender count account q is =
       bought ∙ ap Some (same_purchase buys.0 _ q tender (same_quote _ q next.2) refl refl refl (change_left m.steps m.prior tender buys.0 bought)),
     )
 
+-- a quote that an office gives is a purchase by the steps of the meter's account
 pub purchase_for : (office : Office) (moment : ℕ) (meter : Text) (tender : ℕ) (q : Quote) → quote office moment meter tender
     ≡ Ok (found.Quote q) → IsPurchaseFor office moment meter tender q
 purchase_for office moment meter tender q is =

@@ -131,6 +131,7 @@ module _ (plain : (o : Office) (s : Sale) → IsOffice o → Contains o.sales s 
   yours : AllByRecursion IsPlainField (export_fields t)
   yours = recursion_from_All IsPlainField (export_fields t) (plain o t is there)
 
+  -- two sales of an office that have one receipt are one
   pub receipt_names : receipt_of s ≡ receipt_of t → s ≡ t
   receipt_names same =
       let first = begins s ∙ number_line (decimal s.number) (behind_number s) in
@@ -148,5 +149,6 @@ module _ (plain : (o : Office) (s : Sale) → IsOffice o → Contains o.sales s 
       (plain_free 44 refl _ mine.1.0) (plain_free 44 refl _ yours.1.0)
       (plain_free 44 refl _ mine.0) (plain_free 44 refl _ yours.0) same)
 
+  -- so are two that have one text in JSON
   pub json_names : ((s : Sale) → IsTellableSale s → json_text (sale_members s) ≡ sale_text s) → json_text (sale_members s) ≡ json_text (sale_members t) → s ≡ t
   json_names told same = text_names (sym (told s (tellable o s is here)) ∙ (same ∙ told t (tellable o t is there)))

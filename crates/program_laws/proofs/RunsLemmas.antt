@@ -72,7 +72,7 @@ use Rattle.vend_ports.specs.print.Told.{Outputs}
 use Rattle.program_laws.specs.runs.Follow.{AreFoundSo, AreRuns, EndsClean, FindsImage, FindsAgain, Follow, Here, IsClean, IsLeftBy, LeftAfter, MayHold, MayHoldAfter, MayLeaveOf, ProgramRun, use_of}
 use Rattle.program_laws.specs.runs.OneOffice.{AreLivedBy, AreOneOffice, LivesIn}
 use Rattle.program_laws.specs.runs.Readings.{IsReadIn, reading_of}
-use Rattle.program_laws.specs.runs.Uses.{Living, AreCoursed, RunEnding, RunUse, connected, ends_lost, let_go, idle_life, many_lives, reading_life, unconnected, unseen, lives_asking, lives_printing, use_added, use_asked, use_audited, use_carried, use_imported, use_refused, use_reported, use_run, use_served, use_serving, use_shown, use_timed, use_visited, with_file}
+use Rattle.program_laws.specs.runs.Uses.{Living, AreCoursed, RunEnding, RunUse, connected, ends_lost, let_go, idle_life, reading_life, unconnected, unseen, lives_asking, lives_printing, use_added, use_asked, use_audited, use_carried, use_imported, use_refused, use_reported, use_run, use_served, use_serving, use_shown, use_timed, use_visited, with_file}
 use Rattle.vend_commands.specs.serving.Connections.{AreHeld, AreReady, AreServed, Service, service}
 use Rattle.program_laws.specs.Courses.{AreLived, Course, IsNext, course}
 use Rattle.vend_commands.specs.serving.Listening.{IsServing}

@@ -76,6 +76,7 @@ sell_gives forward office at order answer is granted =
 
 -- ---- a life of one request
 
+-- a life of which nothing was asked yet runs in the office that it opened
 pub now_is : (forward : BlockFunction) (office present : Office) → IsRunning (opened forward office) present → office ≡ present
 unfolding after
 now_is forward office present running = running.present
@@ -108,6 +109,7 @@ pub sale_told : (sale : Sale) (o : Outputs) (end : CommandEnd) → TellsReply (O
 sale_told sale o end (inl told) = told
 sale_told sale o end (inr (none, told)) = absurd none
 
+-- a `sell` that ended as done has sold for the order in the office of its file
 pub ends_sold : {S : Type 0} (store : Ghosts S) (answers_stand : (forward : BlockFunction) (o : Office) (at : Stamped)
     → All (Contains (step forward o at).sales) (sales_of (reply forward o at))) (at : Places) (path : Text) (wait : ℕ)
     (transform : Shipped) (order : Order) (moment : ℕ) (office : Office) (o : Outputs) → StandsIn (at path wait).image office

@@ -256,6 +256,7 @@ gives_sold : (r : Result Answer Refusal) (s : Sale) → r ≡ Ok (Sold s) → Co
 gives_sold r s sold = subst (λ (x : Result Answer Refusal). Contains (sales_of x) s) (sym sold) (0, omega arith, refl)
 
 module _ {P D R W : Type 0} (here : Here P D R W) where
+  -- what a run asked an office for, it told the reply to
   pub tells : (run : ProgramRun here) (q : RunQuestion) → Asks here run q → TellsReply q.reply run.o run.end
   tells run q asks = run_tells here.disk here.salts here.of (here.office run.ports) (here.rest run.ports) run.words run.o run.end run.ran q asks
 
@@ -403,6 +404,7 @@ module _ {P D R W : Type 0} (here : Here P D R W) where
         ]
 
     module _ (orders : OrderLaws) where
+      -- a reprint of a sale that was told before gives that sale, unless the run failed
       pub printed_again : (handing : HandingLaws) (earlier : List (ProgramRun here)) (lives : List Life) (again : ProgramRun here)
           (one : AreOneOffice here (earlier ++ again ∷ []) lives) (s : Sale) (q : RunQuestion)
           → IsToldIn here earlier (earlier ++ again ∷ []) lives one s → Asks here again q → q.request ≡ requests.Reprint s.number
@@ -460,6 +462,7 @@ module _ {P D R W : Type 0} (here : Here P D R W) where
             | inr none ↦ absurd (omega (arith, none.1))
           ]
 
+      -- a run that sells an order for which a sale was made gets that sale, unless it failed
       pub order_again : (earlier : List (ProgramRun here)) (lives : List Life) (again : ProgramRun here) (order : Order) (s : Sale)
           (q : RunQuestion) → AreOneOffice here (earlier ++ again ∷ []) lives → AreSoldFor lives order s
           → Asks here again q → q.request ≡ requests.Sell order → IsUnlessFailed q.reply (Sold s)

@@ -33,6 +33,7 @@ in_drop (suc k) [] i n x is at = cc
 in_drop (suc k) (y ∷ ys) i zero x is at = absurd (omega (arith, is))
 in_drop (suc k) (y ∷ ys) i (suc n) x is at = in_drop k ys i n x (omega (arith, is)) at
 
+-- a list that has nothing at a place ends before it
 pub none_past : {X : Type 0} (xs : List X) (i : ℕ) → slice_get xs i ≡ None → length xs ≤ i
 none_past [] i none = omega arith
 none_past (x ∷ xs) zero none = cc
@@ -49,10 +50,12 @@ abbrev pub text_from : (first : Bool) → List Found → Text
 text_from first [] = []
 text_from first (page ∷ pages) = page_text false first page ++ flat_map (page_text false false) pages
 
+-- pages are printed with the names in front of the first, and not in front of the others
 pub from_first : (pages : List Found) → pages_text false pages ≡ text_from true pages
 from_first [] = refl
 from_first (page ∷ pages) = refl
 
+-- the pages behind the first are all printed without names
 pub from_next : (pages : List Found) → flat_map (page_text false false) pages ≡ text_from false pages
 from_next [] = refl
 from_next (page ∷ pages) = refl
@@ -69,6 +72,7 @@ module _ {X Y : Type 0} (number : X → ℕ) (show : X → Y) (key : Y → ℕ) 
   abbrev pub above : ℕ → List X → List Y
   above n xs = map show (filter (λ x. nat_lt n (number x)) xs)
 
+  -- the first of them, as many as a page has
   abbrev pub first_above : ℕ → List X → List Y
   first_above n xs = map show (take page_size (filter (λ x. nat_lt n (number x)) xs))
 
@@ -155,6 +159,7 @@ shifts_law first front back =
     ap (λ lines. names ++ lines) (flat_map-append listed_shift_line front back)
     ∙ sym (append_assoc names (flat_map listed_shift_line front) (flat_map listed_shift_line back))
 
+-- the pages of a list of shifts print all shifts after a number, each once
 pub whole_shifts : (o : Office) (moment after : ℕ) (pages : List Found) → IsOffice o → ArePages o moment (Some (listed.Shifts after)) pages None
     → pages_text false pages ≡ shift_rows_text true (map (listed_shift o) (filter (λ s. nat_lt after s.number) o.shifts))
 whole_shifts o moment after pages office are =
@@ -170,6 +175,7 @@ sales_read o moment n (found.Sales page) is =
     (λ first. ap (export_of first) same, ap (λ ss. option_map (λ (s : Sale). listed.Sales s.number) (last_of_full ss)) same)
 sales_read o moment n page none = absurd none
 
+-- the pages of a list of sales print an export of all sales after a number
 pub whole_sales : PagesLaw → (o : Office) (moment after : ℕ) (pages : List Found) → IsOffice o → ArePages o moment (Some (listed.Sales after)) pages None
     → pages_text false pages ≡ export_of true (filter (λ s. nat_lt after s.number) o.sales)
 whole_sales law o moment after pages office are =

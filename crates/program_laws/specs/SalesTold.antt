@@ -1,6 +1,7 @@
 -- The sales that connections were told of, in replies that were written whole or cut off.
 use Rattle.std.proofs.Common.{inl, inr}
-use Rattle.std.specs.Prelude.{◌≡◌, ◌⊎◌, ℕ, zero, suc, List, [], ◌∷◌, Option, Result, Ok, Err, Contains}
+use Rattle.std.specs.Prelude.{◌≡◌, ◌⊎◌, ℕ, zero, suc, List, [], ◌∷◌, Option, Result, Ok, Err}
+use Rattle.std.specs.Prelude.{Contains}
 use Rattle.book_states.specs.declared.lookup.Found.{Found}
 use Rattle.book_states.specs.declared.lookup.Found.TheVariants as found
 use Rattle.books.specs.Looking.{IsFoundAt}
@@ -8,7 +9,8 @@ use Rattle.conversation.specs.Exchanges.{Exchanged, MessageExchange, Timed, time
 use Rattle.conversation.specs.Conversation.{IsRefusal, IsMessageReply}
 use Rattle.conversation.specs.Run.{IsRun}
 use Rattle.conversation.specs.declared.end.End.{End}
-use Rattle.conversation.specs.declared.end.End.TheVariants.{Closed, BadMessage, ReadFault, WriteFault, Memory}
+use Rattle.conversation.specs.declared.end.End.TheVariants.{Closed, BadMessage, ReadFault}
+use Rattle.conversation.specs.declared.end.End.TheVariants.{WriteFault, Memory}
 use Rattle.desk.specs.Along.{AskedOffice, LookedUp}
 use Rattle.desk.specs.Answering.{answers_by, life_serves, message_refusal_of}
 use Rattle.sts_token.specs.Token.{BlockFunction}

@@ -7,7 +7,8 @@ use Rattle.book_states.specs.declared.lookup.ListedTariff.{ListedTariff}
 use Rattle.book_lists.specs.Pages.{ComesBefore}
 use Rattle.sts_fields.specs.Text.{Text}
 use Rattle.office_rules.specs.Office.{Office}
-use Rattle.desk_commands.specs.print.ListTexts.{meter_line, meter_names, table_text, tariff_lines, tariff_names}
+use Rattle.desk_commands.specs.print.ListTexts.{meter_line, meter_names, table_text, tariff_lines}
+use Rattle.desk_commands.specs.print.ListTexts.{tariff_names}
 
 -- all keys after a text, in the order of their bytes, each once
 pub record AreAllAfter (Has : Text → Type 0) (after : Text) (keys : List Text) : Type 0 where

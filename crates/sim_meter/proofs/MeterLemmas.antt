@@ -23,6 +23,7 @@ outcome : {T : Type 0} (taken : Taken) (f : TokenFields) (after : Meter T) (a : 
 outcome {T} taken f after a e holds =
     record { answer_is = ap (answer_for f) (sym e); holds = subst (λ (b : TidAnswer). MeterHolds {T = T} (answered taken f b) after) (sym e) holds }
 
+-- an identifier that is stored is used, and the meter stays as it is
 pub outcome_used : {T : Type 0} (taken : Taken) (f : TokenFields) (meter : Meter T)
     → MeterHolds taken meter → is_member meter.store.places f.tid ≡ true
     → Outcome taken f Used meter
@@ -32,6 +33,7 @@ outcome_used taken f meter holds stored =
     (answer_used meter.store.places taken.tids f.tid holds.greatest are
     (among_above f.tid meter.store.places are stored) stored) holds
 
+-- one that is not stored, with none stored below it, is old, and the meter stays as it is
 pub outcome_old : {T : Type 0} (taken : Taken) (f : TokenFields) (meter : Meter T)
     → MeterHolds taken meter → is_member meter.store.places f.tid ≡ false
     → count_below f.tid meter.store.places ≡ 0 → Outcome taken f Old meter
@@ -41,6 +43,7 @@ outcome_old taken f meter holds stored none =
     (answer_old meter.store.places taken.tids f.tid holds.greatest are
     (below_least f.tid meter.store.places are none stored)) holds
 
+-- any other is accepted: it comes in for the least one, and its amount is added
 pub outcome_accepted : {T : Type 0} (taken : Taken) (f : TokenFields) (meter after : Meter T)
     → MeterHolds taken meter → is_member meter.store.places f.tid ≡ false
     → 0 < count_below f.tid meter.store.places

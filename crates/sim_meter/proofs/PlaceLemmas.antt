@@ -77,6 +77,7 @@ kept_at t places place are within here =
     let fifty = are.fifty in
     list_any_at (eqb t) places place 0 (omega arith) (eq-eqb t (get_or places place 0) (sym here))
 
+-- an identifier that is not found at its place is not kept at all
 pub not_kept : (t : ℕ) (places : List ℕ) (place : ℕ) → AreSorted places
     → place ≡ count_below t places → (place < 50 → get_or places place 0 ≢ t)
     → is_member places t ≡ false
@@ -108,6 +109,7 @@ test_at t places place are is within =
 not_less : (a b : ℕ) → b ≤ a → ltb a b ≡ false
 not_less a b above = grind (arith, nat_tests)
 
+-- one whose place is past the end is not kept
 pub test_past : (t : ℕ) (places : List ℕ) (place : ℕ) → AreSorted places
     → place ≡ count_below t places → 50 ≤ place → ltb place 50 ≡ is_member places t
 test_past t places place are is past =
@@ -139,6 +141,7 @@ below_least t places are first none =
     false≢true (sym none ∙ kept_at t places 0 are (omega arith) here) in
     omega arith
 
+-- one that is above some of them is above the least
 pub above_least : (t : ℕ) (places : List ℕ) → AreSorted places → 0 < count_below t places
     → get_or places 0 0 < t
 above_least t places are some = before_place t places 0 0 are some
@@ -252,6 +255,7 @@ moved_in_permutes t places place are is some =
     (sym (inserted places place t some (omega arith)))
     (IsPermutation-insert (drop 1 places) (place - 1) t)
 
+-- the identifiers are still sorted after one came in at its place
 pub moved_in_sorted : (t : ℕ) (places : List ℕ) (place : ℕ) → AreSorted places
     → place ≡ count_below t places → 0 < place
     → AreSorted (set (copy_within places 1 place 0) (place - 1) t)

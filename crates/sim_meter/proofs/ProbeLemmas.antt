@@ -78,10 +78,12 @@ false_from (value ∷ values) after (suc place) is_false =
           omega (arith, counts, rest)
     ]
 
+-- a true value of a probe stands before the end of the true ones
 pub true_is_within : (values : List Bool) → AreTrueFirst values → (place : ℕ)
     → value_at values place ≡ true → place < true_count values
 true_is_within values are = true_within values are.none_after
 
+-- a false value of a probe stands at that end or after it
 pub false_is_from : (values : List Bool) → AreTrueFirst values → (place : ℕ)
     → value_at values place ≡ false → true_count values ≤ place
 false_is_from values are = false_from values are.none_after
@@ -121,6 +123,7 @@ pub record IsAsked (start now low high : ℕ) : Type 0 where
   pub six : now ≤ start + 6
   pub fits : high - low < room (now - start)
 
+-- one more question was asked, and at most half of what was open is left
 pub asked_more : (start now low high low' high' : ℕ) → IsAsked start now low high → low < high
     → (high' - low') + (high' - low') ≤ high - low → IsAsked start (now + 1) low' high'
 asked_more start now low high low' high' asked some less =

@@ -113,6 +113,7 @@ not_old taken t less = ap
     (λ (o : Bool). cond o old (cond (eqb t 0 || is_member taken t) used accepted))
     (lt-leb 50 (count_by (ltb t) taken) less)
 
+-- an identifier that is stored was used
 pub answer_used : (store taken : List ℕ) (t : ℕ) → HoldsGreatest store taken → AreSorted store
     → get_or store 0 0 ≤ t → is_member store t ≡ true → answer_to taken t ≡ used
 answer_used store taken t holds are above stored =
@@ -141,6 +142,7 @@ answer_used store taken t holds are above stored =
           ∙ ap (λ (b : Bool). cond b used accepted) (or_right (eqb t 0) true refl)
     ]
 
+-- one that is not stored, and not below the least, is accepted
 pub answer_accepted : (store taken : List ℕ) (t : ℕ) → HoldsGreatest store taken → AreSorted store
     → get_or store 0 0 ≤ t → is_member store t ≡ false → answer_to taken t ≡ accepted
 answer_accepted store taken t holds are above stored =

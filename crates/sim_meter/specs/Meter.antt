@@ -2,7 +2,8 @@
 use Rattle.std.specs.Prelude.{◌≡◌, ℕ, ◌-◌, ◌^◌, Bool, true, false, min, List, Result, Ok, Err, sum}
 use Rattle.sts_fields.specs.Text.{Text}
 use Rattle.sts_token.specs.Fields.{TokenFields}
-use Rattle.sts_token.specs.Meter.{Entry, Reader, Taken, TidAnswer, accepted, answer_to, old, taken_over, used}
+use Rattle.sts_token.specs.Meter.{Entry, Reader, Taken, TidAnswer, accepted, answer_to, old}
+use Rattle.sts_token.specs.Meter.{taken_over, used}
 use Rattle.sts_token.specs.Reading.{reading_of}
 use Rattle.sts_token.specs.Token.{BlockFunction}
 use Rattle.sts_token.specs.declared.fault.TokenFault.{TokenFault}

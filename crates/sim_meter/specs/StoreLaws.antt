@@ -1,6 +1,7 @@
 -- Sorted places answer a probe as it promises. The lemma stands here since the proof of a law of a
 -- trait may name `specs/` alone.
-use Rattle.std.proofs.Common.{◌≡◌, ℕ, Bool, false, ltb, List, map, get_or, inl, inr, sym, ◌∙◌, arith}
+use Rattle.std.proofs.Common.{◌≡◌, ℕ, Bool, false, ltb, List, map, get_or, inl, inr, sym, ◌∙◌}
+use Rattle.std.proofs.Common.{arith}
 use Rattle.std.proofs.lemmas.Bool.{cases_lt}
 use Rattle.std.proofs.lemmas.Bool.Decides.{nat_tests}
 use Rattle.std.proofs.lemmas.List.{get_or-map, get_or_past, length-map}

@@ -1,8 +1,9 @@
 ghost use Rattle.std.specs.Prelude.{◌≡◌, List, [], ◌∷◌, ◌++◌, false};
-ghost use Rattle.sts_token.specs.Fields.{TokenFields};
-ghost use Rattle.sts_token.specs.Meter.{Entry, Reader, Taken, answer_to, answered, cleared, credit_of, entered};
+ghost use Rattle.sts_token.specs.Meter.{Entry, Reader, Taken, answer_to, answered, cleared};
+ghost use Rattle.sts_token.specs.Meter.{credit_of, entered};
 ghost use Rattle.sts_token.specs.Reading.{reading_of};
-ghost use Rattle.sim_meter.specs.Meter.{ComesFrom, MeterHolds, answer_after, answer_for, is_accepted};
+ghost use Rattle.sim_meter.specs.Meter.{ComesFrom, MeterHolds, answer_after, answer_for};
+ghost use Rattle.sim_meter.specs.Meter.{is_accepted};
 
 use crate::answer::Answer;
 use crate::store::Store;

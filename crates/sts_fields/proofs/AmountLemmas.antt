@@ -81,6 +81,7 @@ range_between : (t u v e : ℕ) → LiesIn t e → start_of e ≤ u → u < v �
 range_between t u v e r low above within =
     record { exponent = r.exponent; from_start = omega arith; before_next = λ k. let next = r.before_next k in omega arith }
 
+-- rounding down to a whole step gives the greatest amount that a token can carry up to it
 pub floor_is : (t e : ℕ) → LiesIn t e → t ≤ greatest_amount
     → IsFloor t (t - (t - start_of e) % 10 ^ e)
 floor_is t e r top =
@@ -97,6 +98,7 @@ floor_is t e r top =
           omega arith;
     }
 
+-- what a token can carry lies a whole number of steps above the start of its range
 pub no_rest_from_representable : (t e : ℕ) → LiesIn t e → IsRepresentable t
     → (t - start_of e) % 10 ^ e ≡ 0
 no_rest_from_representable t e r carried =
@@ -131,6 +133,7 @@ same_parts t e m k n p q =
     subst (λ (j : ℕ). (t - start_of j) / 10 ^ j ≡ m) same (mantissa_from_parts _ _ _ p).0 in
     (same, sym at_k ∙ (mantissa_from_parts _ _ _ q).0)
 
+-- the computed code of an amount is its exponent and its mantissa, put together
 pub code_from_parts : (t e m : ℕ) → HasParts t e m → code_of t ≡ e * 2 ^ 14 + m
 code_from_parts t e m p =
     let same = exponent_of-range t e (range_from_parts _ _ _ p) in
@@ -170,6 +173,7 @@ exponent_rises e m k n less small fits =
     subst (λ (j : ℕ). start_of (suc e) ≤ start_of j) next (start_rises (suc e) (k - suc e)) in
     omega (arith, before, starts, amount_from k n)
 
+-- a greater code stands for a greater amount
 pub amount_of_code-rises : (c d : ℕ) → c < d → d < 2 ^ 16 → amount_of_code c < amount_of_code d
 amount_of_code-rises c d less fits = elim (cases_lt (c / 2 ^ 14) (d / 2 ^ 14)) [
   | inl below ↦ exponent_rises (c / 2 ^ 14) (c % 2 ^ 14) (d / 2 ^ 14) (d % 2 ^ 14) below (omega arith) (omega arith)

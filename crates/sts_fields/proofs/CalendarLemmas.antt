@@ -198,6 +198,7 @@ month_at-is secs n top low high =
           ))
     ]
 
+-- the month of a moment is that of the date which a clock shows
 pub month_at-civil : (secs : ℕ) (c : Civil) → IsCivil secs c → 1993 ≤ c.year → c.year ≤ 2099
     → month_at secs ≡ month_number c
 month_at-civil secs c i from to =
@@ -388,6 +389,7 @@ base_date-civil Y1993 = new_year-is 1993 8401 count_1993 (omega arith) (omega ar
 base_date-civil Y2014 = new_year-is 2014 16071 count_2014 (omega arith) (omega arith)
 base_date-civil Y2035 = new_year-is 2035 23741 count_2035 (omega arith) (omega arith)
 
+-- each part of a date and time from 1993 to 2099 keeps to its range
 pub civil-ranges : (secs : ℕ) (c : Civil) → 725846400 ≤ secs → secs ≤ 4102444799 → IsCivil secs c
     → IsWithinRanges c
 civil-ranges secs c from to i =
@@ -438,6 +440,7 @@ not_negative : (z : ℤ) → pos 0 ≤ℤ z → z ≡ pos (unsigned_abs z)
 not_negative (pos n) h = refl
 not_negative (negsuc n) h = absurd (omega (arith, signed_arith))
 
+-- the year that `jiff` shows is not negative, from 1993 on
 pub shown_year : (dt : DateTime) (secs : ℕ) → 725846400 ≤ secs → civil_nanos dt
     ≡ pos secs *ℤ pos 1_000_000_000 → dt.date.year ≡ pos (unsigned_abs dt.date.year)
 shown_year dt secs from e =

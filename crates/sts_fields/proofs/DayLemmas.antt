@@ -40,18 +40,22 @@ has_date-count day year month date h =
     let days = h.days in
     omega (arith, signed_arith, first_day-is, days_from_civil-day_count (pos year) month date)
 
+-- the other way round: a date at that many days is a date of the day
 pub count-has_date : (day year month date : ℕ) → IsCivilDate (pos year) month date
     → day_count (pos year) month date ≡ 4_380_354 + day → HasDate day year month date
 count-has_date day year month date there count =
     record { there = there; days = omega (arith, signed_arith, first_day-is, days_from_civil-day_count (pos year) month date) }
 
+-- a moment lies on one of the days up to the end of 2099
 pub range : (secs : ℕ) → IsMoment secs → IsDay (day_at secs)
 range secs m = rw (day_at-is secs m) (omega arith)
 
+-- a moment lies between midnight of its day and the next midnight
 pub whole : (secs : ℕ) → IsMoment secs → (first_moment + day_at secs * 86400 ≤ secs)
     × (secs < first_moment + (day_at secs + 1) * 86400)
 whole secs m = rw (day_at-is secs m) (omega arith, omega arith)
 
+-- a later moment lies on no earlier day
 pub never_back : (s t : ℕ) → IsMoment s → IsMoment t → s ≤ t → day_at s ≤ day_at t
 never_back s t m k h = rw (day_at-is s m, day_at-is t k) (omega arith)
 
@@ -62,11 +66,13 @@ midnight day = 725846400 + day * 86400
 midnight-is : (day : ℕ) → IsDay day → IsMoment (midnight day)
 midnight-is day h = (omega arith, omega arith)
 
+-- each day has a moment: its midnight
 pub each_day : (day : ℕ) → IsDay day → (secs : ℕ) × IsMoment secs × (day_at secs ≡ day)
 each_day day h =
     let m = midnight-is day h in
     (midnight day, m, day_at-is (midnight day) m ∙ omega arith)
 
+-- the date that a clock shows is a date of the moment's day
 pub shown : (secs : ℕ) (c : Civil) → IsMoment secs → IsCivil secs c
     → HasDate (day_at secs) c.year c.month c.day
 shown secs c m is =
@@ -78,6 +84,7 @@ shown secs c m is =
 abbrev date_only : ℕ → ℕ → ℕ → Civil
 date_only year month date = record { year = year; month = month; day = date; hour = 0; minute = 0; second = 0 }
 
+-- each date of 1993 to 2099 is that of a day
 pub each_date : (year month date : ℕ) → IsCivilDate (pos year) month date → IsInRange 1993 2099 year
     → (day : ℕ) × IsDay day × HasDate day year month date
 each_date year month date there years =
@@ -93,6 +100,7 @@ each_date year month date there years =
     }) in
     (day_at found.0, range found.0 found.1, shown found.0 c found.1 found.2)
 
+-- a day's date has a year from 1993 to 2099
 pub years : (day year month date : ℕ) → IsDay day → HasDate day year month date
     → IsInRange 1993 2099 year
 years day year month date h is =
@@ -112,12 +120,14 @@ years day year month date h is =
 abbrev calendar_date : (year month date : ℕ) → IsCivilDate (pos year) month date → Date
 calendar_date year month date there = record { year = pos year; month = month; day = date; year_in = there.0; month_in = there.1; day_in = there.2 }
 
+-- a day has one date
 pub one_date : (day y m d year month date : ℕ) → HasDate day y m d → HasDate day year month date
     → (y ≡ year) × (m ≡ month) × (d ≡ date)
 one_date day y m d year month date h k =
     let same = epoch_day_injective (calendar_date y m d h.there) (calendar_date year month date k.there) (h.days ∙ sym k.days) in
     (omega (arith, signed_arith, same.0), same.1, same.2)
 
+-- a date is that of one day
 pub one_day : (day other year month date : ℕ) → HasDate day year month date
     → HasDate other year month date → day ≡ other
 one_day day other year month date h k =
@@ -127,6 +137,7 @@ one_day day other year month date h k =
       has_date-count other year month date k,
     )
 
+-- each day has a text
 pub each_text : (day : ℕ) → IsDay day → (text : Text) × IsDayText text day
 each_text day h =
     let m = midnight-is day h in
@@ -136,6 +147,7 @@ each_text day h =
     rw at at (shown (midnight day) c m (civil_at-is (midnight day) m.0 m.1)) in
     (iso_date c.year c.month c.day, record { range = h; year = c.year; month = c.month; date = c.day; dated = dated; written = refl })
 
+-- a day has one text
 pub one_text : (day : ℕ) (text other : Text) → IsDayText text day → IsDayText other day
     → text ≡ other
 one_text day text other h k =
@@ -159,6 +171,7 @@ pub record HasDigits (text : List ℕ) (year month date : ℕ) : Type 0 where
   pub right : get_or text 7 0 ≡ 45
   pub date_digits : get_or text 8 0 ∷ get_or text 9 0 ∷ [] ≡ two_digits date
 
+-- the text of a date has its digits and its hyphens at their places
 pub digits-of : (text : List ℕ) (year month date : ℕ) → text ≡ iso_date year month date
     → HasDigits text year month date
 unfolding iso_date
@@ -218,6 +231,7 @@ pub record HasBounds (year month date : ℕ) : Type 0 where
   pub few_months : month < 100
   pub few_days : date < 100
 
+-- a date that the calendar has keeps to those bounds
 pub bounds : (year month date : ℕ) → IsCivilDate (pos year) month date → HasBounds year month date
 bounds year month date there =
     let length = days_in_month_bounds (pos year) month in
@@ -241,6 +255,7 @@ iso_date-one y m d year month date there here same =
       two_digits-one d date few.few_days less.few_days (sym a.date_digits ∙ b.date_digits),
     )
 
+-- a text is that of one day
 pub one_read : (day other : ℕ) (text : Text) → IsDayText text day → IsDayText text other
     → day ≡ other
 one_read day other text h k =

@@ -75,6 +75,7 @@ outcome_of_lowest used now t false true low s a =
 outcome_of_lowest used now t false false low s a =
     (fresh_from_lowest used now t low (grind (arith, nat_tests)), grind (arith, nat_tests))
 
+-- what `fresh_after` computes from the greatest identifier sold is what a sale gets
 pub fresh_after_is : (used : List ℕ) (now : ℕ) (last : Option ℕ) → IsLast used last
     → FreshOutcome used now (fresh_after now last)
 fresh_after_is used now last i = outcome_of_lowest used now _ _ _ (lowest used now last i) refl refl
@@ -91,6 +92,7 @@ spent_iff used now (Err PastEnd) o = absurd o
 fresh_once : (used : List ℕ) (now s t : ℕ) → IsFresh used now s → IsFresh used now t → s ≡ t
 fresh_once used now s t f g = omega (arith, f.least t g.may_sell, g.least s f.may_sell)
 
+-- a sale is refused as ahead exactly where the fresh identifier lies too far past now
 pub ahead_iff : (used : List ℕ) (now : ℕ) (r : Result ℕ TidFault) → FreshOutcome used now r
     → (r ≡ Err IdentifierAhead) ↔ ((t : ℕ) × IsFresh used now t × (now + greatest_lead < t))
 ahead_iff used now (Ok t) o =

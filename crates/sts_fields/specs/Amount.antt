@@ -1,5 +1,6 @@
 -- Transfer amounts in tenths of a kWh: which ones a token can carry, and the code of each.
-use Rattle.std.specs.Prelude.{◌≡◌, ℕ, zero, suc, ◌+◌, ◌-◌, ◌*◌, ◌/◌, ◌%◌, ◌^◌, ◌<◌, ◌≤◌, [], ◌∷◌, nat_le}
+use Rattle.std.specs.Prelude.{◌≡◌, ℕ, zero, suc, ◌+◌, ◌-◌, ◌*◌, ◌/◌, ◌%◌, ◌^◌, ◌<◌, ◌≤◌, [], ◌∷◌}
+use Rattle.std.specs.Prelude.{nat_le}
 use Rattle.std.specs.List.{count_by}
 
 -- the least amount of an exponent: the sum, over n from 1 to it, of 2 ^ 14 * 10 ^ (n - 1)

@@ -1,5 +1,6 @@
 -- The date and the time of day that a clock in UTC shows, and the months since January 1993.
-use Rattle.std.specs.Prelude.{◌≡◌, ℕ, ◌+◌, ◌-◌, ◌*◌, ◌/◌, ◌%◌, ◌<◌, ℤ, pos, ◌+ℤ◌, ◌-ℤ◌, ◌*ℤ◌, int_le, unsigned_abs}
+use Rattle.std.specs.Prelude.{◌≡◌, ℕ, ◌+◌, ◌-◌, ◌*◌, ◌/◌, ◌%◌, ◌<◌, ℤ, pos, ◌+ℤ◌, ◌-ℤ◌, ◌*ℤ◌}
+use Rattle.std.specs.Prelude.{int_le, unsigned_abs}
 use Rattle.std.specs.Int.{IsInRange}
 use Rattle.std.specs.List.{count_by, range_with_len}
 pub use Rattle.jiff_core.specs.Calendar.{days_from_civil, IsCivilDate}

@@ -1,5 +1,6 @@
 -- Days of UTC, counted from 1 January 1993, their dates and their texts.
-use Rattle.std.specs.Prelude.{◌≡◌, ℕ, ◌+◌, ◌/◌, ◌%◌, ◌≤◌, [], ◌∷◌, ◌++◌, pos, ◌+ℤ◌, ◌-ℤ◌, unsigned_abs}
+use Rattle.std.specs.Prelude.{◌≡◌, ℕ, ◌+◌, ◌/◌, ◌%◌, ◌≤◌, [], ◌∷◌, ◌++◌, pos, ◌+ℤ◌, ◌-ℤ◌}
+use Rattle.std.specs.Prelude.{unsigned_abs}
 use Rattle.jiff_core.specs.Calendar.{days_from_civil, IsCivilDate}
 use Rattle.sts_fields.specs.Calendar.{civil_at, day_number}
 use Rattle.sts_fields.specs.Moment.{UnixSeconds}

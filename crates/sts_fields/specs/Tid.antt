@@ -1,10 +1,12 @@
 -- Token identifiers: the minutes from a base date, and the one that a sale takes.
-use Rattle.std.specs.Prelude.{◌≡◌, ℕ, ◌+◌, ◌-◌, ◌/◌, ◌%◌, ◌<◌, ◌≤◌, ◌==◌, max, List, [], Option, Some, None, Result, Ok, Err, if◌then◌else◌, nat_lt, All, Contains}
+use Rattle.std.specs.Prelude.{◌≡◌, ℕ, ◌+◌, ◌-◌, ◌/◌, ◌%◌, ◌<◌, ◌≤◌, ◌==◌, max, List, [], Option}
+use Rattle.std.specs.Prelude.{Some, None, Result, Ok, Err, if◌then◌else◌, nat_lt, All, Contains}
 use Rattle.sts_fields.specs.Base.{base_date}
 use Rattle.sts_fields.specs.Moment.{UnixSeconds}
 use Rattle.sts_fields.specs.declared.base.Base.{Base}
 use Rattle.sts_fields.specs.declared.fault.TidFault.{TidFault}
-use Rattle.sts_fields.specs.declared.fault.TidFault.TheVariants.{BeforeBase, PastEnd, IdentifiersSpent, IdentifierAhead}
+use Rattle.sts_fields.specs.declared.fault.TidFault.TheVariants.{BeforeBase, PastEnd}
+use Rattle.sts_fields.specs.declared.fault.TidFault.TheVariants.{IdentifiersSpent, IdentifierAhead}
 
 -- the greatest identifier, of 24 bits
 abbrev pub last_tid : ℕ

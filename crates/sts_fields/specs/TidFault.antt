@@ -2,7 +2,8 @@
 use Rattle.std.specs.Prelude.{ℕ, codes}
 use Rattle.sts_fields.specs.Text.{Text}
 use Rattle.sts_fields.specs.declared.fault.TidFault.{TidFault}
-use Rattle.sts_fields.specs.declared.fault.TidFault.TheVariants.{BeforeBase, PastEnd, IdentifiersSpent, IdentifierAhead}
+use Rattle.sts_fields.specs.declared.fault.TidFault.TheVariants.{BeforeBase, PastEnd}
+use Rattle.sts_fields.specs.declared.fault.TidFault.TheVariants.{IdentifiersSpent, IdentifierAhead}
 
 -- the number that a user meets
 abbrev pub tid_fault_number : TidFault → ℕ

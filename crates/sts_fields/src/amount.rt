@@ -1,5 +1,7 @@
 ghost use Rattle.std.specs.Prelude.{◌≡◌, ◌*◌, ◌/◌, ◌%◌, ◌+◌, ◌^◌, ◌<◌, ◌≤◌, ◌↔◌, ℕ, IsSome, IfSome};
-ghost use Rattle.sts_fields.specs.Amount.{HasParts, IsCode, IsFloor, IsRepresentable, LiesIn, amount_of_code, code_of, exponent_of, greatest_amount, start_of};
+ghost use Rattle.sts_fields.specs.Amount.{HasParts, IsCode, IsFloor, IsRepresentable, LiesIn};
+ghost use Rattle.sts_fields.specs.Amount.{amount_of_code, code_of, exponent_of, greatest_amount};
+ghost use Rattle.sts_fields.specs.Amount.{start_of};
 
 use std::marker::Model;
 

@@ -1,9 +1,11 @@
-ghost use Rattle.std.specs.Prelude.{◌≡◌, ◌≤◌, ◌<◌, ◌-◌, ◌*◌, ◌+◌, ℕ, pos, ◌≤ℤ◌, ◌*ℤ◌, IfOk, IsOkAnd};
+ghost use Rattle.std.specs.Prelude.{◌≡◌, ◌≤◌, ◌<◌, ◌-◌, ◌*◌, ◌+◌, ℕ, pos, ◌≤ℤ◌, ◌*ℤ◌, IfOk};
+ghost use Rattle.std.specs.Prelude.{IsOkAnd};
 ghost use Rattle.std.specs.Int.{IsInRange};
 ghost use Rattle.jiff_core.specs.Calendar.{IsCivilDate};
 ghost use Rattle.jiff_core.specs.DateTime.{civil_nanos};
 ghost use Rattle.sts_fields.specs.Base.{base_date, year_of};
-ghost use Rattle.sts_fields.specs.Calendar.{IsCivil, IsWithinRanges, civil_at, month_at, month_number, new_year};
+ghost use Rattle.sts_fields.specs.Calendar.{IsCivil, IsWithinRanges, civil_at, month_at};
+ghost use Rattle.sts_fields.specs.Calendar.{month_number, new_year};
 ghost use Rattle.sts_fields.specs.Moment.{IsMoment, first_moment, last_moment};
 ghost use Rattle.sts_fields.specs.declared.base.Base.{Base};
 ghost use Rattle.sts_fields.specs.declared.calendar.date_time.Civil.{Civil};

@@ -1,8 +1,11 @@
-ghost use Rattle.std.specs.Prelude.{◌≡◌, ◌-◌, ◌/◌, ◌+◌, ◌<◌, ◌≤◌, ◌≢◌, ◌↔◌, ℕ, List, Option, Result, Contains};
+ghost use Rattle.std.specs.Prelude.{◌≡◌, ◌-◌, ◌/◌, ◌+◌, ◌<◌, ◌≤◌, ◌≢◌, ◌↔◌, ℕ, List, Option};
+ghost use Rattle.std.specs.Prelude.{Result, Contains};
 ghost use Rattle.std.specs.Option.{ForSome};
 ghost use Rattle.sts_fields.specs.Base.{base_date};
 ghost use Rattle.sts_fields.specs.declared.fault.TidFault.{TidFault};
-ghost use Rattle.sts_fields.specs.Tid.{FreshOutcome, IsFresh, IsLast, IsReserved, MaySell, fresh_after, greatest_lead, last_tid, minute_of, minutes_since};
+ghost use Rattle.sts_fields.specs.Tid.{FreshOutcome, IsFresh, IsLast, IsReserved, MaySell};
+ghost use Rattle.sts_fields.specs.Tid.{fresh_after, greatest_lead, last_tid, minute_of};
+ghost use Rattle.sts_fields.specs.Tid.{minutes_since};
 
 use crate::base::{self, Base};
 use crate::fault::TidFault;

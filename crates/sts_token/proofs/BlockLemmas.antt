@@ -2,6 +2,7 @@
 use Rattle.std.proofs.Common.{◌≡◌, ℕ, ◌+◌, ◌*◌, ◌%◌, ◌<◌, ◌^◌, bit_or, ◌∙◌, ap, arith}
 use Rattle.std.proofs.lemmas.Nat.{or_shifted}
 
+-- random bits, identifier and amount code, shifted and joined by `|`, are their sum
 pub joined_payload : (rnd tid code : ℕ) → rnd < 2 ^ 4 → tid < 2 ^ 24 → code < 2 ^ 16
     → bit_or (bit_or (rnd * 2 ^ 40 % 2 ^ 64) (tid * 2 ^ 16 % 2 ^ 64)) code
     ≡ rnd * 2 ^ 40 + tid * 2 ^ 16 + code

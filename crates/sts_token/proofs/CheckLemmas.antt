@@ -124,6 +124,7 @@ nibble_steps check nibble small =
     ∙ ap (bit_xor (fold check_step check (take 4 (bits_of nibble)))) none
     ∙ xor_zero_r (fold check_step check (take 4 (bits_of nibble)))
 
+-- the steps over a byte's low four bits and then over its high four are those over all eight
 pub byte_steps : (check byte : ℕ)
     → fold check_step (fold check_step check (take 4 (bits_of (byte % 16))))
     (take 4 (bits_of (byte / 16)))
@@ -152,6 +153,7 @@ fold-lt check [] small = small
 fold-lt check (bit ∷ bits) small =
     fold-lt (check_step check bit) bits (check_step-lt check bit small)
 
+-- the check of any bytes has sixteen bits
 pub check_of-lt : (bytes : List ℕ) → check_of bytes < 2 ^ 16
 unfolding check_of
 check_of-lt bytes = fold-lt 0xFFFF (flat_map bits_of bytes) (lit< tt)

@@ -24,12 +24,14 @@ pub decimal_digit : (c : ℕ) → is_ascii_digit c ≡ true
     → (48 ≤ c) × (c < 58) × (digit_value c ≡ c - 48)
 decimal_digit c h = (grind (arith, nat_tests), grind (arith, nat_tests), grind (arith, nat_tests))
 
+-- one digit more, and what was read so far is still all digits
 pub more_digits : (text : List ℕ) (i : ℕ) → i < length text → AllPass is_ascii_digit (take i text)
     → is_ascii_digit (get_or text i 0) ≡ true → AllPass is_ascii_digit (take (i + 1) text)
 more_digits text i within before here =
     subst (AllPass is_ascii_digit) (sym (take_more text i 0 within))
     (All-push (λ x. is_ascii_digit x ≡ true) (take i text) (get_or text i 0) before here)
 
+-- one digit more, and the number read so far is ten times as great, and the digit
 pub more_number : (text : List ℕ) (i number : ℕ) → i < length text → digits_value 10 (take i text)
     ≡ number → is_ascii_digit (get_or text i 0) ≡ true
     → digits_value 10 (take (i + 1) text) ≡ number * 10 + (get_or text i 0 - 48)
@@ -38,6 +40,7 @@ more_number text i number within before here =
     ∙ ap (λ (n : ℕ). n * 10 + digit_value (get_or text i 0)) before
     ∙ ap (λ (n : ℕ). number * 10 + n) (decimal_digit (get_or text i 0) here).2
 
+-- a number with one digit more stays below the next power of ten
 pub more_fits : (i number c : ℕ) → number < 10 ^ i → is_ascii_digit c ≡ true
     → number * 10 + (c - 48) < 10 ^ (i + 1)
 more_fits i number c small here =
@@ -48,6 +51,7 @@ more_fits i number c small here =
 abbrev pub decimal_of : List ℕ → Option ℕ
 decimal_of text = cond (is_twenty_digits text) (Some (number_in text)) None
 
+-- twenty digits pass the test, with the number that was read of them
 pub decimal_all : (text : List ℕ) (number : ℕ) → AreTwentyDigits text → number_in text ≡ number
     → Some number ≡ decimal_of text
 decimal_all text number are same =
@@ -141,6 +145,7 @@ given_number : (text : List ℕ) (digits : Bool) (o : Option ℕ) → o
 given_number text true o e = ap (λ (x : Option ℕ). ok_or x NotTwentyDigits) e
 given_number text false o e = ap (λ (x : Option ℕ). ok_or x NotTwentyDigits) e
 
+-- digits, number and block, each read where the one before succeeded, are the one reading
 pub read_chain : (inverse : ℕ → ℕ → ℕ) (key : ℕ) (text : List ℕ) (o : Option ℕ)
     (a b : Result ℕ TokenFault) (r : Result TokenFields TokenFault)
     → o ≡ decimal_of text → a ≡ ok_or o NotTwentyDigits

@@ -16,6 +16,7 @@ use Rattle.sts_token.specs.Key.{is_lower_hexdigit}
 pub written_digits : ℕ → ℕ → List ℕ → ℕ → List ℕ
 written_digits base rest text count = digits_text base count rest ++ drop count text
 
+-- with all digits still to come, the text will be the number's, whatever stands in it
 pub written_none : (base number count : ℕ) (text : List ℕ) → length text ≡ count
     → written_digits base number text count ≡ digits_text base count number
 unfolding written_digits
@@ -23,6 +24,7 @@ written_none base number count text all =
     ap (λ (xs : List ℕ). digits_text base count number ++ xs) (drop_all count text (omega arith))
     ∙ append-nil _
 
+-- the last digit that is to come is written at its place, and one less is to come
 pub written_more : (base rest place : ℕ) (text : List ℕ) → place < length text
     → written_digits base rest text (suc place)
     ≡ written_digits base (rest / base) (set text place (digit_char (rest % base))) place
@@ -34,10 +36,12 @@ written_more base rest place text within =
     (sym (drop-set text place (digit_char (rest % base)) within
     ∙ ap (λ (k : ℕ). digit_char (rest % base) ∷ drop k text) (add-one place)))
 
+-- with no digit still to come, the text stays as it is
 pub written_all : (base rest : ℕ) (text : List ℕ) → written_digits base rest text 0 ≡ text
 unfolding written_digits digits_text
 written_all base rest text = refl
 
+-- as many digits are written as were asked for
 pub length-digits_text : (base count n : ℕ) → length (digits_text base count n) ≡ count
 unfolding digits_text
 length-digits_text base zero n = refl
@@ -66,6 +70,7 @@ written_turn base rest w n text within all =
 digit_value-char : (d : ℕ) → d < 16 → digit_value (digit_char d) ≡ d
 digit_value-char d h = grind (arith, nat_tests)
 
+-- a number is read back from its digits, where so many digits hold it
 pub digits_value-digits_text : (base count n : ℕ) → 2 ≤ base → base ≤ 16 → n < base ^ count
     → digits_value base (digits_text base count n) ≡ n
 unfolding digits_text
@@ -97,6 +102,7 @@ value_cons base c ds =
     value_after base (0 * base + digit_value c) ds
     ∙ ap (λ (n : ℕ). n * base ^ length ds + digits_value base ds) (omega arith)
 
+-- bytes that pass a test for digits of the base are digits of the base
 pub all_digits : (base : ℕ) (is_digit : ℕ → Bool)
     → ((c : ℕ) → is_digit c ≡ true → digit_value c < base)
     → (ds : List ℕ) → AllByRecursion (λ c. is_digit c ≡ true) ds → AllDigits base ds
@@ -129,6 +135,7 @@ same_text base is_digit below told (c ∷ a) (d ∷ b) p q l v =
 pub decimal_below : (c : ℕ) → is_ascii_digit c ≡ true → digit_value c < 10
 decimal_below c h = grind (arith, nat_tests)
 
+-- decimal digits of one value are the same
 pub decimal_told : (c d : ℕ) → is_ascii_digit c ≡ true → is_ascii_digit d ≡ true → digit_value c
     ≡ digit_value d → c ≡ d
 decimal_told c d h k e = grind (arith, nat_tests)
@@ -136,9 +143,11 @@ decimal_told c d h k e = grind (arith, nat_tests)
 decimal_char : (v : ℕ) → v < 10 → is_ascii_digit (digit_char v) ≡ true
 decimal_char v h = grind (arith, nat_tests)
 
+-- a hexadecimal digit is worth less than sixteen
 pub hexadecimal_below : (c : ℕ) → is_lower_hexdigit c ≡ true → digit_value c < 16
 hexadecimal_below c h = grind (arith, nat_tests)
 
+-- lower-case hexadecimal digits of one value are the same
 pub hexadecimal_told : (c d : ℕ) → is_lower_hexdigit c ≡ true → is_lower_hexdigit d ≡ true
     → digit_value c ≡ digit_value d → c ≡ d
 hexadecimal_told c d h k e = grind (arith, nat_tests)
@@ -156,8 +165,10 @@ passes base is_digit some char (suc count) n =
     All-push (λ x. is_digit x ≡ true) (digits_text base count (n / base)) (digit_char (n % base))
     (passes base is_digit some char count (n / base)) (char (n % base) (mod_below n base some))
 
+-- a number written in decimal consists of decimal digits
 pub decimal_passes : (count n : ℕ) → AllPass is_ascii_digit (digits_text 10 count n)
 decimal_passes = passes 10 is_ascii_digit (omega arith) decimal_char
 
+-- a number written in hexadecimal consists of lower-case hexadecimal digits
 pub hexadecimal_passes : (count n : ℕ) → AllPass is_lower_hexdigit (digits_text 16 count n)
 hexadecimal_passes = passes 16 is_lower_hexdigit (omega arith) hexadecimal_char

@@ -103,6 +103,7 @@ greater_came sold came f taken follows few =
     ])) in
     omega (arith, follows.counted (ltb f.tid), le)
 
+-- a token that has not come yet is accepted exactly if fewer than fifty later ones have come
 pub first_entry : (read : Reader) (token : TokenFields
     → List ℕ) (sold came : List TokenFields) (f : TokenFields)
     → IsReadAs read token → AreSold sold → All (Contains sold) came → Contains sold f
@@ -166,6 +167,7 @@ no_later_came sold earlier f below =
     let under : h.0.tid < f.tid = holds_at (λ k. k.tid < f.tid) h.0 earlier below h.1 in
     omega (arith, ltb-true f.tid g.tid greater, under, h.2)))
 
+-- a token is accepted where just those sold before it were entered, in order
 pub in_order : (read : Reader) (token : TokenFields
     → List ℕ) (earlier later : List TokenFields) (f : TokenFields)
     → IsReadAs read token → AreSold (earlier ++ f ∷ later)
@@ -224,6 +226,7 @@ sum_bound greatest low (f ∷ sold) small rising fields above =
       above.0,
     )
 
+-- the amounts of all tokens sold add to less than the credit can hold
 pub below_bound : Greatest → (sold : List TokenFields) → AreSold sold
     → sum_by (λ f. f.tenths) sold < 2 ^ 64 - 1
 below_bound greatest sold are =
@@ -256,6 +259,7 @@ accepted_le_sold read history sold =
     (λ f. weight_le (is_member (taken_over read history).tids f.tid) f.tenths) in
     omega (arith, kept, le)
 
+-- the credit is what the accepted tokens carry, all added
 pub credit_is_sum : Greatest
     → (read : Reader) (token : TokenFields → List ℕ) (sold came : List TokenFields)
     → IsReadAs read token → AreSold sold → All (Contains sold) came
@@ -267,6 +271,7 @@ credit_is_sum greatest read token sold came is are all =
     let bound = below_bound greatest sold are in
     omega (arith, total, le, bound)
 
+-- the credit is no more than what all tokens sold carry
 pub credit_at_most_sold : Greatest
     → (read : Reader) (token : TokenFields → List ℕ) (sold came : List TokenFields)
     → IsReadAs read token → AreSold sold → All (Contains sold) came

@@ -36,6 +36,7 @@ choice_old false true m e = cc
 choice_old false false true e = cc
 choice_old false false false e = cc
 
+-- an accepted identifier was new
 pub new_from_accepted : (taken : List ℕ) (t : ℕ) → answer_to taken t ≡ accepted → IsNew taken t
 new_from_accepted taken t e =
     let is = choice_accepted (leb 50 (count_by (ltb t) taken)) (eqb t 0) (is_member taken t) e in
@@ -43,6 +44,7 @@ new_from_accepted taken t e =
     let above = is.1 in
     record { few_greater = grind (arith, nat_tests); above_zero = grind (arith, nat_tests); not_taken = is.2 }
 
+-- a new identifier is accepted
 pub accepted_from_new : (taken : List ℕ) (t : ℕ) → IsNew taken t → answer_to taken t ≡ accepted
 accepted_from_new taken t new =
     let few : leb 50 (count_by (ltb t) taken) ≡ false =
@@ -52,12 +54,14 @@ accepted_from_new taken t new =
     ∙ ap (λ (z : Bool). cond (z || is_member taken t) used accepted) above
     ∙ ap (λ (m : Bool). cond m used accepted) new.not_taken
 
+-- a used identifier is among those taken, unless it is 0
 pub among_from_used : (taken : List ℕ) (t : ℕ) → answer_to taken t ≡ used → 1 ≤ t → is_member taken t
     ≡ true
 among_from_used taken t e above =
     choice_used (leb 50 (count_by (ltb t) taken)) (eqb t 0) (is_member taken t) e
     (grind (arith, nat_tests))
 
+-- of those taken, at least fifty are greater than an old identifier
 pub greater_from_old : (taken : List ℕ) (t : ℕ) → answer_to taken t ≡ old
     → 50 ≤ count_by (ltb t) taken
 greater_from_old taken t e =
@@ -70,10 +74,12 @@ pub among_cons : (u : ℕ) (taken : List ℕ) (t : ℕ) → is_member taken t �
 among_cons u taken t h =
     elim (eqb t u) as (λ b. (b || is_member taken t) ≡ true) [ true ↦ refl | false ↦ h ]
 
+-- the one that was taken last is among them
 pub among_first : (t : ℕ) (taken : List ℕ) → is_member (t ∷ taken) t ≡ true
 among_first t taken = let same : eqb t t
     ≡ true = grind (arith, nat_tests) in ap (λ (b : Bool). b || is_member taken t) same
 
+-- whether an identifier is among them does not change as another one is taken
 pub among_other : (u : ℕ) (taken : List ℕ) (t : ℕ) → t ≢ u → is_member (u ∷ taken) t
     ≡ is_member taken t
 among_other u taken t other = let differ : eqb t u
@@ -106,6 +112,7 @@ taken_from_accepts read history text f a =
     ap (after_reading (taken_over read history)) a.reads
     ∙ ap (answered (taken_over read history) f) a.answer
 
+-- no two accepted texts have one identifier, while the meter is not cleared
 pub identifier_once : (read : Reader) (history : List Entry) (later : List (List ℕ))
     (first again : List ℕ) (f g : TokenFields)
     → Accepts read history first f
@@ -125,6 +132,7 @@ identifier_once read history later first again f g a b same =
     let new = new_from_accepted (taken_over read (history ++ entered first ∷ map entered later)).tids g.tid b.answer in
     false≢true (sym new.not_taken ∙ among)
 
+-- no text is accepted twice, while the meter is not cleared
 pub token_once : (read : Reader) (history : List Entry) (later : List (List ℕ)) (text : List ℕ)
     (f g : TokenFields)
     → Accepts read history text f
@@ -189,6 +197,7 @@ accepted_along read done (text ∷ rest) t h =
       | inr was ↦ inr (subst (λ (texts : List (List ℕ)). WasAccepted read texts t) (append_assoc done (text ∷ []) rest) was)
     ]
 
+-- an identifier is among those taken exactly if a text was accepted with it
 pub taken_iff : (read : Reader) (texts : List (List ℕ)) (t : ℕ)
     → (is_member (taken_over read (map entered texts)).tids t ≡ true) ↔ WasAccepted read texts t
 taken_iff read texts t = (

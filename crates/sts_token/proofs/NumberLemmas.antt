@@ -10,16 +10,20 @@ use Rattle.sts_token.proofs.CheckLemmas.{check_of-lt}
 pub number_has_class_zero : (block : ℕ) → class_of (number_of block) ≡ 0
 number_has_class_zero block = omega arith
 
+-- a block is found again in its number
 pub block_of_number : (block : ℕ) → block < 2 ^ 64 → block_numbered (number_of block) ≡ block
 block_of_number block small = omega arith
 
+-- a number of class 0 is that of the block that it holds
 pub number_of_block : (number : ℕ) → number < 2 ^ 66 → class_of number ≡ 0
     → number_of (block_numbered number) ≡ number
 number_of_block number small class_zero = omega arith
 
+-- the block that a number holds has 64 bits
 pub block_numbered-lt : (number : ℕ) → number < 2 ^ 66 → block_numbered number < 2 ^ 64
 block_numbered-lt number small = omega arith
 
+-- two blocks have two numbers
 pub number_once : (a b : ℕ) → a < 2 ^ 64 → b < 2 ^ 64 → number_of a ≡ number_of b → a ≡ b
 number_once a b small small_too same =
     sym (block_of_number a small) ∙ ap block_numbered same ∙ block_of_number b small_too
@@ -79,6 +83,7 @@ bits_of_parts : (b s r t c k : ℕ) → b ≡ (s * 2 ^ 44 + r * 2 ^ 40 + t * 2 ^
 bits_of_parts b s r t c k e s4 r4 t24 c16 k16 =
     (omega arith, omega arith, omega arith, omega arith, omega arith, omega arith)
 
+-- in the block of a subclass and fields each part stands at its place, with a good check
 pub block_has_bits : AmountLaw → (subclass : ℕ) (f : TokenFields) → subclass < 2 ^ 4 → AreFields f
     → HasBits (block_of subclass f) subclass f
 block_has_bits amounts subclass f small fields =
@@ -96,7 +101,7 @@ block_has_bits amounts subclass f small fields =
       check = parts.5 ∙ ap check_of_payload (sym payload);
     }
 
--- a block with a good check is that of its subclass and fields
+-- what stands in the fields of a block keeps their bounds
 pub fields_in_are : (block : ℕ) → AreFields (fields_in block)
 fields_in_are block =
     record {
@@ -105,6 +110,7 @@ fields_in_are block =
       tenths = (_, _, amount_parts (block / 2 ^ 16 % 2 ^ 16) (omega arith));
     }
 
+-- a block with a good check is the one that its own subclass and fields make
 pub block_from_check : AmountLaw → (block : ℕ) → block < 2 ^ 64 → block % 2 ^ 16
     ≡ check_of_payload (block / 2 ^ 16) → block ≡ block_of (block / 2 ^ 60) (fields_in block)
 block_from_check amounts block small check =

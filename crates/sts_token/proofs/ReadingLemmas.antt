@@ -20,6 +20,7 @@ digits_from_test text e =
     let parts = and_parts (eqb (length text) 20) (list_all is_ascii_digit text) e in
     record { twenty = eqb-true (length text) 20 parts.0; digits = AllPass-from_list_all is_ascii_digit text parts.1 }
 
+-- a text of twenty digits passes the test
 pub test_from_digits : (text : List ℕ) → AreTwentyDigits text → is_twenty_digits text ≡ true
 test_from_digits text are =
     and_from (eqb (length text) 20) (list_all is_ascii_digit text)
@@ -119,6 +120,7 @@ reads_block amounts forward inverse key text sent true true transform small clas
     sym (transform.forward_undoes key sent small is.bits) ∙ ap (forward key) electricity in
     (fields_in_are block, record { digits = class_zero.digits; number = sym is.number ∙ ap number_of forth })
 
+-- what `reading_of` computes is a reading of the text
 pub reads_reading_of : AmountLaw → (forward inverse : ℕ → ℕ → ℕ) (key : ℕ) (text : List ℕ)
     → IsTransform forward inverse → key < 2 ^ 64
     → Reads forward inverse key text (reading_of inverse key text)
@@ -165,7 +167,7 @@ read_carried amounts inverse key text subclass f is carries =
     (sent_of text is) carries)
     ∙ read_sent amounts subclass f carries.subclass_bits carries.fields
 
--- a token carries its fields in subclass 0
+-- a token is of class 0
 token_is_of_class_zero : AmountLaw
     → (forward inverse : ℕ → ℕ → ℕ) (key : ℕ) (text : List ℕ) (f : TokenFields)
     → IsTransform forward inverse → key < 2 ^ 64
@@ -180,6 +182,7 @@ token_is_of_class_zero amounts forward inverse key text f transform small fields
       class_zero = ap class_of token.number ∙ number_has_class_zero (forward key (block_of 0 f));
     }
 
+-- a token carries its fields in subclass 0
 token_carries : AmountLaw
     → (forward inverse : ℕ → ℕ → ℕ) (key : ℕ) (text : List ℕ) (f : TokenFields)
     → IsTransform forward inverse → key < 2 ^ 64
@@ -199,6 +202,7 @@ bad_check : (good electricity : Bool) (f : TokenFields) → (good ≡ false)
     → block_tested good electricity f ≡ Err BadCheck
 bad_check good electricity f e = ap (λ (g : Bool). block_tested g electricity f) e
 
+-- each reading of the text is the computed one
 pub reading_from_reads : AmountLaw
     → (forward inverse : ℕ → ℕ → ℕ) (key : ℕ) (text : List ℕ) (r : Result TokenFields TokenFault)
     → IsTransform forward inverse → key < 2 ^ 64
@@ -251,6 +255,7 @@ reading_from_reads amounts forward inverse key text (Err WrongSubclass) transfor
     read_carried amounts inverse key text subclass f is carries
     ∙ ap (λ (z : Bool). cond (not z) (Err WrongSubclass) (Ok f)) (ne_eqb subclass 0 other)
 
+-- a text has one reading
 pub one_reading : AmountLaw
     → (forward inverse : ℕ → ℕ → ℕ) (key : ℕ) (text : List ℕ) (r s : Result TokenFields TokenFault)
     → IsTransform forward inverse → key < 2 ^ 64
@@ -269,6 +274,7 @@ token_reads amounts forward inverse key f transform small fields =
     let sent = transform.forward_range key (block_of 0 f) small bits in
     written_token forward key f (omega (arith, number_of-lt (forward key (block_of 0 f)) sent))
 
+-- a text that reads as some fields is the token written for them
 pub one_text : AmountLaw → (forward inverse : ℕ → ℕ → ℕ) (key : ℕ) (f : TokenFields) (text : List ℕ)
     → IsTransform forward inverse → key < 2 ^ 64
     → Reads forward inverse key text (Ok f) → text ≡ token_of forward key f

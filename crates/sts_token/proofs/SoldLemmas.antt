@@ -18,16 +18,19 @@ unfoldable pub Rises : List TokenFields → Type 0
 Rises [] = ⊤
 Rises (f ∷ sold) = AllByRecursion (λ g. f.tid < g.tid) sold × Rises sold
 
+-- a token is one of a list
 unfoldable pub IsIn : TokenFields → List TokenFields → Type 0
 IsIn f [] = ⊥
 IsIn f (g ∷ sold) = (g ≡ f) ⊎ IsIn f sold
 
+-- a token at some place of a list is one of it
 pub is_in : (f : TokenFields) (sold : List TokenFields) → Contains sold f → IsIn f sold
 unfolding IsIn
 is_in f [] (k, within, at) = absurd (omega arith)
 is_in f (g ∷ sold) (zero, within, at) = inl at
 is_in f (g ∷ sold) (suc k, within, at) = inr (is_in f sold (k, omega arith, at))
 
+-- where each identifier is below each later one, the list rises
 pub rises : (sold : List TokenFields) → AllPairs (λ f g. f.tid < g.tid) sold → Rises sold
 unfolding Rises
 rises [] p = tt
@@ -51,6 +54,7 @@ sum_same v w [] all = refl
 sum_same v w (g ∷ sold) all =
     omega (arith, sum_by-cons v g sold, sum_by-cons w g sold, sum_same v w sold all.1, all.0)
 
+-- what holds of all still does in a weaker form
 pub each : (P : TokenFields → Type 0) (Q : TokenFields → Type 0) → ((g : TokenFields) → P g → Q g)
     → (sold : List TokenFields) → AllByRecursion P sold → AllByRecursion Q sold
 each P Q step [] all = tt
@@ -234,6 +238,7 @@ follows_over read token sold came (f ∷ more) taken is rising all follows =
     (map (λ g. entered (token g)) more)))
     (append_assoc came (f ∷ []) more) rest
 
+-- a token among those sold has its fields in bounds, and an identifier above 0
 pub comes : (sold : List TokenFields) → AreSold sold → (f : TokenFields) → Contains sold f
     → Comes sold f
 comes sold are f there =
@@ -243,6 +248,7 @@ comes sold are f there =
       above = All-contains (λ g. 1 ≤ g.tid) sold f are.from_one there;
     }
 
+-- what a new meter has taken follows the tokens that came, whatever their order
 pub follows : (read : Reader) (token : TokenFields → List ℕ) (sold came : List TokenFields)
     → IsReadAs read token → AreSold sold → All (Contains sold) came
     → Follows sold (map tid_of came) (taken_over read (map (λ f. entered (token f)) came))

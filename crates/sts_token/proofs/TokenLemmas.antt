@@ -17,9 +17,11 @@ pub block_of-lt : (subclass : ℕ) (f : TokenFields) → subclass < 2 ^ 4 → f.
 block_of-lt subclass f s rnd tid code =
     omega (arith, check_of-lt (bytes_high_first 7 (payload_of subclass f)))
 
+-- the number of a block has 66 bits
 pub number_of-lt : (block : ℕ) → block < 2 ^ 64 → number_of block < 2 ^ 66
 number_of-lt block small = omega arith
 
+-- the fields' token is the number of their block in twenty digits, where these hold it
 pub written_token : (forward : ℕ → ℕ → ℕ) (key : ℕ) (f : TokenFields)
     → number_of (forward key (block_of 0 f)) < 10 ^ 20
     → IsToken forward key f (digits_text 10 20 (number_of (forward key (block_of 0 f))))
@@ -30,6 +32,7 @@ written_token forward key f small =
       number = digits_value-digits_text 10 20 n (omega arith) (omega arith) small;
     }
 
+-- fields have one token under a key
 pub one_token : (forward : ℕ → ℕ → ℕ) (key : ℕ) (f : TokenFields) (a b : List ℕ)
     → IsToken forward key f a → IsToken forward key f b → a ≡ b
 one_token forward key f a b p q =

@@ -1,13 +1,15 @@
 -- The transform Demo undoes itself, whatever the round keys and however many they are.
 -- The lemmas stand here since the proof of a law of a trait may name `specs/` alone.
-use Rattle.std.proofs.Common.{◌≡◌, ℕ, ◌+◌, ◌*◌, ◌/◌, ◌%◌, ◌<◌, ◌^◌, List, [], ◌∷◌, ◌++◌, bit_xor, reverse, refl, ◌∙◌, ap, arith}
+use Rattle.std.proofs.Common.{◌≡◌, ℕ, ◌+◌, ◌*◌, ◌/◌, ◌%◌, ◌<◌, ◌^◌, List, [], ◌∷◌, ◌++◌, bit_xor}
+use Rattle.std.proofs.Common.{reverse, refl, ◌∙◌, ap, arith}
 use Rattle.std.specs.Int.{rotate_left, w32}
 use Rattle.std.specs.Int.Bits.{xor_assoc, xor_self, xor_zero_r}
 use Rattle.std.specs.List.{fold}
 use Rattle.std.proofs.lemmas.Grind.{reverse_onto}
 use Rattle.std.proofs.lemmas.List.Sums.{fold-append}
 use Rattle.std.proofs.lemmas.Nat.{or_lt, xor_lt}
-use Rattle.sts_token.specs.Demo.{after_round, before_round, demo_forward, demo_inverse, halves_of, joined, mixed, round_keys}
+use Rattle.sts_token.specs.Demo.{after_round, before_round, demo_forward, demo_inverse, halves_of}
+use Rattle.sts_token.specs.Demo.{joined, mixed, round_keys}
 use Rattle.sts_token.specs.declared.demo.Halves.{Halves}
 
 -- ---- halves of 32 bits stay so

@@ -1,5 +1,6 @@
 -- What a meter answers to a token, and its credit, over all that was entered into it.
-use Rattle.std.specs.Prelude.{◌≡◌, ℕ, ◌-◌, ◌^◌, ◌==◌, ◌||◌, Bool, min, List, [], ◌∷◌, ◌++◌, map, Result, Ok, Err, if◌then◌else◌, nat_le, nat_lt, nat_eq, sum, count_by}
+use Rattle.std.specs.Prelude.{◌≡◌, ℕ, ◌-◌, ◌^◌, ◌==◌, ◌||◌, Bool, min, List, [], ◌∷◌, ◌++◌, map}
+use Rattle.std.specs.Prelude.{Result, Ok, Err, if◌then◌else◌, nat_le, nat_lt, nat_eq, sum, count_by}
 use Rattle.std.specs.List.{fold, list_any}
 use Rattle.sts_fields.specs.Text.{Text}
 use Rattle.sts_token.specs.Fields.{TokenFields}

@@ -1,5 +1,6 @@
 -- What a text reads as under a transform and a key: the fields of its token, or its first fault.
-use Rattle.std.specs.Prelude.{◌≡◌, ◌≢◌, ℕ, ◌+◌, ◌*◌, ◌/◌, ◌%◌, ◌^◌, ◌<◌, ◌≤◌, ◌==◌, ◌&&◌, Bool, not, length, Result, Ok, Err, if◌then◌else◌, nat_le}
+use Rattle.std.specs.Prelude.{◌≡◌, ◌≢◌, ℕ, ◌+◌, ◌*◌, ◌/◌, ◌%◌, ◌^◌, ◌<◌, ◌≤◌, ◌==◌, ◌&&◌, Bool, not}
+use Rattle.std.specs.Prelude.{length, Result, Ok, Err, if◌then◌else◌, nat_le}
 use Rattle.std.specs.Char.{is_ascii_digit}
 use Rattle.std.specs.List.{list_all}
 use Rattle.std.specs.Str.Parse.{digits_value}
@@ -9,7 +10,9 @@ use Rattle.sts_token.specs.Block.{block_of, check_of_payload, number_of}
 use Rattle.sts_token.specs.Fields.{AreFields, TokenFields}
 use Rattle.sts_token.specs.Token.{AreTwentyDigits, IsToken, BlockFunction}
 use Rattle.sts_token.specs.declared.fault.TokenFault.{TokenFault}
-use Rattle.sts_token.specs.declared.fault.TokenFault.TheVariants.{NotTwentyDigits, TooLarge, WrongClass, BadCheck, WrongSubclass}
+use Rattle.sts_token.specs.declared.fault.TokenFault.TheVariants.{NotTwentyDigits, TooLarge}
+use Rattle.sts_token.specs.declared.fault.TokenFault.TheVariants.{WrongClass, BadCheck}
+use Rattle.sts_token.specs.declared.fault.TokenFault.TheVariants.{WrongSubclass}
 
 -- the number that the digits of a text make
 abbrev pub number_in : Text → ℕ

@@ -2,7 +2,9 @@
 use Rattle.std.specs.Prelude.{ℕ, codes}
 use Rattle.sts_fields.specs.Text.{Text}
 use Rattle.sts_token.specs.declared.fault.TokenFault.{TokenFault}
-use Rattle.sts_token.specs.declared.fault.TokenFault.TheVariants.{NotTwentyDigits, TooLarge, WrongClass, BadCheck, WrongSubclass}
+use Rattle.sts_token.specs.declared.fault.TokenFault.TheVariants.{NotTwentyDigits, TooLarge}
+use Rattle.sts_token.specs.declared.fault.TokenFault.TheVariants.{WrongClass, BadCheck}
+use Rattle.sts_token.specs.declared.fault.TokenFault.TheVariants.{WrongSubclass}
 
 -- the number that a user meets
 abbrev pub token_fault_number : TokenFault → ℕ

@@ -1,6 +1,8 @@
 ghost use Rattle.std.specs.Prelude.{◌≡◌};
-ghost use Rattle.sts_token.specs.Demo.{after_round, before_round, demo_forward, demo_inverse, halves_of, joined, mixed, round_keys};
-ghost use Rattle.sts_token.specs.DemoLaws.{demo_forward_range, demo_forward_undoes, demo_inverse_range, demo_inverse_undoes};
+ghost use Rattle.sts_token.specs.Demo.{after_round, before_round, demo_forward, demo_inverse};
+ghost use Rattle.sts_token.specs.Demo.{halves_of, joined, mixed, round_keys};
+ghost use Rattle.sts_token.specs.DemoLaws.{demo_forward_range, demo_forward_undoes};
+ghost use Rattle.sts_token.specs.DemoLaws.{demo_inverse_range, demo_inverse_undoes};
 
 use crate::transform::BlockTransform;
 

@@ -1,7 +1,9 @@
-ghost use Rattle.std.specs.Prelude.{◌≡◌, ◌≢◌, ◌-◌, ◌<◌, ◌≤◌, ◌^◌, ◌↔◌, ℕ, List, ◌∷◌, ◌++◌, All, Contains, map, true};
+ghost use Rattle.std.specs.Prelude.{◌≡◌, ◌≢◌, ◌-◌, ◌<◌, ◌≤◌, ◌^◌, ◌↔◌, ℕ, List, ◌∷◌, ◌++◌, All};
+ghost use Rattle.std.specs.Prelude.{Contains, map, true};
 ghost use Rattle.std.specs.List.{sum_by};
 ghost use Rattle.sts_token.specs.Fields.{TokenFields};
-ghost use Rattle.sts_token.specs.Meter.{Accepts, Entry, Reader, WasAccepted, credit_of, entered, is_member, taken_over};
+ghost use Rattle.sts_token.specs.Meter.{Accepts, Entry, Reader, WasAccepted, credit_of, entered};
+ghost use Rattle.sts_token.specs.Meter.{is_member, taken_over};
 ghost use Rattle.sts_token.specs.Reading.{reading_of};
 ghost use Rattle.sts_token.specs.Sold.{AreSold, entries_of, later_come, sold_accepted};
 ghost use Rattle.sts_token.specs.Token.{BlockFunction, token_of};

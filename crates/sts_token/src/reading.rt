@@ -1,6 +1,9 @@
-ghost use Rattle.std.specs.Prelude.{◌≡◌, ◌≢◌, ◌/◌, ◌<◌, ◌≤◌, ◌^◌, ◌==◌, ◌↔◌, ℕ, Option, Result, not, if◌then◌else◌, nat_le};
+ghost use Rattle.std.specs.Prelude.{◌≡◌, ◌≢◌, ◌/◌, ◌<◌, ◌≤◌, ◌^◌, ◌==◌, ◌↔◌, ℕ, Option, Result};
+ghost use Rattle.std.specs.Prelude.{not, if◌then◌else◌, nat_le};
 ghost use Rattle.sts_token.specs.Fields.{AreFields, TokenFields};
-ghost use Rattle.sts_token.specs.Reading.{Carries, IsOfClassZero, Reads, block_numbered, block_reading, class_of, is_twenty_digits, number_in, reading_of};
+ghost use Rattle.sts_token.specs.Reading.{Carries, IsOfClassZero, Reads, block_numbered};
+ghost use Rattle.sts_token.specs.Reading.{block_reading, class_of, is_twenty_digits, number_in};
+ghost use Rattle.sts_token.specs.Reading.{reading_of};
 ghost use Rattle.sts_token.specs.Token.{AreTwentyDigits, IsToken, BlockFunction, token_of};
 ghost use Rattle.sts_fields.specs.Text.{Text};
 ghost use Rattle.sts_token.specs.Transform.{IsTransform};

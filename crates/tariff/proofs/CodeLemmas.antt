@@ -13,12 +13,14 @@ pub record AmountLaw : Type 0 where
   pub rises : (c d : ℕ) → c < d → d < 2 ^ 16 → amount_of_code c < amount_of_code d
 
 module _ (law : AmountLaw) where
+  -- a code that is no less has an amount that is no less
   pub amount_of_code-rises : (c d : ℕ) → c ≤ d → d < 2 ^ 16 → amount_of_code c ≤ amount_of_code d
   amount_of_code-rises c d le fits = elim (cases_lt c d) [
     | inl less ↦ omega (arith, law.rises c d less fits)
     | inr most ↦ let same : c ≡ d = omega arith in rw same (omega arith)
   ]
 
+  -- a token can carry the amount of each code of sixteen bits
   pub amount_of_code-representable : (c : ℕ) → c < 2 ^ 16 → IsRepresentable (amount_of_code c)
   amount_of_code-representable c fits = let is = law.each_code c fits in (is.0, is.1, is.2)
 

@@ -9,10 +9,12 @@ use Rattle.std.proofs.lemmas.List.{drop_more, drop_all}
 use Rattle.tariff.specs.declared.step.Step.{Step}
 use Rattle.tariff.specs.Cost.{cost_of, ends_after, price_at, prices_of}
 
+-- the prices of no tenths add to nothing
 pub prices_of-zero : (steps : List Step) (p : ℕ) → prices_of steps p 0 ≡ 0
 unfolding prices_of
 prices_of-zero steps p = refl
 
+-- one tenth more adds its own price
 pub prices_of-suc : (steps : List Step) (p t : ℕ) → prices_of steps p (suc t)
     ≡ prices_of steps p t + price_at steps (p + t)
 unfolding prices_of
@@ -58,10 +60,12 @@ prices_of-same steps others p (suc t) each =
 abbrev pub reach_of : Option ℕ → ℕ → ℕ
 reach_of ends end = option_map_or (λ e. min e end) ends end
 
+-- a step does not reach past the end
 pub reach_of-le : (o : Option ℕ) (end : ℕ) → reach_of o end ≤ end
 reach_of-le None end = omega arith
 reach_of-le (Some e) end = omega arith
 
+-- a step ends after each tenth that it reaches
 pub ends_after-below : (s : Step) (end i : ℕ) (o : Option ℕ) → s.ends ≡ o → i < reach_of o end
     → ends_after i s ≡ true
 ends_after-below s end i None is below = ap (λ o. option_map_or (λ e. ltb i e) o true) is
@@ -74,6 +78,7 @@ ends_after-above s end i None is above within = absurd (omega arith)
 ends_after-above s end i (Some e) is above within =
     ap (λ o. option_map_or (λ e. ltb i e) o true) is ∙ grind (arith, nat_tests)
 
+-- a tenth before the end of the first step has its price
 pub price_at-first : (s : Step) (rest : List Step) (i : ℕ) → ends_after i s ≡ true
     → price_at (s ∷ rest) i ≡ s.price
 price_at-first s rest i passes =
@@ -103,6 +108,7 @@ prices_of-cons s rest priced upper end within is up =
       later,
     ) refl
 
+-- where there are no steps, the prices of tenths add to nothing
 pub prices_of-nil : (p t : ℕ) → prices_of [] p t ≡ 0
 prices_of-nil p t = prices_of-flat [] 0 p t (λ i from to. refl) ∙ omega arith
 
@@ -114,6 +120,7 @@ pub record IsSummed (steps : List Step) (prior end priced sum i : ℕ) : Type 0 
       ≡ sum + prices_of (drop i steps) priced (end - priced)
   pub bound : sum ≤ (priced - prior) * 1000000
 
+-- the tenths that one more step reaches are summed at its price
 pub is_summed_more : (steps : List Step) (prior end priced sum i upper : ℕ) (d : Step)
     → i < length steps → upper ≡ max (reach_of (get_or steps i d).ends end) priced
     → (get_or steps i d).price ≤ 1000000 → IsSummed steps prior end priced sum i
@@ -133,6 +140,7 @@ is_summed_more steps prior end priced sum i upper d there is cheap s =
       bound = omega (arith, s.bound, s.from_prior);
     }
 
+-- after all steps the sum is that of the prices of all tenths from prior to end
 pub is_summed_end : (steps : List Step) (prior end priced sum i : ℕ) → length steps ≤ i
     → IsSummed steps prior end priced sum i → prices_of steps prior (end - prior) ≡ sum
 is_summed_end steps prior end priced sum i all s =
@@ -149,6 +157,7 @@ prices_of-rises steps p t u more =
     let two = prices_of-add steps p t (u - t) in
     rw cut (omega arith)
 
+-- more tenths cost no less
 pub cost_of-rises : (steps : List Step) (p t u : ℕ) → t ≤ u → cost_of steps p t ≤ cost_of steps p u
 cost_of-rises steps p t u more = omega (arith, prices_of-rises steps p t u more)
 
@@ -164,5 +173,6 @@ cost_of-parts steps p t u =
       | inr most ↦ inl (omega arith)
     ]
 
+-- a run of one tenth has the price of that tenth
 pub prices_of-one : (steps : List Step) (p : ℕ) → prices_of steps p 1 ≡ price_at steps p
 prices_of-one steps p = rw (prices_of-suc steps p 0, prices_of-zero steps p, add-zero) (omega arith)

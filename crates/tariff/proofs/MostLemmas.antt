@@ -96,6 +96,7 @@ are_most_end steps prior cents end paid left i to all p =
 pub paid_whole : (run price left : ℕ) → 1 ≤ price → run ≤ left / price → run * price ≤ left
 paid_whole run price left some within = (le-div_iff_mul-le (omega arith)).0 within
 
+-- the quotient is the most tenths of a step that the money left pays for
 pub paid_in_part : (price left : ℕ) → 1 ≤ price
     → (left / price * price ≤ left) × (left < (left / price + 1) * price)
 paid_in_part price left some = (

@@ -28,6 +28,7 @@ split_joined c (x ∷ y ∷ more) some lacks =
 abbrev pub pieces_of : List ℕ → List (List ℕ)
 pieces_of text = slice_split (λ b. eqb b 59) text
 
+-- a text of steps is cut into the texts of its steps
 pub pieces_from_text : (text : List ℕ) (steps : List Step) → IsStepsText text steps → pieces_of text
     ≡ map step_text steps
 pieces_from_text text steps t =
@@ -37,6 +38,7 @@ pieces_from_text text steps t =
     ∙ split_joined 59 (map step_text steps)
     (omega (arith, length-map steps step_text, t.some)) lacks
 
+-- a text that is cut into the texts of some steps is the text of these
 pub text_from_pieces : (text : List ℕ) (steps : List Step) → All IsWritable steps → pieces_of text
     ≡ map step_text steps → IsStepsText text steps
 text_from_pieces text steps w e = record {
@@ -173,6 +175,7 @@ no_piece text piece i at none steps t =
     (at.1 ∙ get_or_default (pieces_of text) i piece (step_text d) at.0
     ∙ ap (λ ps. get_or ps i (step_text d)) pieces ∙ get_or-map step_text steps i d)
 
+-- one of the first eight pieces is read, and its step is put at its place
 pub are_read_put : (texts : List (List ℕ)) (first : List Step) (n : ℕ) (s : Step) → IsWritable s
     → n < 8 → AreRead texts first n
     → AreRead (texts ++ step_text s ∷ []) (set first n s) (min 8 n + 1)
@@ -185,6 +188,7 @@ are_read_put texts first n s w room r = record {
   eight = length-set first n s ∙ r.eight;
 }
 
+-- a piece past the first eight is read, and its step is only counted
 pub are_read_count : (texts : List (List ℕ)) (first : List Step) (n : ℕ) (s : Step) → IsWritable s
     → 8 ≤ n → AreRead texts first n → AreRead (texts ++ step_text s ∷ []) first (min 8 n + 1)
 are_read_count texts first n s w full r = record {

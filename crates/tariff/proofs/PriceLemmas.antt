@@ -37,6 +37,7 @@ finds (s ∷ t ∷ more) i some last priced =
     finds_next s (t ∷ more) i (ends_after i s) refl (All-head HasPrice s (t ∷ more) priced)
     (finds (t ∷ more) i (omega arith) last_left (All-tail HasPrice s (t ∷ more) priced))
 
+-- each tenth lies in a step of the tariff, which has a price
 pub in_a_step : (steps : List Step) (i : ℕ) → IsSteps steps → IsSomeAnd (step_of steps i) HasPrice
 in_a_step steps i s = finds steps i s.count.0 s.ends.1 s.prices
 
@@ -44,6 +45,7 @@ price_from_step : (o : Option Step) → IsSomeAnd o HasPrice → 1 ≤ option_ma
 price_from_step None found = absurd found
 price_from_step (Some s) found = found.0
 
+-- a tenth or more costs at least a cent
 pub never_free : (steps : List Step) (prior t : ℕ) → IsSteps steps → 1 ≤ t
     → 1 ≤ cost_of steps prior t
 never_free steps prior t s some =

@@ -98,6 +98,7 @@ outcome_from_passing law steps prior tender (Some code) g =
           λ k above fits. let fails = g.greatest k above (omega arith) in grind (arith, nat_tests);
     })
 
+-- what `purchase_of` computes is the purchase, or none where a tenth costs too much
 pub purchase_of-is : AmountLaw → (steps : List Step) (prior tender : ℕ)
     → Outcome steps prior tender (purchase_of steps prior tender)
 unfolding purchase_of
@@ -139,6 +140,7 @@ same_outcome steps prior tender (Some b) None p costly =
 same_outcome steps prior tender (Some b) (Some c) p q =
     ap Some (one_purchase steps prior tender b c p q)
 
+-- an outcome is a purchase exactly where this is the one for the tender
 pub computed_iff : (steps : List Step) (prior tender : ℕ) (b : Buy) (r : Option Buy)
     → Outcome steps prior tender r → (r ≡ Some b) ↔ IsPurchase steps prior tender b
 computed_iff steps prior tender b None dear =
@@ -148,12 +150,14 @@ computed_iff steps prior tender b (Some c) q = (
   λ p. ap Some (one_purchase steps prior tender c b q p),
 )
 
+-- an outcome is none exactly where the tender has no purchase
 pub none_iff : (steps : List Step) (prior tender : ℕ) (r : Option Buy)
     → Outcome steps prior tender r → (r ≡ None) ↔ ((b : Buy) → ¬ IsPurchase steps prior tender b)
 none_iff steps prior tender None dear =
     (λ e b p. omega (arith, dear, purchase_covers steps prior tender b p), λ never. refl)
 none_iff steps prior tender (Some c) q = (λ e. cc, λ never. absurd (never c q))
 
+-- an outcome is none exactly where a tenth costs more than the tender
 pub too_little_iff : (steps : List Step) (prior tender : ℕ) (r : Option Buy)
     → Outcome steps prior tender r → (r ≡ None) ↔ (tender < cost_of steps prior 1)
 too_little_iff steps prior tender None dear = (λ e. dear, λ d. refl)

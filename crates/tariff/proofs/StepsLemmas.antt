@@ -13,6 +13,7 @@ use Rattle.tariff.specs.StepsText.{IsWritable}
 pub record Rises (low : ℕ) (ends : List ℕ) : Type 0 where
   pub each : IsStrictlyIncreasing (low ∷ ends)
 
+-- where no end is left, the ends rise
 pub rises_nil : (low : ℕ) → Rises low []
 rises_nil low = record { each = λ k h. absurd (omega arith) }
 
@@ -22,12 +23,15 @@ cons_at low e es above r zero h = above
 cons_at low e es above r (suc k) h = let at : get_or (e ∷ es) k 0 < get_or (e ∷ es)
     (k + 1) 0 = r.each k (omega arith) in rw add-one (rw add-one at at)
 
+-- an end above low, and ends that rise from it, rise from low
 pub rises_cons : (low e : ℕ) (es : List ℕ) → low < e → Rises e es → Rises low (e ∷ es)
 rises_cons low e es above r = record { each = cons_at low e es above r }
 
+-- of ends that rise from low, the first is above low
 pub rises_head : (low e : ℕ) (es : List ℕ) → Rises low (e ∷ es) → low < e
 rises_head low e es r = r.each 0 (omega arith)
 
+-- and the later ones rise from the first
 pub rises_tail : (low e : ℕ) (es : List ℕ) → Rises low (e ∷ es) → Rises e es
 rises_tail low e es r =
     record { each = λ k h. rw add-one (rw add-one at (r.each (suc k) (omega arith))) }
@@ -49,15 +53,18 @@ pub record IsLeft (steps : List Step) (low i : ℕ) : Type 0 where
   pub to : IsRising steps → Rises low (ends_of (drop i steps))
   pub from : Rises low (ends_of (drop i steps)) → IsRising steps
 
+-- at the start all ends are left, from 0 on
 pub is_left_start : (steps : List Step) → IsLeft steps 0 0
 is_left_start steps = record { to = λ r. record { each = r }; from = λ r. r.each }
 
+-- a step without an end is passed, and the same ends are left
 pub is_left_none : (steps : List Step) (low i : ℕ) (d : Step) → i < length steps
     → (get_or steps i d).ends ≡ None → IsLeft steps low i → IsLeft steps low (i + 1)
 is_left_none steps low i d within none left =
     let same = ends_of-drop_none steps i d within none in
     record { to = λ r. subst (Rises low) same (left.to r); from = λ r. left.from (subst (Rises low) (sym same) r) }
 
+-- a step whose end is above low is passed, and those that are left must rise from it
 pub is_left_some : (steps : List Step) (low i e : ℕ) (d : Step) → i < length steps
     → (get_or steps i d).ends ≡ Some e → low < e → IsLeft steps low i → IsLeft steps e (i + 1)
 is_left_some steps low i e d within some above left =
@@ -77,25 +84,30 @@ is_left_stop steps low i e d within some below left = λ r. omega (
       (subst (Rises low) (ends_of-drop_some steps i d e within some) (left.to r)),
 )
 
+-- all steps are passed, so all ends rise
 pub is_left_end : (steps : List Step) (low i : ℕ) → length steps ≤ i → IsLeft steps low i
     → IsRising steps
 is_left_end steps low i all left =
     left.from (subst (Rises low) (ap ends_of (sym (drop_all i steps all))) (rises_nil low))
 
+-- of no steps all ends fit
 pub ends_fit_start : (steps : List Step) → All EndFits (take 0 steps)
 ends_fit_start steps = All-nil EndFits
 
+-- one more step without an end, and all ends so far fit
 pub ends_fit_none : (steps : List Step) (i : ℕ) (d : Step) → i < length steps
     → (get_or steps i d).ends ≡ None → All EndFits (take i steps) → All EndFits (take (i + 1) steps)
 ends_fit_none steps i d within none fit = All-more EndFits steps i d within fit
     (subst (λ (o : Option ℕ). IfSome o (λ e. e < 2 ^ 32)) (sym none) tt)
 
+-- one more step whose end has 32 bits, and all ends so far fit
 pub ends_fit_some : (steps : List Step) (i e : ℕ) (d : Step) → i < length steps
     → (get_or steps i d).ends ≡ Some e → e < 2 ^ 32 → All EndFits (take i steps)
     → All EndFits (take (i + 1) steps)
 ends_fit_some steps i e d within some small fit = All-more EndFits steps i d within fit
     (subst (λ (o : Option ℕ). IfSome o (λ e. e < 2 ^ 32)) (sym some) small)
 
+-- all steps are passed, so all ends fit
 pub ends_fit_all : (steps : List Step) (i : ℕ) → length steps ≤ i → All EndFits (take i steps)
     → All EndFits steps
 ends_fit_all steps i all fit = subst (All EndFits) (take_all i steps all) fit

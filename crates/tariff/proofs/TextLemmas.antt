@@ -56,6 +56,7 @@ number_from_parse ds (Err e) parsed plain = λ n small is.
 abbrev pub Lacks : ℕ → List ℕ → Type 0
 Lacks c text = All (λ b. eqb b c ≡ false) text
 
+-- a byte passes the test for itself
 pub eqb_self : (c : ℕ) → eqb c c ≡ true
 eqb_self c = grind (arith, nat_tests)
 
@@ -73,6 +74,7 @@ Lacks-end_text : (ends : Option ℕ) (c : ℕ) → IfSome ends (λ e. e < 2 ^ 32
 Lacks-end_text None c small above = All-nil (λ b. eqb b c ≡ false)
 Lacks-end_text (Some e) c small above = Lacks-decimal e c (omega arith) above
 
+-- the text of a step has no byte above a colon, such as a semicolon
 pub Lacks-step_text : (s : Step) (c : ℕ) → IsWritable s → 58 < c → Lacks c (step_text s)
 Lacks-step_text s c w above =
     All-append (λ b. eqb b c ≡ false) (end_text s.ends) (colon ∷ decimal s.price)
@@ -106,6 +108,7 @@ pub record IsCut (text : List ℕ) (s : Step) : Type 0 where
   pub ends : before_first (λ b. eqb b 58) text ≡ end_text s.ends
   pub price : after_first (λ b. eqb b 58) text ≡ decimal s.price
 
+-- the text of a step is cut at its colon
 pub is_cut : (text : List ℕ) (s : Step) → IsWritable s → text ≡ step_text s → IsCut text s
 is_cut text s w is =
     let lacks = Lacks-end_text s.ends 58 w.0 (omega arith) in

@@ -1,5 +1,6 @@
 -- The steps of a block tariff: which lists of steps a tariff may have.
-use Rattle.std.specs.Prelude.{ℕ, ◌-◌, ◌^◌, ◌<◌, ◌≤◌, List, ◌∷◌, length, take, drop, IsSome, IsNone, IfSome, All, filter_map}
+use Rattle.std.specs.Prelude.{ℕ, ◌-◌, ◌^◌, ◌<◌, ◌≤◌, List, ◌∷◌, length, take, drop, IsSome, IsNone}
+use Rattle.std.specs.Prelude.{IfSome, All, filter_map}
 use Rattle.std.specs.List.Sorted.{IsStrictlyIncreasing}
 use Rattle.tariff.specs.declared.step.Step.{Step}
 

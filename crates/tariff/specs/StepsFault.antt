@@ -2,7 +2,8 @@
 use Rattle.std.specs.Prelude.{◌≡◌, ℕ, ◌<◌, List, [], length, All, codes}
 use Rattle.sts_fields.specs.Text.{Text}
 use Rattle.tariff.specs.declared.fault.StepsFault.{StepsFault}
-use Rattle.tariff.specs.declared.fault.StepsFault.TheVariants.{NoStep, TooMany, NotRising, BadPrice, EndMissing, Memory, BadText}
+use Rattle.tariff.specs.declared.fault.StepsFault.TheVariants.{NoStep, TooMany, NotRising, BadPrice}
+use Rattle.tariff.specs.declared.fault.StepsFault.TheVariants.{EndMissing, Memory, BadText}
 use Rattle.tariff.specs.declared.step.Step.{Step}
 use Rattle.tariff.specs.Steps.{HasCount, HasEnds, HasPrice, IsRising, IsSteps}
 

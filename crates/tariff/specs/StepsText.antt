@@ -1,5 +1,6 @@
 -- The text of steps: each as its end, a colon and its price, with semicolons between them.
-use Rattle.std.specs.Prelude.{◌≡◌, ℕ, ◌^◌, ◌<◌, ◌≤◌, List, [], ◌∷◌, ◌++◌, map, length, Option, Some, None, All, decimal}
+use Rattle.std.specs.Prelude.{◌≡◌, ℕ, ◌^◌, ◌<◌, ◌≤◌, List, [], ◌∷◌, ◌++◌, map, length, Option, Some}
+use Rattle.std.specs.Prelude.{None, All, decimal}
 use Rattle.std.specs.List.{join_with_byte}
 use Rattle.sts_fields.specs.Text.{Text, colon}
 use Rattle.tariff.specs.declared.step.Step.{Step}

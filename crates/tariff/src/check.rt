@@ -1,6 +1,6 @@
 ghost use Rattle.std.specs.Prelude.{◌≡◌, ◌≤◌, ◌↔◌, IsTrue, All, MatchOption, length};
 ghost use Rattle.std.specs.Bool.{OnTrue};
-ghost use Rattle.tariff.specs.Steps.{EndFits, HasCount, HasEnds, HasPrice, IsRising, IsSteps};
+ghost use Rattle.tariff.specs.Steps.{EndFits, HasEnds, HasPrice, IsRising, IsSteps};
 ghost use Rattle.tariff.specs.StepsFault.{FirstFault};
 
 use crate::fault::StepsFault;

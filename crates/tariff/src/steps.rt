@@ -1,9 +1,9 @@
-ghost use Rattle.std.specs.Prelude.{◌≡◌, ◌≢◌, ◌≤◌, ◌<◌, ◌↔◌, ◌⊎◌, IfOk, IsOk, IsTrue, All, List, length};
+ghost use Rattle.std.specs.Prelude.{◌≡◌, ◌≢◌, ◌≤◌, ◌<◌, ◌↔◌, ◌⊎◌, IfOk, IsOk, IsTrue, List};
 ghost use Rattle.sts_fields.specs.Text.{Text};
 ghost use Rattle.tariff.specs.declared.step.Step.{Step};
-ghost use Rattle.tariff.specs.Steps.{HasCount, HasEnds, HasPrice, IsRising, IsSteps};
+ghost use Rattle.tariff.specs.Steps.{IsSteps};
 ghost use Rattle.tariff.specs.StepsFault.{FirstFault};
-ghost use Rattle.tariff.specs.StepsText.{IsStepsText, IsWritable, steps_text};
+ghost use Rattle.tariff.specs.StepsText.{IsStepsText, steps_text};
 
 use crate::fault::StepsFault;
 use crate::step::Step;

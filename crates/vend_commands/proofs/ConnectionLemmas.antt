@@ -17,12 +17,15 @@ use Rattle.vend_ports.proofs.TakeLemmas.{takes_next}
 pub open_some : (books : Seen) → books.stopped ≡ true → open_text books ≡ open_line
 open_some books stopped = ap (λ b. if b then open_line else []) stopped
 
+-- and of books that were not stopped nothing is printed as they are made ready
 pub open_none : (books : Seen) → books.stopped ≡ false → open_text books ≡ []
 open_none books runs = ap (λ b. if b then open_line else []) runs
 
+-- books that a connection left stopped are printed so
 pub stopped_some : (books : Seen) → books.stopped ≡ true → stopped_text books ≡ stopped_line
 stopped_some books stopped = ap (λ b. if b then stopped_line else []) stopped
 
+-- and of books that it left running nothing is printed
 pub stopped_none : (books : Seen) → books.stopped ≡ false → stopped_text books ≡ []
 stopped_none books runs = ap (λ b. if b then stopped_line else []) runs
 

@@ -1,5 +1,5 @@
 -- How a run ends.
-use Rattle.std.proofs.Common.{◌≡◌, ◌≢◌, ◌⊎◌, ℕ, ℤ, ◌≤◌, Bool, true, false, List, [], Option, Some, None, Result, Ok, Err, inl, inr, subst, sym, arith}
+use Rattle.std.proofs.Common.{◌≡◌, ◌≢◌, ◌⊎◌, ℕ, ◌≤◌, Bool, true, false, List, [], Option, Some, None, Result, Ok, Err, inl, inr, subst, sym, arith}
 use Rattle.std.specs.Prelude.{⊤, option_map}
 use Rattle.clap.specs.Kinds.{HasKind, IsAmong}
 use Rattle.clap.specs.Values.{kind_of}
@@ -299,6 +299,7 @@ low_status : (end : CommandEnd) (failed : Bool) → exit_status_of end ≤ 1 →
 low_status end false low = low
 low_status end true low = omega arith
 
+-- a run whose words ask for something exits with status 0 or 1
 pub asked_ends : {S D R W : Type 0} (store : Ghosts S) (m : Machine D R W) (words : List Text) (o : Outputs) (end : CommandEnd)
     (cut : Bool) (asked : Asked) → AskFor words asked → IsProgramRun store m words o end → status_of end cut ≤ 1
 asked_ends store m words o end cut asked for run = low_status end cut (run_ends store m words o end asked for run)

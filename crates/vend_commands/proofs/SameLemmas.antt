@@ -1,5 +1,5 @@
 -- A run ends with the writers that it began with.
-use Rattle.std.proofs.Common.{◌≡◌, ◌∙◌, ℕ, ℤ, Bool, List, [], Option, Some, None, Result, Ok, Err, ap, inl, inr}
+use Rattle.std.proofs.Common.{◌≡◌, ◌∙◌, ℕ, Bool, List, [], Option, Some, None, Result, Ok, Err, ap, inl, inr}
 use Rattle.std.specs.Prelude.{⊤, option_map}
 use Rattle.clap.specs.declared.error.kind.ErrorKind.{ErrorKind}
 use Rattle.clap.specs.declared.error.kind.ErrorKind.TheVariants.{DisplayHelp, DisplayVersion, OutOfMemory}
@@ -235,6 +235,7 @@ explained_same DisplayHelp text o end told = told_same o _ _ _ end told
 explained_same DisplayVersion text o end told = told_same o _ _ _ end told
 explained_same kind text o end told = told_same o [] text how.BadWords end told
 
+-- a run of the program ends with the writers that it began with
 pub run_same : {S D R W : Type 0} (store : Ghosts S) (m : Machine D R W) (words : List Text) (o : Outputs) (end : CommandEnd)
     → IsProgramRun store m words o end → AreSame o
 run_same store m words o end (answered asked for done) = answer_same store m asked o end done

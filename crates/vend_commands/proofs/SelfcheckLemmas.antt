@@ -32,6 +32,7 @@ pub on_err : {A E : Type 0} {P Q : E → Type 0} (r : Result A E) → IfErr r P 
 on_err (Ok u) holds so = tt
 on_err (Err e) holds so = so e holds
 
+-- what holds of a fault holds of what went wrong, where that fault was passed on
 pub passed_on : {A E : Type 0} (P : E → Type 0) (r : Result A E) (f : E) → IsErrAnd r (λ x. x ≡ f) → P f → IfErr r P
 passed_on P (Ok a) f is p = tt
 passed_on P (Err e) f is p = subst P (sym is) p
@@ -40,9 +41,11 @@ passed_on P (Err e) f is p = subst P (sym is) p
 pub first_request : Contains preparing add_flat
 first_request = (0, omega arith, refl)
 
+-- the second one adds the meter of the selfcheck
 pub second_request : Contains preparing add_selfcheck_meter
 second_request = (1, omega arith, refl)
 
+-- the third one opens its shift
 pub third_request : Contains preparing open_selfcheck_shift
 third_request = (2, omega arith, refl)
 
@@ -82,6 +85,7 @@ whole_in_memory ReadFault is = absurd (cc)
 whole_in_memory WriteFault is = absurd (cc)
 whole_in_memory Memory is = absurd (cc)
 
+-- the same of a conversation over the network
 pub whole_over_net : (end : conversation.End) → fault_over_net end ≡ None → end ≡ Closed
 whole_over_net Closed is = refl
 whole_over_net BadMessage is = absurd (cc)

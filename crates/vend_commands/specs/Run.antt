@@ -2,7 +2,8 @@
 use Rattle.std.specs.Prelude.{◌≡◌, ◌≢◌, ⊤, List, [], option_map}
 use Rattle.clap.specs.Kinds.{IsAmong}
 use Rattle.clap.specs.declared.error.kind.ErrorKind.{ErrorKind}
-use Rattle.clap.specs.declared.error.kind.ErrorKind.TheVariants.{DisplayHelp, DisplayVersion, OutOfMemory}
+use Rattle.clap.specs.declared.error.kind.ErrorKind.TheVariants.{DisplayHelp, DisplayVersion}
+use Rattle.clap.specs.declared.error.kind.ErrorKind.TheVariants.{OutOfMemory}
 use Rattle.sqlite_trees.specs.declared.store.Store.{Ghosts}
 use Rattle.sts_fields.specs.Text.{Text}
 use Rattle.office_rules.specs.declared.decision.refusal.Refusal.TheVariants.{Memory}
@@ -27,7 +28,9 @@ use Rattle.vend_ports.specs.print.Told.{Outputs, IsTold}
 use Rattle.vend_ports.specs.commands.Tried.{IsTried}
 use Rattle.command_line.specs.declared.asked.Asked.{Asked}
 use Rattle.command_line.specs.declared.asked.Asked.TheVariants as asks
-use Rattle.command_line.specs.declared.asked.Asked.TheVariants.{Trial, Import, Request, Report, Show, Offer, Meter, Quote, Serve, Selfcheck, Audit}
+use Rattle.command_line.specs.declared.asked.Asked.TheVariants.{Trial, Import, Request, Report}
+use Rattle.command_line.specs.declared.asked.Asked.TheVariants.{Show, Offer, Meter, Quote, Serve}
+use Rattle.command_line.specs.declared.asked.Asked.TheVariants.{Selfcheck, Audit}
 use Rattle.office_commands.specs.declared.office.wanted.Wanted.TheVariants.{One, Listing}
 use Rattle.vend_ports.specs.declared.command_end.CommandEnd.{CommandEnd}
 use Rattle.vend_ports.specs.declared.command_end.CommandEnd.TheVariants.{Done, Refused, BadWords}

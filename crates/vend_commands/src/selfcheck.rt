@@ -10,8 +10,10 @@ ghost use Rattle.conversation.specs.declared.end.End.TheVariants.{Closed};
 ghost use Rattle.vend_core.specs.Law.Life.{Life};
 ghost use Rattle.office_rules.specs.declared.decision.refusal.Refusal.TheVariants.{Memory};
 ghost use Rattle.books.specs.Keeps.{Represents, seen};
-ghost use Rattle.vend_commands.specs.commands.Selfchecked.{AgreesOver, AreReplies, ConversesWithItself, ConversesOver};
-ghost use Rattle.vend_commands.specs.commands.Selfchecked.{Disagrees, HasNoReplies, fault_in_memory};
+ghost use Rattle.vend_commands.specs.commands.Selfchecked.{AgreesOver, AreReplies};
+ghost use Rattle.vend_commands.specs.commands.Selfchecked.{ConversesWithItself, ConversesOver};
+ghost use Rattle.vend_commands.specs.commands.Selfchecked.{Disagrees, HasNoReplies};
+ghost use Rattle.vend_commands.specs.commands.Selfchecked.{fault_in_memory};
 ghost use Rattle.vend_commands.specs.commands.Selfchecked.{fault_over_net};
 
 use crate::selfcheck::fault::SelfcheckFault;

@@ -4,7 +4,9 @@ ghost use Rattle.std.specs.Prelude.{ℤ, [], MatchResult};
 ghost use Rattle.std.specs.Bool.{MatchBool};
 ghost use Rattle.command_line.specs.Transform.{forward_of};
 ghost use Rattle.sts_fields.specs.Text.{Text};
-ghost use Rattle.vend_commands.specs.serving.Connections.{AreLost, AreReady, AreServed, IsHeld, IsUnheld, open_text, service, stopped_text};
+ghost use Rattle.vend_commands.specs.serving.Connections.{AreLost, AreReady, AreServed, IsHeld};
+ghost use Rattle.vend_commands.specs.serving.Connections.{IsUnheld, open_text, service};
+ghost use Rattle.vend_commands.specs.serving.Connections.{stopped_text};
 ghost use Rattle.office_commands.specs.office.Lost.{IsUnreopened};
 ghost use Rattle.vend_commands.specs.port.Machines.{way};
 ghost use Rattle.office_commands.specs.office.Visited.{seen_in};
@@ -68,7 +70,7 @@ fn readied<H: OfficeFile, E: Write>(
     ensures ready { MatchResult result
         (AreReady seen_in (forward_of transform) books)
         (AreLost seen_in
-            (IsUnreopened H.Medium.Disk H.Salts.SaltSource (H.lets_go H.Medium)) books) }
+        (IsUnreopened H.Medium.Disk H.Salts.SaltSource (H.lets_go H.Medium)) books) }
     ensures told { MatchResult result
         (λ _. Takes err.old err.new (open_text (seen_in books))) (λ _. Takes err.old err.new []) }
 {

@@ -62,6 +62,7 @@ repeats o order first =
     (λ e. let p = parts_true _ _ e in ((bytes_eq-Decides _ _).0 p.0, (Decides-eqb _ _).0 p.1))
     (λ same. both_true _ _ ((bytes_eq-Decides _ _).1 same.0) ((Decides-eqb _ _).1 same.1))
 
+-- a ref that comes again sells nothing: the same order gets its first sale, another none
 pub sold_again : (forward : ℕ → ℕ → ℕ) (o : Office) (at : Stamped) (order : Order) (first : Sale) → IsOffice o → at.request
     ≡ requests.Sell order → WasSold o order first
     → (step forward o at ≡ o) × (IsSameOrder order first → reply forward o at ≡ Ok (answers.Sold first))
@@ -76,10 +77,12 @@ reprint_stays : (o : Office) (sale : Option Sale) → office_after o (reprint sa
 reprint_stays o None = refl
 reprint_stays o (Some s) = refl
 
+-- a reprint changes nothing
 pub reprints_stay : (forward : ℕ → ℕ → ℕ) (o : Office) (at : Stamped) (number : ℕ) → at.request ≡ requests.Reprint number → step forward o at ≡ o
 reprints_stay forward o at number asks =
     subst (λ request. office_after o (decision_of forward o at.moment at.nibble request) ≡ o) (sym asks) (reprint_stays o (sale_numbered o number))
 
+-- a reprint gives the sale that stands under its number
 pub reprints_the_sale : (forward : ℕ → ℕ → ℕ) (o : Office) (at : Stamped) (s : Sale) → IsOffice o → Contains o.sales s → at.request
     ≡ requests.Reprint s.number → reply forward o at ≡ Ok (answers.Reprinted s)
 reprints_the_sale forward o at s office there asks =
@@ -92,11 +95,13 @@ report_stays : (o : Office) (shift : Option Shift) (sales : List Sale) → offic
 report_stays o None sales = refl
 report_stays o (Some s) sales = refl
 
+-- a report changes nothing
 pub reports_stay : (forward : ℕ → ℕ → ℕ) (o : Office) (at : Stamped) (number : ℕ) → at.request ≡ requests.ShiftReport number → step forward o at ≡ o
 reports_stay forward o at number asks =
     subst (λ request. office_after o (decision_of forward o at.moment at.nibble request) ≡ o) (sym asks)
     (report_stays o (shift_numbered o number) (sales_of_shift o number))
 
+-- a report gives the shift of the number that is asked for, with its sales
 pub reports_the_shift : (forward : ℕ → ℕ → ℕ) (o : Office) (at : Stamped) (s : Shift) → IsOffice o → Contains o.shifts s → at.request
     ≡ requests.ShiftReport s.number → reply forward o at ≡ Ok (answers.Report s (sales_of_shift o s.number))
 reports_the_shift forward o at s office there asks =
@@ -122,6 +127,7 @@ new_of_result laws forward o at order s (Ok change) office range e answered =
       ap (λ (c : Change). (office_after o (Ok c)).sales) granted.change_is ∙ ap (λ (t : Sale). o.sales ++ t ∷ []) same,
     )
 
+-- a sale answered to a new ref is one by the rules, and is added at the end
 pub new_sale_is : (laws : LowerLaws) (forward : ℕ → ℕ → ℕ) (o : Office) (at : Stamped) (order : Order) (s : Sale) → IsOffice o
     → KeepsRange forward → at.request ≡ requests.Sell order
     → sale_of_ref o order.operator order.order_ref ≡ None → reply forward o at ≡ Ok (answers.Sold s)

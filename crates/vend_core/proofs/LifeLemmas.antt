@@ -54,6 +54,7 @@ module _ (laws : LowerLaws) where
   acknowledged_stamped life is = All-map IsStamped (λ (e : Exchange). e.request) _
       (All-filter _ (λ (e : Exchange). IsStamped e.request) life.exchanges is.stamped)
 
+  -- the requests in doubt are stamped too
   pub doubted_stamped : (life : Life) → IsLife life → All IsStamped (in_doubt life)
   doubted_stamped life is = All-map IsStamped (λ (e : Exchange). e.request) _ (All-filter _ (λ (e : Exchange). IsStamped e.request) life.exchanges is.stamped)
 
@@ -67,19 +68,23 @@ module _ (laws : LowerLaws) where
       (kept (λ (e : Exchange). acknowledges e.reply) exchanges e.0 e.1 (ap acknowledges e.2 ∙ passes)))
 
   module _ (life : Life) (is : IsLife life) (office : IsOffice life.opening) where
+    -- the present office of a life is an office
     pub present_office : IsOffice (present life)
     present_office = after_keeps_office laws life.forward life.opening (acknowledged life) office (acknowledged_stamped life is) is.range
 
+    -- what a life may leave is an office
     pub left_office : (o : Office) → MayLeave life o → IsOffice o
     left_office o (inl e) = subst IsOffice (sym e) present_office
     left_office o (inr (at, there, e)) = subst IsOffice (sym e)
         (step_keeps_office laws life.forward (present life) at present_office
         (All-contains IsStamped (in_doubt life) at (doubted_stamped life is) there) is.range)
 
+    -- what a life may leave has grown out of its present office
     pub left_grown : (o : Office) → MayLeave life o → HasGrown (present life) o
     left_grown o (inl e) = subst (λ p. HasGrown (present life) p) (sym e) (grown_none (present life))
     left_grown o (inr (at, there, e)) = subst (λ p. HasGrown (present life) p) (sym e) (step_grows life.forward (present life) at present_office)
 
+    -- what a life may leave has grown out of the office that it opened
     pub opening_grown : (o : Office) → MayLeave life o → HasGrown life.opening o
     opening_grown o may = grown_twice life.opening (present life) o
         (after_grows laws life.forward life.opening (acknowledged life) office (acknowledged_stamped life is) is.range) (left_grown o may)
@@ -105,6 +110,7 @@ module _ (laws : LowerLaws) where
         (stands_on begun (after life.forward begun (drop n ats)) s
         (after_grows laws life.forward begun (drop n ats) begun_office (All-drop IsStamped n ats are) is.range) there)
 
+    -- each sale that a life hands out stands in what it may leave
     pub handed_left : (o : Office) (s : Sale) → MayLeave life o → HandsOut life s → Contains o.sales s
     handed_left o s may hands = stands_on (present life) o s (left_grown o may) (handed_present s hands)
 
@@ -136,6 +142,7 @@ module _ (laws : LowerLaws) where
   pub lives_office : (lives : List Life) (o : Office) → AreLives lives o → IsOffice o
   lives_office lives o are = led_office empty_office lives o empty_is_office are
 
+  -- each sale that any of the lives hands out stands in what they may leave
   pub handed_stands : (lives : List Life) (o : Office) (s : Sale) → AreLives lives o → IsHanded lives s → Contains o.sales s
   handed_stands lives o s are handed = led_stands empty_office lives o s empty_is_office are handed
 

@@ -1,6 +1,7 @@
 -- The office that plain lists keep, and what serving a request does to it.
 pub mod PlainRows
-use Rattle.std.specs.Prelude.{◌≡◌, ◌⊎◌, ◌<◌, ◌≤◌, Bool, true, false, ℕ, Some, Result, Ok, Err, IsNone, IsSome, length}
+use Rattle.std.specs.Prelude.{◌≡◌, ◌⊎◌, ◌<◌, ◌≤◌, Bool, true, false, ℕ, Some, Result, Ok, Err}
+use Rattle.std.specs.Prelude.{IsNone, IsSome, length}
 use Rattle.sts_fields.specs.Tid.{last_tid}
 use Rattle.sts_token.specs.Token.{BlockFunction}
 use Rattle.office_rules.specs.Decision.{account_of, decision}
@@ -13,7 +14,11 @@ use Rattle.vend_core.specs.Lists.PlainRows.{office_of_rows}
 use Rattle.office_rules.specs.declared.decision.answer.Answer.{Answer}
 use Rattle.office_rules.specs.declared.decision.change.Change.{Change}
 use Rattle.office_rules.specs.declared.decision.change.Edit.{Edit}
-use Rattle.office_rules.specs.declared.decision.change.Edit.TheVariants.{AddTariff, AddSteps, AddMeter, AddRows, SetTariff, MoveBase, OpenShift, CloseShift, AddSale}
+use Rattle.office_rules.specs.declared.decision.change.Edit.TheVariants.{AddTariff, AddSteps}
+use Rattle.office_rules.specs.declared.decision.change.Edit.TheVariants.{AddMeter, AddRows}
+use Rattle.office_rules.specs.declared.decision.change.Edit.TheVariants.{SetTariff, MoveBase}
+use Rattle.office_rules.specs.declared.decision.change.Edit.TheVariants.{OpenShift, CloseShift}
+use Rattle.office_rules.specs.declared.decision.change.Edit.TheVariants.{AddSale}
 use Rattle.vend_core.specs.declared.lists.Lists.{Lists}
 use Rattle.vend_core.specs.declared.lists.records.Records.{Records}
 use Rattle.office_rules.specs.declared.decision.refusal.Refusal.{Refusal}
@@ -42,9 +47,9 @@ Fits (CloseShift number moment) o = Unit {0}
 Fits (AddSale s) o = (s.tid ≤ last_tid) × (length o.sales < greatest_count)
 
 -- the edit was made, or for want of memory the office is as it was
-abbrev pub MakesEdit : {A E : Type 0} → Edit → Office → Office → Result A E → Type 0
-MakesEdit edit old new (Ok done) = new ≡ applied edit old
-MakesEdit edit old new (Err error) = new ≡ old
+abbrev pub AppliesEdit : {A E : Type 0} → Edit → Office → Office → Result A E → Type 0
+AppliesEdit edit old new (Ok done) = new ≡ applied edit old
+AppliesEdit edit old new (Err error) = new ≡ old
 
 -- an edit that adds no row
 abbrev pub sets_only : Edit → Bool

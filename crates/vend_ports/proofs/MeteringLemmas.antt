@@ -20,6 +20,7 @@ abbrev pub lines_from : Reader → List (Bor Text) → ℕ → Text
 lines_from read words i = concat (lines_after read (history words i) (map (λ w. w.now) (drop i words)))
     ++ credit_line (credit_of read (map entry_of (map (λ w. w.now) words)))
 
+-- the history of one word more ends with what that word did
 pub history-more : (words : List (Bor Text)) (i : ℕ) (d : Bor Text) → i < length words → history words (i + 1) ≡ history words i
     ++ entry_of (get_or words i d).now ∷ []
 history-more words i d within =
@@ -27,6 +28,7 @@ history-more words i d within =
     ∙ ap (map entry_of) (map-append (λ w. w.now) (take i words) (get_or words i d ∷ []))
     ∙ map-append entry_of (map (λ w. w.now) (take i words)) ((get_or words i d).now ∷ []))
 
+-- the lines of a metering are those from the first word on
 pub all_lines : (read : Reader) (words : List (Bor Text)) → metering read (map (λ w. w.now) words) ≡ lines_from read words 0
 unfolding metering
 all_lines read words = refl

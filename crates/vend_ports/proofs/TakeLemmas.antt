@@ -21,6 +21,7 @@ none_taken : (failed : Bool) (held : Held) → IsTaken failed failed held held [
 none_taken false held = Appends-nil held
 none_taken true held = Keeps-refl held
 
+-- a writer that is left as it was took nothing
 pub takes_none : (s : Sink) → Takes s s []
 takes_none s = record { same = refl; taken = none_taken s.failed s.held }
 
@@ -42,6 +43,7 @@ next_taken true true true old mid new front back p q = Keeps-trans old mid new p
 next_taken true true false old mid new front back p q = absurd q
 next_taken true false c old mid new front back p q = absurd p
 
+-- a writer that took one text and then another took both, one behind the other
 pub takes_next : (a b c : Sink) (front back : Text) → Takes a b front → Takes b c back → Takes a c (front ++ back)
 takes_next a b c front back p q = record {
   same = q.same ∙ p.same;
@@ -106,6 +108,7 @@ abbrev pub spaced : (byte : ℕ) → Text → List Text → Text
 spaced byte separator [] = []
 spaced byte separator (word ∷ words) = separator ++ (word ++ spaced byte (byte ∷ []) words)
 
+-- words of which the first has no separator before it are joined by the byte
 pub spaced-join : (byte : ℕ) (words : List Text) → spaced byte [] words ≡ join_with_byte byte words
 spaced-join byte [] = refl
 spaced-join byte (word ∷ []) = append-nil word

@@ -17,6 +17,7 @@ pub record AreSales (forward : ℕ → ℕ → ℕ) (key : ℕ) (base : Base) (m
   pub sold : (i : ℕ) → i < length tids
       → IsSale forward key base moment (take i tids) (i + 1) (get_or amounts i 0) (get_or tids i 0) (get_or tokens i [])
 
+-- the sale of the next amount, behind the sales so far, makes one sale more
 pub one_sale_more : (forward : ℕ → ℕ → ℕ) (key : ℕ) (base : Base) (moment : ℕ) (amounts tids : List ℕ) (tokens : List (List ℕ)) (tid : ℕ) (token : List ℕ)
     → AreSales forward key base moment amounts tids tokens
     → IsSale forward key base moment tids (length tids + 1) (get_or amounts (length tids) 0) tid token

@@ -19,9 +19,11 @@ use Rattle.sqlite_trees.specs.declared.error.StoreError.TheVariants.{Broken, Cor
 pub reads_committed : (old new : View) → OnlyReads old new → new.committed ≡ old.committed
 reads_committed old new reads = ap (λ (v : View). v.committed) reads
 
+-- a read keeps whether the trees are numbered as the schema's rows are
 pub reads_numbered : (old new : View) → OnlyReads old new → new.is_numbered ≡ old.is_numbered
 reads_numbered old new reads = ap (λ (v : View). v.is_numbered) reads
 
+-- a read of a store that was open leaves it open
 pub reads_open : (old new : View) → OnlyReads old new → IsTrue old.is_open → IsTrue new.is_open
 reads_open old new reads was = ap (λ (v : View). v.is_open) reads ∙ was
 

@@ -41,6 +41,7 @@ module _ (earlier : List Sale) (s : Sale) where
     abbrev is_sold : Sale → Bool
     is_sold a = bytes_eq a.meter s.meter && base_eq a.base base
 
+    -- no sale to the meter was under a later base exactly if no identifier is found under it
     pub not_after_or : (last : Option ℕ) → last ≡ greatest_of (map (λ (a : Sale). a.tid) (filter is_sold earlier))
         → IsTrue (is_none last) ↔ IsNotAfter base earlier s
     not_after_or last is = (
@@ -63,5 +64,6 @@ module _ (earlier : List Sale) (s : Sale) where
   under_present second third i d within meter = latest_year (get_or earlier i d).base (year_of s.base) (first_year s.base)
       (second i d within meter) (third i d within meter)
 
+  -- where no sale before was under a later base than the sale's, none was under this one
   pub not_after_of : (base : Base) → IsUnderPresentBase earlier s → IsNotAfter base earlier s
   not_after_of base all i d within meter year = all i d within meter

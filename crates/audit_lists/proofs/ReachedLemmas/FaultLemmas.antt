@@ -16,6 +16,7 @@ pub told_on : {T : Type 0} (P : OfficeFault → Type 0) (r : Result T OfficeFaul
 told_on P (Ok x) e is p = tt
 told_on P (Err y) e is p = subst P (sym is) p
 
+-- a fault says what follows from what it says
 pub says_weaker : (P Q : Finding → Type 0) (e : OfficeFault) → ((f : Finding) → P f → Q f) → Says P e → Says Q e
 says_weaker P Q (fault.Found f) weaker says = weaker f says
 says_weaker P Q fault.Memory weaker says = tt
@@ -27,13 +28,16 @@ tells_sale r fault.Memory some none = some
 
 -- ---- what is told of all rows
 
+-- the shifts of an office keep their rule where those of its rows do
 pub shifts_kept : (r : OfficeRows) (o : Office) → AreRowsOfOffice r o → IsTieKept (closed_first r.shifts.items) → IsTieKept (closed_first o.shifts)
 shifts_kept r o are kept = subst (λ (l : List Shift). IsTieKept (closed_first l)) are.members.shifts kept
 
+-- what is told of the shifts is told of the rows that no requests lead to
 pub tells_shift : (r : OfficeRows) (e : OfficeFault) → TellsShift r.shifts.items e → TellsUnreached r e
 tells_shift r (fault.Found f) first = λ o are. inl (subst (λ (l : List Shift). IsFirst (closed_first l) f) are.members.shifts first)
 tells_shift r fault.Memory some = omega (arith, some)
 
+-- and so is what is told of the sales, where the shifts keep their rule
 pub tells_sales : (r : OfficeRows) → IsTieKept (closed_first r.shifts.items) → (e : OfficeFault) → TellsSale r e → TellsUnreached r e
 tells_sales r kept (fault.Found f) first = λ o are. inr (shifts_kept r o are kept, first o are)
 tells_sales r kept fault.Memory some = omega (arith, some)

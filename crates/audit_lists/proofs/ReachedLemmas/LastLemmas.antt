@@ -10,9 +10,10 @@ use Rattle.std.proofs.lemmas.Option.{none-some, same_Some}
 use Rattle.std.proofs.lemmas.Slice.Eq.{bytes_eq-Decides}
 use Rattle.office_rules.specs.declared.office.shift.Shift.{Shift}
 use Rattle.audit_lists.specs.reached.Lasts.{AreLasts, IsLastOf, LastShifts, NoneBetween, last_shift_under}
-use Rattle.audit_lists.proofs.ReachedLemmas.TextLemmas.{text_same}
+use Rattle.audit_lists.proofs.TextLemmas.{text_same}
 use denote.Ref.{Bor}
 
+-- names that are lent, in the order of their bytes
 abbrev pub text_cmp : Bor (List ℕ) → Bor (List ℕ) → Ordering
 text_cmp a b = slice_cmp nat_cmp a.now b.now
 
@@ -67,6 +68,7 @@ pub last_some : (shifts : List Shift) (end : ℕ) (q : List ℕ) (i : ℕ) (o : 
 last_some shifts end q i None e is = absurd (none-some i e)
 last_some shifts end q i (Some j) e is = subst (IsLastOf shifts end q) (same_Some j i e) is
 
+-- where nothing is under a name, no shift so far is that operator's
 pub last_none : (shifts : List Shift) (end : ℕ) (q : List ℕ) (o : Option ℕ) → o ≡ None
     → MatchOption o (NoneBetween shifts 0 end q) (IsLastOf shifts end q) → NoneBetween shifts 0 end q
 last_none shifts end q None e is = is

@@ -77,6 +77,7 @@ module _ {T : Type 0} (step : T → Step) (key : T → Key) (rows : List T) (own
     owned_same row found s first own =
         same_first step key rows owned.once (key row) found s first (first_owned (key row) s (owned.plain row) own) (owned.priced (key row).0 (key row).2 s own)
 
+    -- rows that are steps owned by tariffs begin lists of steps, and no two have one key
     pub have_lists : HaveLists step key rows
     have_lists = record {
       once = owned.once;
@@ -86,6 +87,7 @@ module _ {T : Type 0} (step : T → Step) (key : T → Key) (rows : List T) (own
     }
 
     module _ (listed : List ListedSteps) (lists : AreLists step key rows (length rows) listed) where
+      -- each list that was made of the rows is owned by a tariff from the day it begins on
       pub only_owned : (l : ListedSteps) → Contains listed l → (tariff : List ℕ) × owns tariff l.from l.steps
       only_owned l there =
           let from = lists.only l there in
@@ -94,6 +96,7 @@ module _ {T : Type 0} (step : T → Step) (key : T → Key) (rows : List T) (own
           let same = owned_same row l.steps has.0 from.3.steps has.1 in
           ((key row).0, subst (λ (day : ℕ). owns (key row).0 day l.steps) (sym from.3.from) (subst (Owns (key row)) (sym same) has.1))
 
+      -- and each list that a tariff owns from a day on was made
       pub each_owned : (tariff : List ℕ) (day : ℕ) (s : List Step) → owns tariff day s → (l : ListedSteps) × Contains listed l × (l.from ≡ day) × (l.steps ≡ s)
       each_owned tariff day s own =
           let some = (owned.priced tariff day s own).count.0 in
@@ -103,9 +106,11 @@ module _ {T : Type 0} (step : T → Step) (key : T → Key) (rows : List T) (own
           let l = lists.each at.0 row (slice_get_within rows at.0 row at.2) at.2 (ap (λ (k : Key). k.3) at.3) in
           (l.0, l.1, l.2.from ∙ ap (λ (k : Key). k.2) at.3, owned_same row l.0.steps s l.2.steps (subst (λ (k : Key). Owns k s) (sym at.3) own))
 
+-- the step that a row of a tariff's first list has
 abbrev pub step_of : StepRow → Step
 step_of s = s.step
 
+-- the step that a row of a later list has, which holds from a day on
 abbrev pub dated_step_of : DatedStepRow → Step
 dated_step_of s = s.step
 
@@ -160,9 +165,11 @@ module _ (r : OfficeRows) (o : Office) (are : AreRowsOfOffice r o) where
     priced = λ tariff day s own. (are.is.dated_steps tariff day s own).priced;
   }
 
+  -- the rows of the tariffs' first lists have lists of steps
   pub have_steps : HaveLists step_of step_key r.steps.items
   have_steps = have_lists step_of step_key r.steps.items has_first steps_owned
 
+  -- and so have those of the lists that hold from a day on
   pub have_dated : HaveLists dated_step_of dated_key r.dated_steps.items
   have_dated = have_lists dated_step_of dated_key r.dated_steps.items has_dated dated_owned
 

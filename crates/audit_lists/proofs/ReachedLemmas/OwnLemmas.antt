@@ -13,6 +13,7 @@ use Rattle.audit_lists.proofs.ListLemmas.{at_contains, contains_at}
 
 module _ (o : Office) (office : IsOffice o) (s : Sale) where
   module _ (earlier : List Sale) (latest : ℕ) (is : IsLatestOf earlier latest) where
+    -- its shift was open, if its operator has no later one up to the latest that was sold in
     pub open_where : NoneBetween o.shifts s.shift (min (length o.shifts) latest) s.operator → IsInOpenShift o earlier s
     open_where none next there operator later =
         let at = at_contains o.shifts next there in

@@ -17,6 +17,7 @@ module _ (o : Office) (earlier : List Sale) (s : Sale) where
   pub keeps_all : IsGrantedAfter o earlier s → All (λ r. Keeps r o earlier s) granting_rules
   keeps_all g = All-from_recursion (λ (r : Rule). Keeps r o earlier s) granting_rules (g.operator, (g.shift, (g.base, (g.tid, (g.bought, (g.digits, tt))))))
 
+  -- a sale that keeps each rule is granted after those before it
   pub granted : All (λ r. Keeps r o earlier s) granting_rules → IsGrantedAfter o earlier s
   granted all = record {
     operator = all 0 rule.Token (omega arith);
@@ -27,6 +28,7 @@ module _ (o : Office) (earlier : List Sale) (s : Sale) where
     digits = all 5 rule.Token (omega arith);
   }
 
+-- nothing is found of an office that requests lead to
 pub none_found : (o : Office) (f : Finding) → IsPlausible o → ¬ FindsByRequests o f
 none_found o f plausible (inl first) = first.2.breaks (kept_pairs o.shifts plausible.shifts first.0 first.1 first.2.there)
 none_found o f plausible (inr (kept, first)) =

@@ -45,6 +45,7 @@ module _ (o : Office) (earlier : List Sale) (s : Sale) (listed : List ListedStep
   abbrev Buys : ℕ → List Step → Type 0
   Buys n steps = IsPurchase steps n s.tender (bought_in s)
 
+  -- the tender buys it by one of the lists exactly if by steps that a tariff may have had
   pub bought_or : (b : Bool) → (b ≡ true → Any (Sells day before s) listed) → (b ≡ false → All (λ l. ¬ Sells day before s l) listed)
       → IsTrue b ↔ IsBoughtByOne o earlier s
   bought_or true some none =

@@ -12,6 +12,7 @@ use Rattle.office_rules.specs.declared.office.shift.Shift.{Shift}
 use Rattle.audit_lists.specs.Ties.{IsTieKept}
 use Rattle.audit_lists.specs.reached.Finds.{closed_first}
 
+-- a shift was not closed
 abbrev pub is_open : Shift → Bool
 is_open s = is_none s.closed
 
@@ -41,6 +42,7 @@ pairs_kept shifts kept i j d below low =
     let last = kept j (get_or shifts j d) (slice_get-get_or shifts j d low) in
     subst (λ (a : Shift). IsClosedFirst a (get_or shifts j d)) (get_or-take j shifts i d below) (last i d (omega (arith, below, low, length-take j shifts)))
 
+-- where of each two shifts the first was closed first, the rule of shifts is kept
 pub kept_pairs : (shifts : List Shift) → AllPairs IsClosedFirst shifts → IsTieKept (closed_first shifts)
 kept_pairs shifts pairs i s at k d below =
     let low : k < i = omega (arith, below, length-take i shifts) in

@@ -11,6 +11,7 @@ use Rattle.office_rules.specs.Office.Lookup.{greatest_of, used}
 use Rattle.office_rules.specs.declared.office.sale.Sale.{Sale}
 use Rattle.office_rules.proofs.DecisionLemmas.NewSaleLemmas.{greatest_is_last}
 
+-- after the same identifiers, in the same minute, there is one outcome
 abbrev pub HaveOneOutcome : Type 0
 HaveOneOutcome = (sold : List ℕ) (now : ℕ) (r s : Result ℕ TidFault) → FreshOutcome sold now r → FreshOutcome sold now s → r ≡ s
 
@@ -22,6 +23,7 @@ module _ (one : HaveOneOutcome) (earlier : List Sale) (s : Sale) where
   abbrev sold : List ℕ
   sold = used (sales_alone earlier) s.meter s.base
 
+  -- a sale with the identifier that comes after the greatest has a fresh one
   pub fresh_where : (minute : ℕ) → minute_of s.base s.moment ≡ Ok minute → (last : Option ℕ) → last
       ≡ greatest_of (used (sales_alone earlier) s.meter s.base) → fresh_after minute last ≡ Ok s.tid → HasFreshTid earlier s
   fresh_where minute is last greatest next = record {
@@ -31,6 +33,7 @@ module _ (one : HaveOneOutcome) (earlier : List Sale) (s : Sale) where
         (fresh_after_is sold minute (greatest_of sold) (greatest_is_last sold));
   }
 
+  -- and a sale with a fresh one has the identifier that comes after the greatest
   pub next_where : (minute : ℕ) → minute_of s.base s.moment ≡ Ok minute → (last : Option ℕ) → last
       ≡ greatest_of (used (sales_alone earlier) s.meter s.base) → HasFreshTid earlier s → fresh_after minute last ≡ Ok s.tid
   next_where minute is last greatest has =
@@ -43,6 +46,7 @@ within_last : (ns : List ℕ) (last : Option ℕ) → IsLast ns last → All (λ
 within_last ns None is all = tt
 within_last ns (Some t) is all = All-contains (λ u. u ≤ last_tid) ns t all is.0
 
+-- the greatest identifier sold before is within the greatest there is, as all of them are
 pub last_within : (earlier : List Sale) (s : Sale) (last : Option ℕ) → last ≡ greatest_of (used (sales_alone earlier) s.meter s.base)
     → All (λ (a : Sale). a.tid ≤ last_tid) earlier → IfSome last (λ t. t ≤ last_tid)
 last_within earlier s last is all =

@@ -69,15 +69,19 @@ pub record IsFront (o : Office) (at : ℕ) (w : Walked) : Type 0 where
   pub before : EachBelow (λ i s. IsGrantedAfter o (take i o.sales) s) o.sales at
 
 module _ (o : Office) (office : IsOffice o) (at : ℕ) where
+  -- the sales before a place are no more than an office may have
   pub few_taken : length (take at o.sales) ≤ greatest_count
   few_taken = let few = office.sale_count in omega (arith, few, length-take at o.sales)
 
+  -- the sales before a place are rows of the office
   pub rows_taken : All (IsSaleRow o) (take at o.sales)
   rows_taken = All-take (IsSaleRow o) at o.sales office.sales
 
+  -- their identifiers are within the greatest there is
   pub tids_taken : All (λ (a : Sale). a.tid ≤ last_tid) (take at o.sales)
   tids_taken = All-weaker (IsSaleRow o) (λ (a : Sale). a.tid ≤ last_tid) (λ a row. row.tid) (take at o.sales) rows_taken
 
+  -- one sale more that was granted is walked over
   pub front_more : (s : Sale) (w new : Walked) → slice_get o.sales at ≡ Some s → IsFront o at w → IsGrantedAfter o (take at o.sales) s
       → ((earlier : List Sale) → length earlier < 2 ^ 32 → IsWalked o.shifts earlier w → IsWalked o.shifts (earlier ++ s ∷ []) new) → IsFront o (at + 1) new
   front_more s w new there front granted adds =

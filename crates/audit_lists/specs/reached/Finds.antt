@@ -1,7 +1,9 @@
 -- What is found of an office's rows: the first one that no requests lead to.
-use Rattle.std.specs.Prelude.{◌≡◌, ◌⊎◌, ◌+◌, ◌≤◌, ⊤, ℕ, List, [], ◌∷◌, Some, All, length, slice_get, take}
+use Rattle.std.specs.Prelude.{◌≡◌, ◌⊎◌, ◌+◌, ◌≤◌, ⊤, ℕ, List, [], ◌∷◌, Some, All, length, slice_get}
+use Rattle.std.specs.Prelude.{take}
 use Rattle.sts_token.specs.Reading.{IsOfClassZero}
-use Rattle.vend_core.specs.Law.Reached.{HasFreshTid, IsBoughtByOne, IsClosedFirst, IsGrantedAfter, IsInOpenShift, IsInOwnShift, IsUnderPresentBase}
+use Rattle.vend_core.specs.Law.Reached.{HasFreshTid, IsBoughtByOne, IsClosedFirst, IsGrantedAfter}
+use Rattle.vend_core.specs.Law.Reached.{IsInOpenShift, IsInOwnShift, IsUnderPresentBase}
 use Rattle.office_rules.specs.Office.{IsOffice, Office}
 use Rattle.office_rules.specs.declared.office.sale.Sale.{Sale}
 use Rattle.office_rules.specs.declared.office.shift.Shift.{Shift}

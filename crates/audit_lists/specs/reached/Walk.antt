@@ -12,7 +12,8 @@ use Rattle.audit_lists.specs.Ties.{IsFirst}
 use Rattle.audit_lists.specs.declared.fault.OfficeFault.{OfficeFault}
 use Rattle.audit_lists.specs.declared.fault.OfficeFault.TheVariants as fault
 use Rattle.audit_lists.specs.declared.reached.walked.Walked.{Walked}
-use Rattle.audit_lists.specs.reached.Finds.{AreRowsOfOffice, BreaksFirst, IsFirstSale, Keeps, closed_first}
+use Rattle.audit_lists.specs.reached.Finds.{AreRowsOfOffice, BreaksFirst, IsFirstSale, Keeps}
+use Rattle.audit_lists.specs.reached.Finds.{closed_first}
 use Rattle.audit_lists.specs.reached.Lasts.{AreLasts}
 
 -- the greatest shift that one of the sales was made in; 0 where there is none

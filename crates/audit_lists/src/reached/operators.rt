@@ -2,7 +2,7 @@ ghost use Rattle.std.specs.Prelude.{◌≡◌, ◌≢◌, false, true};
 
 use office_rules::Operator;
 
-#[tactic(auto, using(crate::proofs::ReachedLemmas::TextLemmas::text_same, crate::proofs::ReachedLemmas::TextLemmas::text_other))]
+#[tactic(auto, using(crate::proofs::TextLemmas::text_same, crate::proofs::TextLemmas::text_other))]
 pub(crate) fn is_same(a: &Operator, b: &Operator) -> bool
     ensures yes { result ≡ true → a.now ≡ b.now }
     ensures no { result ≡ false → a.now ≢ b.now }

@@ -1,6 +1,7 @@
 //! Shifts that come after an open one of their operator.
 
-ghost use Rattle.std.specs.Prelude.{◌≡◌, ◌≢◌, ◌++◌, [], ◌∷◌, All, Any, IfErr, OnOk, false, if◌then◌else◌, is_none, true};
+ghost use Rattle.std.specs.Prelude.{◌≡◌, ◌≢◌, ◌++◌, [], ◌∷◌, All, Any, IfErr, OnOk, false};
+ghost use Rattle.std.specs.Prelude.{if◌then◌else◌, is_none, true};
 ghost use Rattle.audit_lists.specs.Ties.{IsTieKept};
 ghost use Rattle.audit_lists.specs.reached.Finds.{closed_first};
 ghost use Rattle.audit_lists.specs.reached.Walk.{TellsShift};

@@ -2,8 +2,10 @@
 
 ghost use Rattle.std.specs.Prelude.{◌≡◌};
 ghost use Rattle.sts_fields.specs.Calendar.{month_at};
-ghost use Rattle.audit_lists.specs.RowKeys.{sale_base_key};
-ghost use Rattle.audit_lists.specs.totals.Rules.{last_id_asked, last_id_key, last_id_of, month_asked, month_key, month_tenths_of, sale_month_key, sale_shift_key, shift_asked, shift_key, shift_totals_of};
+ghost use Rattle.audit_lists.specs.totals.Rules.{last_id_asked, last_id_key, last_id_of};
+ghost use Rattle.audit_lists.specs.totals.Rules.{month_asked, month_key, month_tenths_of};
+ghost use Rattle.audit_lists.specs.totals.Rules.{sale_month_key, sale_shift_key, shift_asked};
+ghost use Rattle.audit_lists.specs.totals.Rules.{shift_key, shift_totals_of};
 
 use crate::key::{KeyOf, LentKey, UnderBase};
 use audit_rows::{LastId, MonthTenths, Named, RowKey, ShiftTotals};

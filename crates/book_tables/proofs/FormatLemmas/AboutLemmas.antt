@@ -41,6 +41,7 @@ module _ (old new : State) (has : HasOffice old.now.schema) where
     none_of us others.1,
   )
 
+  -- so the rows of `about` are as they were
   pub told_left : (us : List Kept) → AllByRecursion IsAnother us → WritesOnly (kept_names us) old new → rows_in new.now (codes "about")
       ≡ rows_in old.now (codes "about")
   told_left us others only =

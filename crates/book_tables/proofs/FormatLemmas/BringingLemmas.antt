@@ -78,6 +78,7 @@ totals_another : AllByRecursion IsAnother totals_kept
 totals_another = ((last_ids_in, refl), ((month_tenths_in, refl), ((shift_totals_in, refl), tt)))
 
 module _ (meters : List MeterRow) (sales : List Sale) where
+  -- format 1 lacks the totals and the bases: these are filled one after the other
   pub missing_first : (old mid new : State) → IsReady old → IsReady mid → FillsTotals sales old mid → FillsBases meters mid new
       → FillsMissing 1 meters sales old new
   missing_first old mid new ready then totals fills = record {
@@ -96,6 +97,7 @@ module _ (meters : List MeterRow) (sales : List Sale) where
         );
   }
 
+  -- format 2 lacks the bases of the meters, and has its totals already
   pub missing_second : (old new : State) → IsReady old → FillsBases meters old new → FillsMissing 2 meters sales old new
   missing_second old new ready fills = record {
     only = only_among _ (kept_names (later 2)) bases_after_second old new fills.only;
@@ -119,6 +121,7 @@ module _ (meters : List MeterRow) (sales : List Sale) where
     members = λ o rows office none handed are of_format held. (rows_upto from rows, held, members o rows none are of_format);
   }
 
+  -- at format 3, and where there was no format, nothing is to be filled
   pub missing_third : (from : ℕ) → from < present_format → from ≢ 1 → from ≢ 2 → (old : State) → IsReady old → FillsMissing from meters sales old old
   missing_third zero below one two old ready = missing_none 0 old ready (λ o rows none are of_format. subst (AreMembersOf no_rows) (sym (none refl)) no_members)
   missing_third (suc zero) below one two old ready = absurd (one refl)
@@ -164,6 +167,7 @@ filled_on from meters sales old filled new r first transaction second =
     (λ _ _ fills tells. completes from meters sales old filled new fills tells) (fills_by old filled (Ok tt) (λ w is. inl is) first)
     (fills_write (format_write from) (inr refl) filled new r transaction second)
 
+-- where the filling fails, all of it fails, for the cause that the filling had
 pub filled_off : (from : ℕ) (meters : List MeterRow) (sales : List Sale) (old new : State) (e : TableError)
     (r : Result (Unit {0}) TableError) → IsErrAnd r (λ x. x ≡ e)
     → Fills (IsFilling from meters sales) (FillsMissing from meters sales) old new (Err e)
@@ -204,14 +208,17 @@ module _ (from : ℕ) (meters : List MeterRow) (sales : List Sale) (old mid new 
   ready_made clean sound = let is = inside (early clean) in let made = makes (early clean) sound in
       record { is_open = is.is_open; under_way = is.mode; sound = made.beside.sound; has = made.has }
 
+  -- where all went well, the tables hold the office that the database stood for
   pub brings_office : from < present_format → HasCleanDisk new → IsSoundOfFormat from old → HandsOver old.now meters sales → OnOk r (BringsInside from old new)
   brings_office known clean sound handed = on_ok r (λ done. office_brought from meters sales old mid new (inside (early clean))
       (makes (early clean) sound) done known handed) (rest.made clean (ready_made clean sound))
 
+  -- and the tables are the present ones, as `about` tells, whatever the rows are
   pub brings_tables : HasCleanDisk new → IsSoundOfFormat from old → OnOk r (BringsTables from old.now new.now)
   brings_tables clean sound = on_ok r (λ done. tables_brought from meters sales old mid new (inside (early clean))
       (makes (early clean) sound) done) (rest.made clean (ready_made clean sound))
 
+  -- where it fails, the missing tables were made and one of the writes after that failed
   pub fails_bringing : {S : Type 0} (g : Ghosts S) → HasCleanDisk new → IsSoundOfFormat from old → IfErr r (FailsToBring g from meters sales old new)
   fails_bringing g clean sound =
       let made = makes (early clean) sound in
@@ -238,6 +245,7 @@ module _ (from : ℕ) (meters : List MeterRow) (sales : List Sale) (old mid new 
       })
       why_not g made came RowOfNoOffice why = why.2
 
+  -- the transaction stays under way where it went well, and nothing is committed
   pub keeps_bringing : KeepsTransaction old new r
   keeps_bringing = record {
     inside = λ clean way.

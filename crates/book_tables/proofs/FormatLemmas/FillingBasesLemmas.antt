@@ -25,6 +25,7 @@ bases_none old ready = record {
       (sym (append-nil rows.bases)) held;
 }
 
+-- the base of the next meter stands after those that were filled in before
 pub bases_more : (found : List MeterRow) (m : MeterRow) (old mid new : State) → FillsBases found old mid
     → AddsBase m.number m.meter.base mid new → FillsBases (found ++ m ∷ []) old new
 bases_more found m old mid new first second = record {
@@ -51,6 +52,7 @@ module _ (o : Office) (rows : Rows) (meters : List MeterRow) (sales : List Sale)
   abbrev own_base : (List ℕ × Meter) → (List ℕ × Base)
   own_base r = (r.0, r.1.base)
 
+  -- the office has a base of a meter exactly where a meter that is given has it
   pub bases_are : (number : List ℕ) (base : Base) → (o.bases number base ≡ true) ↔ Contains (map base_row_of meters) (number, base)
   bases_are number base = (
     λ has.
@@ -65,6 +67,7 @@ module _ (o : Office) (rows : Rows) (meters : List MeterRow) (sales : List Sale)
         (are.bases number base).1 (subst (λ (l : List (List ℕ × Base)). Contains l (number, base)) (sym alone) stands),
   )
 
+  -- and each is listed once
   pub bases_once : AllPairs (λ a b. a ≢ b) (map base_row_of meters)
   bases_once = pairs_into (λ (a b : MeterRow). a.number ≢ b.number) (λ a b. a ≢ b) base_row_of meters
       (λ a b apart same. apart (ap (λ (x : List ℕ × Base). x.0) same)) handed.once

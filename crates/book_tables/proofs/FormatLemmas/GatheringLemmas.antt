@@ -40,9 +40,11 @@ use Rattle.book_tables.proofs.WritingLemmas.OnlyLemmas.{only_both}
 -- ---- one row after another
 
 module _ {R : Type 0} (set : List R → Rows → Rows) (Are : List R → Type 0) where
+  -- before any row is put in, the table has none
   pub puts_none : (old : State) → IsReady old → PutsFirst set Are [] old old
   puts_none old ready = record { only = nothing_written totals_names old ready; rows = λ told rows after are held. held }
 
+  -- with one row put in after the others, the table has these and it
   pub puts_more : (before : List R) (r : R) (old mid new : State) → PutsFirst set Are before old mid → PutsNext set Are r mid new
       → PutsFirst set Are (before ++ r ∷ []) old new
   puts_more before r old mid new first second = record {
@@ -79,6 +81,7 @@ module _ (sales : List Sale) (g : Gathered) (held : IsGathered sales g) (fit : F
   shifts_are : AreRowsOf shift_rows (λ shift. totals_of (sales_in_shift sales shift))
   shifts_are = are_rows nat_cmp nat_cmp_total exact_unsigned (own_place {K = ℕ}) g.shift_totals _ held.shift_totals
 
+  -- a column can hold the tenths of each month that is gathered
   pub months_fit : FitMonths month_rows
   months_fit = all_there (λ (r : (List ℕ × ℕ) × ℕ). r.1 < 2 ^ 63) month_rows (λ r there.
       let of_month = sales_in_month sales r.0 in
@@ -118,6 +121,7 @@ module _ (sales : List Sale) (g : Gathered) (held : IsGathered sales g) (fit : F
   shifts_rise = rise g.shift_totals.entries held.shift_totals.ordered
       (λ e there. held.shift_totals.own e.0 e.1 ((btree_map_get_iff nat_cmp_total exact_unsigned g.shift_totals held.shift_totals.ordered e.0 e.1).1 there))
 
+  -- the shifts that are gathered rise, and columns can hold the totals of each
   pub shifts_fit : FitShifts shift_rows
   shifts_fit = (shifts_rise, all_there (λ (r : ℕ × Totals). HasRoomFor r.1) shift_rows room_of)
 
@@ -138,6 +142,7 @@ pub record WritesOf (sales : List Sale) (g : Gathered) : Type 0 where
   pub months : (w : Write) → (r : (List ℕ × ℕ) × ℕ) × Contains (values g.month_tenths) r × PutsMonth r w → IsOfTotals sales w
   pub shifts : (w : Write) → (r : ℕ × Totals) × Contains (values g.shift_totals) r × PutsTotals r w → IsOfTotals sales w
 
+-- a write of what is gathered puts in one of the totals of an office's sales
 pub writes_gathered : ((t : ℕ) → IsRepresentable t → t ≤ 18201624) → (sales : List Sale) (g : Gathered)
     → (length sales ≤ 2 ^ 32 → IsGathered sales g) → WritesOf sales g
 writes_gathered greatest sales g gathered = record {
@@ -173,6 +178,7 @@ pub record PutsTwo (ids : List ((List ℕ × Base) × ℕ)) (months : List ((Lis
       → HoldsOf present_format told old.now (with_last_ids [] (with_month_tenths [] rows))
       → HoldsOf present_format told new.now (with_last_ids ids (with_month_tenths months rows))
 
+-- the last identifiers are put in, and then the tenths of the months
 pub puts_two : (ids : List ((List ℕ × Base) × ℕ)) (months : List ((List ℕ × ℕ) × ℕ)) (old one two : State)
     → PutsFirst with_last_ids AreAnyIds ids old one → PutsFirst with_month_tenths FitMonths months one two → PutsTwo ids months old two
 puts_two ids months old one two first second = record {
@@ -183,6 +189,7 @@ puts_two ids months old one two first second = record {
 
 module _ (greatest : (t : ℕ) → IsRepresentable t → t ≤ 18201624) (sales : List Sale) (g : Gathered)
     (gathered : length sales ≤ 2 ^ 32 → IsGathered sales g) (old two new : State) where
+  -- with the totals of the shifts too, the totals are those of the sales
   pub fills_gathered : PutsTwo (values g.last_ids) (values g.month_tenths) old two
       → PutsFirst with_shift_totals FitShifts (values g.shift_totals) two new → FillsTotals sales old new
   fills_gathered both third = record {

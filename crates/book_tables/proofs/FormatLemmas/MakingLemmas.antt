@@ -96,6 +96,7 @@ module _ (n : ℕ) (a b : Database) (had : HasOfficeOf n a.schema) (m : MakesTab
   all_stay [] texts stand = tt
   all_stay (k ∷ ks) texts stand = (stays k stand.0 texts.0, all_stay ks texts.1 stand.1)
 
+  -- once they are made, the tables of the present format are all there
   pub has_all : HasOffice b.schema
   has_all = record {
     tables = all_both_ways (IsKept b.schema) (λ k. nat_le k.since n) kept (all_stay (upto n) (upto_texts n) had.tables)
@@ -148,6 +149,7 @@ beside_tables n a b m = record {
   sound = m.sound;
 }
 
+-- the tables that a format lacks are made in turn, and the others stay as they were
 pub makes_missing : (n : ℕ) → n < present_format → (a b : Database) → HasOfficeOf n a.schema → MakesTables (kept_tables (later n)) a b → MakesMissing n a b
 makes_missing n below a b had m = record {
   had = had;
@@ -167,13 +169,16 @@ lacks_some (suc (suc (suc (suc n)))) below = absurd (omega (arith, below))
 
 -- ---- the row of the format
 
+-- the row of the present format, under the number 1
 abbrev pub new_format_terms : List Term
 new_format_terms = lit (number 1) ∷ lit Null ∷ lit (number 4) ∷ []
 
+-- the text means an INSERT of that row into `about`
 pub new_format_means : (tree : ℕ) → IsInsert (about_table tree) new_format_terms new_format_text
 unfolding everything insert_meant insert_in puts_meant
 new_format_means tree = record { means = refl; whole = refl; uncounted = refl; unstamped = refl }
 
+-- and is one statement with no parameters
 pub new_format_whole : is_whole new_format_text 0 ≡ true
 unfolding everything is_whole
 new_format_whole = refl
@@ -186,6 +191,7 @@ module _ (old new : State) (put : PutsRow (about_table (tree_in old.now.schema (
   about_only : WritesOnly (codes "about" ∷ []) old new
   about_only = only_one (codes "about") (about_table (tree_in old.now.schema (codes "about"))) _ old new refl put.changed
 
+  -- where `about` had no row, it tells the present format once this one is put in
   pub tells_first : TellsPresent 0 old new
   tells_first = record {
     only = about_only;
@@ -295,6 +301,7 @@ module _ (n : ℕ) (a : Database) (had : HasOfficeOf n a.schema) (old new : Stat
   all_apart u there apart [] may = tt
   all_apart u there apart (k ∷ ks) may = (each_apart u there apart k may.0, all_apart u there apart ks may.1)
 
+  -- so all else is still as it was before the missing tables were made
   pub still_beside : (ks : List Kept) → AllByRecursion (MayChange n) ks → WritesOnly (kept_names ks) old new → LeavesBeside n a new.now
   still_beside ks may only = record {
     schema = only.schema ∙ beside.schema;

@@ -35,18 +35,23 @@ use Rattle.book_tables.proofs.ReadingLemmas.ReadLemmas.{Asks, answer_is}
 
 -- ---- the text
 
+-- the text that asks `about` for the format, in two rows at most
 abbrev pub format_text : List ℕ
 format_text = codes "SELECT id, format FROM about LIMIT 2"
 
+-- what it shows of a row: its number and the format
 abbrev pub format_terms : List Term
 format_terms = col 1 0 ∷ col 1 2 ∷ []
 
+-- the names of its columns
 abbrev pub format_names : List Name
 format_names = codes "id" ∷ codes "format" ∷ []
 
+-- the read of all rows of `about`, of which it shows at most two
 abbrev pub format_query : ℕ → Query
 format_query tree = query_on tree [] format_terms [] (lit (number 2))
 
+-- the text asks this of `about`, with no parameters
 pub format_asks : Asks about_table format_query format_names format_text []
 unfolding everything is_whole meant select_meant text_meant
 format_asks = record { is = λ tree. record { means = refl; from = refl }; bare = λ tree. refl; typed = λ tree. refl; whole = refl }
@@ -132,11 +137,13 @@ one_shown all rows some r same are = (
 
 -- ---- what is told
 
+-- a list of one element, of which the first is known, is this one alone
 pub lone : {X : Type 0} (xs : List X) (x : X) → length xs ≡ 1 → x ≡ get_or xs 0 x → xs ≡ x ∷ []
 lone [] x one first = absurd (omega (arith, one))
 lone (y ∷ []) x one first = ap (λ z. z ∷ []) (sym first)
 lone (y ∷ z ∷ more) x one first = absurd (omega (arith, one))
 
+-- what is told of a row is the format of 32 bits that it shows, or none
 abbrev pub TellsOne : Row → ToldFormat → Type 0
 TellsOne row told = ReadsBack shown_format (λ n. n < 2 ^ 32) row told.format
 
@@ -149,6 +156,7 @@ module _ (db : Database) (sound : IsDatabase db) (has : IsKept db.schema about_k
       let told = format_shown db sound has n in
       (λ e. told.0 (one.0 e), λ e. one.1 (told.1 e))
 
+  -- where the answer has no row or more than one, the database tells no format
   pub none_told : (values : List ToldFormat) → AllZip TellsOne rows values → ¬ (length values ≡ 1) → IsFormatOf db None
   none_told values told other n small = (
     λ e. absurd cc,
@@ -160,6 +168,7 @@ module _ (db : Database) (sound : IsDatabase db) (has : IsKept db.schema about_k
       alone (v ∷ []) told = refl
       alone (v ∷ w ∷ more) told = absurd told.1
 
+  -- where it has one row, the format is what this row tells
   pub one_told : (value : ToldFormat) → AllZip TellsOne rows (value ∷ []) → IsFormatOf db value.format
   one_told value told n small = go rows refl told
     where
@@ -183,10 +192,12 @@ module _ (old new : State) (has : HasTable about_kept old) (sound : IsTrue old.i
       → IsAnswer (format_query (tree_in old.now.schema (codes "about"))) old.now.trees [] given.rows
   told_rows values given runs = answer_is format_asks about_kept (λ s has. has.0.has) old new (has runs) given.rows given.shown
 
+  -- the same of an answer that a statement gave: no row or several tell no format
   pub given_none : (values : List ToldFormat) → GivesAll TellsOne format_text [] old new values → IsTrue old.is_open
       → ¬ (length values ≡ 1) → IsFormatOf old.now None
   given_none values given runs other = none_told old.now (sound runs) (has runs) given.rows (told_rows values given runs) values given.read other
 
+  -- and one row tells the format that was read of it
   pub given_one : (values : List ToldFormat) (one : ToldFormat) → GivesAll TellsOne format_text [] old new values → IsTrue old.is_open
       → values ≡ one ∷ [] → IsFormatOf old.now one.format
   given_one values one given runs is = one_told old.now (sound runs) (has runs) given.rows (told_rows values given runs) one

@@ -37,26 +37,32 @@ module _ (s : Schema) where
   each_alone [] kept = refl
   each_alone (k ∷ ks) kept = rw (kept.0.1, each_alone ks kept.1) refl
 
+  -- tables that stand as the texts of a format define them, left alone, are its tables
   pub tables_found : (n : ℕ) → are_alone s (kept_names (upto n)) → AllByRecursion (StandsAs s) (kept_texts (upto n)) → AllByRecursion (IsKept s) (upto n)
   tables_found n alone all = each_found (upto n) (upto_texts n) all alone
 
+  -- the tables of a format stand as their texts define them
   pub all_stand : (n : ℕ) → AllByRecursion (IsKept s) (upto n) → AllByRecursion (StandsAs s) (kept_texts (upto n))
   all_stand n has = each_stands (upto n) (upto_texts n) has
 
+  -- and no reference to one of them takes an action
   pub all_alone : (n : ℕ) → AllByRecursion (IsKept s) (upto n) → are_alone s (kept_names (upto n))
   all_alone n has = each_alone (upto n) has
 
 -- the same of names and of texts that are lent
 module _ (s : Schema) where
+  -- the test that lent names are left alone is that of the names themselves
   pub alone_of : (names : List (Bor (List ℕ))) → list_all (λ name. is_left_alone s (tree_in s name.now)) names
       ≡ list_all (λ name. is_left_alone s (tree_in s name)) (map (λ n. n.now) names)
   alone_of [] = refl
   alone_of (name ∷ names) = ap (λ b. is_left_alone s (tree_in s name.now) && b) (alone_of names)
 
+  -- where tables stand as lent texts define them, they stand as the texts do
   pub stand_of : (texts : List (Bor (List ℕ))) → AllByRecursion (λ text. StandsAs s text.now) texts → AllByRecursion (StandsAs s) (map (λ t. t.now) texts)
   stand_of [] all = tt
   stand_of (text ∷ texts) all = (all.0, stand_of texts all.1)
 
+  -- and the other way round, from the texts to the lent ones
   pub stand_lent : (texts : List (Bor (List ℕ))) → AllByRecursion (StandsAs s) (map (λ t. t.now) texts) → AllByRecursion (λ text. StandsAs s text.now) texts
   stand_lent [] all = tt
   stand_lent (text ∷ texts) all = (all.0, stand_lent texts all.1)

@@ -30,19 +30,24 @@ use Rattle.book_tables.proofs.WritingLemmas.WriteLemmas.{changes_only, only_one}
 
 -- ---- the text
 
+-- the test that a row's number is 1
 abbrev pub is_the_row : List Term
 is_the_row = op2 (Compare Eq Binary) (col 1 0) (lit (number 1)) ∷ []
 
+-- the row's number, and the row that it becomes: that of the present format
 abbrev pub format_set_terms : List Term
 format_set_terms = col 1 0 ∷ col 1 0 ∷ lit Null ∷ lit (number 4) ∷ []
 
+-- the read of that row and of what it becomes
 abbrev pub format_set_query : ℕ → Query
 format_set_query tree = query_on tree is_the_row format_set_terms [] no_limit
 
+-- the text means an UPDATE of `about` by this read
 pub format_set_means : (tree : ℕ) → IsUpdate (about_table tree) (format_set_query tree) format_set_text
 unfolding everything update_meant update_in sets_meant
 format_set_means tree = record { means = refl; from = refl }
 
+-- and is one statement with no parameters
 pub format_set_whole : is_whole format_set_text 0 ≡ true
 unfolding everything is_whole
 format_set_whole = refl
@@ -72,6 +77,7 @@ module _ (old new : State) where
     stays = λ n. refl;
   }
 
+  -- where `about` told a format, it tells the present one after the UPDATE
   pub tells_present : (before : ℕ) → SetsRows about (format_set_query about.tree) [] old new → TellsPresent (suc before) old new
   tells_present before set =
       let only = only_one (codes "about") about _ old new refl set.changed in

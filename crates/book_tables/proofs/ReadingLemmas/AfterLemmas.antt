@@ -57,17 +57,20 @@ module _ (k : Kept) {T : Type 0} {x : T} {old mid : State} (first : ReadsTable k
   same_if_open : HasTable k old → IsTrue mid.is_open → IsUnchanged old mid
   same_if_open has is_open = first.same (no_doubt mid.is_clean (true_from_ne_false mid.is_clean (λ dirty. both_ways mid.is_open (shut dirty) is_open))) has
 
+  -- an open connection still has the table after a read that succeeded
   pub has_after : HasTable k old → HasTable k mid
   has_after has is_open =
       let same = same_if_open has is_open in
       subst (λ (db : Database). IsKept db.schema k) (sym same.0.now_is) (has same.0.was_open)
 
+  -- the table still has the same rows after a read that succeeded
   pub rows_after : (rows : Rows) → HasTableRows k old rows → HasTableRows k mid rows
   rows_after rows has is_open =
       let same = same_if_open (λ runs. (has runs).0) is_open in
       subst (λ (db : Database). TableHolds k db rows) (sym same.0.now_is) (has same.0.was_open)
 
   module _ {U : Type 0} {new : State} where
+    -- where the disk is clean after the second read, it was clean after the first
     pub was_clean : (r : Result U TableError) → ReadsTable k mid new r → HasTable k old → HasCleanDisk new → HasCleanDisk mid
     was_clean r second has clean = omega (arith, (second.survives (has_after has)).clean, clean)
 
@@ -75,6 +78,7 @@ module _ (k : Kept) {T : Type 0} {x : T} {old mid : State} (first : ReadsTable k
     both_survive r second has = survives_then old mid new _ _ (λ _. ⊥) (λ _ db none. none) (λ _ db none. none) (first.survives has)
         (second.survives (has_after has))
 
+    -- a second read after one that succeeded is a read from the state before the first
     pub read_after : (r : Result U TableError) → ReadsTable k mid new r → ReadsTable k old new r
     read_after (Ok y) second = record {
       same = λ clean has. unchanged_then old mid new (first.same (was_clean (Ok y) second has clean) has) (second.same clean (has_after has));

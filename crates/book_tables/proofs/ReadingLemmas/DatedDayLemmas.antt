@@ -26,6 +26,7 @@ use Rattle.book_tables.proofs.ListLemmas.{contains_map, contains_none, map_sourc
 use Rattle.book_tables.proofs.RowLemmas.RecordLemmas.{one_number}
 use Rattle.book_tables.proofs.ReadingLemmas.StepLemmas.{passes_there, there_passes}
 
+-- the day on which the steps of a row begin
 abbrev pub day_of : DatedStepRow → ℕ
 day_of r = r.day
 
@@ -43,6 +44,7 @@ TellsGreatest = (used : List ℕ) (last : Option ℕ) → IsLast used last ↔ (
 -- ---- the days on which steps of a tariff begin
 
 module _ (name : List ℕ) (day : ℕ) where
+  -- the row is of the tariff, and its steps begin on the day or before
   abbrev pub is_until : DatedStepRow → Bool
   is_until r = bytes_eq r.tariff name && nat_le r.day day
 
@@ -55,6 +57,7 @@ module _ (name : List ℕ) (day : ℕ) where
   begun_until : (r : DatedStepRow) → r.tariff ≡ name → r.day ≤ day → is_until r ≡ true
   begun_until r named before = and_from (bytes_eq r.tariff name) (nat_le r.day day) ((bytes_eq-Decides r.tariff name).1 named) (grind (arith, nat_tests))
 
+  -- the days up to the day on which steps of the tariff begin, one for each row
   abbrev pub days_until : Rows → List ℕ
   days_until rows = map day_of (filter is_until rows.dated_steps)
 
@@ -105,6 +108,7 @@ module _ (name : List ℕ) (day : ℕ) where
         ≡ greatest_of (days_until rows) → IsFirstDay (o.dated_steps name) day found
     first_day_is rows o office are found is = first_day rows o office are found ((tells (days_until rows) found).1 is)
 
+    -- the text finds the last day up to the day on which steps of the tariff begin
     pub first_day_until : Finds dated_steps_kept first_day_text (Text name ∷ number day ∷ []) shown_number IsDay (λ rows. greatest_of (days_until rows))
     first_day_until = record {
       table = dated_steps_table;
@@ -130,6 +134,7 @@ module _ (name : List ℕ) (day : ℕ) where
 -- ---- the steps that begin on that day are the latest
 
 module _ (dated : ℕ → Option (List Step)) (day : ℕ) where
+  -- the steps that begin on the last first day are the latest on the day
   pub latest_begun : ((steps : List Step) → (latest dated day ≡ Some steps) ↔ IsLatest dated day steps) → (first : ℕ)
       → IsLastBegun dated day first → dated first ≡ latest dated day
   latest_begun tells first begun = by_steps (dated first) refl

@@ -15,15 +15,18 @@ use Rattle.book_tables.proofs.ReadingLemmas.SaleListLemmas.{IsRising}
 use Rattle.book_tables.proofs.ReadingLemmas.StepLemmas.{DifferInKey, pairs_that_pass, passes_there, permuted, there_passes}
 use Rattle.book_tables.proofs.ReadingLemmas.StepListLemmas.{listed_of}
 
+-- the place of a row's step, by which the rows are put in order
 abbrev pub place_of : DatedStepRow → ℕ
 place_of r = r.place
 
 -- ---- the rows of the steps from a day on
 
 module _ (name : List ℕ) (day : ℕ) where
+  -- the row of a step at a place, of the tariff and the day
   abbrev pub dated_at : ℕ → Step → DatedStepRow
   dated_at place step = record { tariff = name; day = day; place = place; step = step }
 
+  -- the rows of steps of the tariff and the day, their places counted from the first
   abbrev pub dated_from : ℕ → List Step → List DatedStepRow
   dated_from first steps = map (λ s. record { tariff = name; day = day; place = s.0; step = s.1 }) (enumerate_from first steps)
 
@@ -31,6 +34,7 @@ module _ (name : List ℕ) (day : ℕ) where
   dated_above low first below [] = tt
   dated_above low first below (s ∷ steps) = (grind (arith, ints, below), dated_above low (first + 1) (omega (arith, below)) steps)
 
+  -- the places of these rows rise
   pub dated_rise : (first : ℕ) (steps : List Step) → IsRising place_of (dated_from first steps)
   dated_rise first [] = tt
   dated_rise first (s ∷ steps) = (dated_above first (first + 1) (omega arith) steps, dated_rise (first + 1) steps)
@@ -72,12 +76,14 @@ module _ (name : List ℕ) (day : ℕ) where
       pairs_cons (DifferInKey place_of) (dated_at first s) (dated_from (first + 1) steps) (dated_differ (first + 1) steps)
       (λ r there same. let at = (dated_there (first + 1) steps r there).2 in omega (arith, at, same))
 
+  -- these rows show their steps, in the same order
   pub dated_shown : (first : ℕ) (steps : List Step) → map (λ (r : DatedStepRow). shown_step r.step) (dated_from first steps) ≡ map shown_step steps
   dated_shown first [] = refl
   dated_shown first (s ∷ steps) = ap (λ rows. shown_step s ∷ rows) (dated_shown (first + 1) steps)
 
   -- ---- those of an office's rows
 
+  -- the row is of the tariff and of steps that begin on the day
   abbrev pub is_from_day : DatedStepRow → Bool
   is_from_day r = bytes_eq r.tariff name && (r.day == day)
 
@@ -87,6 +93,7 @@ module _ (name : List ℕ) (day : ℕ) where
   day_of : (r : DatedStepRow) → is_from_day r ≡ true → r.day ≡ day
   day_of r passes = let is = (and_parts (bytes_eq r.tariff name) (r.day == day) passes).1 in grind (arith, nat_tests)
 
+  -- a row of the tariff and the day passes that test
   pub is_from : (r : DatedStepRow) → r.tariff ≡ name → r.day ≡ day → is_from_day r ≡ true
   is_from r named dated = and_from (bytes_eq r.tariff name) (r.day == day) ((bytes_eq-Decides r.tariff name).1 named) (eq-eqb r.day day dated)
 
@@ -120,6 +127,7 @@ module _ (name : List ℕ) (day : ℕ) where
         ) in
         passes_there is_from_day rows.dated_steps r has (is_from r at.0 at.1)
 
+    -- an office's rows of the tariff and the day are those of its steps, in some order
     pub dated_are : IsPermutation (filter is_from_day rows.dated_steps) (dated_from 0 (listed_of (o.dated_steps name day)))
     dated_are =
         permuted place_of (filter is_from_day rows.dated_steps) (dated_from 0 (listed_of (o.dated_steps name day)))

@@ -23,6 +23,7 @@ use Rattle.book_tables.proofs.RowLemmas.RecordLemmas.{one_shown_step}
 use Rattle.book_tables.proofs.ReadingLemmas.StepListLemmas.{listed_of}
 use Rattle.book_tables.proofs.ReadingLemmas.StepTexts.{step_names}
 
+-- the steps that an office's tariff has from a day on keep the rules of steps
 pub dated_keep : (o : Office) → IsOffice o → (name : List ℕ) (day : ℕ) (steps : Option (List Step)) → o.dated_steps name day ≡ steps → IfSome steps IsSteps
 dated_keep o office name day None e = _
 dated_keep o office name day (Some steps) e = (office.dated_steps name day steps e).priced
@@ -36,6 +37,7 @@ module _ (name : List ℕ) (day : ℕ) where
   abbrev pub AreStepsFrom : Rows → List Step → Type 0
   AreStepsFrom rows found = (o : Office) → IsOffice o → AreMembersOf rows o → found ≡ listed_of (o.dated_steps name day)
 
+  -- the text lists the steps of the tariff from the day on, in the order of their places
   pub steps_from : Lists dated_steps_kept steps_from_text (Text name ∷ number day ∷ []) shown_step AreStepValues AreStepsFrom
   steps_from = record {
     table = dated_steps_table;

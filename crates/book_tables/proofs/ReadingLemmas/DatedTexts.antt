@@ -24,9 +24,11 @@ pub use Rattle.book_tables.specs.reading.Questions.{first_day_text, steps_from_t
 abbrev is_from_day : List Term
 is_from_day = op2 (Compare Eq Binary) (col 1 1) (col 0 0) ∷ op2 (Compare Eq Binary) (col 1 2) (col 0 1) ∷ []
 
+-- a read of the steps of a tariff that begin on a day, in the order of their places
 abbrev pub steps_from_query : ℕ → Query
 steps_from_query tree = query_on tree is_from_day (col 1 4 ∷ col 1 5 ∷ []) (rising 3) no_limit
 
+-- the text means that read, with the tariff's name and the day as its parameters
 pub steps_from_asks : (name : List ℕ) (day : ℕ) → Asks dated_steps_table steps_from_query step_names steps_from_text (Text name ∷ number day ∷ [])
 unfolding everything is_whole meant select_meant text_meant
 steps_from_asks name day =
@@ -37,12 +39,15 @@ steps_from_asks name day =
 abbrev is_until_day : List Term
 is_until_day = op2 (Compare Eq Binary) (col 1 1) (col 0 0) ∷ op2 (Compare Le Binary) (col 1 2) (col 0 1) ∷ []
 
+-- the name of the one column that is read, the day
 abbrev pub day_names : List Name
 day_names = codes "day" ∷ []
 
+-- a read of the last day up to a day on which steps of a tariff begin
 abbrev pub first_day_query : ℕ → Query
 first_day_query tree = query_on tree is_until_day (col 1 2 ∷ []) (falling 2) (lit (Int (pos 1)))
 
+-- the text means that read of a day, with the tariff's name and the day up to which
 pub first_day_asks : (name : List ℕ) (day : ℕ) → Asks dated_steps_table first_day_query day_names first_day_text (Text name ∷ number day ∷ [])
 unfolding everything is_whole meant select_meant text_meant
 first_day_asks name day =
@@ -50,13 +55,16 @@ first_day_asks name day =
 
 -- ---- a new step
 
+-- what a new row is put together from: NULL for its hidden number, and five parameters
 abbrev pub five_terms : List Term
 five_terms = lit Null ∷ col 0 0 ∷ col 0 1 ∷ col 0 2 ∷ col 0 3 ∷ col 0 4 ∷ []
 
+-- the text means that such a row is put into `dated_steps`
 pub new_dated_means : (tree : ℕ) → IsInsert (dated_steps_table tree) five_terms new_dated_text
 unfolding everything insert_meant insert_in puts_meant
 new_dated_means tree = record { means = refl; whole = refl; uncounted = refl; unstamped = refl }
 
+-- the text is one statement, with five parameters
 pub new_dated_whole : is_whole new_dated_text 5 ≡ true
 unfolding everything is_whole
 new_dated_whole = refl

@@ -42,6 +42,7 @@ pub record Finds {M : Type 0} (k : Kept) (sql : List ℕ) (params : Row) (shown 
 
 module _ {M : Type 0} {k : Kept} {sql : List ℕ} {params : Row} {shown : M → Row} {keeps : M → Type 0} {found : Rows → Option M}
     (f : Finds k sql params shown keeps found) where
+  -- where an open connection has the table, the text is understood and writes nothing
   pub only_asks : (s : State) → HasTable k s → OnlyAsks sql s
   only_asks = read.only_asks f.asks k f.stands
 
@@ -84,15 +85,18 @@ module _ {M : Type 0} {k : Kept} {sql : List ℕ} {params : Row} {shown : M → 
   abbrev pub asked : Question M
   asked = question k shown keeps sql params
 
+  -- the record that a reader gives is the one that the first row of an answer shows
   pub seen : (old new : State) → HasTable k old → (values : Row) → values ≡ params → (r : Result (Option M) TableError)
       → OnOk r (IsUnchanged old new) → IfOk r (GivesFirst (IsShown shown keeps) sql values old new) → IfOk r (ShowsFirst asked old.now)
   seen old new has values are (Err e) same none = none
   seen old new has values are (Ok x) same given = seen_first asked f.asks f.stands old new has same values are x given
 
+  -- where a reader tells of a row of no office, a row of an answer shows no record
   pub spoilt : {A : Type 0} (old new : State) → HasTable k old → (values : Row) → values ≡ params → (r : Result A TableError)
       → IfErr r (FailsToShowRow (ShowsRecord shown keeps) sql values old new) → IfErr r (λ e. e ≡ RowOfNoOffice → HasSpoilt asked old.now)
   spoilt old new has values are r = row_spoilt asked f.asks f.stands old new has r values are
 
+  -- a reader of the text has seen the record that it gives, or a row that shows none
   pub sees : (old new : State) (r : Result (Option M) TableError) (values : Row) → values ≡ params
       → ReadsOnly (OnlyAsks sql) IsUnchanged (FailsToShowRow (ShowsRecord shown keeps) sql values) old new r
       → (HasCleanDisk new → OnlyAsks sql old → IfOk r (GivesFirst (IsShown shown keeps) sql values old new)) → SeesFirst asked old new r

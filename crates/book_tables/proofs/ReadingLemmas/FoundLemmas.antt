@@ -54,6 +54,7 @@ module _ (rows : Rows) (o : Office) (are : AreMembersOf rows o) (number : List �
       (λ a b apart p q. apart (same_bytes a.0 number p ∙ sym (same_bytes b.0 number q))) are.meters_once)
       ((are.meters number m).0 e) (is_same number number refl)
 
+  -- the rows of a meter's number are the office's meter under it, where there is one
   pub found_meter : meters_numbered rows number ≡ option_to_list (option_map (λ m. (number, m)) (o.meters number))
   unfolding has_number
   found_meter = meter_cases (o.meters number) refl
@@ -77,6 +78,7 @@ module _ (rows : Rows) (o : Office) (are : AreMembersOf rows o) (name : List ℕ
       (λ a b apart p q. apart (same_bytes a name p ∙ sym (same_bytes b name q))) are.tariffs_once)
       ((are.tariffs name).0 (subst (λ (v : Option (List Step)). IsSome v) (sym e) refl)) (is_same name name refl)
 
+  -- the rows of a tariff's name are the name itself, where the office has such a tariff
   pub found_tariff : tariffs_named rows name ≡ option_to_list (option_map (λ _. name) (o.tariffs name))
   unfolding has_name
   found_tariff = tariff_cases (o.tariffs name) refl
@@ -85,6 +87,7 @@ second_of : {A B : Type 0} (a : A) (o : Option B) → map (λ (r : A × B). r.1)
 second_of a None = refl
 second_of a (Some b) = refl
 
+-- what the rows of a meter's number have is the office's meter under it
 pub meter_found : (rows : Rows) (o : Office) (number : List ℕ) → AreMembersOf rows o → map (λ r. r.1) (meters_numbered rows number)
     ≡ option_to_list (o.meters number)
 meter_found rows o number are = ap (map (λ (r : List ℕ × Meter). r.1)) (found_meter rows o are number) ∙ second_of number (o.meters number)
@@ -97,6 +100,7 @@ numbers_differ number xs numbered i j d before within same =
     let b = numbered j (get_or xs j d) (slice_get-get_or xs j d within) in
     omega (arith, a, b, same)
 
+-- of numbered rows, those of a number are the first that has it, so at most one
 pub found_numbered : {X : Type 0} (number : X → ℕ) (xs : List X) (n : ℕ) → AreNumbered number xs → filter (λ x. number x == n) xs
     ≡ option_to_list (find (λ x. number x == n) xs)
 found_numbered number xs n numbered =
@@ -108,6 +112,7 @@ is_open : (closed : Option ℕ) → is_none closed ≡ true → is_some closed �
 is_open None e = refl
 is_open (Some x) e = cc
 
+-- the open shifts of an operator are the one that the office looks up, if any
 pub found_open : (o : Office) (operator : List ℕ) → IsOffice o → filter (λ s. bytes_eq s.operator operator && is_none s.closed) o.shifts
     ≡ option_to_list (open_shift o operator)
 found_open o operator office =
@@ -119,6 +124,7 @@ found_open o operator office =
     apart (is_open a.closed in_a.1) (is_open b.closed in_b.1)
     (same_bytes a.operator operator in_a.0 ∙ sym (same_bytes b.operator operator in_b.0))) office.one_open)
 
+-- the sales of an operator under a ref are the one that the office looks up, if any
 pub found_ref : (o : Office) (operator order_ref : List ℕ) → IsOffice o
     → filter (λ s. bytes_eq s.operator operator && bytes_eq s.order_ref order_ref) o.sales ≡ option_to_list (sale_of_ref o operator order_ref)
 found_ref o operator order_ref office =
@@ -133,6 +139,7 @@ found_ref o operator order_ref office =
 same_number : (x y : ℕ) → (x == y) ≡ true → x ≡ y
 same_number x y is = grind (arith, nat_tests)
 
+-- the sales of an identifier, a meter and a base are the first such sale, if any
 pub found_tid : (o : Office) (meter : List ℕ) (base : Base) (tid : ℕ) → IsOffice o
     → filter (λ s. bytes_eq s.meter meter && (base_eq s.base base && (s.tid == tid))) o.sales
     ≡ option_to_list (find (λ s. bytes_eq s.meter meter && (base_eq s.base base && (s.tid == tid))) o.sales)

@@ -54,6 +54,7 @@ number_keeps : {X : Type 0} (number : X → ℕ) (P : ℕ → Type 0) (o : Optio
 number_keeps number P None kept = _
 number_keeps number P (Some x) kept = kept
 
+-- the last number keeps the rule that all numbers keep
 pub last_number_keeps : {X : Type 0} (number : X → ℕ) (P : ℕ → Type 0) (xs : List X) → All (λ x. P (number x)) xs
     → IfSome (option_map number (last_or None xs)) P
 last_number_keeps number P xs all = number_keeps number P (last_or None xs) (last_keeps (λ x. P (number x)) None xs _ all)
@@ -83,12 +84,14 @@ number_shown : {X : Type 0} (number : X → ℕ) (o : Option X) → map (λ x. s
 number_shown number None = refl
 number_shown number (Some x) = refl
 
+-- the first row backwards shows the last number
 pub last_number_shown : {X : Type 0} (number : X → ℕ) (xs : List X)
     → take 1 (map (λ x. shown_number (number x)) (reverse xs)) ≡ map shown_number (option_to_list (option_map number (last_or None xs)))
 last_number_shown number xs =
     one_shown number (reverse xs) ∙ ap (map (λ x. shown_number (number x))) (ap (take 1) (sym (no_more (reverse xs))) ∙ last_first None xs)
     ∙ number_shown number (last_or None xs)
 
+-- a test that all pass leaves the list as it is
 pub all_pass : {X : Type 0} (xs : List X) → filter (λ _. true) xs ≡ xs
 all_pass [] = refl
 all_pass (x ∷ xs) = ap (λ l. x ∷ l) (all_pass xs)

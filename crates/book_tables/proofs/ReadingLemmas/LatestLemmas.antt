@@ -91,6 +91,7 @@ module _ {X : Type 0} {db : Trees} {tree : ℕ} {tests shown : List Term} {param
         row = is ∙ ap (λ (row : Row). row ∷ []) (l.shows y);
       }
 
+  -- an answer of the query shows the greatest number of the rows that pass its tests
   pub greatest_shown : (rows : List Row) → IsAnswer q db params rows → Greatest rows
   greatest_shown rows answer =
       let arranged : IsPermutation (map out (filter p xs)) answer.ordered =
@@ -105,6 +106,7 @@ module _ {X : Type 0} {db : Trees} {tree : ℕ} {tests shown : List Term} {param
 module _ {X : Type 0} {db : Trees} {tree : ℕ} {tests shown : List Term} {params : Row} {stored : X → Row} {xs : List X} {p : X → Bool} (key : X → ℕ)
     (l : IsHiddenListing db tree tests shown params stored xs p (λ x. shown_number (key x))) (at : ℕ)
     (keeps_key : (number : Value) (x : X) → column (number ∷ stored x) at ≡ Int (pos (key x))) where
+  -- the same where each row has a hidden number in front of its values
   pub greatest_hidden : (rows : List Row) → IsAnswer (query_on tree tests shown (falling at) (lit (Int (pos 1)))) db params rows
       → (last : Option ℕ) × IsLast (map key (filter p xs)) last × (rows ≡ map shown_number (option_to_list last))
   greatest_hidden rows answer =

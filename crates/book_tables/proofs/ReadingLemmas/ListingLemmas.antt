@@ -36,6 +36,7 @@ read_of IsReadAs record_of [] (x ∷ xs) all = absurd all
 read_of IsReadAs record_of (row ∷ rows) [] all = absurd all
 read_of IsReadAs record_of (row ∷ rows) (x ∷ xs) all = (all.0, read_of IsReadAs record_of rows xs all.1)
 
+-- a reader that gives values with a record in each gives these records
 pub gives_records : {X M : Type 0} (shown : M → Row) (keeps : M → Type 0) (sql : List ℕ) (params : Row) (old new : State)
     (record_of : X → M) (xs : List X) (ms : List M) → ms ≡ map record_of xs
     → GivesAll (λ row x. IsShown shown keeps row (record_of x)) sql params old new xs → GivesAll (IsShown shown keeps) sql params old new ms
@@ -48,11 +49,13 @@ gives_records shown keeps sql params old new record_of xs ms are given = record 
 -- ---- what is read of rows that are known
 
 module _ {M : Type 0} (shown : M → Row) (keeps : M → Type 0) where
+  -- of records that keep their rules, each row that shows one can be read
   pub readable : (found : List M) → All keeps found → All (ShowsRecord shown keeps) (map shown found)
   readable [] kept = All-nil (ShowsRecord shown keeps)
   readable (m ∷ ms) kept =
       All-cons (ShowsRecord shown keeps) (shown m) (map shown ms) (m, (refl, All-head keeps m ms kept)) (readable ms (All-tail keeps m ms kept))
 
+  -- what is read of rows that show known records are these records
   pub values_are : ((a b : M) → keeps a → keeps b → shown a ≡ shown b → a ≡ b) → (found values : List M) → All keeps found
       → AllZip (IsShown shown keeps) (map shown found) values → values ≡ found
   values_are one [] [] kept all = refl
@@ -77,6 +80,7 @@ pub record Lists {M : Type 0} (k : Kept) (sql : List ℕ) (params : Row) (shown 
 
 module _ {M : Type 0} {k : Kept} {sql : List ℕ} {params : Row} {shown : M → Row} {keeps : M → Type 0} {IsFound : Rows → List M → Type 0}
     (l : Lists k sql params shown keeps IsFound) where
+  -- where an open connection has the table, the text is understood and writes nothing
   pub only_asks : (s : State) → HasTable k s → OnlyAsks sql s
   only_asks = read.only_asks l.asks k l.stands
 
@@ -89,6 +93,7 @@ module _ {M : Type 0} {k : Kept} {sql : List ℕ} {params : Row} {shown : M → 
       let read_so = subst (λ (answer : List Row). AllZip (IsShown shown keeps) answer values) found.2 given.read in
       subst (IsFound rows) (sym (values_are shown keeps l.one found.0 values (l.kept rows of_office found.0 found.1) read_so)) found.1
 
+  -- what a reader answers has the records that are found in the rows
   pub gives : {A : Type 0} (items : A → List M) (old new : State) (rows : Rows) → HasTableRows k old rows → AreOfOffice rows
       → (r : Result A TableError) (values : Row) → values ≡ params
       → OnOk r (IsUnchanged old new) → IfOk r (λ x. GivesAll (IsShown shown keeps) sql values old new (items x)) → IfOk r (λ x. IsFound rows (items x))
@@ -96,6 +101,7 @@ module _ {M : Type 0} {k : Kept} {sql : List ℕ} {params : Row} {shown : M → 
   gives items old new rows has of_office (Ok x) values are same given =
       listed old new rows has of_office same (items x) (subst (λ ps. GivesAll (IsShown shown keeps) sql ps old new (items x)) are given)
 
+  -- of the rows of an office, each row of an answer shows a record
   pub all_readable : (old : State) (rows : Rows) → TableHolds k old.now rows → AreOfOffice rows → (answer : List Row)
       → IsAnswer (l.query (tree_in old.now.schema k.table.name)) old.now.trees params answer → All (ShowsRecord shown keeps) answer
   all_readable old rows held of_office answer is =
@@ -116,16 +122,19 @@ module _ {M : Type 0} {k : Kept} {sql : List ℕ} {params : Row} {shown : M → 
   abbrev pub asked : Question M
   asked = question k shown keeps sql params
 
+  -- the records that a reader gives are those that all rows of an answer show
   pub seen : {A : Type 0} (items : A → List M) (old new : State) → HasTable k old → (values : Row) → values ≡ params
       → (r : Result A TableError) → OnOk r (IsUnchanged old new)
       → IfOk r (λ x. GivesAll (IsShown shown keeps) sql values old new (items x)) → IfOk r (λ x. ShowsAll asked old.now (items x))
   seen items old new has values are (Err e) same none = none
   seen items old new has values are (Ok x) same given = seen_all asked l.asks l.stands old new has same values are (items x) given
 
+  -- where a reader tells of a row of no office, a row of an answer shows no record
   pub spoilt : {A : Type 0} (old new : State) → HasTable k old → (values : Row) → values ≡ params → (r : Result A TableError)
       → IfErr r (FailsToShowRow (ShowsRecord shown keeps) sql values old new) → IfErr r (λ e. e ≡ RowOfNoOffice → HasSpoilt asked old.now)
   spoilt old new has values are r = row_spoilt asked l.asks l.stands old new has r values are
 
+  -- a reader of the text has seen the records that it gives, or a row that shows none
   pub sees : {A : Type 0} (items : A → List M) (old new : State) (r : Result A TableError) (values : Row) → values ≡ params
       → ReadsOnly (OnlyAsks sql) IsUnchanged (FailsToShowRow (ShowsRecord shown keeps) sql values) old new r
       → (HasCleanDisk new → OnlyAsks sql old → IfOk r (λ x. GivesAll (IsShown shown keeps) sql values old new (items x)))

@@ -24,6 +24,7 @@ use Rattle.book_tables.proofs.RowLemmas.RecordLemmas.{one_shown_meter}
 use Rattle.book_tables.proofs.ReadingLemmas.OneRowTexts.{meter_names, meter_numbered_asks, meter_numbered_query, meter_numbered_text}
 use Rattle.book_tables.proofs.RowLemmas.ValueLemmas.{meters_keep}
 
+-- the meters in the rows of an office keep the rules of their values
 pub meters_keep_values : (rows : Rows) → AreOfOffice rows → All (λ (r : List ℕ × Meter). AreMeterValues r.1) rows.meters
 meters_keep_values rows (o, office, are) i d within =
     let r = get_or rows.meters i d in
@@ -50,6 +51,7 @@ module _ (number : List ℕ) where
       (pairs_weaker (λ a b. a.0 ≢ b.0) (NotBothPass has_number) rows.meters
       (λ a b apart p q. apart ((bytes_eq-Decides a.0 number).0 p ∙ sym ((bytes_eq-Decides b.0 number).0 q))) are.meters_once)
 
+  -- the text finds the meter of the number
   pub meter_numbered : Finds meters_kept meter_numbered_text (Text number ∷ []) shown_meter AreMeterValues
       (λ rows. option_map (λ r. r.1) (find has_number rows.meters))
   meter_numbered = record {
@@ -79,6 +81,7 @@ module _ (number : List ℕ) where
 abbrev pub shown_row : MeterRow → Row
 shown_row m = meter_columns (m.number, m.meter)
 
+-- the number is a meter's, and the meter keeps the rules of its values
 abbrev pub keeps_row : MeterRow → Type 0
 keeps_row m = IsMeterNo m.number × AreMeterValues m.meter
 

@@ -18,20 +18,25 @@ pub use Rattle.book_tables.specs.reading.Questions.{meter_numbered_text, tariff_
 abbrev is_first : List Term
 is_first = op2 (Compare Eq Binary) (col 1 1) (col 0 0) ∷ []
 
+-- the names of the columns of a meter: its base, its tariff and its key
 abbrev pub meter_names : List Name
 meter_names = codes "base" ∷ codes "tariff" ∷ codes "secret" ∷ []
 
+-- a read of the meters whose number is the parameter
 abbrev pub meter_numbered_query : ℕ → Query
 meter_numbered_query tree = query_on tree is_first (col 1 2 ∷ col 1 3 ∷ col 1 4 ∷ []) [] no_limit
 
+-- the text means that read of meters, with the number as its parameter
 pub meter_numbered_asks : (number : List ℕ) → Asks meters_table meter_numbered_query meter_names meter_numbered_text (Text number ∷ [])
 unfolding everything is_whole meant select_meant text_meant
 meter_numbered_asks number =
     record { is = λ tree. record { means = refl; from = refl }; bare = λ tree. refl; typed = λ tree. refl; whole = refl }
 
+-- a read of the tariffs whose name is the parameter
 abbrev pub tariff_named_query : ℕ → Query
 tariff_named_query tree = query_on tree is_first (col 1 1 ∷ []) [] no_limit
 
+-- the text means that read of tariffs, with the name as its parameter
 pub tariff_named_asks : (name : List ℕ) → Asks tariffs_table tariff_named_query (codes "name" ∷ []) tariff_named_text (Text name ∷ [])
 unfolding everything is_whole meant select_meant text_meant
 tariff_named_asks name =

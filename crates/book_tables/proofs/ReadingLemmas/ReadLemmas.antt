@@ -64,12 +64,15 @@ module _ {table : ℕ → Table} {query : ℕ → Query} {names : List Name} {sq
   abbrev asked : Schema → Query
   asked s = query (tree_in s k.table.name)
 
+  -- in each schema that has the table, the text means the query of the table
   pub means : (s : Schema) → IsKept s k → Means s sql (select_as (asked s) names)
   means s has = selects s (place_in s k.table.name) (table (tree_in s k.table.name)) (stands s has) (asked s) names sql (asks.is (tree_in s k.table.name))
 
+  -- where an open connection has the table, the text is understood and writes nothing
   pub only_asks : (s : State) → HasTable k s → OnlyAsks sql s
   only_asks s has runs = is_plain (means s.now.schema (has runs))
 
+  -- the rows that are shown to the end are an answer of the query
   pub answer_is : (old new : State) → IsKept old.now.schema k → (rows : List Row) → Shown sql params old new rows
       → IsAnswer (asked old.now.schema) old.now.trees params rows
   answer_is old new has rows shown =

@@ -30,6 +30,7 @@ use Rattle.book_tables.proofs.RowLemmas.ValueLemmas.{sales_keep}
 sales_of : (P : List Sale → Type 0) → ((o : Office) → IsOffice o → P o.sales) → (rows : Rows) → AreOfOffice rows → P rows.sales
 sales_of P each rows (o, office, are) = subst P (sym are.sales) (each o office)
 
+-- the sales in the rows of an office keep the rules of their values
 pub sales_keep_values : (rows : Rows) → AreOfOffice rows → All AreSaleValues rows.sales
 sales_keep_values = sales_of (All AreSaleValues) sales_keep
 
@@ -56,6 +57,7 @@ module _ (n : ℕ) where
   of_one_number : IsOfOne has_number
   of_one_number o office = found_numbered (λ (s : Sale). s.number) o.sales n office.sale_numbers
 
+  -- the text finds the sale of the number
   pub sale_numbered : Finds sales_kept sale_numbered_text (number n ∷ []) shown_sale AreSaleValues (λ rows. find has_number rows.sales)
   sale_numbered = record {
     table = sales_table;
@@ -80,6 +82,7 @@ module _ (operator order_ref : List ℕ) where
   of_one_ref : IsOfOne has_ref
   of_one_ref o office = found_ref o operator order_ref office
 
+  -- the text finds the sale that the operator made under the ref
   pub sale_of_ref : Finds sales_kept sale_of_ref_text (Text operator ∷ Text order_ref ∷ []) shown_sale AreSaleValues (λ rows. find has_ref rows.sales)
   sale_of_ref = record {
     table = sales_table;
@@ -109,6 +112,7 @@ module _ (meter : List ℕ) (base : Base) (tid : ℕ) where
   of_one_tid : IsOfOne has_tid
   of_one_tid o office = found_tid o meter base tid office
 
+  -- the text finds the sale of the identifier, of the meter under the base
   pub sale_of_tid : Finds sales_kept sale_of_tid_text (Text meter ∷ number (year_of base) ∷ number tid ∷ []) shown_sale AreSaleValues
       (λ rows. find has_tid rows.sales)
   sale_of_tid = record {
@@ -132,9 +136,11 @@ module _ (meter : List ℕ) (base : Base) (tid : ℕ) where
 
 -- ---- the number of the last sale
 
+-- the number of the last sale, or 0 where there is none, is how many sales there are
 pub last_sale_counts : (rows : Rows) → AreOfOffice rows → unwrap_or (option_map (λ (s : Sale). s.number) (last_or None rows.sales)) 0 ≡ length rows.sales
 last_sale_counts rows of_office = last_is_count (λ (s : Sale). s.number) rows.sales (numbered rows of_office)
 
+-- the text finds the number of the last sale
 pub last_sale_number : Finds sales_kept last_sale_text [] shown_number IsNumber (λ rows. option_map (λ s. s.number) (last_or None rows.sales))
 last_sale_number = record {
   table = sales_table;

@@ -26,6 +26,7 @@ use Rattle.book_tables.proofs.ReadingLemmas.SaleTexts.{sale_names}
 
 -- ---- rows that are numbered rise by their numbers
 
+-- each number in a list is above those before it
 abbrev pub IsRising : {X : Type 0} → (X → ℕ) → List X → Type 0
 IsRising number_of = IsAscending (λ a b. pos (number_of a) <ℤ pos (number_of b))
 
@@ -47,9 +48,11 @@ module _ {X : Type 0} (number_of : X → ℕ) where
   rising_from first (x ∷ xs) are =
       (above (number_of x) (suc first) (omega (arith, are 0 x refl)) xs (further first x xs are), rising_from (suc first) xs (further first x xs are))
 
+  -- rows that are numbered from 1 on rise by their numbers
   pub numbered_rise : (xs : List X) → AreNumbered number_of xs → IsRising number_of xs
   numbered_rise xs are = rising_from 1 xs are
 
+-- the sales in the rows of an office rise by their numbers
 pub sales_rise : (rows : Rows) → AreOfOffice rows → IsRising (λ (s : Sale). s.number) rows.sales
 sales_rise rows (o, office, are) =
     subst (IsRising (λ (s : Sale). s.number)) (sym are.sales) (numbered_rise (λ (s : Sale). s.number) o.sales office.sale_numbers)
@@ -60,6 +63,7 @@ module _ (after limit : ℕ) where
   abbrev is_after : Sale → Bool
   is_after s = nat_lt after s.number
 
+  -- the text lists the first sales after the number, as many as the limit allows
   pub sales_after : Lists sales_kept sales_after_text (number after ∷ number limit ∷ []) shown_sale AreSaleValues
       (λ rows found. found ≡ take limit (filter is_after rows.sales))
   sales_after = record {
@@ -87,6 +91,7 @@ module _ (shift : ℕ) where
   abbrev is_of_shift : Sale → Bool
   is_of_shift s = s.shift == shift
 
+  -- the text lists the sales of the shift, in the order of their numbers
   pub sales_of_shift : Lists sales_kept sales_of_shift_text (number shift ∷ []) shown_sale AreSaleValues (λ rows found. found ≡ filter is_of_shift rows.sales)
   sales_of_shift = record {
     table = sales_table;

@@ -20,17 +20,21 @@ abbrev pub sale_terms : List Term
 sale_terms =
     col 1 0 ∷ col 1 2 ∷ col 1 4 ∷ col 1 5 ∷ col 1 6 ∷ col 1 7 ∷ col 1 8 ∷ col 1 9 ∷ col 1 10 ∷ col 1 11 ∷ col 1 12 ∷ col 1 13 ∷ col 1 14 ∷ []
 
+-- the names of these columns, in the same order
 abbrev pub sale_names : List Name
 sale_names =
     codes "number" ∷ codes "moment" ∷ codes "shift" ∷ codes "operator" ∷ codes "ref" ∷ codes "meter" ∷ codes "base"
     ∷ codes "tid" ∷ codes "rnd" ∷ codes "tenths" ∷ codes "price" ∷ codes "tender" ∷ codes "digits" ∷ []
 
+-- the test that a sale's number is the parameter
 abbrev pub has_number : List Term
 has_number = op2 (Compare Eq Binary) (col 1 0) (col 0 0) ∷ []
 
+-- a read of the sales whose number is the parameter
 abbrev pub sale_numbered_query : ℕ → Query
 sale_numbered_query tree = query_on tree has_number sale_terms [] no_limit
 
+-- the text means that read, with the sale's number as its parameter
 pub sale_numbered_asks : (n : ℕ) → Asks sales_table sale_numbered_query sale_names sale_numbered_text (number n ∷ [])
 unfolding everything is_whole meant select_meant text_meant
 sale_numbered_asks n =
@@ -39,9 +43,11 @@ sale_numbered_asks n =
 abbrev has_operator_and_ref : List Term
 has_operator_and_ref = op2 (Compare Eq Binary) (col 1 5) (col 0 0) ∷ op2 (Compare Eq Binary) (col 1 6) (col 0 1) ∷ []
 
+-- a read of the sales that an operator made under a ref
 abbrev pub sale_of_ref_query : ℕ → Query
 sale_of_ref_query tree = query_on tree has_operator_and_ref sale_terms [] no_limit
 
+-- the text means that read, with the operator and the ref as its parameters
 pub sale_of_ref_asks : (operator order_ref : List ℕ) → Asks sales_table sale_of_ref_query sale_names sale_of_ref_text (Text operator ∷ Text order_ref ∷ [])
 unfolding everything is_whole meant select_meant text_meant
 sale_of_ref_asks operator order_ref =
@@ -51,18 +57,22 @@ abbrev has_tid : List Term
 has_tid =
     op2 (Compare Eq Binary) (col 1 7) (col 0 0) ∷ op2 (Compare Eq Binary) (col 1 8) (col 0 1) ∷ op2 (Compare Eq Binary) (col 1 9) (col 0 2) ∷ []
 
+-- a read of the sales with an identifier of a meter under a base
 abbrev pub sale_of_tid_query : ℕ → Query
 sale_of_tid_query tree = query_on tree has_tid sale_terms [] no_limit
 
+-- the text means that read, with the meter, the year of the base and the identifier
 pub sale_of_tid_asks : (meter : List ℕ) (year tid : ℕ)
     → Asks sales_table sale_of_tid_query sale_names sale_of_tid_text (Text meter ∷ number year ∷ number tid ∷ [])
 unfolding everything is_whole meant select_meant text_meant
 sale_of_tid_asks meter year tid =
     record { is = λ tree. record { means = refl; from = refl }; bare = λ tree. refl; typed = λ tree. refl; whole = refl }
 
+-- a read of the number of the last sale
 abbrev pub last_sale_query : ℕ → Query
 last_sale_query tree = query_on tree [] (col 1 0 ∷ []) (falling 0) (lit (Int (pos 1)))
 
+-- the text means that read, without parameters
 pub last_sale_asks : Asks sales_table last_sale_query (codes "number" ∷ []) last_sale_text []
 unfolding everything is_whole meant select_meant text_meant
 last_sale_asks =

@@ -130,9 +130,11 @@ module _ {M N : Type 0} (k : Kept) (shown : N → Row) (keeps : N → Type 0) (s
   part_shown (row ∷ []) (Some x) all = all
   part_shown (row ∷ next ∷ rows) (Some x) all = absurd all.1
 
+  -- where the first row shows a record around another, it shows the other
   pub part_first : (first : Option M) → ShowsFirst around db first → ShowsFirst within db (option_map part first)
   part_first first is = record { rows = is.rows; answer = is.answer; shown = part_shown (take 1 is.rows) first is.shown }
 
+  -- where a row shows no record around another, it shows no such other
   pub part_spoilt : (whole : N → M) → ((n : N) → part (whole n) ≡ n) → HasSpoilt around db → HasSpoilt within db
   part_spoilt whole back is =
       let (at, row, inside, there, bad) = is.spoilt in
@@ -158,6 +160,7 @@ spoilt_on : {A : Type 0} (P Q : Type 0) → (P → Q) → (e : TableError) (r : 
 spoilt_on P Q so e (Ok y) is spoilt = absurd is
 spoilt_on P Q so e (Err x) is spoilt = λ row. so (spoilt (sym is ∙ row))
 
+-- what gives on the error of a read has seen a row of no office where the read has
 pub sees_fault : {T R : Type 0} (k : Kept) (WasSeen : Database → T → Type 0) (IsSeen : Database → R → Type 0)
     (WasSpoilt IsSpoilt : Database → Type 0) → ((db : Database) → WasSpoilt db → IsSpoilt db) → (old new : State) (e : TableError) (r : Result R TableError)
     → IsErrAnd r (λ x. x ≡ e) → Sees {R = T} k WasSeen WasSpoilt old new (Err e) → Sees k IsSeen IsSpoilt old new r
@@ -176,11 +179,13 @@ sees_made k WasSeen IsSeen WasSpoilt IsSpoilt old new x y so this = record { see
 -- ---- the steps of a tariff
 
 module _ (q : Question Step) (db : Database) (steps : List Step) (shown : ShowsAll q db steps) where
+  -- steps that are those of the rows, and are a tariff's, are what was seen
   pub steps_seen : (r : Result (Option (List Step)) TableError) → IfOk r (λ found. unwrap_or found [] ≡ steps)
       → IfOk r (λ found. IfSome found IsSteps) → IfOk r (AreStepsSeen q db)
   steps_seen (Err e) are kept = tt
   steps_seen (Ok found) are kept = record { shown = subst (ShowsAll q db) (sym are) shown; are = kept }
 
+  -- where a row of no office is told, the rows show steps that are no tariff's together
   pub steps_spoilt : {A : Type 0} (r : Result A TableError)
       → IfErr r (λ e. (e ≡ fails.Database (SqliteFailure OutOfMemory)) ⊎ ((e ≡ fails.RowOfNoOffice) × (steps ≢ []) × ¬ IsSteps steps))
       → IfErr r (λ e. e ≡ fails.RowOfNoOffice → HasSpoiltSteps q db)

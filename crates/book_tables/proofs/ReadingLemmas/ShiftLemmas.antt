@@ -31,6 +31,7 @@ use Rattle.book_tables.proofs.RowLemmas.ValueLemmas.{shifts_keep}
 shifts_of : (P : List Shift → Type 0) → ((o : Office) → IsOffice o → P o.shifts) → (rows : Rows) → AreOfOffice rows → P rows.shifts
 shifts_of P each rows (o, office, are) = subst P (sym are.shifts) (each o office)
 
+-- the shifts in the rows of an office keep the rules of their values
 pub shifts_keep_values : (rows : Rows) → AreOfOffice rows → All AreShiftValues rows.shifts
 shifts_keep_values = shifts_of (All AreShiftValues) shifts_keep
 
@@ -54,6 +55,7 @@ module _ (n : ℕ) where
   of_one_number : IsOfOne has_number
   of_one_number o office = found_numbered (λ (s : Shift). s.number) o.shifts n office.shift_numbers
 
+  -- the text finds the shift of the number
   pub shift_numbered : Finds shifts_kept shift_numbered_text (number n ∷ []) shown_shift AreShiftValues (λ rows. find has_number rows.shifts)
   shift_numbered = record {
     table = shifts_table;
@@ -83,6 +85,7 @@ module _ (operator : List ℕ) where
   of_one_open : IsOfOne is_open
   of_one_open o office = found_open o operator office
 
+  -- the text finds the open shift of the operator
   pub open_shift : Finds shifts_kept open_shift_text (Text operator ∷ []) shown_shift AreShiftValues (λ rows. find is_open rows.shifts)
   open_shift = record {
     table = shifts_table;
@@ -106,9 +109,11 @@ module _ (operator : List ℕ) where
 
 -- ---- the number of the last shift
 
+-- the number of the last shift, or 0 where there is none, is how many shifts there are
 pub last_shift_counts : (rows : Rows) → AreOfOffice rows → unwrap_or (option_map (λ (s : Shift). s.number) (last_or None rows.shifts)) 0 ≡ length rows.shifts
 last_shift_counts rows of_office = last_is_count (λ (s : Shift). s.number) rows.shifts (numbered rows of_office)
 
+-- the text finds the number of the last shift
 pub last_shift_number : Finds shifts_kept last_shift_text [] shown_number IsNumber (λ rows. option_map (λ s. s.number) (last_or None rows.shifts))
 last_shift_number = record {
   table = shifts_table;

@@ -15,6 +15,7 @@ use Rattle.book_tables.proofs.ListLemmas.{NotBothPass, contains_cases, contains_
 
 -- ---- what passes a test stands in a list
 
+-- what stands in a list and passes a test stands among those that pass
 pub passes_there : {X : Type 0} (p : X → Bool) (xs : List X) (x : X) → Contains xs x → p x ≡ true → Contains (filter p xs) x
 passes_there p [] x there passes = absurd (contains_none x there)
 passes_there {X} p (y ∷ ys) x there passes = by_test (p y) refl (contains_cases y x ys there) (λ further. passes_there p ys x further passes)
@@ -25,6 +26,7 @@ passes_there {X} p (y ∷ ys) x there passes = by_test (p y) refl (contains_case
     by_test false is (inl same) more = absurd (false≢true (sym is ∙ ap p same ∙ passes))
     by_test false is (inr further) more = more further
 
+-- what stands among those that pass stands in the list, and passes
 pub there_passes : {X : Type 0} (p : X → Bool) (xs : List X) (x : X) → Contains (filter p xs) x → Contains xs x × (p x ≡ true)
 there_passes p [] x there = absurd (contains_none x there)
 there_passes {X} p (y ∷ ys) x there = by_test (p y) refl there (λ further. let rest = there_passes p ys x further in (contains_further y x ys rest.0, rest.1))
@@ -49,9 +51,11 @@ pairs_that_pass R S p xs weaker pairs i j d before within =
 -- ---- lists of the same elements, of which no two have one key
 
 module _ {X : Type 0} (key : X → ℕ) where
+  -- two elements whose keys differ
   abbrev pub DifferInKey : X → X → Type 0
   DifferInKey a b = key a ≢ key b
 
+  -- two lists with the same elements, and no key twice, differ in their order alone
   pub permuted : (xs ys : List X) → AllPairs DifferInKey xs → AllPairs DifferInKey ys → ((x : X) → Contains xs x → Contains ys x)
       → ((x : X) → Contains ys x → Contains xs x) → IsPermutation xs ys
   permuted [] [] in_xs in_ys there back = IsPermutation-refl []
@@ -76,6 +80,7 @@ module _ {X : Type 0} (key : X → ℕ) where
 -- ---- the rows of a tariff's steps
 
 module _ (name : List ℕ) where
+  -- the rows of a tariff's steps, their places counted from the first
   abbrev pub rows_from : ℕ → List Step → List StepRow
   rows_from first steps = map (λ s. record { tariff = name; place = s.0; step = s.1 }) (enumerate_from first steps)
 
@@ -83,6 +88,7 @@ module _ (name : List ℕ) where
   rows_above low first below [] = tt
   rows_above low first below (s ∷ steps) = (grind (arith, ints, below), rows_above low (first + 1) (omega (arith, below)) steps)
 
+  -- the places of these rows rise
   pub rows_rise : (first : ℕ) (steps : List Step) → IsRising (λ (r : StepRow). r.place) (rows_from first steps)
   rows_rise first [] = tt
   rows_rise first (s ∷ steps) = (rows_above first (first + 1) (omega arith) steps, rows_rise (first + 1) steps)
@@ -104,6 +110,7 @@ module _ (name : List ℕ) where
         (rest.0, omega (arith, rest.1), subst (λ k. slice_get (s ∷ steps) k ≡ Some r.step) at rest.2)
   ]
 
+  -- each step has a row, at its place
   pub there_row : (first : ℕ) (steps : List Step) (i : ℕ) (s : Step) → slice_get steps i ≡ Some s
       → Contains (rows_from first steps) (record { tariff = name; place = first + i; step = s })
   there_row first [] i s there = absurd (let e = there in cc)

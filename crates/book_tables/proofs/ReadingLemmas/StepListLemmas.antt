@@ -38,12 +38,14 @@ listed_of tariff = unwrap_or tariff []
 
 -- ---- a tariff is told by what is listed of it
 
+-- two that list the same are the same, as a tariff that is there has a step at least
 pub one_tariff : (a b : Option (List Step)) → IfSome a IsSteps → IfSome b IsSteps → listed_of a ≡ listed_of b → a ≡ b
 one_tariff None None in_a in_b same = refl
 one_tariff None (Some steps) in_a in_b same = absurd (omega (arith, in_b.count.0, ap length same))
 one_tariff (Some steps) None in_a in_b same = absurd (omega (arith, in_a.count.0, ap length same))
 one_tariff (Some steps) (Some others) in_a in_b same = cc
 
+-- the steps that an office has under a tariff's name keep the rules of steps
 pub tariff_keeps : (o : Office) → IsOffice o → (name : List ℕ) (tariff : Option (List Step)) → o.tariffs name ≡ tariff → IfSome tariff IsSteps
 tariff_keeps o office name None e = _
 tariff_keeps o office name (Some steps) e = (office.tariffs name steps e).priced
@@ -67,6 +69,7 @@ values_keep o office name (Some steps) e = steps_keep o office name steps e
 
 -- why nothing is made of a list: it is of no office, or there was no memory
 module _ (k : Kept) (steps_in : Office → Option (List Step)) (keeps : (o : Office) → IsOffice o → IfSome (steps_in o) IsSteps) where
+  -- a list that makes no steps is why a read fails: want of memory, or rows of no office
   pub fails_to_make : (shown : List Step) (old new : State) → IsUnchanged old new
       → ((rows : Rows) → TableHolds k old.now rows → AreOfOffice rows → (o : Office) → IsOffice o → AreMembersOf rows o → shown ≡ listed_of (steps_in o))
       → {A : Type 0} (r : Result A TableError) → IfErr r (λ e. IsMemory e ⊎ ((e ≡ RowOfNoOffice) × (shown ≢ []) × ¬ IsSteps shown))
@@ -129,6 +132,7 @@ module _ (name : List ℕ) where
   abbrev pub AreStepsOf : Rows → List Step → Type 0
   AreStepsOf rows found = (o : Office) → AreMembersOf rows o → found ≡ listed_of (o.tariffs name)
 
+  -- the text lists the steps of the tariff, in the order of their places
   pub steps_of : Lists steps_kept steps_of_text (Text name ∷ []) shown_step AreStepValues AreStepsOf
   steps_of = record {
     table = tariff_steps_table;

@@ -21,6 +21,7 @@ use Rattle.book_tables.proofs.RowLemmas.RecordLemmas.{one_tariff}
 use Rattle.book_tables.proofs.ReadingLemmas.OneRowTexts.{tariff_named_asks, tariff_named_query, tariff_named_text}
 use Rattle.book_tables.proofs.RowLemmas.ValueLemmas.{tariff_name}
 
+-- the tariffs in the rows of an office keep the rules of names
 pub tariff_names_keep : (rows : Rows) → AreOfOffice rows → All IsName rows.tariffs
 tariff_names_keep rows (o, office, are) i d within =
     let name = get_or rows.tariffs i d in
@@ -47,10 +48,12 @@ module _ (name : List ℕ) where
     ],
   )
 
+  -- the name is found among names exactly where it is one of them
   pub there_is : (names : List (List ℕ)) → IsTrue (is_some (find has_name names)) ↔ Contains names name
   there_is [] = (λ there. absurd (false≢true there), λ there. absurd (contains_none name there))
   there_is (r ∷ rs) = by_test r rs (has_name r) refl (there_is rs)
 
+  -- the text finds the name of the tariff, where there is such a tariff
   pub tariff_named : Finds tariffs_kept tariff_named_text (Text name ∷ []) tariff_columns IsName (λ rows. find has_name rows.tariffs)
   tariff_named = record {
     table = tariffs_table;

@@ -62,9 +62,11 @@ module _ (meter : List ℕ) (base : Base) where
   abbrev last_in : List Sale → Option ℕ
   last_in sales = greatest_of (map (λ s. s.tid) (sales_under sales base_key))
 
+  -- the last identifier of the meter under the base, from the sales, as it is read
   abbrev pub found_tid : Rows → Option Tid
   found_tid rows = option_map tid_of (last_in rows.sales)
 
+  -- what is read of an identifier is the identifier
   pub tid_back : (o : Option ℕ) → option_map (λ (t : Tid). t.number) (option_map tid_of o) ≡ o
   tid_back None = refl
   tid_back (Some n) = refl
@@ -84,6 +86,7 @@ module _ (meter : List ℕ) (base : Base) where
       greatest_within last_tid (map (λ (s : Sale). s.tid) sold)
       (All-map IsTid (λ (s : Sale). s.tid) sold (All-weaker AreSaleValues (λ s. IsTid s.tid) (λ s value. value.tid) sold values))
 
+  -- the text finds the last identifier of the meter under the base
   pub last_id_found : Finds last_ids_kept last_id_text (Text meter ∷ number (year_of base) ∷ []) (λ (t : Tid). shown_number t.number)
       (λ (t : Tid). IsTid t.number) found_tid
   last_id_found = record {
@@ -139,9 +142,11 @@ module _ (greatest : (t : ℕ) → IsRepresentable t → t ≤ 18201624) (meter 
   abbrev tenths_record : ℕ → Tenths
   tenths_record n = record { sum = n }
 
+  -- the sum of the meter's tenths in the month, from the sales, as it is read
   abbrev pub found_tenths : Rows → Option Tenths
   found_tenths rows = option_map tenths_record (tenths_of (sales_in_month rows.sales month_key))
 
+  -- what is read of the sum of some sales is the sum, or 0 where there are none
   pub tenths_back : (xs : List Sale) → unwrap_or (option_map (λ (t : Tenths). t.sum) (option_map tenths_record (tenths_of xs))) 0 ≡ sum_by (λ s. s.tenths) xs
   tenths_back [] = refl
   tenths_back (x ∷ xs) = refl
@@ -154,6 +159,7 @@ module _ (greatest : (t : ℕ) → IsRepresentable t → t ≤ 18201624) (meter 
       let is : A ≡ B = cc in
       is
 
+  -- the text finds the sum of the tenths of the meter in the month
   pub month_found : Finds month_tenths_kept month_sum_text (Text meter ∷ number month ∷ []) (λ (t : Tenths). shown_number t.sum)
       (λ (t : Tenths). IsTotal t.sum) found_tenths
   month_found = record {
@@ -185,6 +191,7 @@ module _ (greatest : (t : ℕ) → IsRepresentable t → t ≤ 18201624) (meter 
 -- ---- the totals of a shift
 
 module _ (greatest : (t : ℕ) → IsRepresentable t → t ≤ 18201624) (shift : ℕ) where
+  -- the totals of the shift, from the sales, where it has any
   abbrev pub found_totals : Rows → Option Totals
   found_totals rows = totals_of (sales_in_shift rows.sales shift)
 
@@ -213,6 +220,7 @@ module _ (greatest : (t : ℕ) → IsRepresentable t → t ≤ 18201624) (shift 
   same_record None = refl
   same_record (Some t) = refl
 
+  -- the text finds the totals of the shift
   pub totals_found : Finds shift_totals_kept shift_sums_text (number shift ∷ []) shown_totals AreTotalsValues found_totals
   totals_found = record {
     table = shift_totals_table;

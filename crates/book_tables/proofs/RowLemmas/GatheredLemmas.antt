@@ -30,12 +30,15 @@ use Rattle.book_tables.proofs.RowLemmas.RecordLemmas.{one_base}
 
 -- ---- the order of the keys
 
+-- the comparison of places is a total order
 pub key_total : IsTotalOrder key_cmp
 key_total = then_total (on_total (λ (x : List ℕ × ℕ). x.0) nat_list_cmp_total) (on_total (λ (x : List ℕ × ℕ). x.1) nat_cmp_total)
 
+-- places that compare as equal are the same
 pub key_exact : CmpEqualImpliesEq key_cmp
 key_exact = exact_pairs _ _ exact_bytes exact_unsigned
 
+-- keys of a meter and a base that stand at one place are the same
 pub one_place : (a b : List ℕ × Base) → base_place a ≡ base_place b → a ≡ b
 one_place a b same =
     let meter : a.0 ≡ b.0 = ap (λ (x : List ℕ × ℕ). x.0) same in
@@ -60,12 +63,14 @@ module _ {Q K V : Type 0} (cmp : Q → Q → Ordering) (total : IsTotalOrder cmp
     value_is k v None none = cc
     value_is k v (Some w) is = let same : (k, w) ≡ v = cc in ap Some (ap (λ (x : K × V). x.1) same)
 
+    -- the row that is read at the place of a key has what there is under the key
     pub read_some : (k : K) (v : K × V) → get cmp m (place k) ≡ Some v → has k ≡ Some v.1
     read_some k v some = value_is k v (has k) (sym (holds.found k) ∙ some)
 
     abbrev row_at : Q × (K × V) → K × V
     row_at e = e.1
 
+    -- all rows in memory, in the order of their places
     abbrev pub rows : List (K × V)
     rows = map row_at m.entries
 
@@ -107,6 +112,7 @@ module _ {Q K V : Type 0} (cmp : Q → Q → Ordering) (total : IsTotalOrder cmp
         (sorted_head cmp e.0 (map (λ e. e.0) es) sorted)) (contains_map (λ (e : Q × (K × V)). e.0) es f from.1) in
         less_not_equal (cmp e.0 f.0) below (ap (cmp e.0) (sym keys) ∙ tied_itself total e.0))
 
+    -- the rows in memory are those of the function, one for each key
     pub are_rows : AreRowsOf rows has
     are_rows = record {
       members = λ k v. (there k v, back k v);
@@ -147,6 +153,7 @@ module _ {Q K V : Type 0} (cmp : Q → Q → Ordering) (total : IsTotalOrder cmp
           sym (same_place q tie) ∙ ap (λ (x : K × V). place x.0) same
       own_by q v false tie at = holds.own q v (sym (elsewhere q tie) ∙ at)
 
+      -- where a row is put at the place of a key, memory has its value under the key
       pub holds_put : HoldsAt cmp place n (put_under is_key value has)
       holds_put = record {
         ordered = ordered;
@@ -164,9 +171,11 @@ module _ (sales : List Sale) (s : Sale) (small : IsOfWords s) (few : length sale
   cash_in_words : cash_of sales ≤ length sales * 4294967295
   cash_in_words = sum_by-le (λ (t : Sale). t.price) 4294967295 sales (All-weaker IsOfWords (λ t. t.price ≤ 4294967295) (λ t is. omega (arith, is.1)) sales all)
 
+  -- the sum of the month with the new sale fits in 64 bits
   pub month_in_words : month_sum sales s < 2 ^ 64
   month_in_words = omega (arith, month_within sales s, sum_by_push (λ (t : Sale). t.tenths) sales s, tenths_in_words, small.0, few)
 
+  -- the totals of the shift with the new sale fit in 64 bits each
   pub shift_in_words : IsInWords (shift_sum sales s)
   shift_in_words =
       let within = shift_within sales s in (
@@ -186,6 +195,7 @@ module _ (sales : List Sale) (s : Sale) (g h : Gathered) (held : IsGathered sale
   abbrev shifts_of : ℕ → Option Totals
   shifts_of shift = totals_of (sales_in_shift sales shift)
 
+  -- where the rows of a new sale are put, memory has the totals of the sales with it
   pub gathered_more : IsOfWords s
       → HoldsAt key_cmp base_place h.last_ids (put_under (is_under (s.meter, s.base)) (max (unwrap_or (ids_of (s.meter, s.base)) 0) s.tid) ids_of)
       → HoldsAt key_cmp (own_place {K = List ℕ × ℕ}) h.month_tenths (put_under (is_in_month (s.meter, month_at s.moment)) (month_sum sales s) months_of)

@@ -10,12 +10,15 @@ use Rattle.book_tables.specs.row.ReadBack.{ReadsBack}
 use Rattle.book_tables.specs.row.Rows.{secret_of}
 use Rattle.book_tables.specs.row.Values.{IsKey}
 
+-- what is stored of a key of 64 bits is a text of the key
 pub stored_text : (key : ℕ) → IsKey key → IsKeyText key (secret_of key)
 stored_text key small = written_key key small
 
+-- a text of a key is what is stored of the key
 pub is_stored_text : (key : ℕ) (text : List ℕ) → IsKeyText key text → secret_of key ≡ text
 is_stored_text key text is = one_key_text key (secret_of key) text (stored_text key (key_within key text is)) is
 
+-- two keys of 64 bits of which the same text is stored are the same
 pub one_key : (j k : ℕ) → IsKey j → IsKey k → secret_of j ≡ secret_of k → j ≡ k
 one_key j k small_j small_k same =
     sym (stored_text j small_j).number ∙ ap (digits_value 16) same ∙ (stored_text k small_k).number

@@ -47,29 +47,37 @@ sale_from entry order token price = record {
   digits = token.digits;
 }
 
+-- the entry of a sale: its number, its moment and its shift
 abbrev pub entry_in : Sale → Entry
 entry_in s = record { number = s.number; moment = s.moment; shift = s.shift }
 
+-- the order of a sale: its operator, ref and meter, and what was tendered
 abbrev pub order_in : Sale → Order
 order_in s = record { operator = s.operator; order_ref = s.order_ref; meter = s.meter; tender = s.tender }
 
+-- the token of a sale: its base, identifier, random number, amount and digits
 abbrev pub token_in : Sale → Token
 token_in s = record { base = s.base; tid = s.tid; rnd = s.rnd; tenths = s.tenths; digits = s.digits }
 
+-- where the parts and the price are shown by a row, the row shows the sale of them
 pub shows_sale : (r : Row) (entry : Entry) (order : Order) (token : Token) (price : ℕ) → shown_entry entry ≡ entry_columns r
     → shown_order order ≡ order_columns r → shown_token token ≡ token_columns r → number price ≡ column r 10
     → shown_sale (sale_from entry order token price) ≡ sale_part r
 shows_sale r entry order token price e o t p = cc
 
+-- where a row shows a sale, its columns of the entry show the sale's entry
 pub shows_entry : (r : Row) (s : Sale) → shown_sale s ≡ sale_part r → shown_entry (entry_in s) ≡ entry_columns r
 shows_entry r s e = ap entry_columns e
 
+-- where a row shows a sale, its columns of the order show the sale's order
 pub shows_order : (r : Row) (s : Sale) → shown_sale s ≡ sale_part r → shown_order (order_in s) ≡ order_columns r
 shows_order r s e = ap order_columns e
 
+-- where a row shows a sale, its columns of the token show the sale's token
 pub shows_token : (r : Row) (s : Sale) → shown_sale s ≡ sale_part r → shown_token (token_in s) ≡ token_columns r
 shows_token r s e = ap token_columns e
 
+-- what is read back of a sale's columns is read back of a row that has no others
 pub read_whole : (r : Row) (read : Option Sale) → length r ≡ 13 → ReadsBack shown_sale AreSaleValues (sale_part r) read
     → ReadsBack shown_sale AreSaleValues r read
 read_whole r read count part = subst (λ (row : Row). ReadsBack shown_sale AreSaleValues row read) (whole_sale r count) part

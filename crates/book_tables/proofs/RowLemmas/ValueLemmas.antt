@@ -28,6 +28,7 @@ shift_values : (s : Shift) → IsNumber s.number → IsShiftRow s → AreShiftVa
 shift_values s number row =
     record { number = number; operator = row.operator; opened = row.opened; closed = closing s.closed row.closed }
 
+-- the shifts of an office keep the rules of their values
 pub shifts_keep : (o : Office) → IsOffice o → All AreShiftValues o.shifts
 shifts_keep o office i d below =
     shift_values (get_or o.shifts i d) (number_of (λ s. s.number) o.shifts i d office.shift_numbers office.shift_count below)
@@ -53,20 +54,24 @@ sale_values o office s number row = record {
   digits = row.digits;
 }
 
+-- the sales of an office keep the rules of their values
 pub sales_keep : (o : Office) → IsOffice o → All AreSaleValues o.sales
 sales_keep o office i d below =
     sale_values o office (get_or o.sales i d) (number_of (λ s. s.number) o.sales i d office.sale_numbers office.sale_count below)
     (All-get_or (IsSaleRow o) o.sales i d below office.sales)
 
+-- the steps of an office's tariff keep the rules of their values
 pub steps_keep : (o : Office) → IsOffice o → (name : List ℕ) (steps : List Step) → o.tariffs name ≡ Some steps → All AreStepValues steps
 steps_keep o office name steps e i d below =
     let priced = (office.tariffs name steps e).priced in
     (priced.ends_fit i d below, priced.prices i d below)
 
+-- the name under which an office has a tariff keeps the rules of names
 pub tariff_name : (o : Office) → IsOffice o → (name : List ℕ) (steps : Option (List Step)) → o.tariffs name ≡ steps → IsSome steps → IsName name
 tariff_name o office name None e some = absurd (false≢true some)
 tariff_name o office name (Some steps) e some = (office.tariffs name steps e).named
 
+-- the meters of an office keep the rules of their values
 pub meters_keep : (o : Office) → IsOffice o → (number : List ℕ) (m : Meter) → o.meters number ≡ Some m → AreMeterValues m
 meters_keep o office number m e =
     let row = office.meters number m e in

@@ -66,6 +66,7 @@ module _ (s : Sale) (last : ℕ) (shown : SaleTotals) (old one two new : State) 
   abbrev two_names : List (List ℕ)
   two_names = codes "last_ids" ∷ codes "month_tenths" ∷ []
 
+  -- after the three writes, only the tables of totals may have other rows
   pub only_totals : WritesOnly totals_names old new
   only_totals =
       only_then totals_names two_names (codes "shift_totals" ∷ []) (λ s tree none. ((none.0, (none.1.0, tt)), (none.1.1.0, tt))) old two new
@@ -115,6 +116,7 @@ module _ (s : Sale) (last : ℕ) (shown : SaleTotals) (old one two new : State) 
       (keeps_then (month_keys (s.meter, month_at s.moment)) (shift_totals_key s.shift) one.now two.now new.now (second.kept (months, tt))
       (third.kept (shifts_then, tt)))
 
+  -- the totals are those with the sale, and what was told of it is what they are
   pub tells_totals : HasAllTables old → TellsSaleTotals s last shown old new
   tells_totals has = record {
     adds = record {
@@ -127,6 +129,7 @@ module _ (s : Sale) (last : ℕ) (shown : SaleTotals) (old one two new : State) 
 
 -- what a write finds after the one before it
 module _ (s : Sale) (last : ℕ) (old new : State) (format : ℕ) (rows : Rows) (held : HoldsOf present_format format old.now rows) where
+  -- once the last identifier is set, the tenths may be added, and then the shift's totals
   pub may_add_tenths : SetsLastId (s.meter, s.base) last old new → MayAddTotals s last format rows
       → (after : Rows) × HoldsOf present_format format new.now after × MayAddTenths (s.meter, month_at s.moment) s.tenths format after
       × MayAddToShift s.shift s.tenths s.price format after
@@ -138,6 +141,7 @@ module _ (s : Sale) (last : ℕ) (old new : State) (format : ℕ) (rows : Rows) 
         ((λ k. totals_of (sales_in_shift sales k)), are.shift_totals, are.by_shift, totals_in_shift sales s few),
       )
 
+  -- once the tenths are added, the sale may still be added to the totals of its shift
   pub may_add_to_shift : (sum : ℕ) → AddsTenths (s.meter, month_at s.moment) s.tenths sum old new
       → MayAddTenths (s.meter, month_at s.moment) s.tenths format rows → MayAddToShift s.shift s.tenths s.price format rows
       → (after : Rows) × HoldsOf present_format format new.now after × MayAddToShift s.shift s.tenths s.price format after
@@ -224,6 +228,7 @@ module _ (greatest : (t : ℕ) → IsRepresentable t → t ≤ 18201624) (s : Sa
       stores_before sales_kept (sale_row s ∷ []) old.now mid.now new.now first.stored
       (left_by sales_kept totals_names sales_in mid new then (from_ids, (from_months, (from_shifts, tt))) second.adds.only)
 
+  -- the office has the sale and its totals, and what was told of it is what they are
   pub tells_sold : HasAllTables old → TellsSold s shown old new
   tells_sold has = record {
     adds = record {

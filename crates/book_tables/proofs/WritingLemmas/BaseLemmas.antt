@@ -49,6 +49,7 @@ module _ (old new : State) where
   base_source : (r : List ℕ × Base) → source_row bases two_terms (base_columns r) ≡ Null ∷ base_columns r
   base_source r = rw (cast_no_int, cast_int (pos (year_of r.1))) refl
 
+  -- after the INSERT, the base of a meter stands after the others
   pub adds_base : HasAllTables old → (number : List ℕ) (base : Base) (params : Row) → params ≡ base_columns (number, base)
       → PutsRow bases (new_row bases two_terms params (old.now.trees bases.tree)) old new → AddsBase number base old new
   adds_base has number base params bound put =
@@ -91,6 +92,7 @@ module _ (old new : State) where
   abbrev base_set_row : List Term
   base_set_row = col 1 0 ∷ col 1 1 ∷ col 0 1 ∷ col 1 3 ∷ col 1 4 ∷ []
 
+  -- after the UPDATE, the meter of this number has this base as its present one
   pub sets_base : HasAllTables old → (number : List ℕ) (base : Base) (params : Row) → params ≡ base_columns (number, base)
       → SetsRows meters (base_set_query meters.tree) params old new → SetsBase number base old new
   sets_base has number base params bound found =
@@ -129,6 +131,7 @@ only_two old mid new first second =
 then_has : (old mid : State) → WritesOnly (codes "meters" ∷ []) old mid → HasAllTables old → HasOffice mid.now.schema
 then_has old mid only has = subst HasOffice (sym only.schema) (has only.inside.was_open)
 
+-- the row of a meter is put in, and then its base: the office has the meter
 pub adds_both : (number : List ℕ) (m : Meter) (old mid new : State) → HasAllTables old → AddsMeterRow number m old mid
     → AddsBase number m.base mid new → AddsMeter number m old new
 adds_both number m old mid new has first second = record {
@@ -143,6 +146,7 @@ adds_both number m old mid new has first second = record {
   rows = λ rows held. second.rows present_format (record rows { meters = rows.meters ++ (number, m) ∷ [] }) (first.rows rows held);
 }
 
+-- a meter's present base is set, and then put in as a row: the meter has moved to it
 pub moves_both : (number : List ℕ) (base : Base) (old mid new : State) → HasAllTables old → SetsBase number base old mid
     → AddsBase number base mid new → MovesBase number base old new
 moves_both number base old mid new has first second = record {

@@ -41,9 +41,11 @@ pub record Came (writes : List Write) (old mid : State) : Type 0 where
   pub limit : mid.step_limit ≡ old.step_limit
   pub counts : old.faults ≤ mid.faults
 
+-- it came to where it is by no writes
 pub came_here : (old : State) → IsUnderWay old → Came [] old old
 came_here old way = record { under_way = way; was_shut = λ shut. shut; made = refl; limit = refl; counts = omega arith }
 
+-- it came by writes that were carried out and left its transaction under way
 pub came_by : (writes : List Write) (old mid : State) → AreCarriedOut writes old mid → StaysInside old mid → Survives old mid (λ _. ⊥) → Came writes old mid
 came_by writes old mid written inside survives = record {
   under_way = inside.mode;
@@ -111,10 +113,12 @@ module _ (before : List Write) (old mid new : State) (came : Came before old mid
     of_write (inr (inl (does, same))) = inr (inr (inr (refused (inl (ends (Err (Some e)) same.0.was_open does)))))
     of_write (inr (inr fails)) = by_cause fails.0 fails.1 fails.2
 
+  -- where this write fails after those before it, all of them fail, for its cause
   pub of_store : (e : TableError) → FailsToStore w mid new e → Fail e
   of_store (Told e) (command, means, why) = of_write None command means e why
   of_store RowOfNoOffice why = why
 
+  -- the same of a write that answers something of the rows
   pub of_merge : (e : TableError) → FailsToMerge w mid new e → FailsToMergeAll (before ++ w ∷ after) old new e
   of_merge (Told e) why = elim why.fails [
     | inl fails ↦ inl (of_write (Some (returning_as why.merging)) (upsert_as why.at why.table why.merging) why.means e fails)
@@ -138,6 +142,7 @@ module _ (before : List Write) (old mid new : State) (came : Came before old mid
         ⊎ ((e ≡ store_error Unstorable) × EndsWith l it.tried it.db (Err None))) came.limit it.refused;
   }
 
+  -- where the later writes fail, all of them fail, for the same cause
   pub of_later : (e : TableError) → FailsToWriteAll later mid new e → FailsToWriteAll (before ++ (later ++ after)) old new e
   of_later (Told e) (inl none) = inl none
   of_later (Told e) (inr (inl more)) = inr (inl (omega (arith, more, came.counts)))
@@ -145,6 +150,7 @@ module _ (before : List Write) (old mid new : State) (came : Came before old mid
   of_later (Told e) (inr (inr (inr it))) = inr (inr (inr (refused_later e it)))
   of_later RowOfNoOffice why = why
 
+  -- the same of writes that answer something of the rows
   pub of_later_merge : (e : TableError) → FailsToMergeAll later mid new e → FailsToMergeAll (before ++ (later ++ after)) old new e
   of_later_merge e (inl why) = inl (of_later e why)
   of_later_merge e (inr is) = inr is

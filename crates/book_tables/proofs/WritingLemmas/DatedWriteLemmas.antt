@@ -41,6 +41,7 @@ module _ (old new : State) where
   dated_source : (r : DatedStepRow) → source_row dated five_terms (dated_columns r) ≡ Null ∷ dated_columns r
   dated_source r = rw (cast_no_int, cast_int (pos r.day), cast_int (pos r.place), cast_optional r.step.ends, cast_int (pos r.step.price)) refl
 
+  -- after the INSERT, a step from a first day on stands after the others
   pub adds_dated_step : HasAllTables old → (r : DatedStepRow) (params : Row) → params ≡ dated_columns r
       → PutsRow dated (new_row dated five_terms params (old.now.trees dated.tree)) old new → AddsDatedStep r old new
   adds_dated_step has r params bound put =
@@ -71,6 +72,7 @@ module _ (name : List ℕ) (day : ℕ) where
       ap (λ (l : List DatedStepRow). dated_at name day at x ∷ l)
       (rows_more (at + 1) xs s ∙ ap (λ (n : ℕ). dated_from name day (at + 1) xs ++ dated_at name day n s ∷ []) further)
 
+  -- with one step more, its row stands after those of the others, at the next place
   pub dated_more : (xs : List Step) (s : Step) → dated_rows name day (xs ++ s ∷ []) ≡ dated_rows name day xs ++ dated_at name day (length xs) s ∷ []
   dated_more xs s =
       let here : 0 + length xs ≡ length xs = omega arith in

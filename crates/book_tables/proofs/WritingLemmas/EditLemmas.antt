@@ -28,6 +28,7 @@ rows_members : (new : List Row) (rows : Rows) (o : Office) → AreMembersOf rows
 rows_members [] rows o are meet = are
 rows_members (row ∷ new) rows o are meet = rows_members new (row_added row rows) (with_row row o) (row_members rows o row are meet.0) meet.1
 
+-- after any edit but a sale, the rows are the members of the office that it makes
 pub edited_members : (rows : Rows) (o : Office) (edit : Edit) → AreMembersOf rows o → Meets edit o → is_sale edit ≡ false
     → AreMembersOf (edited edit rows) (applied edit o)
 edited_members rows o (edits.AddTariff name steps) are meets no_sale = row_members rows o (kinds.Tariff name steps) are meets
@@ -74,10 +75,12 @@ none_of = record {
   once = no_pairs (λ a b. a.0 ≢ b.0);
 }
 
+-- where the tables of totals have no rows, these are the totals of no sales
 pub no_totals : (rows : Rows) → rows.last_ids ≡ [] → rows.month_tenths ≡ [] → rows.shift_totals ≡ [] → AreTotalsOf [] rows
 no_totals rows ids months shifts = same_totals [] no_rows rows (sym ids) (sym months) (sym shifts)
     (record { last_ids = none_of; month_tenths = none_of; shift_totals = none_of; by_shift = tt })
 
+-- no rows are the members of the empty office
 pub no_members : AreMembersOf no_rows empty_office
 no_members = record {
   tariffs = λ name. (λ some. absurd (false≢true some), λ there. absurd (contains_none name there));

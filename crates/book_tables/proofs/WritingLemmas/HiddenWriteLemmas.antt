@@ -53,6 +53,7 @@ module _ {X : Type 0} (stored : X → Row) (t : Table) (terms : List Term) (para
   row_is : new_row t terms params rows ≡ with_rowid Chosen rows (Null ∷ stored x)
   row_is = ap (with_rowid Chosen rows) source
 
+  -- the row stands after the others, and all are in the order of their numbers
   pub stands_after : (xs : List X) → map (drop 1) rows ≡ map stored xs → IsInOrder rows
       → (map (drop 1) (new.now.trees t.tree) ≡ map stored (xs ++ x ∷ [])) × IsInOrder (new.now.trees t.tree)
   stands_after xs holds order =
@@ -72,6 +73,7 @@ module _ (old new : State) where
   meter_source : (number : List ℕ) (m : Meter) → source_row meters four_terms (meter_columns (number, m)) ≡ Null ∷ meter_columns (number, m)
   meter_source number m = rw (cast_no_int, cast_int (pos (year_of m.base))) refl
 
+  -- after the INSERT, the row of a meter stands after the others
   pub adds_meter : HasAllTables old → (number : List ℕ) (m : Meter) (params : Row) → params ≡ meter_columns (number, m)
       → PutsRow meters (new_row meters four_terms params (old.now.trees meters.tree)) old new → AddsMeterRow number m old new
   adds_meter has number m params bound put =
@@ -99,6 +101,7 @@ module _ (old new : State) where
   name_source : (name : List ℕ) → source_row tariffs one_term (tariff_columns name) ≡ Null ∷ tariff_columns name
   name_source name = rw cast_no_int refl
 
+  -- after the INSERT, the name of a tariff stands after the others
   pub adds_name : HasAllTables old → (name : List ℕ) (params : Row) → params ≡ tariff_columns name
       → PutsRow tariffs (new_row tariffs one_term params (old.now.trees tariffs.tree)) old new → AddsName name old new
   adds_name has name params bound put =
@@ -126,6 +129,7 @@ module _ (old new : State) where
   step_source : (r : StepRow) → source_row steps four_terms (step_columns r) ≡ Null ∷ step_columns r
   step_source r = rw (cast_no_int, cast_int (pos r.place), cast_optional r.step.ends, cast_int (pos r.step.price)) refl
 
+  -- after the INSERT, the row of a tariff's step stands after the others
   pub adds_step : HasAllTables old → (r : StepRow) (params : Row) → params ≡ step_columns r
       → PutsRow steps (new_row steps four_terms params (old.now.trees steps.tree)) old new → AddsStep r old new
   adds_step has r params bound put =
@@ -146,6 +150,7 @@ module _ (old new : State) where
 
   -- ---- the tariff of a meter
 
+  -- whether the row is of the meter of this number
   abbrev pub is_that : List ℕ → (List ℕ × Meter) → Bool
   is_that number r = bytes_eq r.0 number
 
@@ -160,6 +165,7 @@ module _ (old new : State) where
     becomes = λ n r. rw (cast_int n, cast_int (pos (year_of r.1.base))) refl;
   }
 
+  -- where no two rows are of one meter, one at most is of this number
   pub one_at_most : (number : List ℕ) (xs : List (List ℕ × Meter)) → AllPairs (λ a b. a.0 ≢ b.0) xs → length (filter (is_that number) xs) ≤ 1
   one_at_most number xs apart =
       let once = pairs_weaker (λ a b. a.0 ≢ b.0) (NotBothPass (is_that number)) xs
@@ -169,6 +175,7 @@ module _ (old new : State) where
   abbrev tariff_set_row : List Term
   tariff_set_row = col 1 0 ∷ col 1 1 ∷ col 1 2 ∷ col 0 1 ∷ col 1 4 ∷ []
 
+  -- after the UPDATE, the meter of this number has this tariff
   pub sets_tariff : HasAllTables old → (number name : List ℕ) (params : Row) → params ≡ Text number ∷ Text name ∷ []
       → SetsRows meters (tariff_set_query meters.tree) params old new → SetsTariff number name old new
   sets_tariff has number name params bound found =

@@ -96,6 +96,7 @@ fewer p q weaker (r ∷ rs) = go (p r) refl (fewer p q weaker rs)
     go true e same = same ∙ sym (drop_own q r rs (weaker r e))
     go false e same = keep_first q r (others p rs) rs same
 
+-- a write that leaves all rows but those of some keys leaves all but those of more
 pub keeps_more : (keys more : Keys) → AreAmongKeys keys more → (a b : Database) → KeepsRows keys a b → KeepsRows more a b
 keeps_more keys more among a b kept = record {
   others = all_weaker (λ name. others_in keys b name ≡ others_in keys a name) (λ name. others_in more b name ≡ others_in more a name) (λ name same.
@@ -104,6 +105,7 @@ keeps_more keys more among a b kept = record {
   order = kept.order;
 }
 
+-- two writes that leave all rows but those of these keys, one after the other, do so too
 pub keeps_both : (keys : Keys) (a b c : Database) → KeepsRows keys a b → KeepsRows keys b c → KeepsRows keys a c
 keeps_both keys a b c first second = record {
   others = all_both (λ name. others_in keys b name ≡ others_in keys a name) (λ name. others_in keys c name ≡ others_in keys b name)
@@ -112,6 +114,7 @@ keeps_both keys a b c first second = record {
   order = λ held. second.order (first.order held);
 }
 
+-- of two lists of keys, those of the first are among all of them
 pub own_left : (keys more : Keys) → AreAmongKeys keys (keys ++ more)
 own_left [] more name row h = absurd (false≢true h)
 own_left (k ∷ keys) more name row h = elim (or_cases (bytes_eq k.0 name && has_key k.1 row) (is_own keys name row) h) [
@@ -119,6 +122,7 @@ own_left (k ∷ keys) more name row h = elim (or_cases (bytes_eq k.0 name && has
   | inr later ↦ or_right (bytes_eq k.0 name && has_key k.1 row) (own_left keys more name row later)
 ]
 
+-- and so are those of the second
 pub own_right : (keys more : Keys) → AreAmongKeys more (keys ++ more)
 own_right [] more name row h = h
 own_right (k ∷ keys) more name row h = or_right (bytes_eq k.0 name && has_key k.1 row) (own_right keys more name row h)
@@ -140,9 +144,11 @@ has_values (part ∷ key) row are = ap₂ ◌&&◌ (ap (λ (v : Value). is_eq (v
 one_name : (name : List ℕ) → bytes_eq name name ≡ true
 one_name name = (bytes_eq-Decides name name).1 refl
 
+-- where there is but one key, in this table, a row that has it is of the keys
 pub own_of_key : (name : List ℕ) (key : Key) (row : Row) → has_key key row ≡ true → is_own ((name, key) ∷ []) name row ≡ true
 own_of_key name key row has = ap₂ (λ (a b : Bool). a && b || false) (one_name name) has
 
+-- and a row that is of the keys has it
 pub key_of_own : (name : List ℕ) (key : Key) (row : Row) → is_own ((name, key) ∷ []) name row ≡ true → has_key key row ≡ true
 key_of_own name key row own = elim (or_cases (bytes_eq name name && has_key key row) false own) [
   | inl here ↦ (and_parts (bytes_eq name name) (has_key key row) here).1
@@ -196,6 +202,7 @@ number_kept (Blob b) h = absurd (false≢true h)
 
 -- ---- a row that is put in
 
+-- a row of these keys is put in, under a number: all other rows stay
 pub keeps_put : (keys : Keys) (old new : State) (k : Kept) → IsInOffice k → HasAllTables old → (row : Row)
     → PutsRow (record k.table { tree = tree_in old.now.schema k.table.name }) row old new → ChangesOnly k.table.name old.now new.now
     → is_own keys k.table.name row ≡ true → IsTrue (is_int (rowid row)) → KeepsRows keys old.now new.now
@@ -225,6 +232,7 @@ module _ (name : List ℕ) where
       own_of_key name ((1, Text t) ∷ []) r (ap (λ (b : Bool). b && true)
       (compares (column r 1) (Text t) (and_parts (is_true (binary (Compare Eq Binary) (column r 1) (Text t))) true found).0))
 
+  -- and what such a row becomes is still of this key, as a column of texts casts it
   pub text_kept : (t : List ℕ) (r n : Row) → column n 1 ≡ cast kind.Text (column r 1) → is_own ((name, (1, Text t) ∷ []) ∷ []) name r
       ≡ true → is_own ((name, (1, Text t) ∷ []) ∷ []) name n ≡ true
   text_kept t r n is own =
@@ -249,6 +257,7 @@ module _ (name : List ℕ) where
       (ap (λ (v : Value). is_eq (value_cmp (column r 1) v)) (sym text) ∙ compares (column r 1) (column given 1) parts.0)
       (ap (λ (v : Value). is_eq (value_cmp (column r 2) v)) (sym number) ∙ compares (column r 2) (column given 2) last))
 
+  -- and what such a row becomes is still of this key, as the two columns cast it
   pub pair_kept : (t : List ℕ) (b : ℕ) (r n : Row) → column n 1 ≡ cast kind.Text (column r 1) → column n 2 ≡ cast kind.Integer (column r 2)
       → is_own ((name, (1, Text t) ∷ (2, Int (pos b)) ∷ []) ∷ []) name r ≡ true
       → is_own ((name, (1, Text t) ∷ (2, Int (pos b)) ∷ []) ∷ []) name n ≡ true
@@ -273,6 +282,7 @@ module _ (name : List ℕ) where
       own_of_key name ((0, Int (pos b)) ∷ []) r (ap (λ (b : Bool). b && true)
       (ap (λ (v : Value). is_eq (value_cmp (column r 0) v)) (sym number) ∙ compares (column r 0) (column given 0) (and_parts first true both).0))
 
+  -- and what such a row becomes is still of this key, where it keeps its number
   pub own_number_kept : (b : ℕ) (r n : Row) → column n 0 ≡ column r 0 → is_own ((name, (0, Int (pos b)) ∷ []) ∷ []) name r ≡ true
       → is_own ((name, (0, Int (pos b)) ∷ []) ∷ []) name n ≡ true
   own_number_kept b r n same own =
@@ -322,6 +332,7 @@ has_front (part ∷ key) rest row has =
     let parts = and_parts (is_eq (value_cmp (column row part.0) part.1)) (has_key (key ++ rest) row) has in
     ap₂ ◌&&◌ parts.0 (has_front key rest row parts.1)
 
+-- a row of a key is a row of the key that has only its first parts
 pub fewer_parts : (table : List ℕ) (key rest : Key) → AreAmongKeys ((table, key ++ rest) ∷ []) ((table, key) ∷ [])
 fewer_parts table key rest name row own = elim (or_cases (bytes_eq table name && has_key (key ++ rest) row) false own) [
   | inl here ↦ let parts = and_parts (bytes_eq table name) (has_key (key ++ rest) row) here in
@@ -331,6 +342,7 @@ fewer_parts table key rest name row own = elim (or_cases (bytes_eq table name &&
 
 -- ---- another table stays in order
 
+-- a table's rows stay in the order of their numbers where only another was written
 pub still_in_order : (j k : Kept) → IsInOffice j → IsInOffice k → (a b : Database) → HasOffice a.schema → ChangesOnly k.table.name a b
     → bytes_eq j.table.name k.table.name ≡ false
     → IsInOrder (rows_in a j.table.name) → IsInOrder (rows_in b j.table.name)

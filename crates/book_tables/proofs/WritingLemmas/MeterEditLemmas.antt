@@ -100,6 +100,7 @@ module _ (rows : Rows) (o : Office) (are : AreMembersOf rows o) (number : List �
             put_here (bytes_eq q number) q number m (o.meters q) refl q_is ∙ ap (λ (n : Meter). let v : Option Meter = Some n in v) n_is
       ]
 
+  -- after a meter was added with its base, the rows are the members of the office
   pub meter_added : AreMembersOf (edited (edits.AddMeter number m) rows) (applied (edits.AddMeter number m) o)
   unfolding widened
   meter_added = record {
@@ -170,6 +171,7 @@ module _ (rows : Rows) (o : Office) (are : AreMembersOf rows o) (number : List �
   set_once = pairs_map (λ a b. a.0 ≢ b.0) set rows.meters (λ a b apart same.
       apart (sym (set_number (bytes_eq a.0 number) f a) ∙ same ∙ set_number (bytes_eq b.0 number) f b)) are.meters_once
 
+-- after a meter got another tariff, they are too
 pub tariff_set : (rows : Rows) (o : Office) (are : AreMembersOf rows o) (number name : List ℕ)
     → AreMembersOf (edited (edits.SetTariff number name) rows) (applied (edits.SetTariff number name) o)
 tariff_set rows o are number name = record {
@@ -188,6 +190,7 @@ tariff_set rows o are number name = record {
   dated_once = are.dated_once;
 }
 
+-- after a meter got a present base that it had not had, they are too
 pub base_moved : (rows : Rows) (o : Office) (are : AreMembersOf rows o) (number : List ℕ) (base : Base) → o.bases number base ≡ false
     → AreMembersOf (edited (edits.MoveBase number base) rows) (applied (edits.MoveBase number base) o)
 base_moved rows o are number base free = record {

@@ -14,6 +14,7 @@ use Rattle.book_tables.specs.writing.Writing.{IsOfNone, WritesOnly}
 abbrev pub AreAmong : List (List ℕ) → List (List ℕ) → Type 0
 AreAmong names more = (s : Schema) (tree : ℕ) → IsOfNone s more tree → IsOfNone s names tree
 
+-- where only these tables may have other rows, only these and some more may
 pub only_among : (names more : List (List ℕ)) → AreAmong names more → (old new : State) → WritesOnly names old new → WritesOnly more old new
 only_among names more among old new only = record {
   inside = only.inside;
@@ -24,6 +25,7 @@ only_among names more among old new only = record {
   sound = only.sound;
 }
 
+-- where each of two writes leaves all but these tables, both together do
 pub only_both : (names : List (List ℕ)) (old mid new : State) → WritesOnly names old mid → WritesOnly names mid new → WritesOnly names old new
 only_both names old mid new first second = record {
   inside = stays_then old mid new first.inside second.inside;

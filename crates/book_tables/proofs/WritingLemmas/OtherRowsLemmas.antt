@@ -32,6 +32,7 @@ use Rattle.one_table.specs.Standing.{own_keys}
 use Rattle.one_table.specs.Upserting.{Merging, is_of_key}
 use Rattle.one_table.proofs.ListedLemmas.{all_rows}
 
+-- what passes the test for equality compares as equal
 pub eq_is : (o : Ordering) → is_eq o ≡ true → o ≡ Equal
 eq_is Less h = absurd (false≢true h)
 eq_is Equal h = refl
@@ -69,9 +70,11 @@ module _ (p : Row → Bool) where
   abbrev pub others : List Row → List Row
   others rows = filter (λ row. not (p row)) rows
 
+  -- a row of one's own in front is none of the others
   pub drop_own : (r : Row) (rs : List Row) → p r ≡ true → others (r ∷ rs) ≡ others rs
   drop_own r rs own = ap (λ (b : Bool). if not b then r ∷ others rs else others rs) own
 
+  -- one row in front of two lists with the same others leaves these the same
   pub keep_first : (r : Row) (xs ys : List Row) → others xs ≡ others ys → others (r ∷ xs) ≡ others (r ∷ ys)
   keep_first r xs ys same = ap (λ (l : List Row). if not (p r) then r ∷ l else l) same
 
@@ -172,6 +175,7 @@ pub put_in_order : (t : Table) (row : Row) (old new : State) → PutsRow t row o
 put_in_order t row old new puts is_number order = subst IsInOrder (sym puts.changed.rows_are) (order_put row (old.now.trees t.tree) is_number order)
 
 module _ (p : Row → Bool) where
+  -- where a row of one's own is put in, the others stay
   pub put_keeps : (t : Table) (row : Row) (old new : State) → PutsRow t row old new → p row ≡ true → others p (new.now.trees t.tree)
       ≡ others p (old.now.trees t.tree)
   put_keeps t row old new puts own = ap (others p) puts.changed.rows_are ∙ put_fresh p row (old.now.trees t.tree) own puts.fresh

@@ -36,32 +36,40 @@ use Rattle.book_tables.proofs.WritingLemmas.WriteLemmas.{changes_only, only_one}
 
 -- ---- texts
 
+-- a row of three parameters, under a number that SQLite chooses
 abbrev pub three_terms : List Term
 three_terms = lit Null ∷ col 0 0 ∷ col 0 1 ∷ col 0 2 ∷ []
 
+-- the row of a shift's totals: its number is the first parameter, three follow
 abbrev pub totals_terms : List Term
 totals_terms = col 0 0 ∷ lit Null ∷ col 0 1 ∷ col 0 2 ∷ col 0 3 ∷ []
 
+-- the text of a last identifier means an INSERT of a row of three into `last_ids`
 pub new_last_id_means : (tree : ℕ) → IsInsert (last_ids_table tree) three_terms new_last_id_text
 unfolding everything insert_meant insert_in puts_meant
 new_last_id_means tree = record { means = refl; whole = refl; uncounted = refl; unstamped = refl }
 
+-- the text of a month's tenths means an INSERT of one into `month_tenths`
 pub new_month_means : (tree : ℕ) → IsInsert (month_tenths_table tree) three_terms new_month_text
 unfolding everything insert_meant insert_in puts_meant
 new_month_means tree = record { means = refl; whole = refl; uncounted = refl; unstamped = refl }
 
+-- the text of a shift's totals means an INSERT of such totals into `shift_totals`
 pub new_totals_means : (tree : ℕ) → IsInsert (shift_totals_table tree) totals_terms new_totals_text
 unfolding everything insert_meant insert_in puts_meant
 new_totals_means tree = record { means = refl; whole = refl; uncounted = refl; unstamped = refl }
 
+-- the text of a last identifier is one statement with three parameters
 pub new_last_id_whole : is_whole new_last_id_text 3 ≡ true
 unfolding everything is_whole
 new_last_id_whole = refl
 
+-- the text of a month's tenths is one with three parameters
 pub new_month_whole : is_whole new_month_text 3 ≡ true
 unfolding everything is_whole
 new_month_whole = refl
 
+-- the text of a shift's totals is one with four parameters
 pub new_totals_whole : is_whole new_totals_text 4 ≡ true
 unfolding everything is_whole
 new_totals_whole = refl
@@ -101,6 +109,7 @@ module _ (old new : State) where
   id_source : (r : (List ℕ × Base) × ℕ) → source_row ids three_terms (last_id_columns r) ≡ Null ∷ last_id_columns r
   id_source r = rw (cast_no_int, cast_int (pos (year_of r.0.1)), cast_int (pos r.1)) refl
 
+  -- after its INSERT, a last identifier stands after those before it
   pub puts_last_id : (r : (List ℕ × Base) × ℕ) (params : Row) → params ≡ last_id_columns r
       → PutsRow ids (new_row ids three_terms params (old.now.trees ids.tree)) old new → PutsNext with_last_ids AreAnyIds r old new
   puts_last_id r params bound put =
@@ -120,6 +129,7 @@ module _ (old new : State) where
   month_source : (r : (List ℕ × ℕ) × ℕ) → source_row months three_terms (month_columns r) ≡ Null ∷ month_columns r
   month_source r = rw (cast_no_int, cast_int (pos r.0.1), cast_int (pos r.1)) refl
 
+  -- after theirs, a month's tenths do, where a column can hold them
   pub puts_month_tenths : (r : (List ℕ × ℕ) × ℕ) (params : Row) → (r.1 < 2 ^ 63 → params ≡ month_columns r)
       → PutsRow months (new_row months three_terms params (old.now.trees months.tree)) old new
       → PutsNext with_month_tenths FitMonths r old new
@@ -142,6 +152,7 @@ module _ (old new : State) where
   totals_is : (r : ℕ × Totals) (rows : List Row) → new_row shifts totals_terms (totals_columns r) rows ≡ totals_row r
   totals_is r rows = rw (cast_int (pos r.0), cast_no_int, cast_int (pos r.1.sales), cast_int (pos r.1.tenths), cast_int (pos r.1.cash)) refl
 
+  -- after theirs, a shift's totals do, where columns can hold them and the shifts rise
   pub puts_shift_totals : (r : ℕ × Totals) (params : Row) → (HasRoomFor r.1 → params ≡ totals_columns r)
       → PutsRow shifts (new_row shifts totals_terms params (old.now.trees shifts.tree)) old new
       → PutsNext with_shift_totals FitShifts r old new

@@ -27,6 +27,7 @@ pub fails_to_store : {A : Type 0} {old new : State} {e : Error} (w : Write) (com
 fails_to_store w command (Ok x) told means fails = absurd told
 fails_to_store {old = old} {new = new} w command (Err x) told means fails = (tt, subst (FailsToStore w old new) (sym told) (command, means, fails))
 
+-- two failures that are the same result have the same error
 pub same_error : {A : Type 0} (x y : TableError) → ◌≡◌ {A = Result A TableError} (Err x) (Err y) → x ≡ y
 same_error x y e = cc
 

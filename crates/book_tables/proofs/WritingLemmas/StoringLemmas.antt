@@ -80,6 +80,7 @@ stores_then k xs ys a b c first second =
 pub stores_before : (k : Kept) (xs : List Row) (a b c : Database) → StoresRows k xs a b → bare_rows k c ≡ bare_rows k b → StoresRows k xs a c
 stores_before k xs a b c first same = subst (IsPermutation (bare_rows k a ++ xs)) (sym same) first
 
+-- the same where what leaves the table comes first
 pub stores_after : (k : Kept) (xs : List Row) (a b c : Database) → bare_rows k b ≡ bare_rows k a → StoresRows k xs b c → StoresRows k xs a c
 stores_after k xs a b c same second = subst (λ (l : List Row). IsPermutation (l ++ xs) (bare_rows k c)) same second
 

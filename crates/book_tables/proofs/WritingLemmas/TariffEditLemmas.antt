@@ -135,6 +135,7 @@ module _ (rows : Rows) (o : Office) (are : AreMembersOf rows o) (name : List ℕ
         | inr new ↦ let is = new_step r new in (steps, put_here (bytes_eq r.tariff name) r.tariff name steps (o.tariffs r.tariff) refl is.0, is.1)
       ]
 
+  -- after a tariff was added with its steps, the rows are the members of the office
   pub tariff_added : AreMembersOf (edited (edits.AddTariff name steps) rows) (applied (edits.AddTariff name steps) o)
   unfolding grown
   tariff_added = record {
@@ -242,6 +243,7 @@ module _ (rows : Rows) (o : Office) (are : AreMembersOf rows o) (name : List ℕ
         | inr new ↦ let is = dated_new r new in (steps, put_there r.tariff r.day is.0 is.1, is.2)
       ]
 
+  -- after steps from a first day on were added, the rows are the members of the office
   pub steps_added : AreMembersOf (edited (edits.AddSteps name day steps) rows) (applied (edits.AddSteps name day steps) o)
   unfolding dated
   steps_added = record {

@@ -49,6 +49,7 @@ then_second old mid new first second = only_both both old mid new first
 
 -- ---- a tariff
 
+-- with one step more, its row stands after those of the others, at the next place
 pub rows_are : (name : List ℕ) (xs : List Step) (s : Step) → step_rows name (xs ++ s ∷ []) ≡ step_rows name xs
     ++ record { tariff = name; place = length xs; step = s } ∷ []
 rows_are name xs s =

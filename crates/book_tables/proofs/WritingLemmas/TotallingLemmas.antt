@@ -58,12 +58,15 @@ use Rattle.book_tables.proofs.WritingLemmas.WriteLemmas.{changes_only, only_one}
 
 module _ {K V : Type 0} (stored : K × V → Row) (is_key : K → Bool) (key : K) (tells : (k : K) → (is_key k ≡ true) ↔ (k ≡ key)) (value : V)
     (to : Option V → V) (first : value ≡ to None) (rows : List (K × V)) (has : K → Option V) (are : AreRowsOf rows has) where
+  -- whether a row has the key
   abbrev pub picks : K × V → Bool
   picks r = is_key r.0
 
+  -- a row with what is made of its value
   abbrev pub with_next : K × V → K × V
   with_next r = (r.0, to (Some r.1))
 
+  -- the row that is put in where none has the key
   abbrev pub given : K × V
   given = (key, value)
 
@@ -102,6 +105,7 @@ module _ {K V : Type 0} (stored : K × V → Row) (is_key : K → Bool) (key : K
       pub id : ℤ
       pub is : row ≡ Int id ∷ stored after
 
+    -- after an upsert this is so of the rows, and of the row that it wrote
     pub hidden_after : MergesHidden t m params stored given picks with_next rows → map (drop 1) (old.now.trees t.tree) ≡ map stored rows
         → IsInOrder (old.now.trees t.tree) → (row : Row) → Upserts t m params old new row → HiddenAfter row
     hidden_after so hidden order row merged =
@@ -134,6 +138,7 @@ module _ {V : Type 0} (stored : ℕ × V → Row) (key : ℕ) (value : V) (to : 
   abbrev number_of : ℕ × V → ℤ
   number_of r = pos r.0
 
+  -- whether a number is the key
   abbrev pub has_number : ℕ → Bool
   has_number n = n == key
 
@@ -145,6 +150,7 @@ module _ {V : Type 0} (stored : ℕ × V → Row) (key : ℕ) (value : V) (to : 
       pub in_order : IsKeyedBy (λ (r : ℕ × V). pos r.0) rest
       pub is : row ≡ stored (key, to (has key))
 
+    -- after an upsert this is so of rows by their own numbers
     pub numbered_after : MergesAs t m params (old.now.trees t.tree) (λ (r : ℕ × V). pos r.0) stored (key, value)
         (λ (r : ℕ × V). r.0 == key) (λ (r : ℕ × V). (r.0, to (Some r.1))) rows → old.now.trees t.tree ≡ map stored rows → (row : Row)
         → Upserts t m params old new row → NumberedAfter row
@@ -180,6 +186,7 @@ module _ {V : Type 0} (stored : ℕ × V → Row) (key : ℕ) (value : V) (to : 
 pub total_fits : (n : ℕ) → IsTotal n → n < 2 ^ 63
 total_fits n small = omega (arith, small)
 
+-- and columns can hold the totals of a shift
 pub totals_fit : (t : Totals) → AreTotalsValues t → HasRoomFor t
 totals_fit t small = (total_fits t.sales small.sales, total_fits t.tenths small.tenths, total_fits t.cash small.cash)
 
@@ -194,6 +201,7 @@ in_order rows up = record {
   are_numbers = numbers_all rows;
 }
 
+-- a table of the office stands as an upsert asks of it
 pub stands_for : (k : Kept) (s : Schema) → IsKept s k → StandsForUpserts s (place_in s k.table.name) (record k.table { tree = tree_in s k.table.name })
 stands_for k s has = record { has = has.0.has; keys = has.0.keys; left_alone = has.1 }
 
@@ -209,9 +217,11 @@ was_open (inr s) = s.changed.inside.was_open
 module _ (old new : State) where
   -- ---- the last identifier of a meter under a base
 
+  -- the table of last identifiers
   abbrev pub last_ids : Table
   last_ids = last_ids_table (tree_in old.now.schema (codes "last_ids"))
 
+  -- its place in the schema
   abbrev pub last_ids_at : ℕ
   last_ids_at = place_in old.now.schema (codes "last_ids")
 
@@ -231,6 +241,7 @@ module _ (old new : State) where
 
     module _ (params : Row) (bound : params ≡ last_id_columns (base_key, tid)) (format : ℕ) (rows : Rows)
         (held : IsTrue old.is_open → HoldsOf present_format format old.now rows) (has : (List ℕ × Base) → Option ℕ) (are : AreRowsOf rows.last_ids has) where
+      -- where the tables hold these rows, that of last identifiers takes upserts
       pub takes_last_id : IsTrue old.is_open → TakesUpserts old.now last_ids_at last_ids
       takes_last_id runs = takes last_ids_kept old (last_ids_in.there old.now.schema (held runs).has) (last_ids_in.holds format old.now rows (held runs)).1
 
@@ -246,6 +257,7 @@ module _ (old new : State) where
           (sets_tid rows.last_ids))
           hidden.0 hidden.1 row merged
 
+      -- what comes back of the row is the identifier that was given
       pub tid_shown : (row : Row) → Upserts last_ids last_id_merging params old new row → shown_row last_ids last_id_merging params row ≡ shown_number tid
       tid_shown row merged = ap (λ (p : Row). shown_row last_ids last_id_merging p row) bound
           ∙ ap (shown_row last_ids last_id_merging (last_id_columns (base_key, tid))) (last_id_after row merged).is
@@ -255,6 +267,7 @@ module _ (old new : State) where
           (shown_row last_ids last_id_merging params row)) × Upserts last_ids last_id_merging params old new row) → ⊥
       tid_is_shown small (row, unread, merged) = unread (record { number = tid }, (sym (tid_shown row merged), small))
 
+    -- after the upsert, the last identifier of the meter under the base is this one
     pub sets_last_id : HasAllTables old → (params : Row) → params ≡ last_id_columns (base_key, tid) → Touches last_ids last_id_merging params old new
         → ((IsTrue old.is_open → TakesUpserts old.now last_ids_at last_ids) → (row : Row)
         × Upserts last_ids last_id_merging params old new row) → SetsLastId base_key tid old new
@@ -298,9 +311,11 @@ module _ (old new : State) where
 
   -- ---- the tenths of a meter in a month
 
+  -- the table of the tenths of months
   abbrev pub month_tenths : Table
   month_tenths = month_tenths_table (tree_in old.now.schema (codes "month_tenths"))
 
+  -- its place in the schema
   abbrev pub month_tenths_at : ℕ
   month_tenths_at = place_in old.now.schema (codes "month_tenths")
 
@@ -327,6 +342,7 @@ module _ (old new : State) where
     module _ (params : Row) (bound : params ≡ month_columns (month_key, tenths)) (format : ℕ) (rows : Rows)
         (held : IsTrue old.is_open → HoldsOf present_format format old.now rows) (has : (List ℕ × ℕ) → Option ℕ)
         (are : AreRowsOf rows.month_tenths has) (low : sum_of (has month_key) < 2 ^ 63) where
+      -- where the tables hold these rows, that of the tenths of months takes upserts
       pub takes_tenths : IsTrue old.is_open → TakesUpserts old.now month_tenths_at month_tenths
       takes_tenths runs = takes month_tenths_kept old (month_tenths_in.there old.now.schema (held runs).has)
           (month_tenths_in.holds format old.now rows (held runs)).1
@@ -349,16 +365,19 @@ module _ (old new : State) where
           (λ (r : (List ℕ × ℕ) × ℕ). (r.0, r.1 + tenths)) rows.month_tenths) (sym bound) (adds_these rows.month_tenths within))
           hidden.0 hidden.1 row merged
 
+      -- what comes back of the row is the sum of what it had and what is added
       pub sum_shown : (row : Row) → Upserts month_tenths tenths_merging params old new row
           → shown_row month_tenths tenths_merging params row ≡ shown_number (sum_of (has month_key))
       sum_shown row merged = ap (λ (p : Row). shown_row month_tenths tenths_merging p row) bound
           ∙ ap (shown_row month_tenths tenths_merging (month_columns (month_key, tenths))) (tenths_after row merged).is
 
+      -- where the sum is not too great for an office, what comes back is no false row
       pub sum_is_shown : IsTotal (sum_of (has month_key))
           → ((row : Row) × (¬ ShowsRecord (λ (t : Tenths). shown_number t.sum) (λ (t : Tenths). IsTotal t.sum)
           (shown_row month_tenths tenths_merging params row)) × Upserts month_tenths tenths_merging params old new row) → ⊥
       sum_is_shown small (row, unread, merged) = unread (record { sum = sum_of (has month_key) }, (sym (sum_shown row merged), small))
 
+    -- after the upsert, the tenths of the meter in the month are more by these
     pub adds_tenths : HasAllTables old → (shown : Tenths) (params : Row) → params ≡ month_columns (month_key, tenths)
         → Touches month_tenths tenths_merging params old new
         → ((IsTrue old.is_open → TakesUpserts old.now month_tenths_at month_tenths) → (row : Row)
@@ -405,9 +424,11 @@ module _ (old new : State) where
 
   -- ---- the totals of a shift
 
+  -- the table of the totals of shifts
   abbrev pub shift_totals : Table
   shift_totals = shift_totals_table (tree_in old.now.schema (codes "shift_totals"))
 
+  -- its place in the schema
   abbrev pub shift_totals_at : ℕ
   shift_totals_at = place_in old.now.schema (codes "shift_totals")
 
@@ -454,6 +475,7 @@ module _ (old new : State) where
         (held : IsTrue old.is_open → HoldsOf present_format format old.now rows) (has : ℕ → Option Totals)
         (are : AreRowsOf rows.shift_totals has) (up : IsKeyedBy (λ (r : ℕ × Totals). pos r.0) rows.shift_totals)
         (room : HasRoomFor (totals_after (has shift))) where
+      -- where the tables hold these rows, that of the totals of shifts takes upserts
       pub takes_totals : IsTrue old.is_open → TakesUpserts old.now shift_totals_at shift_totals
       takes_totals runs = takes shift_totals_kept old (shift_totals_in.there old.now.schema (held runs).has)
           (subst IsInOrder (sym (shift_totals_in.holds format old.now rows (held runs))) (in_order rows.shift_totals up))
@@ -471,16 +493,19 @@ module _ (old new : State) where
           rows.shift_totals) (sym bound) (adds_one rows.shift_totals within_room))
           (shift_totals_in.holds format old.now rows (held (was_open merged))) row merged
 
+      -- what comes back of the row is its totals with one sale more
       pub totals_shown : (row : Row) → Upserts shift_totals totals_merging params old new row
           → shown_row shift_totals totals_merging params row ≡ shown_totals (totals_after (has shift))
       totals_shown row merged = ap (λ (p : Row). shown_row shift_totals totals_merging p row) bound
           ∙ ap (shown_row shift_totals totals_merging sale_params) (shift_after row merged).is
 
+      -- where these are not too great for an office, what comes back is no false row
       pub totals_are_shown : AreTotalsValues (totals_after (has shift))
           → ((row : Row) × (¬ ShowsRecord shown_totals AreTotalsValues (shown_row shift_totals totals_merging params row))
           × Upserts shift_totals totals_merging params old new row) → ⊥
       totals_are_shown small (row, unread, merged) = unread (totals_after (has shift), (sym (totals_shown row merged), small))
 
+    -- after the upsert, the totals of the shift are those with one sale more
     pub adds_to_shift : HasAllTables old → (shown : Totals) (params : Row) → params ≡ sale_params → Touches shift_totals totals_merging params old new
         → ((IsTrue old.is_open → TakesUpserts old.now shift_totals_at shift_totals) → (row : Row)
         × IsShown shown_totals AreTotalsValues (shown_row shift_totals totals_merging params row) shown

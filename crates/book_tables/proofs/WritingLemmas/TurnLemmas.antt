@@ -1,5 +1,5 @@
 -- The writes of a list whose elements are written in turn.
-use Rattle.std.proofs.Common.{◌≡◌, ◌<◌, ◌+◌, ℕ, List, [], ◌∷◌, ◌++◌, get_or, length, map, take, drop, sym, ap, subst, ◌∙◌, arith, append-nil, append_assoc}
+use Rattle.std.proofs.Common.{◌≡◌, ◌<◌, ◌+◌, ℕ, List, [], ◌∷◌, ◌++◌, get_or, length, map, take, drop, sym, ap, ◌∙◌, append-nil, append_assoc}
 use Rattle.std.proofs.lemmas.List.{length-take-le, map_push, take-append-drop, take_more}
 use Rattle.tariff.specs.declared.step.Step.{Step}
 use Rattle.book_tables.specs.row.Rows.{DatedStepRow, StepRow}
@@ -42,19 +42,23 @@ module _ {X : Type 0} (writes : List X → List Write) (block : List X → X →
 
 -- ---- the steps of a tariff
 
+-- the write of a tariff's step, at the place after those before it
 abbrev pub step_block : List ℕ → List Step → Step → List Write
 step_block name xs s = new_step (step_row name (length xs) s) ∷ []
 
+-- the writes of a tariff and this one are those of the tariff with the step more
 pub tariff_more : (name : List ℕ) (xs : List Step) (s : Step) → tariff_writes name xs ++ step_block name xs s ≡ tariff_writes name (xs ++ s ∷ [])
 tariff_more name xs s =
     let row = step_row name (length xs) s in
     ap (λ (l : List Write). new_tariff name ∷ l) (sym (map_push new_step (step_rows name xs) row)
     ∙ ap (λ (l : List StepRow). map new_step l) (sym (rows_are name xs s)))
 
+-- the write of a step from a first day on, at the place after those before it
 abbrev pub dated_block : List ℕ → ℕ → List Step → Step → List Write
 dated_block name day xs s =
     new_dated (dated_row name day (length xs) s) ∷ []
 
+-- the writes of such steps and this one are those of all these steps
 pub steps_more : (name : List ℕ) (day : ℕ) (xs : List Step) (s : Step) → steps_writes name day xs ++ dated_block name day xs s
     ≡ steps_writes name day (xs ++ s ∷ [])
 steps_more name day xs s =

@@ -92,14 +92,17 @@ module _ {X : Type 0} (number : X → ℕ) where
       let more : length xs + (from + 1) ≡ suc (length xs) + from = omega arith in
       ap (λ n. fold (λ _ x. key x +ℤ pos 1) (pos (n + 1)) xs) here ∙ next_from (from + 1) xs (further from x xs count) ∙ ap pos more
 
+  -- rows that are numbered from 1 on rise by their numbers
   pub numbers_rise : (xs : List X) → AreNumbered number xs → IsKeyedBy key xs
   numbers_rise xs count = keyed_from 1 xs count
 
+  -- and their next number is the one above the last of them
   pub next_number : (xs : List X) (n : ℕ) → IsNextNumber number xs n → pos n ≡ next_key key xs
   next_number xs n next = ap pos next.next_is ∙ sym (next_from 1 xs next.numbered)
 
 -- ---- one table
 
+-- a statement on the rows of one table leaves the rows of all others as they are
 pub only_one : (name : List ℕ) (t : Table) (rows : List Row) (old new : State) → t.tree ≡ tree_in old.now.schema name
     → HasChanged t rows old new → WritesOnly (name ∷ []) old new
 only_one name t rows old new is h = record {
@@ -111,6 +114,7 @@ only_one name t rows old new is h = record {
   sound = h.sound;
 }
 
+-- the same, told of the two databases
 pub changes_only : (name : List ℕ) (old new : State) → WritesOnly (name ∷ []) old new → ChangesOnly name old.now new.now
 changes_only name old new only = record {
   schema = only.schema;
@@ -119,12 +123,14 @@ changes_only name old new only = record {
 
 -- ---- values that a column keeps
 
+-- a column of integers keeps a number that may be missing
 pub cast_optional : (o : Option ℕ) → cast Integer (optional o) ≡ optional o
 cast_optional None = cast_no_int
 cast_optional (Some n) = cast_int (pos n)
 
 -- ---- one row at most
 
+-- as a list, what may be missing has one element at most
 pub few : {X : Type 0} (o : Option X) → length (option_to_list o) ≤ 1
 few None = omega arith
 few (Some x) = omega arith
@@ -151,6 +157,7 @@ module _ (old new : State) (s : Sale) (params : Row) (bound : params ≡ sale_co
   abbrev sales : Table
   sales = sales_table (tree_in old.now.schema (codes "sales"))
 
+  -- after the INSERT, a sale of the next number stands after the others
   pub adds_sale : HasAllTables old → PutsRow sales (new_row sales new_sale_terms params (old.now.trees sales.tree)) old new → AddsSale s old new
   adds_sale has h =
       let only = only_one (codes "sales") sales _ old new refl h.changed in
@@ -178,6 +185,7 @@ module _ (old new : State) where
   abbrev shifts : Table
   shifts = shifts_table (tree_in old.now.schema (codes "shifts"))
 
+  -- after the INSERT, a shift of the next number stands after the others
   pub adds_shift : HasAllTables old → (s : Shift) (params : Row) → params ≡ shift_columns s
       → PutsRow shifts (new_row shifts new_shift_terms params (old.now.trees shifts.tree)) old new → AddsShift s old new
   adds_shift has s params bound h =
@@ -227,6 +235,7 @@ module _ (old new : State) where
   closed_own number moment r is_number own = let same = number_kept (rowid r) is_number in
       (own_number_kept (codes "shifts") number r (cast_row shifts (eval_all closed_row ((Int (pos number) ∷ Int (pos moment) ∷ []) ∷ r ∷ []))) same own, same)
 
+  -- after the UPDATE, the shift of this number is closed at this moment
   pub closes_shift : HasAllTables old → (number moment : ℕ) (params : Row) → params ≡ Int (pos number) ∷ Int (pos moment) ∷ []
       → SetsRows shifts (shift_closed_query shifts.tree) params old new → ClosesShift number moment old new
   closes_shift has number moment params bound h =

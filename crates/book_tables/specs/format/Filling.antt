@@ -1,6 +1,7 @@
 -- The filling of tables that a format lacked, from the meters and the sales of the office, whatever
 -- format `about` tells.
-use Rattle.std.specs.Prelude.{◌≡◌, ◌≢◌, ◌↔◌, ◌≤◌, ◌⊎◌, ℕ, List, ◌∷◌, [], ◌++◌, codes, map, AllPairs, Contains, IsTrue, OnOk, Result, Some}
+use Rattle.std.specs.Prelude.{◌≡◌, ◌≢◌, ◌↔◌, ◌≤◌, ◌⊎◌, ℕ, List, ◌∷◌, [], ◌++◌, codes, map, AllPairs}
+use Rattle.std.specs.Prelude.{Contains, IsTrue, OnOk, Result, Some}
 use Rattle.sqlite.specs.Effect.{IsDatabase}
 use Rattle.sqlite.specs.State.{HasCleanDisk, KeepsCommit, State, Survives}
 use Rattle.sts_fields.specs.declared.base.Base.{Base}
@@ -12,7 +13,8 @@ use Rattle.one_table.specs.InTransaction.{IsUnderWay, StaysInside}
 use Rattle.book_tables.specs.Holds.{HasOffice, HoldsOf}
 use Rattle.book_tables.specs.reading.Reading.{meter_row}
 use Rattle.book_tables.specs.row.Rows.{Rows, present_format}
-use Rattle.book_tables.specs.Stands.{AreTotalsOf, sales_in_month, sales_in_shift, sales_under, tenths_of, totals_of}
+use Rattle.book_tables.specs.Stands.{AreTotalsOf, sales_in_month, sales_in_shift, sales_under}
+use Rattle.book_tables.specs.Stands.{tenths_of, totals_of}
 use Rattle.book_tables.specs.writing.Edited.{no_rows}
 use Rattle.book_tables.specs.writing.Failing.{EndSomehow}
 use Rattle.book_tables.specs.writing.Writes.{Write, new_base, new_last_id, new_month, new_totals}

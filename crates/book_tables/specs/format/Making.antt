@@ -14,7 +14,8 @@ use Rattle.office_rules.specs.declared.office.sale.Sale.{Sale}
 use Rattle.book_tables.specs.writing.Edited.{no_rows}
 use Rattle.book_tables.specs.format.Filling.{AreHanded, IsFilling}
 use Rattle.book_tables.specs.format.Format.{HasFormat, TellsFormat}
-use Rattle.book_tables.specs.Holds.{HasOffice, HasOfficeOf, Holds, HoldsMembers, HoldsOf, StandsFor, rows_in}
+use Rattle.book_tables.specs.Holds.{HasOffice, HasOfficeOf, Holds, HoldsMembers, HoldsOf, StandsFor}
+use Rattle.book_tables.specs.Holds.{rows_in}
 use Rattle.book_tables.specs.Kept.{kept_names, kept_tables, kept_texts, later}
 use Rattle.book_tables.specs.row.Rows.{Rows, about_rows, present_format}
 use Rattle.book_tables.specs.Stands.{AreMembersOf, IsOfFormat}

@@ -10,9 +10,13 @@ use Rattle.office_rules.specs.Name.{IsName}
 use Rattle.office_rules.specs.declared.office.meter.Meter.{Meter}
 use Rattle.office_rules.specs.declared.office.sale.Sale.{Sale}
 use Rattle.office_rules.specs.declared.office.shift.Shift.{Shift}
-use Rattle.book_tables.specs.Kept.{Kept, dated_steps_kept, last_ids_kept, meters_kept, month_tenths_kept, sales_kept, shift_totals_kept, shifts_kept, steps_kept, tariffs_kept}
-use Rattle.book_tables.specs.row.Rows.{number, shown_meter, shown_number, shown_sale, shown_shift, shown_step, shown_totals, tariff_columns}
-use Rattle.book_tables.specs.row.Values.{AreMeterValues, AreSaleValues, AreShiftValues, AreStepValues, AreTotalsValues, IsNumber, IsTid, IsTotal}
+use Rattle.book_tables.specs.Kept.{Kept, dated_steps_kept, last_ids_kept, meters_kept}
+use Rattle.book_tables.specs.Kept.{month_tenths_kept, sales_kept, shift_totals_kept, shifts_kept}
+use Rattle.book_tables.specs.Kept.{steps_kept, tariffs_kept}
+use Rattle.book_tables.specs.row.Rows.{number, shown_meter, shown_number, shown_sale, shown_shift}
+use Rattle.book_tables.specs.row.Rows.{shown_step, shown_totals, tariff_columns}
+use Rattle.book_tables.specs.row.Values.{AreMeterValues, AreSaleValues, AreShiftValues}
+use Rattle.book_tables.specs.row.Values.{AreStepValues, AreTotalsValues, IsNumber, IsTid, IsTotal}
 use Rattle.book_tables.specs.declared.row.totals.Totals.{Totals}
 
 -- the table that is asked, the text of the SELECT and its parameters, and the record that a row of

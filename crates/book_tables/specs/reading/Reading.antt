@@ -1,5 +1,6 @@
 -- What a connection has of the office's tables, and why a read or a write of them fails.
-use Rattle.std.specs.Prelude.{◌≡◌, ◌⊎◌, ◌≤◌, ◌<◌, ℕ, List, Option, None, Some, Result, IfOk, IsSome, IsTrue}
+use Rattle.std.specs.Prelude.{◌≡◌, ◌⊎◌, ◌≤◌, ◌<◌, ℕ, List, Option, None, Some, Result, IfOk, IsSome}
+use Rattle.std.specs.Prelude.{IsTrue}
 use Rattle.sqlite.specs.Effect.{Database}
 use Rattle.sqlite.specs.Order.{Row}
 use Rattle.sqlite.specs.State.{HasCleanDisk, IsUnchanged, State}

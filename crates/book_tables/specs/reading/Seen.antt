@@ -1,6 +1,7 @@
 -- What a read has seen of a database that has the table, whatever its rows are: the records that
 -- the rows of an answer show, and that one of these rows shows none.
-use Rattle.std.specs.Prelude.{◌≡◌, ◌≢◌, ◌⊎◌, ℕ, List, [], Option, None, Some, Any, IfErr, IfOk, IfSome, Result, Vec, take, unwrap_or}
+use Rattle.std.specs.Prelude.{◌≡◌, ◌≢◌, ◌⊎◌, ℕ, List, [], Option, None, Some, Any, IfErr, IfOk}
+use Rattle.std.specs.Prelude.{IfSome, Result, Vec, take, unwrap_or}
 use Rattle.std.specs.List.{AllZip}
 use Rattle.std.specs.Option.{option_to_list}
 use Rattle.std.specs.declared.alloc.Global.{Global}

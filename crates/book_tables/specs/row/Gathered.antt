@@ -9,7 +9,8 @@ use Rattle.sts_fields.specs.Base.{year_of}
 use Rattle.sts_fields.specs.declared.base.Base.{Base}
 use Rattle.office_rules.specs.Office.Lookup.{greatest_of}
 use Rattle.office_rules.specs.declared.office.sale.Sale.{Sale}
-use Rattle.book_tables.specs.Stands.{sales_in_month, sales_in_shift, sales_under, tenths_of, totals_of}
+use Rattle.book_tables.specs.Stands.{sales_in_month, sales_in_shift, sales_under, tenths_of}
+use Rattle.book_tables.specs.Stands.{totals_of}
 use Rattle.book_tables.specs.declared.row.totals.Totals.{Totals}
 use Rattle.book_tables.specs.declared.row.gathered.Gathered.{Gathered}
 

@@ -1,11 +1,16 @@
 -- What an edit makes of the rows.
-use Rattle.std.specs.Prelude.{◌==◌, ℕ, Bool, true, false, List, [], ◌∷◌, ◌++◌, map, bytes_eq, if◌then◌else◌}
+use Rattle.std.specs.Prelude.{◌==◌, ℕ, Bool, true, false, List, [], ◌∷◌, ◌++◌, map, bytes_eq}
+use Rattle.std.specs.Prelude.{if◌then◌else◌}
 use Rattle.std.specs.List.{enumerate_from}
 use Rattle.sts_fields.specs.declared.base.Base.{Base}
 use Rattle.tariff.specs.declared.step.Step.{Step}
 use Rattle.office_rules.specs.Decision.Edits.{closed_at, with_base, with_tariff}
 use Rattle.office_rules.specs.declared.decision.change.Edit.{Edit}
-use Rattle.office_rules.specs.declared.decision.change.Edit.TheVariants.{AddTariff, AddSteps, AddMeter, AddRows, SetTariff, MoveBase, OpenShift, CloseShift, AddSale}
+use Rattle.office_rules.specs.declared.decision.change.Edit.TheVariants.{AddTariff, AddSteps}
+use Rattle.office_rules.specs.declared.decision.change.Edit.TheVariants.{AddMeter, AddRows}
+use Rattle.office_rules.specs.declared.decision.change.Edit.TheVariants.{SetTariff, MoveBase}
+use Rattle.office_rules.specs.declared.decision.change.Edit.TheVariants.{OpenShift, CloseShift}
+use Rattle.office_rules.specs.declared.decision.change.Edit.TheVariants.{AddSale}
 use Rattle.office_rules.specs.declared.office.meter.Meter.{Meter}
 use Rattle.office_rules.specs.declared.office.row.Row.{Row}
 use Rattle.office_rules.specs.declared.office.row.Row.TheVariants as kinds

@@ -12,19 +12,25 @@ use Rattle.sqlite.specs.declared.types.Value.TheVariants.{Text}
 use Rattle.sqlite_schema.specs.declared.command.Command.{Command}
 use Rattle.sqlite_schema.specs.declared.command.Returning.{Returning}
 use Rattle.sqlite_schema.specs.declared.schema.Keys.TheVariants.{Enforced}
-use Rattle.sts_fields.specs.Base.{year_of}
 use Rattle.sts_fields.specs.Calendar.{month_at}
 use Rattle.sts_fields.specs.declared.base.Base.{Base}
 use Rattle.one_table.specs.Reading.{MeansAs}
 use Rattle.tariff.specs.declared.step.Step.{Step}
 use Rattle.office_rules.specs.declared.decision.change.Edit.{Edit}
-use Rattle.office_rules.specs.declared.decision.change.Edit.TheVariants.{AddTariff, AddSteps, AddMeter, AddRows, SetTariff, MoveBase, OpenShift, CloseShift, AddSale}
+use Rattle.office_rules.specs.declared.decision.change.Edit.TheVariants.{AddTariff, AddSteps}
+use Rattle.office_rules.specs.declared.decision.change.Edit.TheVariants.{AddMeter, AddRows}
+use Rattle.office_rules.specs.declared.decision.change.Edit.TheVariants.{SetTariff, MoveBase}
+use Rattle.office_rules.specs.declared.decision.change.Edit.TheVariants.{OpenShift, CloseShift}
+use Rattle.office_rules.specs.declared.decision.change.Edit.TheVariants.{AddSale}
 use Rattle.office_rules.specs.declared.office.meter.Meter.{Meter}
 use Rattle.office_rules.specs.declared.office.row.Row.{Row}
 use Rattle.office_rules.specs.declared.office.row.Row.TheVariants as kinds
 use Rattle.office_rules.specs.declared.office.sale.Sale.{Sale}
 use Rattle.office_rules.specs.declared.office.shift.Shift.{Shift}
-use Rattle.book_tables.specs.row.Rows.{DatedStepRow, StepRow, base_columns, dated_columns, last_id_columns, meter_columns, month_columns, number, sale_columns, shift_columns, step_columns, tariff_columns, totals_columns}
+use Rattle.book_tables.specs.row.Rows.{DatedStepRow, StepRow, base_columns, dated_columns}
+use Rattle.book_tables.specs.row.Rows.{last_id_columns, meter_columns, month_columns, number}
+use Rattle.book_tables.specs.row.Rows.{sale_columns, shift_columns, step_columns, tariff_columns}
+use Rattle.book_tables.specs.row.Rows.{totals_columns}
 use Rattle.book_tables.specs.writing.Edited.{dated_rows, step_rows}
 use Rattle.book_tables.specs.declared.row.totals.Totals.{Totals}
 

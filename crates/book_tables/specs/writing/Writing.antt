@@ -1,5 +1,7 @@
 -- What a write inside a transaction makes of the rows, and what it leaves as it was.
-use Rattle.std.specs.Prelude.{◌≡◌, ◌≢◌, ◌<◌, ◌^◌, ◌==◌, ◌&&◌, ℕ, pos, ◌+◌, Bool, true, List, [], ◌∷◌, ◌++◌, codes, bytes_eq, if◌then◌else◌, length, map, sum_by, unwrap_or, AllPairs, Option, Some, Result, Err, IfErr, IfOk, OnOk, IsTrue}
+use Rattle.std.specs.Prelude.{◌≡◌, ◌≢◌, ◌<◌, ◌^◌, ◌==◌, ◌&&◌, ℕ, pos, ◌+◌, Bool, true, List, []}
+use Rattle.std.specs.Prelude.{◌∷◌, ◌++◌, codes, bytes_eq, if◌then◌else◌, length, map, sum_by}
+use Rattle.std.specs.Prelude.{unwrap_or, AllPairs, Option, Some, Result, Err, IfOk, OnOk, IsTrue}
 use Rattle.std.specs.List.{AllByRecursion}
 use Rattle.sqlite.specs.Effect.{IsDatabase}
 use Rattle.sqlite.specs.State.{HasCleanDisk, Shows, State}
@@ -12,7 +14,9 @@ use Rattle.office_rules.specs.Law.Cash.{cash_of}
 use Rattle.office_rules.specs.Decision.Edits.{applied}
 use Rattle.office_rules.specs.Office.Lookup.{greatest_of}
 use Rattle.office_rules.specs.Law.Store.{MeetsNewSale}
-use Rattle.office_rules.specs.declared.decision.change.Edit.TheVariants.{AddMeter, AddSale, AddSteps, AddTariff, MoveBase}
+use Rattle.office_rules.specs.declared.decision.change.Edit.TheVariants.{AddMeter, AddSale}
+use Rattle.office_rules.specs.declared.decision.change.Edit.TheVariants.{AddSteps, AddTariff}
+use Rattle.office_rules.specs.declared.decision.change.Edit.TheVariants.{MoveBase}
 use Rattle.office_rules.specs.declared.office.meter.Meter.{Meter}
 use Rattle.sqlite_rules.specs.Edit.{IsNoIndex}
 use Rattle.sqlite_schema.specs.declared.schema.Schema.{Schema}
@@ -21,16 +25,24 @@ use Rattle.one_table.specs.Standing.{tree_in}
 use Rattle.office_rules.specs.Office.{AreNumbered, IsOffice, Office}
 use Rattle.office_rules.specs.declared.office.sale.Sale.{Sale}
 use Rattle.office_rules.specs.declared.office.shift.Shift.{Shift}
-use Rattle.book_tables.specs.writing.Edited.{dated_rows, edited, row_with_base, row_with_tariff, shift_closed, step_rows}
+use Rattle.book_tables.specs.writing.Edited.{dated_rows, edited, row_with_base, row_with_tariff}
+use Rattle.book_tables.specs.writing.Edited.{shift_closed, step_rows}
 use Rattle.book_tables.specs.writing.Failing.{Ends, FailsToMerge, FailsToStore}
 use Rattle.book_tables.specs.writing.Writes.{Write}
-use Rattle.book_tables.specs.writing.Keeping.{AreInOrder, KeepsRows, base_keys, dated_keys, dated_step_key, last_id_keys, meter_keys, month_keys, name_keys, sale_key, shift_keys, shift_totals_key, step_keys, tariff_keys, totals_keys}
+use Rattle.book_tables.specs.writing.Keeping.{AreInOrder, KeepsRows, base_keys, dated_keys}
+use Rattle.book_tables.specs.writing.Keeping.{dated_step_key, last_id_keys, meter_keys, month_keys}
+use Rattle.book_tables.specs.writing.Keeping.{name_keys, sale_key, shift_keys, shift_totals_key}
+use Rattle.book_tables.specs.writing.Keeping.{step_keys, tariff_keys, totals_keys}
 use Rattle.book_tables.specs.writing.Storing.{StoresRow, StoresRows}
 use Rattle.book_tables.specs.Holds.{Holds, HoldsMembers, HoldsOf}
-use Rattle.book_tables.specs.Kept.{bases_kept, dated_steps_kept, meters_kept, sales_kept, shifts_kept, steps_kept, tariffs_kept}
+use Rattle.book_tables.specs.Kept.{bases_kept, dated_steps_kept, meters_kept, sales_kept}
+use Rattle.book_tables.specs.Kept.{shifts_kept, steps_kept, tariffs_kept}
 use Rattle.book_tables.specs.reading.Reading.{HasAllTables}
-use Rattle.book_tables.specs.row.Rows.{DatedStepRow, Rows, StepRow, base_columns, dated_columns, meter_columns, present_format, sale_row, shift_row, step_columns, tariff_columns}
-use Rattle.book_tables.specs.Stands.{AreMembersOf, AreRowsOf, AreTotalsOf, sales_in_month, sales_in_shift, sales_under, tenths_of, totals_of}
+use Rattle.book_tables.specs.row.Rows.{DatedStepRow, Rows, StepRow, base_columns, dated_columns}
+use Rattle.book_tables.specs.row.Rows.{meter_columns, present_format, sale_row, shift_row}
+use Rattle.book_tables.specs.row.Rows.{step_columns, tariff_columns}
+use Rattle.book_tables.specs.Stands.{AreMembersOf, AreRowsOf, AreTotalsOf, sales_in_month}
+use Rattle.book_tables.specs.Stands.{sales_in_shift, sales_under, tenths_of, totals_of}
 use Rattle.book_tables.specs.row.Values.{AreTotalsValues, IsTid, IsTotal}
 use Rattle.book_tables.specs.declared.error.TableError.{TableError}
 use Rattle.book_tables.specs.declared.error.TableError.TheVariants.{RowOfNoOffice}

@@ -3,7 +3,8 @@
 ghost use Rattle.std.specs.Prelude.{◌≡◌, ◌<◌, Contains};
 ghost use Rattle.std.specs.BTreeMap.{values};
 ghost use Rattle.one_table.specs.Over.{Inside};
-ghost use Rattle.book_tables.specs.format.Filling.{Fills, FillsBases, FillsTotals, IsBaseWrite, IsFilling, IsOfTotals, PutsFirst};
+ghost use Rattle.book_tables.specs.format.Filling.{Fills, FillsBases, FillsTotals, IsBaseWrite};
+ghost use Rattle.book_tables.specs.format.Filling.{IsFilling, IsOfTotals, PutsFirst};
 ghost use Rattle.book_tables.specs.format.Making.{FillsMissing};
 ghost use Rattle.book_tables.specs.row.Rows.{present_format};
 

@@ -1,11 +1,13 @@
 //! The statements on the table of sales.
 
-ghost use Rattle.std.specs.Prelude.{◌≡◌, ◌&&◌, ◌==◌, bytes_eq, find, length, option_map, unwrap_or, None};
+ghost use Rattle.std.specs.Prelude.{◌≡◌, ◌&&◌, ◌==◌, bytes_eq, find, length, option_map, unwrap_or};
+ghost use Rattle.std.specs.Prelude.{None};
 ghost use Rattle.std.specs.List.{last_or};
 ghost use Rattle.one_table.specs.Over.{Over};
 ghost use Rattle.sts_fields.specs.Base.{base_eq};
 ghost use Rattle.book_tables.specs.Kept.{sales_kept};
-ghost use Rattle.book_tables.specs.reading.Questions.{the_last_sale, the_sale, the_sale_of_ref, the_sale_of_tid};
+ghost use Rattle.book_tables.specs.reading.Questions.{the_last_sale, the_sale, the_sale_of_ref};
+ghost use Rattle.book_tables.specs.reading.Questions.{the_sale_of_tid};
 ghost use Rattle.book_tables.specs.reading.Reading.{ReadsTable, SaysOfTable};
 ghost use Rattle.book_tables.specs.reading.Seen.{SeesFirst};
 

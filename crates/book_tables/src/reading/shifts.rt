@@ -1,6 +1,7 @@
 //! The statements on the table of shifts.
 
-ghost use Rattle.std.specs.Prelude.{◌≡◌, ◌&&◌, ◌==◌, bytes_eq, find, is_none, length, option_map, unwrap_or, None};
+ghost use Rattle.std.specs.Prelude.{◌≡◌, ◌&&◌, ◌==◌, bytes_eq, find, is_none, length, option_map};
+ghost use Rattle.std.specs.Prelude.{unwrap_or, None};
 ghost use Rattle.std.specs.List.{last_or};
 ghost use Rattle.one_table.specs.Over.{Over};
 ghost use Rattle.book_tables.specs.Kept.{shifts_kept};

@@ -3,7 +3,7 @@
 //! Each function gives `None` exactly where the column holds no value of its kind. They take no
 //! memory.
 
-ghost use Rattle.std.specs.Prelude.{◌≡◌, ◌≤◌, ◌<◌, ◌^◌, ⊤, pos};
+ghost use Rattle.std.specs.Prelude.{◌≡◌, ◌≤◌, ◌<◌, ◌^◌, ⊤};
 ghost use Rattle.std.specs.Option.{option_copied};
 ghost use Rattle.sqlite_value.specs.declared.value.Value.TheVariants.{Int, Text};
 ghost use Rattle.sqlite_value.specs.Order.{column};
@@ -16,7 +16,8 @@ ghost use Rattle.office_rules.specs.Name.{IsMeterNo, IsName, IsOperator};
 ghost use Rattle.sts_fields.specs.Moment.{IsMoment};
 ghost use Rattle.book_tables.specs.row.ReadBack.{ReadsBack};
 ghost use Rattle.book_tables.specs.row.Rows.{number, optional, secret_of};
-ghost use Rattle.book_tables.specs.row.Values.{IsClosing, IsEnd, IsFromTo, IsKey, IsNumber, IsSoldAmount, IsTid, IsTotal};
+ghost use Rattle.book_tables.specs.row.Values.{IsClosing, IsEnd, IsFromTo, IsKey, IsNumber};
+ghost use Rattle.book_tables.specs.row.Values.{IsSoldAmount, IsTid, IsTotal};
 
 use office_rules::{GREATEST_COUNT, MeterNo, Operator, Ref, TariffName};
 use sqlite::Row;

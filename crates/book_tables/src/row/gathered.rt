@@ -1,14 +1,18 @@
 //! The running totals of sales in memory, each under its key.
 
-ghost use Rattle.std.specs.Prelude.{◌≡◌, ◌+◌, ◌++◌, ◌<◌, ◌≤◌, ◌^◌, ◌==◌, List, [], ◌∷◌, ℕ, Option, OnOk, length, map, max, unwrap_or};
+ghost use Rattle.std.specs.Prelude.{◌≡◌, ◌+◌, ◌++◌, ◌<◌, ◌≤◌, ◌^◌, ◌==◌, List, [], ◌∷◌, ℕ, Option};
+ghost use Rattle.std.specs.Prelude.{OnOk, length, map, max, unwrap_or};
 ghost use Rattle.std.specs.Ordering.{nat_cmp};
 ghost use Rattle.sts_fields.specs.Calendar.{month_at};
 ghost use Rattle.sts_fields.specs.declared.base.Base.{Base};
 ghost use Rattle.office_rules.specs.Office.Lookup.{greatest_of};
 ghost use Rattle.office_rules.specs.declared.office.sale.Sale.{Sale};
-ghost use Rattle.book_tables.specs.Stands.{sales_in_month, sales_in_shift, sales_under, tenths_of, totals_of};
-ghost use Rattle.book_tables.specs.row.Gathered.{HoldsAt, IsGathered, IsInWords, base_place, key_cmp, own_place};
-ghost use Rattle.book_tables.specs.writing.Writing.{is_in_month, is_under, no_totals, one_more, put_under};
+ghost use Rattle.book_tables.specs.Stands.{sales_in_month, sales_in_shift, sales_under, tenths_of};
+ghost use Rattle.book_tables.specs.Stands.{totals_of};
+ghost use Rattle.book_tables.specs.row.Gathered.{HoldsAt, IsGathered, IsInWords, base_place};
+ghost use Rattle.book_tables.specs.row.Gathered.{key_cmp, own_place};
+ghost use Rattle.book_tables.specs.writing.Writing.{is_in_month, is_under, no_totals, one_more};
+ghost use Rattle.book_tables.specs.writing.Writing.{put_under};
 ghost use Rattle.book_tables.specs.declared.row.totals.Totals.{Totals};
 
 use crate::row::totals::Totals;

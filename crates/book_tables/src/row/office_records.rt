@@ -5,12 +5,15 @@
 
 ghost use Rattle.office_rules.specs.Decision.Requests.{IsOrder};
 ghost use Rattle.book_tables.specs.row.ReadBack.{ReadsBack};
-ghost use Rattle.book_tables.specs.row.Parts.{AreEntryValues, AreTokenValues, entry_columns, order_columns, shown_entry, sale_part, shown_order, shown_token, token_columns};
-ghost use Rattle.book_tables.specs.row.Rows.{shown_meter, shown_number, shown_sale, shown_shift, shown_step, tariff_columns};
+ghost use Rattle.book_tables.specs.row.Parts.{AreEntryValues, AreTokenValues, entry_columns};
+ghost use Rattle.book_tables.specs.row.Parts.{order_columns, shown_entry, sale_part, shown_order};
+ghost use Rattle.book_tables.specs.row.Parts.{shown_token, token_columns};
+ghost use Rattle.book_tables.specs.row.Rows.{shown_meter, shown_number, shown_sale, shown_shift};
+ghost use Rattle.book_tables.specs.row.Rows.{shown_step, tariff_columns};
 ghost use Rattle.std.specs.Prelude.{◌∷◌, [], ℕ};
-ghost use Rattle.sqlite_value.specs.Order.{column};
 ghost use Rattle.office_rules.specs.Name.{IsName};
-ghost use Rattle.book_tables.specs.row.Values.{AreMeterValues, AreSaleValues, AreShiftValues, AreStepValues, IsNumber};
+ghost use Rattle.book_tables.specs.row.Values.{AreMeterValues, AreSaleValues, AreShiftValues};
+ghost use Rattle.book_tables.specs.row.Values.{AreStepValues, IsNumber};
 
 use crate::row::cells;
 use crate::row::record::Record;

@@ -5,7 +5,9 @@ ghost use Rattle.sqlite.specs.Values.{bound};
 ghost use Rattle.sqlite.specs.declared.types.Value.TheVariants.{Text};
 ghost use Rattle.sts_fields.specs.Base.{year_of};
 ghost use Rattle.sts_token.specs.Key.{IsKeyText};
-ghost use Rattle.book_tables.specs.row.Rows.{dated_columns, last_id_columns, meter_columns, month_columns, number, optional, sale_columns, shift_columns, step_columns, tariff_columns, totals_columns};
+ghost use Rattle.book_tables.specs.row.Rows.{dated_columns, last_id_columns, meter_columns};
+ghost use Rattle.book_tables.specs.row.Rows.{month_columns, number, sale_columns, shift_columns};
+ghost use Rattle.book_tables.specs.row.Rows.{step_columns, tariff_columns, totals_columns};
 ghost use Rattle.sqlite_value.specs.Value.{owned};
 ghost use Rattle.book_tables.specs.writing.Writing.{HasRoomFor};
 

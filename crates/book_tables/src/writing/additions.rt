@@ -7,8 +7,10 @@ ghost use Rattle.one_table.specs.InTransaction.{IsUnderWay, WorksInside};
 ghost use Rattle.book_tables.specs.writing.Failing.{End, FailsToWriteAll};
 ghost use Rattle.book_tables.specs.writing.Edited.{step_row};
 ghost use Rattle.book_tables.specs.reading.Reading.{HasAllTables};
-ghost use Rattle.book_tables.specs.writing.Writes.{meter_writes, new_meter, new_sale, new_shift, new_step, new_tariff, tariff_writes};
-ghost use Rattle.book_tables.specs.writing.Writing.{AddsMeter, AddsMeterRow, AddsName, AddsSale, AddsShift, AddsStep, AddsTariff, WritesTables};
+ghost use Rattle.book_tables.specs.writing.Writes.{meter_writes, new_meter, new_sale, new_shift};
+ghost use Rattle.book_tables.specs.writing.Writes.{new_step, new_tariff, tariff_writes};
+ghost use Rattle.book_tables.specs.writing.Writing.{AddsMeter, AddsMeterRow, AddsName, AddsSale};
+ghost use Rattle.book_tables.specs.writing.Writing.{AddsShift, AddsStep, AddsTariff, WritesTables};
 
 use crate::error::TableError;
 use crate::row::values::{meter_values, sale_values, shift_values, step_values, tariff_values};

@@ -3,7 +3,9 @@
 ghost use Rattle.std.specs.Prelude.{List};
 ghost use Rattle.one_table.specs.InTransaction.{WorksInside};
 ghost use Rattle.book_tables.specs.row.Rows.{Rows};
-ghost use Rattle.book_tables.specs.writing.Putting.{AreAnyIds, FitMonths, FitShifts, PutsLastId, PutsMonth, PutsNext, PutsTotals, with_last_ids, with_month_tenths, with_shift_totals};
+ghost use Rattle.book_tables.specs.writing.Putting.{AreAnyIds, FitMonths, FitShifts, PutsLastId};
+ghost use Rattle.book_tables.specs.writing.Putting.{PutsMonth, PutsNext, PutsTotals, with_last_ids};
+ghost use Rattle.book_tables.specs.writing.Putting.{with_month_tenths, with_shift_totals};
 ghost use Rattle.book_tables.specs.writing.Writes.{Write};
 ghost use Rattle.book_tables.specs.writing.Writing.{WritesTables};
 

@@ -7,8 +7,12 @@ ghost use Rattle.sqlite.specs.State.{HasCleanDisk};
 ghost use Rattle.one_table.specs.InTransaction.{IsUnderWay, WorksInside};
 ghost use Rattle.book_tables.specs.writing.Failing.{End, FailsToMergeAll};
 ghost use Rattle.book_tables.specs.reading.Reading.{HasAllTables};
-ghost use Rattle.book_tables.specs.writing.Writes.{last_id_set, sale_counted, sale_writes, tenths_added, totals_writes};
-ghost use Rattle.book_tables.specs.writing.Writing.{AddsTenths, AddsToShift, FindsNoFalseRow, MayAddSold, MayAddTenths, MayAddToShift, MayAddTotals, MaySetLastId, MergesTables, SetsLastId, TellsSold, TellsSaleTotals};
+ghost use Rattle.book_tables.specs.writing.Writes.{last_id_set, sale_counted, sale_writes};
+ghost use Rattle.book_tables.specs.writing.Writes.{tenths_added, totals_writes};
+ghost use Rattle.book_tables.specs.writing.Writing.{AddsTenths, AddsToShift, FindsNoFalseRow};
+ghost use Rattle.book_tables.specs.writing.Writing.{MayAddSold, MayAddTenths, MayAddToShift};
+ghost use Rattle.book_tables.specs.writing.Writing.{MayAddTotals, MaySetLastId, MergesTables};
+ghost use Rattle.book_tables.specs.writing.Writing.{SetsLastId, TellsSold, TellsSaleTotals};
 
 use crate::error::TableError;
 use crate::row::gathered::month_of_sale;

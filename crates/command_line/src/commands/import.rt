@@ -3,7 +3,7 @@ ghost use Rattle.command_line.specs.Commands.{SaysImport, SaysKind};
 ghost use Rattle.command_line.specs.Said.{IsArgument, ReadsWhat, argument_rows, parsed_argument};
 ghost use Rattle.command_line.specs.Values.{SaysText};
 
-use crate::argument::{Argument, Form};
+use crate::argument::{Argument, ArgumentKind};
 use crate::description::Description;
 use crate::transform::Shipped;
 use crate::{options, said};
@@ -49,14 +49,14 @@ pub(crate) const COMMAND: Description = Description {
 /// The kind of the rows.
 pub(crate) const KIND: Argument = Argument {
     name: "kind",
-    form: Form::Word("KIND"),
+    kind: ArgumentKind::Word("KIND"),
     help: "What the rows are: tariffs or meters",
 };
 
 /// The file of the rows.
 pub(crate) const CSV: Argument = Argument {
     name: "csv",
-    form: Form::Word("CSV"),
+    kind: ArgumentKind::Word("CSV"),
     help: "A CSV file of at most 10000 rows under the header name,steps or name,steps,from, or \
         meter,base,tariff,key",
 };

@@ -1,9 +1,10 @@
 ghost use Rattle.std.specs.Prelude.{codes};
 ghost use Rattle.command_line.specs.Commands.{IsNumberOrNone, SaysList, SaysListed};
-ghost use Rattle.command_line.specs.Said.{IsOptionalArgument, ReadsWhat, argument_rows, parsed_argument};
+ghost use Rattle.command_line.specs.Said.{IsOptionalArgument, ReadsWhat, argument_rows};
+ghost use Rattle.command_line.specs.Said.{parsed_argument};
 ghost use Rattle.command_line.specs.Values.{SaysMeterNo, SaysTariff};
 
-use crate::argument::{Argument, Form};
+use crate::argument::{Argument, ArgumentKind};
 use crate::description::Description;
 use crate::{options, said, values};
 use clap::ArgMatches;
@@ -62,7 +63,7 @@ pub(crate) const COMMAND: Description = Description {
 /// `--after`, which may be left out.
 pub(crate) const AFTER: Argument = Argument {
     name: "after",
-    form: Form::Optional("KEY"),
+    kind: ArgumentKind::Optional("KEY"),
     help: "Print only what comes after this: with tariffs a name, with meters a number of \
         eleven digits, with shifts and sales a number from 0 to 1000000000",
 };
@@ -70,14 +71,14 @@ pub(crate) const AFTER: Argument = Argument {
 /// `--json`.
 pub(crate) const JSON: Argument = Argument {
     name: "json",
-    form: Form::Flag,
+    kind: ArgumentKind::Flag,
     help: "Print the JSON that 'vend serve' replies, a line for each page of at most 100",
 };
 
 /// What is listed.
 pub(crate) const WHAT: Argument = Argument {
     name: "what",
-    form: Form::Word("WHAT"),
+    kind: ArgumentKind::Word("WHAT"),
     help: "What to print: tariffs, meters, shifts or sales",
 };
 

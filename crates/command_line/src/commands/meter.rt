@@ -1,7 +1,7 @@
 ghost use Rattle.command_line.specs.Commands.{SaysMeterCommand};
 ghost use Rattle.command_line.specs.Said.{ReadsWhat, argument_rows};
 
-use crate::argument::{Argument, Form};
+use crate::argument::{Argument, ArgumentKind};
 use crate::description::Description;
 use crate::transform::Shipped;
 use crate::{options, said};
@@ -27,7 +27,7 @@ pub(crate) const COMMAND: Description = Description {
 
 const TOKENS: Argument = Argument {
     name: "tokens",
-    form: Form::Words("TOKEN"),
+    kind: ArgumentKind::Words("TOKEN"),
     help: "A token of twenty digits; or clear, which has the meter forget its identifiers and \
         keep its credit",
 };

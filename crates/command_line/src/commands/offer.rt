@@ -1,7 +1,7 @@
 ghost use Rattle.command_line.specs.Commands.{SaysOffer};
 ghost use Rattle.command_line.specs.Said.{ReadsWhat, argument_rows};
 
-use crate::argument::{Argument, Form};
+use crate::argument::{Argument, ArgumentKind};
 use crate::description::Description;
 use crate::options;
 use clap::ArgMatches;
@@ -48,14 +48,14 @@ pub(crate) const COMMAND: Description = Description {
 /// `--json`.
 pub(crate) const JSON: Argument = Argument {
     name: "json",
-    form: Form::Flag,
+    kind: ArgumentKind::Flag,
     help: "Print the JSON that 'vend serve' replies",
 };
 
 /// The tender.
 pub(crate) const TENDER: Argument = Argument {
     name: "tender",
-    form: Form::Word("TENDER"),
+    kind: ArgumentKind::Word("TENDER"),
     help: "The money in whole cents, 1 to 100000000",
 };
 

@@ -1,9 +1,10 @@
 ghost use Rattle.std.specs.Prelude.{◌≤◌, codes};
 ghost use Rattle.tariff.specs.Cost.{greatest_prior};
-ghost use Rattle.command_line.specs.Said.{IsArgument, ReadsOrFull, ReadsWhat, argument_rows, parsed_argument};
+ghost use Rattle.command_line.specs.Said.{IsArgument, ReadsOrFull, ReadsWhat, argument_rows};
+ghost use Rattle.command_line.specs.Said.{parsed_argument};
 ghost use Rattle.command_line.specs.Values.{SaysPrior, SaysSteps};
 
-use crate::argument::{Argument, Form};
+use crate::argument::{Argument, ArgumentKind};
 use crate::description::Description;
 use crate::transform::Shipped;
 use crate::words::BadWords;
@@ -35,20 +36,20 @@ pub(crate) const COMMAND: Description = Description {
 
 const STEPS: Argument = Argument {
     name: "steps",
-    form: Form::Word("STEPS"),
+    kind: ArgumentKind::Word("STEPS"),
     help: "The steps of a tariff as END:PRICE with ';' between them: ends in tenths of a kWh a \
         month, prices in cents per kWh, the last without an end",
 };
 
 const PRIOR: Argument = Argument {
     name: "prior",
-    form: Form::Word("PRIOR"),
+    kind: ArgumentKind::Word("PRIOR"),
     help: "Tenths of a kWh that the meter had in the month before, 0 to 100000000000000000",
 };
 
 const TENDER: Argument = Argument {
     name: "tender",
-    form: Form::Word("TENDER"),
+    kind: ArgumentKind::Word("TENDER"),
     help: "The money in whole cents, 1 to 100000000",
 };
 

@@ -3,7 +3,7 @@ ghost use Rattle.command_line.specs.Commands.{SaysPaper, SaysReport};
 ghost use Rattle.command_line.specs.Said.{IsArgument, ReadsWhat, argument_rows, parsed_argument};
 ghost use Rattle.command_line.specs.Values.{SaysItem};
 
-use crate::argument::{Argument, Form};
+use crate::argument::{Argument, ArgumentKind};
 use crate::description::Description;
 use crate::{options, said, values};
 use clap::ArgMatches;
@@ -47,14 +47,14 @@ pub(crate) const COMMAND: Description = Description {
 /// `--kind`.
 pub(crate) const KIND: Argument = Argument {
     name: "kind",
-    form: Form::Needed("KIND"),
+    kind: ArgumentKind::Needed("KIND"),
     help: "What to print: shift, receipt, totals or sales",
 };
 
 /// `--number`, which is 1 where it is left out.
 pub(crate) const NUMBER: Argument = Argument {
     name: "number",
-    form: Form::Default("N", "1"),
+    kind: ArgumentKind::Default("N", "1"),
     help: "The number of the shift or the sale, 1 to 1000000000; ignored with sales",
 };
 

@@ -2,7 +2,7 @@ ghost use Rattle.std.specs.Prelude.{codes};
 ghost use Rattle.command_line.specs.Commands.{SaysOrder, SaysRequest};
 ghost use Rattle.command_line.specs.Said.{ReadsWhat, argument_rows};
 
-use crate::argument::{Argument, Form};
+use crate::argument::{Argument, ArgumentKind};
 use crate::description::Description;
 use crate::options;
 use clap::ArgMatches;
@@ -35,14 +35,14 @@ pub(crate) const COMMAND: Description = Description {
 /// `--ref`.
 pub(crate) const ORDER_REF: Argument = Argument {
     name: "ref",
-    form: Form::Needed("REF"),
+    kind: ArgumentKind::Needed("REF"),
     help: "Your name for the order, new for each: 1 to 32 ASCII letters, digits or hyphens",
 };
 
 /// `--tender`.
 pub(crate) const TENDER: Argument = Argument {
     name: "tender",
-    form: Form::Needed("CENTS"),
+    kind: ArgumentKind::Needed("CENTS"),
     help: "The customer's money in whole cents, 1 to 100000000",
 };
 

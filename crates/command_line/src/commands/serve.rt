@@ -5,7 +5,7 @@ ghost use Rattle.command_line.specs.Said.{IsArgument, ReadsWhat, argument_rows, 
 ghost use Rattle.command_line.specs.Values.{SaysConnections};
 
 use crate::address::Address;
-use crate::argument::{Argument, Form};
+use crate::argument::{Argument, ArgumentKind};
 use crate::description::Description;
 use crate::transform::Shipped;
 use crate::{options, said, values};
@@ -42,14 +42,14 @@ pub(crate) const COMMAND: Description = Description {
 
 const LISTEN: Argument = Argument {
     name: "listen",
-    form: Form::Needed("ADDRESS"),
+    kind: ArgumentKind::Needed("ADDRESS"),
     help: "Where to listen: four numbers and a port, e.g. 127.0.0.1:8080; with port 0 the \
         system chooses one",
 };
 
 const CONNECTIONS: Argument = Argument {
     name: "connections",
-    form: Form::Needed("NUMBER"),
+    kind: ArgumentKind::Needed("NUMBER"),
     help: "How many connections to serve before it exits, 1 to 1000000",
 };
 

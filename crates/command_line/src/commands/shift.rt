@@ -2,7 +2,7 @@ ghost use Rattle.std.specs.Prelude.{codes};
 ghost use Rattle.command_line.specs.Commands.{SaysRequest};
 ghost use Rattle.command_line.specs.Said.{ReadsWhat, argument_rows};
 
-use crate::argument::{Argument, Form};
+use crate::argument::{Argument, ArgumentKind};
 use crate::description::Description;
 use crate::{options, said};
 use clap::ArgMatches;
@@ -30,7 +30,7 @@ pub(crate) const COMMAND: Description = Description {
 /// What is done with the shift.
 pub(crate) const ACT: Argument = Argument {
     name: "act",
-    form: Form::Word("ACT"),
+    kind: ArgumentKind::Word("ACT"),
     help: "open or close",
 };
 

@@ -1,7 +1,7 @@
 ghost use Rattle.command_line.specs.Commands.{SaysShow, SaysShown};
 ghost use Rattle.command_line.specs.Said.{ReadsWhat, argument_rows};
 
-use crate::argument::{Argument, Form};
+use crate::argument::{Argument, ArgumentKind};
 use crate::description::Description;
 use crate::{options, said};
 use clap::ArgMatches;
@@ -60,7 +60,7 @@ pub(crate) const COMMAND: Description = Description {
 /// `--meter`, with `meter` and `last`.
 pub(crate) const METER: Argument = Argument {
     name: "meter",
-    form: Form::Optional("NUMBER"),
+    kind: ArgumentKind::Optional("NUMBER"),
     help: "With meter and last: the meter's number, eleven digits of which the last is a \
         Luhn check",
 };
@@ -68,28 +68,28 @@ pub(crate) const METER: Argument = Argument {
 /// `--operator`, with `sale`.
 pub(crate) const OPERATOR: Argument = Argument {
     name: "operator",
-    form: Form::Optional("NAME"),
+    kind: ArgumentKind::Optional("NAME"),
     help: "With sale: the cashier who sold, 1 to 16 ASCII letters or digits",
 };
 
 /// `--ref`, with `sale`.
 pub(crate) const ORDER_REF: Argument = Argument {
     name: "ref",
-    form: Form::Optional("REF"),
+    kind: ArgumentKind::Optional("REF"),
     help: "With sale: your name for the order, 1 to 32 ASCII letters, digits or hyphens",
 };
 
 /// `--json`.
 pub(crate) const JSON: Argument = Argument {
     name: "json",
-    form: Form::Flag,
+    kind: ArgumentKind::Flag,
     help: "With meter and sale: print the JSON that 'vend serve' replies",
 };
 
 /// What is shown.
 pub(crate) const WHAT: Argument = Argument {
     name: "what",
-    form: Form::Word("WHAT"),
+    kind: ArgumentKind::Word("WHAT"),
     help: "What to print: meter, sale or last",
 };
 

@@ -2,7 +2,7 @@ ghost use Rattle.std.specs.Prelude.{Err};
 ghost use Rattle.command_line.specs.Commands.{SaysTrial};
 ghost use Rattle.command_line.specs.Said.{ReadsOrFull, argument_rows};
 
-use crate::argument::{Argument, Form};
+use crate::argument::{Argument, ArgumentKind};
 use crate::description::Description;
 use crate::transform::Shipped;
 use crate::words::BadWords;
@@ -40,7 +40,7 @@ pub(crate) const COMMAND: Description = Description {
 
 const AMOUNTS: Argument = Argument {
     name: "amounts",
-    form: Form::Words("TENTHS"),
+    kind: ArgumentKind::Words("TENTHS"),
     help: "An amount in tenths of a kWh that a token can carry, 1 to 18201624: 105 is 10.5 kWh",
 };
 

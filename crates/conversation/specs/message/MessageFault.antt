@@ -1,7 +1,9 @@
 -- The status codes and the words of the faults of messages.
 use Rattle.std.specs.Prelude.{ℕ, List, codes}
 use Rattle.conversation.specs.declared.message.message_fault.MessageFault.{MessageFault}
-use Rattle.conversation.specs.declared.message.message_fault.MessageFault.TheVariants.{Head, Method, Host, Coding, Length, Body}
+use Rattle.conversation.specs.declared.message.message_fault.MessageFault.TheVariants.{Head, Method}
+use Rattle.conversation.specs.declared.message.message_fault.MessageFault.TheVariants.{Host, Coding}
+use Rattle.conversation.specs.declared.message.message_fault.MessageFault.TheVariants.{Length, Body}
 
 -- 413 for a body that is too long, 501 for what is not implemented, else 400
 abbrev pub message_fault_status : MessageFault → ℕ

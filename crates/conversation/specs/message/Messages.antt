@@ -1,5 +1,6 @@
 -- The messages of an input, by its whole bytes and by how it stops.
-use Rattle.std.specs.Prelude.{◌≡◌, ℕ, ◌+◌, ◌<◌, ◌⊎◌, Bool, List, [], ◌∷◌, ◌++◌, length, Ok, Err, MatchBool, ⊤}
+use Rattle.std.specs.Prelude.{◌≡◌, ℕ, ◌+◌, ◌<◌, ◌⊎◌, Bool, List, [], ◌∷◌, ◌++◌, length, Ok, Err}
+use Rattle.std.specs.Prelude.{MatchBool, ⊤}
 use Rattle.httparse.specs.Grammar.{RequestHead}
 use Rattle.conversation.specs.declared.message.framing.Framing.{Framing}
 use Rattle.conversation.specs.declared.message.message_fault.MessageFault.{MessageFault}

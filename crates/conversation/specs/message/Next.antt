@@ -1,12 +1,14 @@
 -- What `next_of` says of an input.
 use Rattle.std.specs.Prelude.{◌≡◌, ℕ, ◌≤◌, List, ◌++◌, length, drop, ⊤}
 use Rattle.conversation.specs.declared.message.next.Next.{Next}
-use Rattle.conversation.specs.declared.message.next.Next.TheVariants.{Whole, Refused, NeedHead, NeedBody}
+use Rattle.conversation.specs.declared.message.next.Next.TheVariants.{Whole, Refused, NeedHead}
+use Rattle.conversation.specs.declared.message.next.Next.TheVariants.{NeedBody}
 use Rattle.conversation.specs.declared.message.message_fault.MessageFault.{MessageFault}
 use Rattle.conversation.specs.declared.message.message_fault.MessageFault.TheVariants.{Head}
 use Rattle.conversation.specs.declared.message.received.Received.{Received}
 use Rattle.conversation.specs.message.Heads.{HasNoHead, AwaitsHead}
-use Rattle.conversation.specs.message.Messages.{Stop, Message, BeginsMessage, BeginsFaulty, LacksBody, IsMessageRefused}
+use Rattle.conversation.specs.message.Messages.{Stop, Message, BeginsMessage, BeginsFaulty}
+use Rattle.conversation.specs.message.Messages.{LacksBody, IsMessageRefused}
 
 -- a message that was received, without where it lies in memory
 abbrev pub message_of : Received → Message

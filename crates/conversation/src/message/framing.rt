@@ -3,7 +3,8 @@ ghost use Rattle.std.specs.Char.{is_ascii_digit};
 ghost use Rattle.std.specs.List.{list_all};
 ghost use Rattle.httparse.specs.Spans.{IsHeaderWithin};
 ghost use Rattle.conversation.specs.message.Fields.{fields_at, values_of};
-ghost use Rattle.conversation.specs.message.Framing.{body_len, framing, is_number, is_uncoded, length_of, method_of, names_its_host};
+ghost use Rattle.conversation.specs.message.Framing.{body_len, framing, is_number, is_uncoded};
+ghost use Rattle.conversation.specs.message.Framing.{length_of, method_of, names_its_host};
 
 use crate::message::fields::{Only, asks_to_close, only_value};
 use crate::message::message_fault::MessageFault;

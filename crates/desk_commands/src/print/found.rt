@@ -2,7 +2,8 @@
 
 ghost use Rattle.std.specs.Prelude.{◌≡◌, ◌++◌, [], false, MatchResult};
 ghost use Rattle.desk_commands.specs.print.FoundTexts.{IsMadeWhole, found_text, meter_header};
-ghost use Rattle.desk_commands.specs.print.FoundTexts.{meter_table_row, number_or_none, purchase_in};
+ghost use Rattle.desk_commands.specs.print.FoundTexts.{meter_table_row, number_or_none};
+ghost use Rattle.desk_commands.specs.print.FoundTexts.{purchase_in};
 ghost use Rattle.desk_commands.specs.print.FoundTexts.{sale_lines};
 ghost use Rattle.vend_ports.specs.print.Told.{Takes};
 ghost use Rattle.book_states.specs.declared.lookup.Found.TheVariants.{Sale as FoundSale};

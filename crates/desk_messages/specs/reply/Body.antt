@@ -9,7 +9,8 @@ use Rattle.desk_messages.specs.declared.reply.outcome.Outcome.{Outcome}
 use Rattle.desk_messages.specs.declared.reply.outcome.Outcome.TheVariants.{Refused, Faulty, Replied}
 use Rattle.desk_messages.specs.declared.reply.outcome.Outcome.TheVariants as outcomes
 use Rattle.desk_messages.specs.DeskFault.{desk_fault_word}
-use Rattle.desk_messages.specs.reply.Lists.{list_members, listed_meter_data, listed_shift_data, tariff_data}
+use Rattle.desk_messages.specs.reply.Lists.{list_members, listed_meter_data, listed_shift_data}
+use Rattle.desk_messages.specs.reply.Lists.{tariff_data}
 use Rattle.desk_messages.specs.reply.Members.{Pair, json_text, object_of, some_number, whole_number}
 use Rattle.book_tables.specs.row.Rows.{present_format}
 use Rattle.book_tables.specs.declared.row.totals.Totals.{Totals}
@@ -24,9 +25,13 @@ use Rattle.sts_fields.specs.Base.{year_of}
 use Rattle.office_rules.specs.Decision.Refusals.{refusal_category, refusal_name, refusal_number}
 use Rattle.office_rules.specs.Decision.RowCauses.{cause_text}
 use Rattle.office_rules.specs.declared.decision.answer.Answer.{Answer}
-use Rattle.office_rules.specs.declared.decision.answer.Answer.TheVariants.{Done, Imported, Opened, Closed, Sold, Reprinted, Report}
+use Rattle.office_rules.specs.declared.decision.answer.Answer.TheVariants.{Done, Imported, Opened}
+use Rattle.office_rules.specs.declared.decision.answer.Answer.TheVariants.{Closed, Sold, Reprinted}
+use Rattle.office_rules.specs.declared.decision.answer.Answer.TheVariants.{Report}
 use Rattle.office_rules.specs.declared.decision.category.Category.{Category}
-use Rattle.office_rules.specs.declared.decision.category.Category.TheVariants.{Missing, Forbidden, Unfit, UnfitRow, Unable}
+use Rattle.office_rules.specs.declared.decision.category.Category.TheVariants.{Missing, Forbidden}
+use Rattle.office_rules.specs.declared.decision.category.Category.TheVariants.{Unfit, UnfitRow}
+use Rattle.office_rules.specs.declared.decision.category.Category.TheVariants.{Unable}
 use Rattle.office_rules.specs.declared.decision.refusal.Refusal.{Refusal}
 use Rattle.office_rules.specs.declared.office.sale.Sale.{Sale}
 

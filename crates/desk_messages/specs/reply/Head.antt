@@ -14,10 +14,14 @@ use Rattle.desk_messages.specs.DeskFault.{desk_fault_status}
 use Rattle.book_states.specs.declared.lookup.Found.{Found}
 use Rattle.book_states.specs.declared.lookup.Found.TheVariants as found
 use Rattle.office_rules.specs.declared.decision.answer.Answer.{Answer}
-use Rattle.office_rules.specs.declared.decision.answer.Answer.TheVariants.{Done, Imported, Opened, Closed, Sold, Reprinted, Report}
+use Rattle.office_rules.specs.declared.decision.answer.Answer.TheVariants.{Done, Imported, Opened}
+use Rattle.office_rules.specs.declared.decision.answer.Answer.TheVariants.{Closed, Sold, Reprinted}
+use Rattle.office_rules.specs.declared.decision.answer.Answer.TheVariants.{Report}
 use Rattle.office_rules.specs.Decision.Refusals.{refusal_category}
 use Rattle.office_rules.specs.declared.decision.category.Category.{Category}
-use Rattle.office_rules.specs.declared.decision.category.Category.TheVariants.{Missing, Forbidden, Unfit, UnfitRow, Unable}
+use Rattle.office_rules.specs.declared.decision.category.Category.TheVariants.{Missing, Forbidden}
+use Rattle.office_rules.specs.declared.decision.category.Category.TheVariants.{Unfit, UnfitRow}
+use Rattle.office_rules.specs.declared.decision.category.Category.TheVariants.{Unable}
 use Rattle.office_rules.specs.declared.decision.refusal.Refusal.{Refusal}
 
 -- 404 for what is not there, 409 for what the office forbids as it stands, 422 for what cannot be

@@ -3,10 +3,12 @@ use Rattle.std.specs.Prelude.{ℕ, List, [], ◌∷◌, Option, Some, None}
 use Rattle.std.specs.Borrow.{Bor}
 use Rattle.std.specs.List.{fold}
 use Rattle.std.specs.Str.Lossy.{utf8_lossy}
-use Rattle.serde_json.specs.Data.{Data, boolean, null, number, unsigned, string, array, object, Items, no_items, item, Members, no_members, put}
+use Rattle.serde_json.specs.Data.{Data, boolean, null, number, unsigned, string, array, object}
+use Rattle.serde_json.specs.Data.{Items, no_items, item, Members, no_members, put}
 use Rattle.serde_json.specs.Written.{compact_text}
 use Rattle.desk_messages.specs.declared.reply.members.Member.{Member}
-use Rattle.desk_messages.specs.declared.reply.members.Member.TheVariants.{Truth, Number, Word, Text, Nothing}
+use Rattle.desk_messages.specs.declared.reply.members.Member.TheVariants.{Truth, Number, Word, Text}
+use Rattle.desk_messages.specs.declared.reply.members.Member.TheVariants.{Nothing}
 
 -- a name and its value
 abbrev pub Pair : Type 0

@@ -1,5 +1,6 @@
 -- The text of a reply.
-use Rattle.std.specs.Prelude.{ℕ, Bool, List, [], ◌∷◌, ◌++◌, length, codes, decimal, Option, None, Some, if◌then◌else◌}
+use Rattle.std.specs.Prelude.{ℕ, Bool, List, [], ◌∷◌, ◌++◌, length, codes, decimal, Option, None}
+use Rattle.std.specs.Prelude.{Some, if◌then◌else◌}
 use Rattle.http.specs.StatusCode.{status_text}
 use Rattle.conversation.specs.declared.message.method.Method.{Method}
 use Rattle.conversation.specs.declared.message.method.Method.TheVariants.{Get, Post}

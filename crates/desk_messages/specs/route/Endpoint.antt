@@ -1,6 +1,7 @@
 -- The endpoints of the desk: the method and the pattern of each, and the table that targets are
 -- matched with.
-use Rattle.std.specs.Prelude.{◌≡◌, ◌<◌, ◌++◌, ℕ, Bool, false, List, [], ◌∷◌, Result, Ok, Err, codes, decimal, eqb, length}
+use Rattle.std.specs.Prelude.{◌≡◌, ◌<◌, ◌++◌, ℕ, Bool, false, List, [], ◌∷◌, Result, Ok, Err, codes}
+use Rattle.std.specs.Prelude.{decimal, eqb, length}
 use Rattle.std.specs.List.{All, after_first, before_first, fold, position_or_len}
 use Rattle.matchit.specs.Order.{placed}
 use Rattle.matchit.specs.Route.{Scan, parse_route}
@@ -10,7 +11,22 @@ use Rattle.matchit.specs.declared.error.InsertError.{InsertError}
 use Rattle.conversation.specs.declared.message.method.Method.{Method}
 use Rattle.conversation.specs.declared.message.method.Method.TheVariants.{Get, Post}
 use Rattle.desk_messages.specs.declared.route.endpoint.Endpoint.{Endpoint}
-use Rattle.desk_messages.specs.declared.route.endpoint.Endpoint.TheVariants.{Tariffs, TariffSteps, Meters, MeterTariff, MeterBase, Shifts, ShiftClosing, Shift, Sales, Sale, SaleReceipt, MeterImports, TariffImports, Health, Meter, LastSale, Quote, SaleOfRef, ShiftTotals, FirstTariffs, TariffsAfter, FirstMeters, MetersAfter, ShiftsAfter, SalesAfter}
+use Rattle.desk_messages.specs.declared.route.endpoint.Endpoint.TheVariants.{Tariffs, TariffSteps}
+use Rattle.desk_messages.specs.declared.route.endpoint.Endpoint.TheVariants.{Meters, MeterTariff}
+use Rattle.desk_messages.specs.declared.route.endpoint.Endpoint.TheVariants.{MeterBase, Shifts}
+use Rattle.desk_messages.specs.declared.route.endpoint.Endpoint.TheVariants.{ShiftClosing, Shift}
+use Rattle.desk_messages.specs.declared.route.endpoint.Endpoint.TheVariants.{Sales, Sale}
+use Rattle.desk_messages.specs.declared.route.endpoint.Endpoint.TheVariants.{SaleReceipt}
+use Rattle.desk_messages.specs.declared.route.endpoint.Endpoint.TheVariants.{MeterImports}
+use Rattle.desk_messages.specs.declared.route.endpoint.Endpoint.TheVariants.{TariffImports, Health}
+use Rattle.desk_messages.specs.declared.route.endpoint.Endpoint.TheVariants.{Meter, LastSale, Quote}
+use Rattle.desk_messages.specs.declared.route.endpoint.Endpoint.TheVariants.{SaleOfRef, ShiftTotals}
+use Rattle.desk_messages.specs.declared.route.endpoint.Endpoint.TheVariants.{FirstTariffs}
+use Rattle.desk_messages.specs.declared.route.endpoint.Endpoint.TheVariants.{TariffsAfter}
+use Rattle.desk_messages.specs.declared.route.endpoint.Endpoint.TheVariants.{FirstMeters}
+use Rattle.desk_messages.specs.declared.route.endpoint.Endpoint.TheVariants.{MetersAfter}
+use Rattle.desk_messages.specs.declared.route.endpoint.Endpoint.TheVariants.{ShiftsAfter}
+use Rattle.desk_messages.specs.declared.route.endpoint.Endpoint.TheVariants.{SalesAfter}
 
 -- the method that an endpoint is asked by
 abbrev pub endpoint_method : Endpoint → Method

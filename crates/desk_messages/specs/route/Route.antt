@@ -1,5 +1,6 @@
 -- The routes that targets lead to.
-use Rattle.std.specs.Prelude.{◌≡◌, ◌≢◌, ℕ, ◌≤◌, List, Some, None, option_map, Result, Ok, Err, IsUtf8, decimal, ⊤}
+use Rattle.std.specs.Prelude.{◌≡◌, ◌≢◌, ℕ, ◌≤◌, List, Some, None, option_map, Result, Ok, Err}
+use Rattle.std.specs.Prelude.{IsUtf8, decimal, ⊤}
 use Rattle.matchit.specs.Router.{RouteOf}
 use Rattle.matchit.specs.Seek.{first}
 use Rattle.papers.specs.declared.file_kind.FileKind.TheVariants as files
@@ -13,10 +14,27 @@ use Rattle.desk_messages.specs.declared.desk_fault.DeskFault.TheVariants as faul
 use Rattle.desk_messages.specs.declared.json_body.kind.JsonKind.{JsonKind}
 use Rattle.desk_messages.specs.declared.json_body.kind.JsonKind.TheVariants as kinds
 use Rattle.desk_messages.specs.declared.route.endpoint.Endpoint.{Endpoint}
-use Rattle.desk_messages.specs.declared.route.endpoint.Endpoint.TheVariants.{Tariffs, TariffSteps, Meters, MeterTariff, MeterBase, Shifts, ShiftClosing, Shift, Sales, Sale, SaleReceipt, MeterImports, TariffImports, Health, Meter, LastSale, Quote, SaleOfRef, ShiftTotals, FirstTariffs, TariffsAfter, FirstMeters, MetersAfter, ShiftsAfter, SalesAfter}
+use Rattle.desk_messages.specs.declared.route.endpoint.Endpoint.TheVariants.{Tariffs, TariffSteps}
+use Rattle.desk_messages.specs.declared.route.endpoint.Endpoint.TheVariants.{Meters, MeterTariff}
+use Rattle.desk_messages.specs.declared.route.endpoint.Endpoint.TheVariants.{MeterBase, Shifts}
+use Rattle.desk_messages.specs.declared.route.endpoint.Endpoint.TheVariants.{ShiftClosing, Shift}
+use Rattle.desk_messages.specs.declared.route.endpoint.Endpoint.TheVariants.{Sales, Sale}
+use Rattle.desk_messages.specs.declared.route.endpoint.Endpoint.TheVariants.{SaleReceipt}
+use Rattle.desk_messages.specs.declared.route.endpoint.Endpoint.TheVariants.{MeterImports}
+use Rattle.desk_messages.specs.declared.route.endpoint.Endpoint.TheVariants.{TariffImports, Health}
+use Rattle.desk_messages.specs.declared.route.endpoint.Endpoint.TheVariants.{Meter, LastSale, Quote}
+use Rattle.desk_messages.specs.declared.route.endpoint.Endpoint.TheVariants.{SaleOfRef, ShiftTotals}
+use Rattle.desk_messages.specs.declared.route.endpoint.Endpoint.TheVariants.{FirstTariffs}
+use Rattle.desk_messages.specs.declared.route.endpoint.Endpoint.TheVariants.{TariffsAfter}
+use Rattle.desk_messages.specs.declared.route.endpoint.Endpoint.TheVariants.{FirstMeters}
+use Rattle.desk_messages.specs.declared.route.endpoint.Endpoint.TheVariants.{MetersAfter}
+use Rattle.desk_messages.specs.declared.route.endpoint.Endpoint.TheVariants.{ShiftsAfter}
+use Rattle.desk_messages.specs.declared.route.endpoint.Endpoint.TheVariants.{SalesAfter}
 use Rattle.desk_messages.specs.declared.route.Route.{Route}
-use Rattle.desk_messages.specs.declared.route.Route.TheVariants.{Object, Import, ShiftReport, Reprint, Receipt, LookUp}
-use Rattle.desk_messages.specs.route.Endpoint.{endpoint_method, filled, pattern_of, quote_target, sale_target, table}
+use Rattle.desk_messages.specs.declared.route.Route.TheVariants.{Object, Import, ShiftReport}
+use Rattle.desk_messages.specs.declared.route.Route.TheVariants.{Reprint, Receipt, LookUp}
+use Rattle.desk_messages.specs.route.Endpoint.{endpoint_method, filled, pattern_of, quote_target}
+use Rattle.desk_messages.specs.route.Endpoint.{sale_target, table}
 
 -- the endpoint at which something is looked up
 abbrev pub lookup_endpoint : Lookup → Endpoint

@@ -1,5 +1,8 @@
 ghost use Rattle.serde_json.specs.View.{view};
-ghost use Rattle.desk_messages.specs.json_body.Body.{BodySays, BodySaysMeter, BodySaysOperator, BodySaysBase, BodySaysDatedSteps, BodySaysOrder, BodySaysTariff, BodySaysTariffName};
+ghost use Rattle.desk_messages.specs.json_body.Body.{BodySays, BodySaysMeter, BodySaysOperator};
+ghost use Rattle.desk_messages.specs.json_body.Body.{BodySaysBase, BodySaysDatedSteps};
+ghost use Rattle.desk_messages.specs.json_body.Body.{BodySaysOrder, BodySaysTariff};
+ghost use Rattle.desk_messages.specs.json_body.Body.{BodySaysTariffName};
 ghost use Rattle.desk_messages.specs.Reads.{IsFound, IsFoundInBody};
 
 use crate::body_fault::BodyFault;

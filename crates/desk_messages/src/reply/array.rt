@@ -1,6 +1,7 @@
 //! Arrays of JSON, written as they stand: no value is made of what stands in them.
 
-ghost use Rattle.std.specs.Prelude.{◌≡◌, ◌++◌, ◌∷◌, IfOk, OnOk, [], codes, decimal, if◌then◌else◌, map};
+ghost use Rattle.std.specs.Prelude.{◌≡◌, ◌++◌, ◌∷◌, IfOk, OnOk, [], codes, decimal, if◌then◌else◌};
+ghost use Rattle.std.specs.Prelude.{map};
 ghost use Rattle.serde_json.specs.Written.{compact_text};
 ghost use Rattle.desk_messages.specs.reply.Members.{array_of};
 

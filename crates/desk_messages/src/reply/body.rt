@@ -1,7 +1,9 @@
 ghost use Rattle.std.specs.Prelude.{◌≡◌, ◌↔◌, IfOk, IfSome, IsTrue};
 ghost use Rattle.sts_token.specs.Token.{AreTwentyDigits};
 ghost use Rattle.desk_messages.specs.reply.Members.{json_text};
-ghost use Rattle.desk_messages.specs.reply.Body.{answer_body, body_of, fault_members, found_body, name_members, refusal_members, row_members, sale_body, sale_members};
+ghost use Rattle.desk_messages.specs.reply.Body.{answer_body, body_of, fault_members, found_body};
+ghost use Rattle.desk_messages.specs.reply.Body.{name_members, refusal_members, row_members};
+ghost use Rattle.desk_messages.specs.reply.Body.{sale_body, sale_members};
 
 use crate::reply::form::Form;
 use crate::reply::found::{health_body, meter_body, quote_body, totals_body};

@@ -1,7 +1,8 @@
 //! What is found in an office, as JSON.
 
 ghost use Rattle.std.specs.Prelude.{◌≡◌, IfOk};
-ghost use Rattle.desk_messages.specs.reply.Body.{health_members, meter_members, quote_members, totals_members};
+ghost use Rattle.desk_messages.specs.reply.Body.{health_members, meter_members, quote_members};
+ghost use Rattle.desk_messages.specs.reply.Body.{totals_members};
 ghost use Rattle.desk_messages.specs.reply.Members.{data_of, json_text, some_number};
 
 use crate::reply::members::{Member, object_text};

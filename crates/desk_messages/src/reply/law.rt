@@ -12,7 +12,10 @@ ghost use Rattle.book_states.specs.declared.lookup.ListedShift.{ListedShift};
 ghost use Rattle.book_states.specs.declared.lookup.ListedTariff.{ListedTariff};
 ghost use Rattle.desk_messages.specs.reply.Members.{array_of, json_text};
 ghost use Rattle.desk_messages.specs.reply.Body.{sale_data, sale_members};
-ghost use Rattle.desk_messages.specs.reply.Lists.{array_text, day_text, later_data, later_text, list_members, list_text, listed_meter_data, listed_meter_text, listed_shift_data, listed_shift_text, tariff_data, tariff_text};
+ghost use Rattle.desk_messages.specs.reply.Lists.{array_text, day_text, later_data, later_text};
+ghost use Rattle.desk_messages.specs.reply.Lists.{list_members, list_text, listed_meter_data};
+ghost use Rattle.desk_messages.specs.reply.Lists.{listed_meter_text, listed_shift_data};
+ghost use Rattle.desk_messages.specs.reply.Lists.{listed_shift_text, tariff_data, tariff_text};
 ghost use Rattle.desk_messages.specs.reply.SaleText.{IsTellableSale, sale_text};
 ghost use Rattle.office_rules.specs.declared.office.sale.Sale.{Sale};
 

@@ -3,7 +3,8 @@
 ghost use Rattle.std.specs.Prelude.{◌≡◌, ◌++◌, IfOk, OnOk, codes, map};
 ghost use Rattle.serde_json.specs.Written.{compact_text};
 ghost use Rattle.desk_messages.specs.reply.Body.{sale_data};
-ghost use Rattle.desk_messages.specs.reply.Lists.{list_members, listed_meter_data, listed_shift_data, tariff_data};
+ghost use Rattle.desk_messages.specs.reply.Lists.{list_members, listed_meter_data};
+ghost use Rattle.desk_messages.specs.reply.Lists.{listed_shift_data, tariff_data};
 ghost use Rattle.desk_messages.specs.reply.Members.{json_text, some_number};
 
 use crate::reply::array::{Element, array_behind, put_array, put_number};

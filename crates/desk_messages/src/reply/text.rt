@@ -1,6 +1,8 @@
 ghost use Rattle.std.specs.Prelude.{◌≡◌, ◌++◌, IfOk, OnOk, codes, decimal};
 ghost use Rattle.http.specs.StatusCode.{IsStatusCode};
-ghost use Rattle.desk_messages.specs.reply.Text.{allow_line, connection_line, field_line, media_type, reply_bytes_of, reply_text, status_line};
+ghost use Rattle.desk_messages.specs.reply.Text.{allow_line, connection_line, field_line};
+ghost use Rattle.desk_messages.specs.reply.Text.{media_type, reply_bytes_of, reply_text};
+ghost use Rattle.desk_messages.specs.reply.Text.{status_line};
 
 use crate::reply::body::{body_of, plain_sale};
 use crate::reply::form::Form;

@@ -1,6 +1,8 @@
-ghost use Rattle.std.specs.Prelude.{◌≡◌, ◌≢◌, ◌++◌, ◌∷◌, ◌<◌, ◌≤◌, ◌↔◌, ℕ, List, IsTrue, MatchOption, decimal, length, slice_index, take};
+ghost use Rattle.std.specs.Prelude.{◌≡◌, ◌≢◌, ◌++◌, ◌∷◌, ◌<◌, ◌≤◌, ◌↔◌, ℕ, List, IsTrue};
+ghost use Rattle.std.specs.Prelude.{MatchOption, decimal, length, slice_index, take};
 ghost use Rattle.desk_messages.specs.Reads.{IsFound, ReadsWritten};
-ghost use Rattle.desk_messages.specs.route.Endpoint.{HasParameter, LacksSlash, filled, pattern_of, quote_target, sale_target};
+ghost use Rattle.desk_messages.specs.route.Endpoint.{HasParameter, LacksSlash, filled, pattern_of};
+ghost use Rattle.desk_messages.specs.route.Endpoint.{quote_target, sale_target};
 ghost use Rattle.desk_messages.specs.route.Route.{IsPageStart, IsTargetNumber};
 ghost use Rattle.tariff.specs.Tender.{IsTender};
 ghost use Rattle.office_rules.specs.Name.{IsMeterNo, IsName, IsOperator};

@@ -12,7 +12,8 @@ use Rattle.vend_ports.specs.print.Told.{IsTold, Outputs}
 use Rattle.office_commands.specs.print.Totalled.{IsTotalled}
 use Rattle.office_commands.specs.office.Visited.{IsVisited}
 use Rattle.command_line.specs.declared.commands.report.Paper.{Paper}
-use Rattle.command_line.specs.declared.commands.report.Paper.TheVariants.{Shift, Receipt, Totals, Sales}
+use Rattle.command_line.specs.declared.commands.report.Paper.TheVariants.{Shift, Receipt, Totals}
+use Rattle.command_line.specs.declared.commands.report.Paper.TheVariants.{Sales}
 use Rattle.command_line.specs.declared.commands.report.ReportWords.{ReportWords}
 use Rattle.command_line.specs.declared.transform.Shipped.TheVariants.{Plain}
 use Rattle.vend_ports.specs.declared.command_end.CommandEnd.{CommandEnd}

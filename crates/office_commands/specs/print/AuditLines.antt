@@ -10,7 +10,8 @@ use Rattle.audit.specs.declared.following.Part.{Part}
 use Rattle.audit.specs.declared.following.Part.TheVariants as part
 use Rattle.audit_rows.specs.declared.finding.Finding.{Finding}
 use Rattle.audit_rows.specs.declared.finding.RowKey.{RowKey}
-use Rattle.audit_rows.specs.declared.finding.RowKey.TheVariants.{Number, Tariff, Step, DatedStep, Meter, Base, Month, Columns}
+use Rattle.audit_rows.specs.declared.finding.RowKey.TheVariants.{Number, Tariff, Step, DatedStep}
+use Rattle.audit_rows.specs.declared.finding.RowKey.TheVariants.{Meter, Base, Month, Columns}
 use Rattle.audit_rows.specs.declared.finding.Rule.{Rule}
 use Rattle.audit_rows.specs.declared.finding.Rule.TheVariants as rule
 use Rattle.sts_fields.specs.Base.{year_of}

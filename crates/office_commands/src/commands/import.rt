@@ -1,7 +1,8 @@
 ghost use Rattle.std.specs.Prelude.{◌≡◌, List};
 ghost use Rattle.papers.specs.File.{AreFileRecords, Fields};
 ghost use Rattle.papers.specs.Import.{IsReading};
-ghost use Rattle.office_commands.specs.commands.Imported.{IsFileImported, IsImported, refusal_of_rows};
+ghost use Rattle.office_commands.specs.commands.Imported.{IsFileImported, IsImported};
+ghost use Rattle.office_commands.specs.commands.Imported.{refusal_of_rows};
 ghost use Rattle.vend_ports.specs.port.Dial.{dial_of};
 ghost use Rattle.office_commands.specs.port.Places.{places_of};
 ghost use Rattle.vend_ports.specs.port.Texts.{texts_of};

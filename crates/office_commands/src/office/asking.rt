@@ -2,7 +2,8 @@
 
 ghost use Rattle.std.specs.Prelude.{[], MatchResult};
 ghost use Rattle.books.specs.Keeps.{seen};
-ghost use Rattle.office_commands.specs.office.Served.{IsServedAndTold, TakesAnswerRoom, TellsAnswer, answer_text};
+ghost use Rattle.office_commands.specs.office.Served.{IsServedAndTold, TakesAnswerRoom};
+ghost use Rattle.office_commands.specs.office.Served.{TellsAnswer, answer_text};
 ghost use Rattle.vend_ports.specs.print.Told.{Takes, outputs};
 
 use books::Books;

@@ -45,7 +45,7 @@ pub(crate) fn connect<H: OfficeFile>(
         (λ found. IfSome found (λ conn. conn.in_transaction ≡ false)) }
     ensures meets { IfOk result (λ found. IfSome found
         (λ _. (places_of H.Medium.Disk H.Salts.SaltSource H.OfficeFile office path.now
-            wait).meets)) }
+        wait).meets)) }
     ensures misses { IfOk result (λ found. IfNone found
         (places_of H.Medium.Disk H.Salts.SaltSource H.OfficeFile office path.now wait).misses) }
     ensures refuses { IfErr result

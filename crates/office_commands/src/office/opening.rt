@@ -52,7 +52,7 @@ pub fn open_office<H: OfficeFile>(
         (OpensIn H.Medium.Disk (H.image office path.now)) transform) }
     ensures finds { IfOk result
         (λ _. (places_of H.Medium.Disk H.Salts.SaltSource H.OfficeFile office path.now
-            wait).finds) }
+        wait).finds) }
     ensures fails { IfErr result
         (places_of H.Medium.Disk H.Salts.SaltSource H.OfficeFile office path.now wait).fails }
 {

@@ -1,7 +1,6 @@
 //! The files of this machine.
 
-ghost use Rattle.std.specs.Prelude.{⊤, true, false, IfOk};
-ghost use Rattle.sqlite_std_file.specs.File.{IsFresh, file_is_usable};
+ghost use Rattle.std.specs.Prelude.{⊤};
 ghost use Rattle.sqlite_wal.specs.Files.{image_at};
 
 use crate::port::openings::{EachTry, Openings, Pair, PresentOpenings};

@@ -1,7 +1,7 @@
 //! Tries to open the files of an office on this machine.
 
 ghost use Rattle.std.specs.Prelude.{◌≡◌, true, false, IfOk, IfSome};
-ghost use Rattle.sqlite_std_file.specs.File.{IsFresh, file_is_usable};
+ghost use Rattle.sqlite_std_file.specs.File.{IsFresh};
 ghost use Rattle.office_commands.specs.port.Names.{is_address};
 
 use crate::port::tries::Tries;

@@ -5,7 +5,8 @@ ghost use Rattle.sqlite_value.specs.Order.{column};
 ghost use Rattle.sqlite_value.specs.Value.{owned};
 ghost use Rattle.sts_fields.specs.Text.{Text};
 ghost use Rattle.office_commands.specs.print.AuditLines.{TellsRow, TellsValue, broken_line};
-ghost use Rattle.office_commands.specs.print.AuditLines.{part_text, passed_line, rule_text, sound_line};
+ghost use Rattle.office_commands.specs.print.AuditLines.{part_text, passed_line, rule_text};
+ghost use Rattle.office_commands.specs.print.AuditLines.{sound_line};
 ghost use Rattle.vend_ports.specs.print.Told.{Takes};
 
 use audit::{Audited, Finding, Part, RowKey, Rule};

@@ -1,7 +1,8 @@
 //! Whether what is added is new, where something stands under its name, or why it is refused.
 ghost use Rattle.std.specs.Prelude.{◌≡◌, ◌⊎◌, ℕ, List, IfErr};
 ghost use Rattle.std.specs.Option.{option_copied};
-ghost use Rattle.office_rules.specs.Decision.{add_meter, add_steps, add_tariff, is_new, meter_eq, steps_eq};
+ghost use Rattle.office_rules.specs.Decision.{add_meter, add_steps, add_tariff, is_new, meter_eq};
+ghost use Rattle.office_rules.specs.Decision.{steps_eq};
 
 use office_rules::{Meter, Refusal};
 use sts_fields::Day;

@@ -1,10 +1,12 @@
 //! How an import is decided: its rows in order, each against the office with the rows before it.
-ghost use Rattle.std.specs.Prelude.{◌≡◌, ◌≢◌, ◌≤◌, ◌⊎◌, ℕ, List, IfErr, IfOk, Ok, Err, None, Some, is_some, length};
+ghost use Rattle.std.specs.Prelude.{◌≡◌, ◌≢◌, ◌≤◌, ◌⊎◌, ℕ, List, IfErr, IfOk, Ok, Err, None, Some};
+ghost use Rattle.std.specs.Prelude.{is_some, length};
 ghost use Rattle.std.specs.Option.{option_copied, option_or};
 ghost use Rattle.sts_fields.specs.Day.{day_at};
 ghost use Rattle.office_rules.specs.Decision.{at_row, import, new_rows};
 ghost use Rattle.office_rules.specs.Decision.Edits.{with_rows};
-ghost use Rattle.office_rules.specs.Decision.Facts.{AreRowsFacts, HasNewRow, IsUnlessMemory, row_facts};
+ghost use Rattle.office_rules.specs.Decision.Facts.{AreRowsFacts, HasNewRow, IsUnlessMemory};
+ghost use Rattle.office_rules.specs.Decision.Facts.{row_facts};
 ghost use Rattle.office_rules.specs.Office.{Office};
 ghost use Rattle.office_rules.specs.Office.Rows.{greatest_rows};
 ghost use Rattle.office_decisions.specs.RowsTaken.{dated_under, under};
@@ -41,7 +43,8 @@ struct RowsTaken<'a> {
 }
 
 impl<'a> RowsTaken<'a> {
-    ghost use Rattle.std.specs.Prelude.{◌≡◌, ◌≢◌, ◌+◌, ◌≤◌, ◌⊎◌, ◌++◌, ◌∷◌, [], IfErr, OnOk, Ok, Err, Some, is_some, length, true, if◌then◌else◌};
+    ghost use Rattle.std.specs.Prelude.{◌≡◌, ◌≢◌, ◌+◌, ◌≤◌, ◌⊎◌, ◌++◌, ◌∷◌, [], IfErr, OnOk, Ok};
+    ghost use Rattle.std.specs.Prelude.{Err, Some, is_some, length, true, if◌then◌else◌};
     ghost use Rattle.std.specs.Option.{option_copied};
     ghost use Rattle.office_rules.specs.Decision.{at_row, is_new, row_decision};
     ghost use Rattle.office_rules.specs.Decision.Edits.{with_rows};

@@ -88,15 +88,18 @@ pub some_put : {A : Type 0} (b : Bool) (x : A) (there : Option A) → IsSome the
 some_put true x there some = refl
 some_put false x there some = some
 
+-- what stands where a row may have been put is that row, or stood there before
 pub put_at : {A : Type 0} (b : Bool) (x y : A) (there : Option A) → (if b then Some x else there) ≡ Some y → ((b ≡ true) × (x ≡ y)) ⊎ (there ≡ Some y)
 put_at true x y there e = inl (refl, same_Some x y e)
 put_at false x y there e = inr e
 
+-- the same under a name: the row put is found under its own name only
 pub put_cases : {A : Type 0} (b : Bool) (q name : List ℕ) (x y : A) (there : Option A) → bytes_eq q name ≡ b
     → (if b then Some x else there) ≡ Some y → ((q ≡ name) × (x ≡ y)) ⊎ (there ≡ Some y)
 put_cases true q name x y there is e = inl ((bytes_eq-Decides q name).0 is, same_Some x y e)
 put_cases false q name x y there is e = inr e
 
+-- an office with a tariff more is an office
 pub keeps_add_tariff : (o : Office) (name : List ℕ) (steps : List Step) → IsOffice o → IsName name → IsSteps steps
     → IsOffice (applied (edits.AddTariff name steps) o)
 keeps_add_tariff o name steps office named priced =
@@ -128,6 +131,7 @@ keeps_add_tariff o name steps office named priced =
 equal_days : (d day : ℕ) → (d == day) ≡ true → d ≡ day
 equal_days d day e = grind (arith, nat_tests)
 
+-- an office with further steps of one of its tariffs is an office
 pub keeps_add_steps : (o : Office) (name : List ℕ) (day : ℕ) (steps : List Step) → IsOffice o → IsDay day → IsSteps steps
     → IsSome (o.tariffs name) → IsOffice (applied (edits.AddSteps name day steps) o)
 keeps_add_steps o name day steps office is priced tariff =
@@ -180,6 +184,7 @@ more_here number base bases =
     let here : bytes_eq number number ≡ true = (bytes_eq-Decides number number).1 refl in
     ap (λ (x : Bool). (x && base_eq base base) || bases number base) here ∙ ap (λ (x : Bool). x || bases number base) (base_eq-refl base)
 
+-- an office with a meter more, under a free number, is an office
 pub keeps_add_meter : (o : Office) (number : List ℕ) (m : Meter) → IsOffice o → IsMeter number m → o.meters number ≡ None
     → IsSome (o.tariffs m.tariff) → IsOffice (applied (edits.AddMeter number m) o)
 keeps_add_meter o number m office is free tariff =
@@ -232,6 +237,7 @@ same_base : (b : Bool) (name : List ℕ) (m : Meter) → (if b then with_tariff 
 same_base true name m = refl
 same_base false name m = refl
 
+-- an office with a meter set to one of its tariffs is an office
 pub keeps_set_tariff : (o : Office) (number name : List ℕ) → IsOffice o → IsSome (o.tariffs name) → IsOffice (applied (edits.SetTariff number name) o)
 keeps_set_tariff o number name office named =
     let p = applied (edits.SetTariff number name) o in
@@ -274,6 +280,7 @@ moved_base true q number base m k meters is there later at =
     omega (arith, later, ap (λ (n : Meter). year_of n.base) same)
 moved_base false q number base m k meters is there later at = omega arith
 
+-- an office with a meter moved to a base that is not earlier is an office
 pub keeps_move_base : (o : Office) (number : List ℕ) (base : Base) (m : Meter) → IsOffice o → o.meters number ≡ Some m
     → year_of m.base ≤ year_of base → IsOffice (applied (edits.MoveBase number base) o)
 keeps_move_base o number base m office there later =
@@ -326,6 +333,7 @@ both_open : (a : Shift) (operator : List ℕ) (b : Bool) → bytes_eq a.operator
     → (bytes_eq a.operator operator && is_none a.closed) ≡ false → ⊥
 both_open a operator b same is none fails = let opened : is_none a.closed ≡ true = ap not none in grind (arith, nat_tests)
 
+-- an office with a shift opened for an operator who had none open is an office
 pub keeps_open_shift : (o : Office) (s : Shift) → IsOffice o → IsShiftRow s → s.number ≡ length o.shifts + 1 → open_shift o s.operator
     ≡ None → length o.shifts < greatest_count → IsOffice (applied (edits.OpenShift s) o)
 keeps_open_shift o s office row number alone room =
@@ -372,6 +380,7 @@ closing_apart number moment a b apart a_open b_open same =
     let y = closing_open (b.number == number) moment b b_open in
     apart x.0 y.0 (sym x.1 ∙ same ∙ y.1)
 
+-- an office with a shift closed is an office
 pub keeps_close_shift : (o : Office) (number moment : ℕ) → IsOffice o → IsMoment moment → IsOffice (applied (edits.CloseShift number moment) o)
 keeps_close_shift o number moment office is =
     let p = applied (edits.CloseShift number moment) o in
@@ -394,6 +403,7 @@ keeps_close_shift o number moment office is =
       sale_count = office.sale_count;
     }
 
+-- an office with one sale more, made after all the others, is an office
 pub keeps_add_sale : (o : Office) (s : Sale) → IsOffice o → IsSaleRow o s → s.number ≡ length o.sales + 1
     → ((a : Sale) → Contains o.sales a → IsBefore a s) → length o.sales < greatest_count → IsOffice (applied (edits.AddSale s) o)
 keeps_add_sale o s office row number after room =

@@ -50,6 +50,7 @@ meter_grants o number m (Some there) has change is e = stands_if o (kinds.Meter 
 meter_grants o number m None true change is e = subst (Grants o (kinds.Meter number m)) (same_Ok _ _ e) (inr (refl, refl, (is, tt)))
 meter_grants o number m None false change is e = cc
 
+-- the decision on a row, if it grants it, changes nothing or puts just that row
 pub row_grants : (o : Office) (today : ℕ) (row : Row) (change : Change) → row_decision o today row ≡ Ok change → Grants o row change
 row_grants o today (kinds.Tariff name steps) change e = tariff_grants o name steps (o.tariffs name) change e
 row_grants o today (kinds.Steps name day steps) change e = steps_grants o name day today steps (is_some (o.tariffs name)) (o.dated_steps name day) change e
@@ -71,6 +72,7 @@ pub record Takes (o : Office) (today number : ℕ) (row : Row) (rest new : List 
   pub new_is : new ≡ (if is_some change.edit then row ∷ more else more)
   pub grants : Grants o row change
 
+-- where an import finds its new rows, its first row is granted, and the rest after it
 pub takes : (o : Office) (today number : ℕ) (row : Row) (rest new : List Row) → new_rows o today number (row ∷ rest) ≡ Ok new
     → Takes o today number row rest new
 takes o today number row rest new e =
@@ -94,6 +96,7 @@ with_rest o row more change (inl (none, same)) =
 with_rest o row more change (inr (some, put, fits)) =
     ap (λ (b : Bool). with_rows (if b then row ∷ more else more) o) some ∙ ap (with_rows more) (sym put)
 
+-- all new rows make the office that the first row and then the rest make
 pub taken_office : (o : Office) (today number : ℕ) (row : Row) (rest new : List Row) (t : Takes o today number row rest new)
     → with_rows new o ≡ with_rows t.more (office_after o (Ok t.change))
 taken_office o today number row rest new t = ap (λ (rows : List Row). with_rows rows o) t.new_is ∙ with_rest o row t.more t.change t.grants
@@ -111,6 +114,7 @@ fits_grant o row more change (inl (none, same)) fits =
 fits_grant o row more change (inr (some, put, first)) fits =
     subst (λ (b : Bool). RowsFit (if b then row ∷ more else more) o) (sym some) (fits_first o row more first (subst (RowsFit more) put fits))
 
+-- an import's new rows fit: a meter's tariff is there, or in a row before it
 pub new_rows_fit : (o : Office) (today number : ℕ) (rows new : List Row) → new_rows o today number rows ≡ Ok new → RowsFit new o
 new_rows_fit o today number [] new e = subst (λ (rows : List Row). RowsFit rows o) (same_Ok _ new e) tt
 new_rows_fit o today number (row ∷ rest) new e =
@@ -118,6 +122,7 @@ new_rows_fit o today number (row ∷ rest) new e =
     subst (λ (rows : List Row). RowsFit rows o) (sym t.new_is)
     (fits_grant o row t.more t.change t.grants (new_rows_fit (office_after o (Ok t.change)) today (number + 1) rest t.more t.further))
 
+-- adding the new rows makes the office with them, also where there are none
 pub after_add : (o : Office) (new : List Row) → office_after o (add_rows new) ≡ with_rows new o
 after_add o [] = refl
 after_add o (row ∷ rest) = refl
@@ -125,6 +130,7 @@ after_add o (row ∷ rest) = refl
 -- what each row keeps, an import keeps
 module _ (P : Office → Type 0) (Q : Row → Type 0) (today : ℕ)
     (each : (o : Office) (row : Row) → Q row → P o → P (office_after o (row_decision o today row))) where
+  -- what each row keeps holds of the office with an import's new rows
   pub new_rows_keep : (o : Office) (number : ℕ) (rows new : List Row) → All Q rows → P o → new_rows o today number rows ≡ Ok new → P (with_rows new o)
   new_rows_keep o number [] new are holds e = subst (λ (rows : List Row). P (with_rows rows o)) (same_Ok _ new e) holds
   new_rows_keep o number (row ∷ rest) new are holds e =
@@ -134,6 +140,7 @@ module _ (P : Office → Type 0) (Q : Row → Type 0) (today : ℕ)
       subst P (sym (taken_office o today number row rest new t))
       (new_rows_keep (office_after o (Ok t.change)) (number + 1) rest t.more (All-tail Q row rest are) here t.further)
 
+  -- what each row keeps holds after an import, be it granted or refused
   pub import_keeps : (o : Office) (rows : List Row) → All Q rows → P o → P (office_after o (import o today rows))
   import_keeps o rows are holds =
       after_test (λ r. P (office_after o r)) (new_rows o today 1 rows) add_rows (λ refusal. holds)

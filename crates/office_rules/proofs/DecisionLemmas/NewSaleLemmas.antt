@@ -45,12 +45,14 @@ greatest_more n ns (Some last) is = (
   All-cons (λ u. u ≤ max n last) n ns (omega arith) (All-weaker (λ u. u ≤ last) (λ u. u ≤ max n last) (λ u below. omega arith) ns is.1),
 )
 
+-- the greatest of some identifiers is the last of them
 pub greatest_is_last : (ns : List ℕ) → IsLast ns (greatest_of ns)
 greatest_is_last [] = refl
 greatest_is_last (n ∷ ns) = greatest_more n ns (greatest_of ns) (greatest_is_last ns)
 
 -- the new sale
 module _ (laws : LowerLaws) (forward : ℕ → ℕ → ℕ) (o : Office) (at : Stamped) (order : Order) where
+  -- a meter's account at the moment: steps in force, last identifier, month's tenths
   abbrev pub facts_of : Meter → MeterAccount
   facts_of m = record {
     meter = m;
@@ -111,6 +113,7 @@ module _ (laws : LowerLaws) (forward : ℕ → ℕ → ℕ) (o : Office) (at : S
             (sale_made forward at.moment at.nibble order s.opened f s.tid s.buy (length o.sales + 1))) is s.change_is;
       }
 
+  -- a sale that is granted is a new sale by the rules, and there is room for it
   pub granted_sale : (change : Change) → KeepsRange forward → IsOffice o
       → sell forward at.moment at.nibble order (open_shift o order.operator) (account_of o order.meter at.moment) (length o.sales) ≡ Ok change → Granted change
   granted_sale change range office e =

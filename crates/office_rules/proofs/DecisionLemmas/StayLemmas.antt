@@ -17,18 +17,22 @@ use Rattle.office_rules.specs.declared.decision.refusal.Refusal.TheVariants as r
 use Rattle.office_rules.specs.declared.office.row.Row.{Row}
 use Rattle.office_rules.specs.declared.office.row.Row.TheVariants as kinds
 
+-- tariffs stay where the office does not change
 pub tariffs_stay_none : (o : Office) → TariffsStay o o
 tariffs_stay_none o = record { first = λ name steps at. at; dated = λ name day steps at. at }
 
+-- tariffs that stay over one change and over the next stay over both
 pub tariffs_stay_twice : (o p q : Office) → TariffsStay o p → TariffsStay p q → TariffsStay o q
 tariffs_stay_twice o p q first next = record {
   first = λ name steps at. next.first name steps (first.first name steps at);
   dated = λ name day steps at. next.dated name day steps (first.dated name day steps at);
 }
 
+-- tariffs and meters stay where the office does not change
 pub stayed_none : (o : Office) → HaveStayed o o
 stayed_none o = record { tariffs = tariffs_stay_none o; meters = λ number m at. at }
 
+-- tariffs and meters that stay over one change and over the next stay over both
 pub stayed_twice : (o p q : Office) → HaveStayed o p → HaveStayed p q → HaveStayed o q
 stayed_twice o p q first next = record {
   tariffs = tariffs_stay_twice o p q first.tariffs next.tariffs;
@@ -41,10 +45,12 @@ pub put_beside : {A : Type 0} (b : Bool) (q name : List ℕ) (x y : A) (rows : L
 put_beside true q name x y rows is none at = let here : rows q ≡ rows name = ap rows ((bytes_eq-Decides q name).0 is) in cc
 put_beside false q name x y rows is none at = at
 
+-- they stay where a test decides between no change and a refusal
 pub stayed_if : (o : Office) (b : Bool) (answer : Answer) (refusal : Refusal) → HaveStayed o (office_after o (if b then unchanged answer else Err refusal))
 stayed_if o true answer refusal = stayed_none o
 stayed_if o false answer refusal = stayed_none o
 
+-- they stay when a tariff is added, is refused, or stands there already
 pub stayed_by_tariff : (o : Office) (name : List ℕ) (steps : List Step) (there : Option (List Step)) → o.tariffs name ≡ there
     → HaveStayed o (office_after o (add_tariff name steps there))
 stayed_by_tariff o name steps None none = record {
@@ -77,12 +83,14 @@ stayed_by_day o name day steps true none = record {
 }
 stayed_by_day o name day steps false none = stayed_none o
 
+-- the same when further steps are added, are refused, or stand there already
 pub stayed_by_steps : (o : Office) (name : List ℕ) (day today : ℕ) (steps : List Step) (has : Bool) (there : Option (List Step))
     → o.dated_steps name day ≡ there → HaveStayed o (office_after o (add_steps name day steps today has there))
 stayed_by_steps o name day today steps false there at = stayed_none o
 stayed_by_steps o name day today steps true (Some there) at = stayed_if o (steps_eq there steps) _ _
 stayed_by_steps o name day today steps true None none = stayed_by_day o name day steps (nat_lt today day) none
 
+-- the same when a meter is added, is refused, or stands there already
 pub stayed_by_meter : (o : Office) (number : List ℕ) (m : Meter) (there : Option Meter) (has : Bool) → o.meters number ≡ there
     → HaveStayed o (office_after o (add_meter number m there has))
 stayed_by_meter o number m (Some there) has at = stayed_if o (meter_eq there m) _ _
@@ -92,6 +100,7 @@ stayed_by_meter o number m None true none = record {
   meters = λ q k at. put_beside (bytes_eq q number) q number m k o.meters refl none at;
 }
 
+-- they stay whatever row is decided on
 pub stayed_by_row : (o : Office) (today : ℕ) (row : Row) → HaveStayed o (office_after o (row_decision o today row))
 stayed_by_row o today (kinds.Tariff name steps) = stayed_by_tariff o name steps (o.tariffs name) refl
 stayed_by_row o today (kinds.Steps name day steps) = stayed_by_steps o name day today steps (is_some (o.tariffs name)) (o.dated_steps name day) refl
@@ -111,6 +120,7 @@ differs_meter number m None later true had stays e = cc
 differs_meter number m None later false had stays e = cc
 differs_meter number m (Some there) later has had stays e = ap (λ k. add_meter number m k had) (stays there refl) ∙ e
 
+-- if something was there, and what was there stays, something is there later
 pub still_there : {A : Type 0} (there later : Option A) → ((x : A) → there ≡ Some x → later ≡ Some x) → is_some there ≡ true → is_some later ≡ true
 still_there None later stays e = cc
 still_there (Some x) later stays e = ap is_some (stays x refl)
@@ -128,6 +138,7 @@ differs_steps name day today steps true had None later has_still stays e = absur
     not_differs true e = cc
     not_differs false e = cc
 
+-- a row of any kind that is refused as differing is refused so in the later office
 pub differs_still : (o p : Office) (today : ℕ) (row : Row) → HaveStayed o p → row_decision o today row ≡ Err refusals.Differs
     → row_decision p today row ≡ Err refusals.Differs
 differs_still o p today (kinds.Tariff name steps) stayed e = differs_tariff name steps (o.tariffs name) (p.tariffs name) (stayed.tariffs.first name) e

@@ -3,6 +3,7 @@ use Rattle.std.proofs.Common.{ℕ, ◌-◌, ◌≤◌, ◌++◌, ◌+◌, List, 
 use Rattle.std.proofs.lemmas.List.{drop-replicate, drop_at, length-append, length-replicate}
 use Rattle.office_rules.specs.Name.ShortText.{IsPadded}
 
+-- a text that fits, put at the start of a room of zeros, has just zeros behind it
 pub put_in_room : (n : ℕ) (text : List ℕ) → length text ≤ n → IsPadded n (length text) (text ++ drop (length text) (replicate n 0))
 put_in_room n text fits =
     let rest = drop-replicate (length text) n 0 in

@@ -13,6 +13,7 @@ use Rattle.office_rules.specs.declared.office.sale.Sale.{Sale}
 pub contains_first : {X : Type 0} (x : X) (xs : List X) → Contains (x ∷ xs) x
 contains_first x xs = (0, omega arith, refl)
 
+-- what stands in a list still does with one more row in front
 pub contains_further : {X : Type 0} (x y : X) (xs : List X) → Contains xs y → Contains (x ∷ xs) y
 contains_further x y xs there = (there.0 + 1, omega (arith, there.1), rw add-one there.2)
 
@@ -92,6 +93,7 @@ related R xs x y pairs a b =
       ]
     ]
 
+-- a changed value that is there comes from one that was there
 pub option_map_some : {A B : Type 0} (f : A → B) (o : Option A) (y : B) → option_map f o ≡ Some y → (x : A) × (o ≡ Some x) × (f x ≡ y)
 option_map_some f None y e = cc
 option_map_some f (Some x) y e = (x, refl, same_Some (f x) y e)
@@ -103,6 +105,7 @@ numbered_map number f xs same numbered i row at =
     let old = option_map_some f (slice_get xs i) row (sym (slice_get-map f xs i) ∙ at) in
     ap number (sym old.2) ∙ same old.0 ∙ numbered i old.0 old.1
 
+-- each pair stays related, where the change keeps the relation
 pub all_pairs_map : {X : Type 0} (R : X → X → Type 0) (f : X → X) (xs : List X) → ((a b : X) → R a b → R (f a) (f b)) → AllPairs R xs → AllPairs R (map f xs)
 all_pairs_map R f xs keeps pairs i j d before within =
     let j_within : j < length xs = omega (arith, length-map xs f) in
@@ -120,10 +123,12 @@ kept_here : {X : Type 0} (p : X → Bool) (x y : X) (xs : List X) (b : Bool) →
 kept_here p x y xs true is there = contains_further x y (filter p xs) there
 kept_here p x y xs false is there = there
 
+-- what stands in a list is its first row, or stands further on
 pub contains_cases : {X : Type 0} (x y : X) (xs : List X) → Contains (x ∷ xs) y → (x ≡ y) ⊎ Contains xs y
 contains_cases x y xs (zero, within, is) = inl is
 contains_cases x y xs (suc k, within, is) = inr (k, omega (arith, within), is)
 
+-- a row that stands in a list and passes is among those kept
 pub kept : {X : Type 0} (p : X → Bool) (xs : List X) (y : X) → Contains xs y → p y ≡ true → Contains (filter p xs) y
 kept p [] y there passes = absurd (omega (arith, there.1))
 kept p (x ∷ xs) y there passes =
@@ -142,6 +147,7 @@ kept_from p xs y there = (
   All-contains (λ x. p x ≡ true) (filter p xs) y (filter_passes p xs) there,
 )
 
+-- the change of a row stands in the changed list
 pub contains_map : {X Y : Type 0} (f : X → Y) (xs : List X) (x : X) → Contains xs x → Contains (map f xs) (f x)
 contains_map f xs x there =
     let within : there.0 < length (map f xs) = omega (arith, length-map xs f, there.1) in
@@ -160,6 +166,7 @@ map_source f (x ∷ xs) y there =
 pub both_true : (x y : Bool) → x ≡ true → y ≡ true → (x && y) ≡ true
 both_true x y p q = ap (λ b. b && y) p ∙ q
 
+-- both parts of a test that is passed are passed
 pub parts_true : (x y : Bool) → (x && y) ≡ true → (x ≡ true) × (y ≡ true)
 parts_true true y e = (refl, e)
 parts_true false y e = cc
@@ -174,9 +181,11 @@ one_of_tid o a b office x y meter base tid =
       | inr (inr after) ↦ absurd (after.tid (sym meter) (sym base) (sym tid))
     ]
 
+-- two sales of an office that have one number are one
 pub one_of_number : (o : Office) (a b : Sale) → IsOffice o → Contains o.sales a → Contains o.sales b → a.number ≡ b.number → a ≡ b
 one_of_number o a b office x y same = same_number (λ s. s.number) o.sales a b office.sale_numbers x y same
 
+-- two sales of an office under one ref of an operator are one
 pub one_of_ref : (o : Office) (a b : Sale) → IsOffice o → Contains o.sales a → Contains o.sales b → a.operator ≡ b.operator → a.order_ref ≡ b.order_ref → a ≡ b
 one_of_ref o a b office x y operator order_ref =
     elim (related IsBefore o.sales a b office.before x y) [

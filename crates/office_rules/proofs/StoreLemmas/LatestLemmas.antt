@@ -34,11 +34,13 @@ module _ (dated : ℕ → Option (List Step)) where
     ];
   }
 
+  -- the look-up of a day finds the latest steps that have begun, or none if none have
   pub latest_is : (day : ℕ) → LatestIs day (latest dated day)
   unfolding latest
   latest_is zero = latest_at_first (dated zero) refl
   latest_is (suc day) = latest_later day (dated (suc day)) (latest dated day) refl (latest_is day)
 
+  -- the latest steps on a day are one and the same
   pub one_latest : (day : ℕ) (a b : List Step) → IsLatest dated day a → IsLatest dated day b → a ≡ b
   one_latest day a b x y = elim (cases_lt x.first y.first) [
     | inl before ↦ absurd (none-some b (sym (x.none_between y.first before y.not_after) ∙ y.there))
@@ -58,8 +60,10 @@ module _ (dated : ℕ → Option (List Step)) where
   found_none day None is none = refl
   found_none day (Some steps) is none = absurd (none-some steps (sym (none is.first is.not_after) ∙ is.there))
 
+  -- steps are found for a day exactly where they are the latest that have begun
   pub latest_steps_are : (day : ℕ) (steps : List Step) → (latest dated day ≡ Some steps) ↔ IsLatest dated day steps
   latest_steps_are day steps = (λ e. subst (LatestIs day) e (latest_is day), found_latest day steps (latest dated day) (latest_is day))
 
+  -- none are found for a day exactly where none have begun
   pub no_latest_steps : (day : ℕ) → (latest dated day ≡ None) ↔ NoneBegun dated day
   no_latest_steps day = (λ e. subst (LatestIs day) e (latest_is day), found_none day (latest dated day) (latest_is day))

@@ -193,6 +193,7 @@ module _ (o : Office) (office : IsOffice o) where
     if_decided (requests.ShiftReport number) is =
         if_report (shift_numbered o number) (sales_of_shift o number)
 
+-- the edit of any granted request meets what it needs in the office
 pub decided_meets : LowerLaws
     → (forward : ℕ → ℕ → ℕ) (o : Office) (at : Stamped) (change : Change) (edit : Edit) → IsOffice o
     → IsStamped at → KeepsRange forward → decision forward o at ≡ Ok change
@@ -210,6 +211,7 @@ closes_at o moment name None change is e = cc
 closes_at o moment name (Some s) change is e =
     (s, is, ap (λ (c : Change). c.edit) (sym (same_Ok _ change e)))
 
+-- a granted closing closes the operator's open shift, at the request's moment
 pub closes_the_open : (forward : ℕ → ℕ → ℕ) (o : Office) (at : Stamped) (name : List ℕ)
     (change : Change) → at.request ≡ requests.CloseShift name → decision forward o at ≡ Ok change
     → (s : Shift) × (open_shift o name ≡ Some s)

@@ -15,6 +15,7 @@ use Rattle.office_rules.specs.declared.office.sale.Sale.{Sale}
 use Rattle.office_rules.proofs.OfficeLemmas.RowLemmas.{contains_cases, contains_first, contains_further, kept, kept_from, number_within, pairs_push, same_number}
 
 module _ {X : Type 0} (number : X → ℕ) where
+  -- rows of which each has a smaller number than all that follow it
   abbrev pub AreRising : List X → Type 0
   AreRising xs = AllPairs (λ a b. number a < number b) xs
 
@@ -112,6 +113,7 @@ module _ {X : Type 0} (number : X → ℕ) where
 abbrev number_of : Sale → ℕ
 number_of s = s.number
 
+-- a shift's sales, in the order of their numbers, are those that are looked up
 pub sales_of_shift_are : (o : Office) (number : ℕ) (sales : List Sale) → IsOffice o
     → AreByNumber o (λ s. s.shift ≡ number) sales ↔ (sales ≡ sales_of_shift o number)
 sales_of_shift_are o number sales office =
@@ -132,6 +134,7 @@ sales_of_shift_are o number sales office =
       λ e. subst (AreByNumber o (λ s. s.shift ≡ number)) (sym e) them,
     )
 
+-- the sales above a number, up to a limit, are the first ones after that many
 pub sales_above_are : (o : Office) (number limit : ℕ) → IsOffice o
     → sales_above o number limit ≡ take limit (drop number o.sales)
 sales_above_are o number limit office =
@@ -174,6 +177,7 @@ module _ (o p : Office) (s : Sale) (office : IsOffice o) (later : IsOffice p)
       (λ t there. omega
       (arith, number_past, (number_within number_of o.sales t office.sale_numbers there).1))
 
+  -- the later office has the sales of the earlier one, and the new one at the end
   pub sales_with_one_more : p.sales ≡ o.sales ++ s ∷ []
   sales_with_one_more =
       same_rising number_of p.sales (o.sales ++ s ∷ [])

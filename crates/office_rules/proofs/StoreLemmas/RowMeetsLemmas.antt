@@ -33,12 +33,15 @@ abbrev pub EditMeets : Office → Result Change Refusal → Type 0
 EditMeets o (Ok change) = (edit : Edit) → change.edit ≡ Some edit → Meets edit o
 EditMeets o (Err refusal) = Unit {0}
 
+-- without an edit there is nothing that must be met
 pub if_unchanged : (o : Office) (edit : Edit) → ◌≡◌ {A = Option Edit} None (Some edit) → Meets edit o
 if_unchanged o edit is = absurd (none-some edit is)
 
+-- a change that makes an edit has no other, so it is enough that this one meets its needs
 pub if_changed : (o : Office) (e : Edit) → Meets e o → (edit : Edit) → Some e ≡ Some edit → Meets edit o
 if_changed o e meets edit is = subst (λ (k : Edit). Meets k o) (same_Some e edit is) meets
 
+-- a test between no change and a refusal makes no edit
 pub if_tested : (o : Office) (b : Bool) (a : Answer) (e : Refusal)
     → EditMeets o (if b then unchanged a else Err e)
 if_tested o true a e = if_unchanged o
@@ -63,6 +66,7 @@ no_base o number office free base =
     not_had o number base (o.bases number base) office refl
     (λ row. none-some row.meter (sym free ∙ row.meter_is))
 
+-- a base later than a meter's present one is none that the meter had
 pub not_moved_yet : (o : Office) (number : List ℕ) (base : Base) (m : Meter) → IsOffice o
     → o.meters number ≡ Some m → year_of m.base < year_of base → o.bases number base ≡ false
 not_moved_yet o number base m office there later =
@@ -112,6 +116,7 @@ steps_meet o name day today steps true (Some there) is has_is e =
 steps_meet o name day today steps true None is has_is e =
     day_meets o name day steps (nat_lt today day) (meets_steps o name day steps is has_is e)
 
+-- the edit of a row that is granted meets what it needs
 pub row_meets : (o : Office) (today : ℕ) (row : Row) → IsOffice o → IsRow row
     → EditMeets o (row_decision o today row)
 row_meets o today (kinds.Tariff name steps) office is =
@@ -202,6 +207,7 @@ rows_meet : (o : Office) (new : List Row) → MeetRows new o → EditMeets o (ad
 rows_meet o [] meet = if_unchanged o
 rows_meet o (row ∷ rest) meet = if_changed o _ (omega arith, meet)
 
+-- the new rows of an import that is granted meet what they need
 pub if_import : (o : Office) (today : ℕ) (rows : List Row) → IsOffice o → All IsRow rows
     → EditMeets o (import o today rows)
 if_import o today rows office are =

@@ -52,6 +52,7 @@ greatest_at : (ns : List ℕ) (s : Sale) (b : Bool)
 greatest_at ns s true = greatest_of-push ns s.tid
 greatest_at ns s false = ap greatest_of (append-nil ns)
 
+-- with one sale more, its meter and base have the greater last identifier, others theirs
 pub last_grows_by : (o : Office) (s : Sale) (number : List ℕ) (base : Base)
     → greatest_of (used (applied (edits.AddSale s) o) number base)
     ≡ (if bytes_eq s.meter number && base_eq s.base base then Some
@@ -67,6 +68,7 @@ above_last ns None tid is above = omega arith
 above_last ns (Some last) tid is above = let below : last < tid =
     All-contains (λ u. u < tid) ns last above is.0 in omega arith
 
+-- a sale with an identifier above those used makes it the last one
 pub last_rises_to : (o : Office) (s : Sale) → All (λ tid. tid < s.tid) (used o s.meter s.base)
     → greatest_of (used (applied (edits.AddSale s) o) s.meter s.base) ≡ Some s.tid
 last_rises_to o s above =
@@ -90,6 +92,7 @@ sum_if : (f : Sale → ℕ) (s : Sale) (b : Bool)
 sum_if f s true = omega arith
 sum_if f s false = refl
 
+-- with one sale more, a month's tenths grow by it, if it is of that meter and month
 pub prior_grows_by : (o : Office) (s : Sale) (number : List ℕ) (month : ℕ)
     → prior (applied (edits.AddSale s) o) number month
     ≡ prior o number month
@@ -129,6 +132,7 @@ shift_count_grows o s number =
     one_if true = refl
     one_if false = refl
 
+-- a sale that is added at the end makes the totals grow by it
 pub totals_added : (o : Office) (s : Sale) → TotalsGrow o s (applied (edits.AddSale s) o)
 totals_added o s = record {
   last = last_grows_by o s;
@@ -154,12 +158,14 @@ totals_of_sales o p q s same grows = record {
       ∙ grows.cash number;
 }
 
+-- the totals grow by a sale in any office that has just this one more
 pub totals_grow : (o p : Office) (s : Sale) → IsOffice o → IsOffice p → HasOneSaleMore o s p
     → TotalsGrow o s p
 totals_grow o p s office later more =
     totals_of_sales o (applied (edits.AddSale s) o) p s (sales_with_one_more o p s office later more)
     (totals_added o s)
 
+-- each identifier used is within the range of identifiers
 pub used_in_range : (o : Office) (number : List ℕ) (base : Base) → IsOffice o
     → All (λ tid. tid ≤ last_tid) (used o number base)
 used_in_range o number base office =
@@ -176,6 +182,7 @@ fewer p (x ∷ xs) = fewer_at (p x) (fewer p xs)
     fewer_at true rest = omega arith
     fewer_at false rest = omega arith
 
+-- a meter's tenths of a month are at most 10 ^ 17
 pub prior_in_range : ((t : ℕ) → IsRepresentable t → t ≤ 18201624)
     → (o : Office) (number : List ℕ) (month : ℕ) → IsOffice o → prior o number month ≤ 10 ^ 17
 prior_in_range greatest o number month office =

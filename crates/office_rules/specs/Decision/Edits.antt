@@ -1,12 +1,17 @@
 -- What a decision makes of an office: the rows that it adds or sets.
-use Rattle.std.specs.Prelude.{ℕ, ◌==◌, ◌&&◌, ◌||◌, Bool, List, [], ◌∷◌, ◌++◌, map, if◌then◌else◌, Option, Some, Result, Ok, Err, IsSome, option_map, bytes_eq}
+use Rattle.std.specs.Prelude.{ℕ, ◌==◌, ◌&&◌, ◌||◌, Bool, List, [], ◌∷◌, ◌++◌, map, if◌then◌else◌}
+use Rattle.std.specs.Prelude.{Option, Some, Result, Ok, Err, IsSome, option_map, bytes_eq}
 use Rattle.std.specs.Option.{option_map_or}
 use Rattle.sts_fields.specs.Base.{base_eq}
 use Rattle.sts_fields.specs.declared.base.Base.{Base}
 use Rattle.office_rules.specs.Office.{Office}
 use Rattle.office_rules.specs.declared.decision.change.Change.{Change}
 use Rattle.office_rules.specs.declared.decision.change.Edit.{Edit}
-use Rattle.office_rules.specs.declared.decision.change.Edit.TheVariants.{AddTariff, AddSteps, AddMeter, AddRows, SetTariff, MoveBase, OpenShift, CloseShift, AddSale}
+use Rattle.office_rules.specs.declared.decision.change.Edit.TheVariants.{AddTariff, AddSteps}
+use Rattle.office_rules.specs.declared.decision.change.Edit.TheVariants.{AddMeter, AddRows}
+use Rattle.office_rules.specs.declared.decision.change.Edit.TheVariants.{SetTariff, MoveBase}
+use Rattle.office_rules.specs.declared.decision.change.Edit.TheVariants.{OpenShift, CloseShift}
+use Rattle.office_rules.specs.declared.decision.change.Edit.TheVariants.{AddSale}
 use Rattle.office_rules.specs.declared.office.meter.Meter.{Meter}
 use Rattle.office_rules.specs.declared.decision.refusal.Refusal.{Refusal}
 use Rattle.office_rules.specs.declared.office.row.Row.{Row}

@@ -1,18 +1,27 @@
 -- What the tests of a request look at, and how an answer may fall short of the decision.
-use Rattle.std.specs.Prelude.{◌≡◌, ◌⊎◌, ℕ, Bool, true, false, List, [], ◌∷◌, Option, Some, None, IsNone, IsSome, Result, Ok, Err, is_some, length, option_map}
+use Rattle.std.specs.Prelude.{◌≡◌, ◌⊎◌, ℕ, Bool, true, false, List, [], ◌∷◌, Option, Some, None}
+use Rattle.std.specs.Prelude.{IsNone, IsSome, Result, Ok, Err, is_some, length, option_map}
 use Rattle.sts_fields.specs.Day.{day_at}
-use Rattle.office_rules.specs.Decision.{account_of, add_steps, add_tariff, is_new, row_decision, unchanged}
-use Rattle.office_rules.specs.Office.Lookup.{open_shift, sale_numbered, sale_of_ref, sales_of_shift, shift_numbered}
+use Rattle.office_rules.specs.Decision.{account_of, add_steps, add_tariff, is_new, row_decision}
+use Rattle.office_rules.specs.Decision.{unchanged}
+use Rattle.office_rules.specs.Office.Lookup.{open_shift, sale_numbered, sale_of_ref, sales_of_shift}
+use Rattle.office_rules.specs.Office.Lookup.{shift_numbered}
 use Rattle.office_rules.specs.Office.{Office}
 use Rattle.office_rules.specs.declared.decision.answer.Answer.TheVariants.{Report}
 use Rattle.office_rules.specs.declared.decision.change.Change.{Change}
 use Rattle.office_rules.specs.declared.decision.facts.Facts.{Facts}
 use Rattle.office_rules.specs.declared.office.meter.Meter.{Meter}
 use Rattle.office_rules.specs.declared.decision.refusal.Refusal.{Refusal}
-use Rattle.office_rules.specs.declared.decision.refusal.Refusal.TheVariants.{Differs, Memory, NoSuchShift}
+use Rattle.office_rules.specs.declared.decision.refusal.Refusal.TheVariants.{Differs, Memory}
+use Rattle.office_rules.specs.declared.decision.refusal.Refusal.TheVariants.{NoSuchShift}
 use Rattle.office_rules.specs.declared.decision.request.Order.{Order}
 use Rattle.office_rules.specs.declared.decision.request.Request.{Request}
-use Rattle.office_rules.specs.declared.decision.request.Request.TheVariants.{AddTariff, AddSteps, AddMeter, Import, SetTariff, MoveBase, OpenShift, CloseShift, Sell, Reprint, ShiftReport}
+use Rattle.office_rules.specs.declared.decision.request.Request.TheVariants.{AddTariff, AddSteps}
+use Rattle.office_rules.specs.declared.decision.request.Request.TheVariants.{AddMeter, Import}
+use Rattle.office_rules.specs.declared.decision.request.Request.TheVariants.{SetTariff, MoveBase}
+use Rattle.office_rules.specs.declared.decision.request.Request.TheVariants.{OpenShift, CloseShift}
+use Rattle.office_rules.specs.declared.decision.request.Request.TheVariants.{Sell, Reprint}
+use Rattle.office_rules.specs.declared.decision.request.Request.TheVariants.{ShiftReport}
 use Rattle.office_rules.specs.declared.decision.request.Stamped.{Stamped}
 use Rattle.office_rules.specs.declared.office.row.Row.{Row}
 use Rattle.office_rules.specs.declared.office.row.Row.TheVariants as kinds

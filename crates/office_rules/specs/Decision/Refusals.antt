@@ -2,9 +2,21 @@
 use Rattle.std.specs.Prelude.{ℕ, codes}
 use Rattle.sts_fields.specs.Text.{Text}
 use Rattle.office_rules.specs.declared.decision.category.Category.{Category}
-use Rattle.office_rules.specs.declared.decision.category.Category.TheVariants.{Missing, Forbidden, Unfit, UnfitRow, Unable}
+use Rattle.office_rules.specs.declared.decision.category.Category.TheVariants.{Missing, Forbidden}
+use Rattle.office_rules.specs.declared.decision.category.Category.TheVariants.{Unfit, UnfitRow}
+use Rattle.office_rules.specs.declared.decision.category.Category.TheVariants.{Unable}
 use Rattle.office_rules.specs.declared.decision.refusal.Refusal.{Refusal}
-use Rattle.office_rules.specs.declared.decision.refusal.Refusal.TheVariants.{RefReused, NoShift, ShiftOpen, NoMeter, NoTariff, Differs, BeforeBase, IdentifiersSpent, IdentifierAhead, TooLittle, OfficeFull, NoSale, NoSuchShift, ImportRow, Memory, Store, Stopped, NotLater, DayPast}
+use Rattle.office_rules.specs.declared.decision.refusal.Refusal.TheVariants.{RefReused, NoShift}
+use Rattle.office_rules.specs.declared.decision.refusal.Refusal.TheVariants.{ShiftOpen, NoMeter}
+use Rattle.office_rules.specs.declared.decision.refusal.Refusal.TheVariants.{NoTariff, Differs}
+use Rattle.office_rules.specs.declared.decision.refusal.Refusal.TheVariants.{BeforeBase}
+use Rattle.office_rules.specs.declared.decision.refusal.Refusal.TheVariants.{IdentifiersSpent}
+use Rattle.office_rules.specs.declared.decision.refusal.Refusal.TheVariants.{IdentifierAhead}
+use Rattle.office_rules.specs.declared.decision.refusal.Refusal.TheVariants.{TooLittle, OfficeFull}
+use Rattle.office_rules.specs.declared.decision.refusal.Refusal.TheVariants.{NoSale, NoSuchShift}
+use Rattle.office_rules.specs.declared.decision.refusal.Refusal.TheVariants.{ImportRow, Memory}
+use Rattle.office_rules.specs.declared.decision.refusal.Refusal.TheVariants.{Store, Stopped}
+use Rattle.office_rules.specs.declared.decision.refusal.Refusal.TheVariants.{NotLater, DayPast}
 
 -- the number that a user meets
 abbrev pub refusal_number : Refusal → ℕ

@@ -9,7 +9,12 @@ use Rattle.sts_fields.specs.Text.{Text}
 use Rattle.office_rules.specs.declared.office.meter.Meter.{Meter}
 use Rattle.office_rules.specs.declared.decision.request.Order.{Order}
 use Rattle.office_rules.specs.declared.decision.request.Request.{Request}
-use Rattle.office_rules.specs.declared.decision.request.Request.TheVariants.{AddTariff, AddSteps, AddMeter, Import, SetTariff, MoveBase, OpenShift, CloseShift, Sell, Reprint, ShiftReport}
+use Rattle.office_rules.specs.declared.decision.request.Request.TheVariants.{AddTariff, AddSteps}
+use Rattle.office_rules.specs.declared.decision.request.Request.TheVariants.{AddMeter, Import}
+use Rattle.office_rules.specs.declared.decision.request.Request.TheVariants.{SetTariff, MoveBase}
+use Rattle.office_rules.specs.declared.decision.request.Request.TheVariants.{OpenShift, CloseShift}
+use Rattle.office_rules.specs.declared.decision.request.Request.TheVariants.{Sell, Reprint}
+use Rattle.office_rules.specs.declared.decision.request.Request.TheVariants.{ShiftReport}
 use Rattle.office_rules.specs.declared.decision.request.Stamped.{Stamped}
 use Rattle.office_rules.specs.declared.office.row.Row.{Row}
 use Rattle.office_rules.specs.declared.office.row.Row.TheVariants as kinds

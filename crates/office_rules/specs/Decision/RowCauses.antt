@@ -2,7 +2,10 @@
 use Rattle.std.specs.Prelude.{◌++◌, codes, decimal}
 use Rattle.sts_fields.specs.Text.{Text}
 use Rattle.office_rules.specs.declared.decision.row_cause.RowCause.{RowCause}
-use Rattle.office_rules.specs.declared.decision.row_cause.RowCause.TheVariants.{Header, Columns, Field, TooManyRows, Differs, NoTariff, DayPast}
+use Rattle.office_rules.specs.declared.decision.row_cause.RowCause.TheVariants.{Header, Columns}
+use Rattle.office_rules.specs.declared.decision.row_cause.RowCause.TheVariants.{Field, TooManyRows}
+use Rattle.office_rules.specs.declared.decision.row_cause.RowCause.TheVariants.{Differs, NoTariff}
+use Rattle.office_rules.specs.declared.decision.row_cause.RowCause.TheVariants.{DayPast}
 
 -- a field is told by its number
 abbrev pub cause_text : RowCause → Text

@@ -1,7 +1,9 @@
 -- The sales that an office hands out with its answers.
 use Rattle.std.specs.Prelude.{List, [], ◌∷◌, Result, Ok, Err}
 use Rattle.office_rules.specs.declared.decision.answer.Answer.{Answer}
-use Rattle.office_rules.specs.declared.decision.answer.Answer.TheVariants.{Done, Imported, Opened, Closed, Sold, Reprinted, Report}
+use Rattle.office_rules.specs.declared.decision.answer.Answer.TheVariants.{Done, Imported, Opened}
+use Rattle.office_rules.specs.declared.decision.answer.Answer.TheVariants.{Closed, Sold, Reprinted}
+use Rattle.office_rules.specs.declared.decision.answer.Answer.TheVariants.{Report}
 use Rattle.office_rules.specs.declared.decision.refusal.Refusal.{Refusal}
 use Rattle.office_rules.specs.declared.office.sale.Sale.{Sale}
 

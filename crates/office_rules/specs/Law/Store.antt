@@ -1,5 +1,7 @@
 -- What a store finds among the office's rows, and what an edit meets there.
-use Rattle.std.specs.Prelude.{◌≡◌, ◌↔◌, ◌⊎◌, ℕ, ◌+◌, ◌<◌, ◌≤◌, ◌&&◌, ◌==◌, false, List, ◌≢◌, ◌∷◌, [], Some, None, IsSome, IsNone, All, AllPairs, Contains, bytes_eq, filter, length, max, nat_lt, sum_by, take, unwrap_or, if◌then◌else◌}
+use Rattle.std.specs.Prelude.{◌≡◌, ◌↔◌, ◌⊎◌, ℕ, ◌+◌, ◌<◌, ◌≤◌, ◌&&◌, ◌==◌, false, List, ◌≢◌, ◌∷◌}
+use Rattle.std.specs.Prelude.{[], Some, None, IsSome, IsNone, All, AllPairs, Contains, bytes_eq}
+use Rattle.std.specs.Prelude.{filter, length, max, nat_lt, sum_by, take, unwrap_or, if◌then◌else◌}
 use Rattle.sts_fields.specs.Base.{base_eq, year_of}
 use Rattle.sts_fields.specs.Calendar.{month_at}
 use Rattle.sts_fields.specs.Day.{IsDay}
@@ -8,13 +10,18 @@ use Rattle.tariff.specs.Steps.{IsSteps}
 use Rattle.tariff.specs.declared.step.Step.{Step}
 use Rattle.office_rules.specs.Law.Cash.{cash_of}
 use Rattle.office_rules.specs.Decision.Edits.{with_row}
-use Rattle.office_rules.specs.Office.Lookup.{greatest_of, open_shift, prior, sale_of_ref, sales_of_shift, used}
+use Rattle.office_rules.specs.Office.Lookup.{greatest_of, open_shift, prior, sale_of_ref}
+use Rattle.office_rules.specs.Office.Lookup.{sales_of_shift, used}
 use Rattle.office_rules.specs.Name.{IsName}
 use Rattle.sts_fields.specs.Moment.{IsMoment}
 use Rattle.office_rules.specs.Office.{IsBefore, IsSaleRow, IsShiftRow, Office, greatest_count}
 use Rattle.office_rules.specs.Decision.Requests.{IsMeter}
 use Rattle.office_rules.specs.declared.decision.change.Edit.{Edit}
-use Rattle.office_rules.specs.declared.decision.change.Edit.TheVariants.{AddTariff, AddSteps, AddMeter, AddRows, SetTariff, MoveBase, OpenShift, CloseShift, AddSale}
+use Rattle.office_rules.specs.declared.decision.change.Edit.TheVariants.{AddTariff, AddSteps}
+use Rattle.office_rules.specs.declared.decision.change.Edit.TheVariants.{AddMeter, AddRows}
+use Rattle.office_rules.specs.declared.decision.change.Edit.TheVariants.{SetTariff, MoveBase}
+use Rattle.office_rules.specs.declared.decision.change.Edit.TheVariants.{OpenShift, CloseShift}
+use Rattle.office_rules.specs.declared.decision.change.Edit.TheVariants.{AddSale}
 use Rattle.office_rules.specs.declared.office.meter.Meter.{Meter}
 use Rattle.office_rules.specs.declared.office.row.Row.{Row}
 use Rattle.office_rules.specs.declared.office.row.Row.TheVariants as kinds

@@ -1,5 +1,6 @@
 -- What is looked up in an office.
-use Rattle.std.specs.Prelude.{◌≡◌, ℕ, zero, suc, ◌<◌, ◌≤◌, ◌&&◌, ◌==◌, List, [], ◌∷◌, map, filter, find, sum_by, max, Option, Some, None, is_none, unwrap_or, bytes_eq}
+use Rattle.std.specs.Prelude.{◌≡◌, ℕ, zero, suc, ◌<◌, ◌≤◌, ◌&&◌, ◌==◌, List, [], ◌∷◌, map, filter}
+use Rattle.std.specs.Prelude.{find, sum_by, max, Option, Some, None, is_none, unwrap_or, bytes_eq}
 use Rattle.std.specs.Option.{option_or}
 use Rattle.sts_fields.specs.Base.{base_eq}
 use Rattle.sts_fields.specs.Calendar.{month_at}

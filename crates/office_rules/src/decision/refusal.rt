@@ -1,5 +1,6 @@
 ghost use Rattle.std.specs.Prelude.{◌≡◌};
-ghost use Rattle.office_rules.specs.Decision.Refusals.{refusal_category, refusal_name, refusal_number};
+ghost use Rattle.office_rules.specs.Decision.Refusals.{refusal_category, refusal_name};
+ghost use Rattle.office_rules.specs.Decision.Refusals.{refusal_number};
 
 use crate::decision::{Category, RowCause};
 use std::alloc::AllocError;

@@ -111,6 +111,7 @@ module _ (laws : DeskLaws) where
     pub text : came ≡ reply_bytes_of (outcomes.Found forms.Json result) false
     pub same : new ≡ old
 
+  -- a question for a page has the desk look the page up, and what it finds can be told
   pub looks_up : (moment : ℕ) (old new : Timed Life) (list : Listed) (came : List ℕ) → IsMoment moment → IsOffice (present old.0) → CanAsk list
       → IsAnsweredAt (pos moment) old (question_text (page_question list)) came new → LooksUp moment old.0 new.0 list came
   looks_up moment old new list came is_moment office askable at =
@@ -147,6 +148,7 @@ module _ (laws : DeskLaws) where
       )
   came_page moment old list came office (Err refusal) found keeps is = inr (refusal, is)
 
+  -- what comes back for such a question is read as a page that keeps the rules, or a refusal
   pub page_read : (list : Listed) (moment : ℕ) (old new : Timed Life) (came : List ℕ) → IsAskable (page_question list) → IsMoment moment
       → IsOffice old.0.opening → IsLife old.0
       → IsAnsweredAt (pos moment) old (question_text (page_question list)) came new → length came ≤ longest_reply_body → IsPageOrRefusal list came
@@ -182,6 +184,7 @@ module _ (laws : DeskLaws) where
           sym tells.text ∙ it.2,
         )
 
+    -- a page that was read in the reply is one of the office, which is as it was
     pub one_page : (moment : ℕ) (old new : Timed Life) (list : Listed) (came : List ℕ) (page : Found) → IsMoment moment → IsOffice (present old.0) → CanAsk list
         → IsAnsweredAt (pos moment) old (question_text (page_question list)) came new → IsPageReply list came page → IsOffices moment old.0 new.0 list page
     one_page moment old new list came page is_moment office askable at tells =

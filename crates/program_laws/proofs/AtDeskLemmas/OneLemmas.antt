@@ -133,6 +133,7 @@ short_start (told.Granted g) = short_granted g
 short_start (told.Refused refusal) = short_category (refusal_category refusal)
 short_start told.NoMoment = omega arith
 
+-- a reply is as long as its start, its length's digits, the end of its head and its body
 pub reply_length : (t : Told)
     → length (reply_text t) ≡ length (start_text (told_start t)) + (length (decimal (length (told_text t))) + (length head_end + length (told_text t)))
 reply_length t =
@@ -176,6 +177,7 @@ module _ (laws : DeskLaws) where
     pub comes : Comes life_serves (question_message question) (Some second) outcome old.0 new.0
     pub text : came ≡ reply_bytes_of outcome false
 
+  -- what came back for a question is the reply to its own message
   pub came_of : (question : Question) (second : ℤ) (old new : Timed Life) (came : List ℕ) → IsAskable question
       → IsAnsweredAt second old (question_text question) came new → Came question second old new came
   came_of question second old new came askable at =
@@ -230,6 +232,7 @@ module _ (laws : DeskLaws) where
   few_fields : (kind : FileKind) (records : List Fields) (row k : ℕ) (none : IsNoRow kind records row (causes.Field k)) → length (header_of none.0) ≤ 4
   few_fields kind records row k none = grind arith
 
+  -- a fault that was found in a row of a file can be told
   pub row_tellable : (kind : FileKind) (body : List ℕ) (row : ℕ) (cause : RowCause) → IsRead kind body (Err (row_faults.At row cause))
       → IsTellable wants.Imported (told.Refused (ImportRow row cause))
   row_tellable kind body row causes.Header read = (omega (arith, read.reading.here.0), tt)

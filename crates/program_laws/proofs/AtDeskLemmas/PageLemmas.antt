@@ -236,6 +236,7 @@ same_data : (items : List Sale) → map sale_data (map as_told items) ≡ map sa
 same_data [] = refl
 same_data (s ∷ items) = ap (λ rest. sale_data s ∷ rest) (same_data items)
 
+-- the text of a page is the same without the nibbles of its sales
 pub told_text : (page : Found) → pages.page_as_read (page_as_told page) ≡ pages.page_as_read page
 told_text (found.SaleCount n) = refl
 told_text (found.Meter m) = refl
@@ -308,6 +309,7 @@ same_sales page (found.Sales other) alike text = record {
 }
 same_sales page other alike text = absurd alike
 
+-- two pages that are told alike with one text have the same lines and the same list behind
 pub same_page : (kind : PageKind) (page other : Found) → IsToldPage kind page → AreAlike page (page_as_told other)
     → pages.page_as_read page ≡ pages.page_as_read other → IsSamePage page other
 same_page kinds.Tariffs (found.Tariffs page) other h alike text = same_tariffs page other alike text

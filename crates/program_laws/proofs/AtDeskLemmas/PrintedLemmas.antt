@@ -81,10 +81,12 @@ module _ (json : Bool) (q : Question) (o : Outputs) (end : CommandEnd) where
 
 -- ---- a sale without its nibble
 
+-- a receipt has no nibble in it
 pub same_receipt : (s : Sale) → receipt_of (as_told s) ≡ receipt_of s
 unfolding receipt_of
 same_receipt s = refl
 
+-- nor has an export of a sale
 pub same_export : (header : Bool) (s : Sale) → export_of header (as_told s ∷ []) ≡ export_of header (s ∷ [])
 unfolding export_of
 same_export header s = refl
@@ -173,11 +175,13 @@ module _ (json : Bool) (o : Outputs) (end : CommandEnd) where
   none_prints q lookup r (inr (inl is)) = refused_prints q lookup r refusals.Store is
   none_prints q lookup r (inr (inr is)) = refused_prints q lookup r refusals.Stopped is
 
+  -- what a desk tells of a meter is printed as what a file has of it
   pub prints_meter : (life : Life) (moment : ℕ) (number : List ℕ) (r : Result Found Refusal) → IsFoundAt life moment (lookups.Meter number) r
       → Prints (questions.Meter number) (lookups.Meter number) r
   prints_meter life moment number r (inl is) = subst (Prints (questions.Meter number) (lookups.Meter number)) (sym is) (some_meter number _ _ _)
   prints_meter life moment number r (inr none) = none_prints (questions.Meter number) (lookups.Meter number) r none
 
+  -- the same of a sale by its operator and ref
   pub prints_sale_of_ref : (life : Life) (moment : ℕ) (operator order_ref : List ℕ) (r : Result Found Refusal)
       → IsFoundAt life moment (lookups.SaleOfRef operator order_ref) r
       → Prints (questions.SaleOfRef operator order_ref) (lookups.SaleOfRef operator order_ref) r
@@ -186,6 +190,7 @@ module _ (json : Bool) (o : Outputs) (end : CommandEnd) where
   prints_sale_of_ref life moment operator order_ref r (inr none) =
       none_prints (questions.SaleOfRef operator order_ref) (lookups.SaleOfRef operator order_ref) r none
 
+  -- the same of a quote
   pub prints_quote : (life : Life) (moment : ℕ) (number : List ℕ) (tender : ℕ) (r : Result Found Refusal)
       → IsFoundAt life moment (lookups.Quote number tender) r
       → Prints (questions.Quote number tender) (lookups.Quote number tender) r
@@ -209,6 +214,7 @@ module _ (o : Outputs) (end : CommandEnd) where
   none_last number r (inr (inl is)) = subst (PrintsLast number) (sym is) (λ is. is)
   none_last number r (inr (inr is)) = subst (PrintsLast number) (sym is) (λ is. is)
 
+  -- what a desk tells of a meter's last sale is printed as the receipt of it
   pub prints_last : (life : Life) (moment : ℕ) (number : List ℕ) (r : Result Found Refusal) → IsFoundAt life moment (lookups.LastSale number) r
       → PrintsLast number r
   prints_last life moment number r (inl is) = subst (PrintsLast number) (sym is) (some_last number _ _)
@@ -231,6 +237,7 @@ module _ (o : Outputs) (end : CommandEnd) where
   some_totals json number None = λ told. (Err refusals.NoSuchShift, refl, told)
   some_totals json number (Some totals) = λ told. (Ok totals, refl, whole_totals json number totals told)
 
+  -- what a desk tells of a shift's totals is printed as the totals, or as the refusal
   pub prints_totals : (json : Bool) (life : Life) (moment number : ℕ) (r : Result Found Refusal) → IsFoundAt life moment (lookups.ShiftTotals number) r
       → PrintsAsTotals json number r
   prints_totals json life moment number r (inl is) = subst (PrintsAsTotals json number) (sym is) (some_totals json number (shift_totals (present life) number))

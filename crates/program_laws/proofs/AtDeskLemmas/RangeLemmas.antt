@@ -21,24 +21,29 @@ there_is None some = cc
 
 -- ---- sales
 
+-- each sale of an office keeps the rules of a row of sales
 pub sale_row : (o : Office) (s : Sale) → IsOffice o → Contains o.sales s → IsSaleRow o s
 sale_row o s office there = All-contains (IsSaleRow o) o.sales s office.sales there
 
+-- the number of a sale is at most a thousand million
 pub sale_number : (o : Office) (s : Sale) → IsOffice o → Contains o.sales s → s.number ≤ 10 ^ 9
 sale_number o s office there =
     let within = number_within (λ (s : Sale). s.number) o.sales s office.sale_numbers there in
     omega (arith, within.1, office.sale_count)
 
+-- so is the number of the shift in which it was sold
 pub sale_shift : (o : Office) (s : Sale) → IsOffice o → Contains o.sales s → s.shift ≤ 10 ^ 9
 sale_shift o s office there =
     let row = sale_row o s office there in
     omega (arith, row.shift.1, office.shift_count)
 
+-- a meter of an office has a meter's number
 pub meter_row : (o : Office) (number : List ℕ) → IsOffice o → IsSome (o.meters number) → IsMeterNo number
 meter_row o number office some =
     let m = there_is (o.meters number) some in
     (office.meters number m.0 m.1).numbered
 
+-- a tariff of an office has a name
 pub tariff_named : (o : Office) (name : List ℕ) → IsOffice o → IsSome (o.tariffs name) → IsName name
 tariff_named o name office some =
     let steps = there_is (o.tariffs name) some in
@@ -46,9 +51,11 @@ tariff_named o name office some =
 
 -- ---- shifts
 
+-- each shift of an office keeps the rules of a row of shifts
 pub shift_row : (o : Office) (s : Shift) → IsOffice o → Contains o.shifts s → IsShiftRow s
 shift_row o s office there = All-contains IsShiftRow o.shifts s office.shifts there
 
+-- the number of a shift is at most a thousand million
 pub shift_number : (o : Office) (s : Shift) → IsOffice o → Contains o.shifts s → s.number ≤ 10 ^ 9
 shift_number o s office there =
     let within = number_within (λ (s : Shift). s.number) o.shifts s office.shift_numbers there in
@@ -56,15 +63,18 @@ shift_number o s office there =
 
 -- ---- totals
 
+-- the members of a list that pass a test are no more than all of them
 pub fewer : {A : Type 0} (p : A → Bool) (xs : List A) → length (filter p xs) ≤ length xs
 fewer p xs = omega (arith, length-filter_both p (λ x. not (p x)) (λ x. refl) xs)
 
 abbrev of_shift : ℕ → Sale → Bool
 of_shift n s = s.shift == n
 
+-- a shift has at most a thousand million sales
 pub count_within : (o : Office) (number : ℕ) → IsOffice o → length (sales_of_shift o number) ≤ 10 ^ 9
 count_within o number office = omega (arith, fewer (of_shift number) o.sales, office.sale_count)
 
+-- the tenths of a shift's sales together are at most `10 ^ 17`
 pub tenths_within : ((t : ℕ) → IsRepresentable t → t ≤ greatest_amount) → (o : Office) (number : ℕ) → IsOffice o
     → sum_by (λ s. s.tenths) (sales_of_shift o number) ≤ 10 ^ 17
 tenths_within greatest o number office =
@@ -75,6 +85,7 @@ tenths_within greatest o number office =
     let count = count_within o number office in
     omega (arith, sum, count)
 
+-- the cash of a shift is at most `10 ^ 17`, too
 pub cash_within : (o : Office) (number : ℕ) → IsOffice o → cash_of (sales_of_shift o number) ≤ 10 ^ 17
 cash_within o number office =
     let each : All (λ (s : Sale). s.price ≤ 100000000) (sales_of_shift o number) =
@@ -86,10 +97,12 @@ cash_within o number office =
 
 -- ---- what is found
 
+-- what holds of two values, where they are there, holds of the first that is
 pub or_keeps : {A : Type 0} (P : A → Type 0) (a b : Option A) → IfSome a P → IfSome b P → IfSome (option_or a b) P
 or_keeps P None b h k = k
 or_keeps P (Some x) b h k = h
 
+-- what is found by a test stands in the list
 pub found_stands : {A : Type 0} (p : A → Bool) (xs : List A) → IfSome (find p xs) (Contains xs)
 found_stands {A} p xs = by_found (find p xs) refl
   where

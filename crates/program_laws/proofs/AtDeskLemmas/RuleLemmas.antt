@@ -105,6 +105,7 @@ present_is along life is opening =
 front_keeps : {A : Type 0} (P : A → Type 0) (xs ys : List A) → All P (xs ++ ys) → All P xs
 front_keeps P xs ys h = All-weaker (Contains xs) P (λ x there. All-contains P (xs ++ ys) x h (Contains-append_left xs ys x there)) xs (All-contains_itself xs)
 
+-- before the last request of a life its office was one, too
 pub present_before : ((forward : BlockFunction) (o : Office) (ats : List Stamped) → IsOffice o → All IsStamped ats → KeepsRange forward → IsOffice
     (after forward o ats))
     → (old : Life) (at : Stamped) (r : Reply) → IsLife (extended_by old at r) → IsOffice old.opening → IsOffice (present old)
@@ -159,6 +160,7 @@ abbrev pub rows_in : Request → ℕ
 rows_in (requests.Import rows) = length rows
 rows_in request = 0
 
+-- what an office with its rules may reply: such an answer, or a refusal of such rows
 abbrev pub MayReply : Request → Result Answer Refusal → Type 0
 MayReply request (Ok answer) = MayAnswer request answer
 MayReply request (Err refusal) = RefusesOf (rows_in request) refusal

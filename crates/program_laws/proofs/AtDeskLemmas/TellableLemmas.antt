@@ -67,13 +67,16 @@ use Rattle.program_laws.proofs.AtDeskLemmas.RuleLemmas.{IsRowFrom, MayReply, Ref
 abbrev pub paper : List ℕ → Told
 paper text = told.Granted (granted.Paper (record { ref_ptr = (0, 0); now = text }))
 
+-- a page of a list, by its text
 abbrev pub page : List ℕ → Told
 page text = told.Granted (granted.Page (record { ref_ptr = (0, 0); now = text }))
 
+-- what is told of a sale: its values without the nibble, or its receipt on paper
 abbrev pub told_sale : Form → Sale → Told
 told_sale forms.Json s = told.Granted (granted.Sale (as_told s))
 told_sale forms.Paper s = paper (receipt_of s)
 
+-- what is told of the answer to a request
 abbrev pub told_answer : Form → Answer → Told
 told_answer form answers.Done = told.Granted granted.Done
 told_answer form (answers.Imported n) = told.Granted (granted.Imported n)
@@ -83,10 +86,12 @@ told_answer form (answers.Sold s) = told_sale form s
 told_answer form (answers.Reprinted s) = told_sale form s
 told_answer form (answers.Report shift sales) = paper (report_of shift sales)
 
+-- what is told of a reply: its answer, or the refusal
 abbrev pub told_reply : Form → Result Answer Refusal → Told
 told_reply form (Ok answer) = told_answer form answer
 told_reply form (Err refusal) = told.Refused refusal
 
+-- what is told of something that was found
 abbrev pub told_found : Form → Found → Told
 told_found form (found.SaleCount n) = told.Granted granted.Done
 told_found form (found.Meter m) = told.Granted (granted.Meter m)
@@ -98,6 +103,7 @@ told_found form (found.Meters items) = page (page_as_read (found.Meters items))
 told_found form (found.Shifts items) = page (page_as_read (found.Shifts items))
 told_found form (found.Sales items) = page (page_as_read (found.Sales items))
 
+-- what is told of a look-up: what was found, or the refusal
 abbrev pub told_look : Form → Result Found Refusal → Told
 told_look form (Ok it) = told_found form it
 told_look form (Err refusal) = told.Refused refusal
@@ -106,6 +112,7 @@ sale_tells : (form : Form) (s : Sale) → Tells (outcomes.Replied form (Ok (answ
 sale_tells forms.Json s = refl
 sale_tells forms.Paper s = refl
 
+-- the desk's reply to a request tells this of it
 pub reply_tells : (form : Form) (r : Result Answer Refusal) → Tells (outcomes.Replied form r) (told_reply form r)
 reply_tells form (Ok answers.Done) = refl
 reply_tells form (Ok (answers.Imported n)) = refl
@@ -121,6 +128,7 @@ abbrev pub IsNoCount : Result Found Refusal → Type 0
 IsNoCount (Ok (found.SaleCount n)) = ⊥
 IsNoCount r = ⊤
 
+-- so does its reply to a look-up, but for the count of sales
 pub look_tells : (form : Form) (r : Result Found Refusal) → IsNoCount r → Tells (outcomes.Found form r) (told_look form r)
 look_tells form (Ok (found.SaleCount n)) h = absurd h
 look_tells form (Ok (found.Meter m)) h = refl
@@ -148,6 +156,7 @@ no_count form w (Err refusal) other h = tt
 
 -- ---- sales and refusals
 
+-- a sale of an office keeps the rules of a sale that is told
 pub sale_told : (o : Office) (s : Sale) → IsOffice o → Contains o.sales s → IsSaleTold (as_told s)
 sale_told o s office there =
     let row = sale_row o s office there in
@@ -175,6 +184,7 @@ tellable_row most row causes.Differs few h = (omega (arith, h.1, few), tt)
 tellable_row most row causes.NoTariff few h = (omega (arith, h.1, few), tt)
 tellable_row most row causes.DayPast few h = (omega (arith, h.1, few), tt)
 
+-- a refusal of some rows can be told, where they are fewer than 32 bits count
 pub tellable_refusal : (most : ℕ) (refusal : Refusal) → most < 4294967295 → RefusesOf most refusal → IsTellableRefusal refusal
 tellable_refusal most (refusals.ImportRow row cause) few h = tellable_row most row cause few h
 tellable_refusal most refusal few h = tt
@@ -233,6 +243,7 @@ wanted_for (requests.ShiftReport number) = wanted.Paper
 wanted_for (requests.Import rows) = wanted.Imported
 wanted_for request = wanted.Done
 
+-- a reprint is told on paper, and all else in JSON
 abbrev pub form_for : Request → Form
 form_for (requests.Reprint number) = forms.Paper
 form_for request = forms.Json
@@ -246,6 +257,7 @@ MayAsk (requests.SetTariff number name) = ⊥
 MayAsk (requests.Import rows) = length rows ≤ 10000
 MayAsk request = ⊤
 
+-- the reply to a request that a command may ask of a desk can be told as what is wanted
 pub tellable_reply : (q : Request) (r : Result Answer Refusal) → MayAsk q → AreToldSales r → MayReply q r
     → IsTellable (wanted_for q) (told_reply (form_for q) r)
 tellable_reply (requests.AddTariff name steps) r ask sales h = absurd ask
@@ -367,6 +379,7 @@ quote_or_none laws o office moment number tender is_number is_tender there is =
 
 -- ---- all look-ups
 
+-- what is wanted of the reply to a look-up
 abbrev pub wanted_look : Lookup → Wanted
 wanted_look lookups.SaleCount = wanted.Done
 wanted_look (lookups.Meter number) = wanted.Meter

@@ -19,7 +19,8 @@ use Rattle.vend_ports.specs.port.Texts.{texts_of}
 use Rattle.office_commands.specs.port.Places.{places_of}
 use Rattle.vend_commands.specs.port.Machines.{Loop, Machine, Way, machine}
 use Rattle.vend_ports.specs.print.Told.{Outputs}
-use Rattle.program_laws.specs.runs.Uses.{RunEnding, RunUse, connected, cut_off, let_go, unconnected, unseen, use_run, with_file}
+use Rattle.program_laws.specs.runs.Uses.{RunEnding, RunUse, connected, cut_off, let_go, unconnected}
+use Rattle.program_laws.specs.runs.Uses.{unseen, use_run, with_file}
 use Rattle.vend_ports.specs.declared.command_end.CommandEnd.{CommandEnd}
 use Rattle.office_commands.specs.declared.port.ports.OfficeFile as file
 use Rattle.office_commands.specs.declared.port.ports.SaltSource as source

@@ -15,7 +15,9 @@ use Rattle.office_rules.specs.declared.office.sale.Sale.{Sale}
 use Rattle.books.specs.Path.{StandsIn}
 use Rattle.office_commands.specs.office.Served.{TellsReply}
 use Rattle.program_laws.specs.runs.Follow.{AreRuns, Here, MayBeLeft, ProgramRun, use_of}
-use Rattle.program_laws.specs.runs.Uses.{Living, LivesSo, RunQuestion, TellsSo, RunUse, asking_life, connected, idle_life, many_lives, no_life, reading_life, unconnected, unseen}
+use Rattle.program_laws.specs.runs.Uses.{Living, LivesSo, RunQuestion, TellsSo, RunUse, asking_life}
+use Rattle.program_laws.specs.runs.Uses.{connected, idle_life, many_lives, no_life, reading_life}
+use Rattle.program_laws.specs.runs.Uses.{unconnected, unseen}
 
 -- these are the lives of what a run made of the file, after those before
 abbrev pub LivesIn : RunUse → (before lives : List Life) → Type 0

@@ -1,6 +1,7 @@
 -- What a run of the program made of the file that its words name.
 use Rattle.std.proofs.Common.{inl, inr}
-use Rattle.std.specs.Prelude.{◌≡◌, ◌≢◌, ℕ, ℤ, ◌+◌, ◌%◌, Bool, true, false, List, [], ◌∷◌, ◌++◌, length, Option, Some, None, Result, Ok, Err, option_map}
+use Rattle.std.specs.Prelude.{◌≡◌, ◌≢◌, ℕ, ℤ, ◌+◌, ◌%◌, Bool, true, false, List, [], ◌∷◌, ◌++◌}
+use Rattle.std.specs.Prelude.{length, Option, Some, None, Result, Ok, Err, option_map}
 use Rattle.sqlite.specs.Files.{file_state, image_of, over_files}
 use Rattle.sqlite.specs.State.{State}
 use Rattle.sqlite.specs.declared.file.Leftover.{Leftover}
@@ -34,7 +35,8 @@ use Rattle.command_line.specs.declared.asked.Asked.TheVariants as asks
 use Rattle.command_line.specs.declared.commands.audit.AuditWords.{AuditWords}
 use Rattle.command_line.specs.declared.commands.import.ImportWords.{ImportWords}
 use Rattle.command_line.specs.declared.commands.report.Paper.{Paper}
-use Rattle.command_line.specs.declared.commands.report.Paper.TheVariants.{Receipt, Sales, Shift, Totals}
+use Rattle.command_line.specs.declared.commands.report.Paper.TheVariants.{Receipt, Sales, Shift}
+use Rattle.command_line.specs.declared.commands.report.Paper.TheVariants.{Totals}
 use Rattle.command_line.specs.declared.commands.report.ReportWords.{ReportWords}
 use Rattle.command_line.specs.declared.commands.serve.ServeWords.{ServeWords}
 use Rattle.command_line.specs.declared.transform.Shipped.{Shipped}
@@ -43,18 +45,24 @@ use Rattle.vend_commands.specs.Run.{IsCarriedOut, IsProgramRun}
 use Rattle.vend_commands.specs.Run.IsProgramRun.{answered, bad_word, explained, no_room}
 use Rattle.office_commands.specs.commands.Asked.{IsAskedAt}
 use Rattle.office_commands.specs.commands.Audited.{IsAudited}
-use Rattle.office_commands.specs.commands.Audited.IsAudited.{absent as audit_absent, looked as audit_looked, unopened as audit_unopened}
+use Rattle.office_commands.specs.commands.Audited.IsAudited.{absent as audit_absent}
+use Rattle.office_commands.specs.commands.Audited.IsAudited.{looked as audit_looked}
+use Rattle.office_commands.specs.commands.Audited.IsAudited.{unopened as audit_unopened}
 use Rattle.office_commands.specs.commands.Imported.{AreAdded, IsFileImported}
 use Rattle.office_commands.specs.commands.LookedUp.{IsShownAt, lookup_of}
-use Rattle.office_commands.specs.commands.LookedUp.IsShownAt.{absent as shown_absent, present as shown_present}
+use Rattle.office_commands.specs.commands.LookedUp.IsShownAt.{absent as shown_absent}
+use Rattle.office_commands.specs.commands.LookedUp.IsShownAt.{present as shown_present}
 use Rattle.office_commands.specs.commands.Reported.{IsReported, PrintsPaper}
-use Rattle.office_commands.specs.commands.Reported.IsReported.{absent as report_absent, present as report_present}
+use Rattle.office_commands.specs.commands.Reported.IsReported.{absent as report_absent}
+use Rattle.office_commands.specs.commands.Reported.IsReported.{present as report_present}
 use Rattle.vend_ports.specs.commands.Timed.{IsDoneAt}
 use Rattle.office_commands.specs.office.Served.{IsServedAndTold}
 use Rattle.office_commands.specs.office.Visited.{IsVisited, seen_in}
-use Rattle.office_commands.specs.office.Visited.IsVisited.{unopened as visit_unopened, visited as visit_opened}
+use Rattle.office_commands.specs.office.Visited.IsVisited.{unopened as visit_unopened}
+use Rattle.office_commands.specs.office.Visited.IsVisited.{visited as visit_opened}
 use Rattle.office_commands.specs.office.Lost.{IsUnreopened}
-use Rattle.office_commands.specs.office.Lost.IsUnreopened.{refused as lost_refused, unsalted as lost_unsalted}
+use Rattle.office_commands.specs.office.Lost.IsUnreopened.{refused as lost_refused}
+use Rattle.office_commands.specs.office.Lost.IsUnreopened.{unsalted as lost_unsalted}
 use Rattle.office_commands.specs.port.Places.{IsUnopened, Place, places_of, where_present}
 use Rattle.vend_commands.specs.port.Machines.{Machine, Way}
 use Rattle.office_commands.specs.port.Places.IsUnopened.{unfound, unopened as found_unopened}
@@ -65,7 +73,9 @@ use Rattle.program_laws.specs.runs.Readings.{IsReadIn, IsSaleRead, Reading, expo
 use Rattle.vend_commands.specs.serving.Connections.{AreServed, Service, service}
 use Rattle.program_laws.specs.Courses.{AreLived, Course, IsNext, course}
 use Rattle.vend_commands.specs.serving.Listening.{IsServing}
-use Rattle.vend_commands.specs.serving.Listening.IsServing.{unheard as serve_unheard, unopened as serve_unopened, was_open as serve_open}
+use Rattle.vend_commands.specs.serving.Listening.IsServing.{unheard as serve_unheard}
+use Rattle.vend_commands.specs.serving.Listening.IsServing.{unopened as serve_unopened}
+use Rattle.vend_commands.specs.serving.Listening.IsServing.{was_open as serve_open}
 use Rattle.program_laws.specs.SalesTold.{ConnectionsTell}
 use Rattle.office_commands.specs.declared.office.wanted.Wanted.{Wanted}
 use Rattle.office_commands.specs.declared.office.wanted.Wanted.TheVariants.{One, Listing}

@@ -1,6 +1,7 @@
 -- What `selfcheck` does: the desk answers two messages over memory, and the replies over a
 -- connection of the machine with itself are compared with those.
-use Rattle.std.specs.Prelude.{◌≡◌, ◌⊎◌, ⊤, ℕ, pos, List, [], ◌∷◌, ◌++◌, Contains, Option, Some, None, Ok, Err, codes}
+use Rattle.std.specs.Prelude.{◌≡◌, ◌⊎◌, ⊤, ℕ, pos, List, [], ◌∷◌, ◌++◌, Contains, Option, Some}
+use Rattle.std.specs.Prelude.{None, Ok, Err, codes}
 use Rattle.books.specs.Asking.{ReplyAt}
 use Rattle.books.specs.Keeps.{Seen}
 use Rattle.desk.specs.Answering.{answers_by, life_serves, message_refusal_of}
@@ -19,7 +20,8 @@ use Rattle.office_rules.specs.declared.decision.answer.Answer.{Answer}
 use Rattle.office_rules.specs.declared.decision.refusal.Refusal.{Refusal}
 use Rattle.office_rules.specs.declared.decision.refusal.Refusal.TheVariants as refusal
 use Rattle.office_rules.specs.declared.decision.request.Request.{Request}
-use Rattle.office_rules.specs.declared.decision.request.Request.TheVariants.{AddTariff, AddMeter, OpenShift}
+use Rattle.office_rules.specs.declared.decision.request.Request.TheVariants.{AddTariff, AddMeter}
+use Rattle.office_rules.specs.declared.decision.request.Request.TheVariants.{OpenShift}
 use Rattle.office_rules.specs.declared.decision.request.Stamped.{Stamped}
 use Rattle.vend_ports.specs.print.Printed.{net_line, refusal_line, selfcheck_line}
 use Rattle.office_commands.specs.print.Opening.{opening_line}
@@ -31,7 +33,8 @@ use Rattle.vend_ports.specs.declared.command_end.CommandEnd.{CommandEnd}
 use Rattle.vend_ports.specs.declared.command_end.CommandEnd.TheVariants.{Done, Refused as IsRefused}
 use Rattle.vend_ports.specs.declared.port.loopback.Loopback as loopback
 use Rattle.vend_commands.specs.declared.selfcheck.fault.SelfcheckFault.{SelfcheckFault}
-use Rattle.vend_commands.specs.declared.selfcheck.fault.SelfcheckFault.TheVariants.{Net, Unopened, Refused}
+use Rattle.vend_commands.specs.declared.selfcheck.fault.SelfcheckFault.TheVariants.{Net, Unopened}
+use Rattle.vend_commands.specs.declared.selfcheck.fault.SelfcheckFault.TheVariants.{Refused}
 use Rattle.command_line.specs.declared.transform.Shipped.{Shipped}
 
 -- ---- the office

@@ -1,5 +1,6 @@
 -- Connections that are served one after another, each over the bytes of its own.
-use Rattle.std.specs.Prelude.{◌≡◌, ◌⊎◌, ℕ, ℤ, zero, suc, ◌<◌, Bool, true, false, if◌then◌else◌, List, [], ◌++◌, Option, Result, Ok, Err}
+use Rattle.std.specs.Prelude.{◌≡◌, ◌⊎◌, ℕ, ℤ, zero, suc, ◌<◌, Bool, true, false, if◌then◌else◌}
+use Rattle.std.specs.Prelude.{List, [], ◌++◌, Option, Result, Ok, Err}
 use Rattle.sqlite.specs.State.{HasCleanDisk}
 use Rattle.books.specs.Keeps.{Represents, Seen}
 use Rattle.books.specs.Others.{LeavesOthers}

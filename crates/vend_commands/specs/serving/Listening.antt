@@ -1,5 +1,6 @@
 -- What `serve` does: where it listens is told, and connections are served one after another.
-use Rattle.std.specs.Prelude.{◌≡◌, ⊤, ℕ, ℤ, Bool, true, false, List, [], ◌++◌, Option, Result, Ok, Err}
+use Rattle.std.specs.Prelude.{◌≡◌, ⊤, ℕ, ℤ, Bool, true, false, List, [], ◌++◌, Option, Result, Ok}
+use Rattle.std.specs.Prelude.{Err}
 use Rattle.vend_ports.specs.port.Dial.{Dial}
 use Rattle.sqlite_trees.specs.declared.store.Store.{Ghosts}
 use Rattle.books.specs.declared.books.Books.{Books}

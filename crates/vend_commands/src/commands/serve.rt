@@ -1,10 +1,10 @@
 ghost use Rattle.std.specs.Prelude.{◌≡◌, MatchOption};
 ghost use Rattle.office_commands.specs.office.Closed.{IsClosed};
-ghost use Rattle.vend_commands.specs.serving.Listening.{IsClosedAfter, IsDeaf, IsServing, Listens, last_line, serving_end};
+ghost use Rattle.vend_commands.specs.serving.Listening.{IsClosedAfter, IsDeaf, IsServing, Listens};
+ghost use Rattle.vend_commands.specs.serving.Listening.{last_line, serving_end};
 ghost use Rattle.vend_ports.specs.port.Dial.{dial_of};
 ghost use Rattle.office_commands.specs.port.Places.{places_of};
 ghost use Rattle.vend_commands.specs.port.Machines.{way};
-ghost use Rattle.vend_ports.specs.print.Printed.{net_line, refusal_line};
 ghost use Rattle.vend_ports.specs.print.Told.{Takes};
 ghost use Rattle.office_commands.specs.office.Visited.{seen_in};
 

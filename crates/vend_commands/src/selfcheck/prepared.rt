@@ -6,9 +6,12 @@ ghost use Rattle.vend_core.specs.Law.Life.{Life};
 ghost use Rattle.books.specs.Asking.{ReplyAt};
 ghost use Rattle.books.specs.Keeps.{Represents, seen};
 ghost use Rattle.office_rules.specs.declared.decision.refusal.Refusal.TheVariants.{Memory};
-ghost use Rattle.vend_commands.specs.commands.Selfchecked.{AreGranted, IsGranted, IsPrepared, IsUngranted};
-ghost use Rattle.vend_commands.specs.commands.Selfchecked.{IsUnprepared, add_flat, add_selfcheck_meter};
-ghost use Rattle.vend_commands.specs.commands.Selfchecked.{clock_moment, flat_name, open_selfcheck_shift};
+ghost use Rattle.vend_commands.specs.commands.Selfchecked.{AreGranted, IsGranted, IsPrepared};
+ghost use Rattle.vend_commands.specs.commands.Selfchecked.{IsUngranted};
+ghost use Rattle.vend_commands.specs.commands.Selfchecked.{IsUnprepared, add_flat};
+ghost use Rattle.vend_commands.specs.commands.Selfchecked.{add_selfcheck_meter};
+ghost use Rattle.vend_commands.specs.commands.Selfchecked.{clock_moment, flat_name};
+ghost use Rattle.vend_commands.specs.commands.Selfchecked.{open_selfcheck_shift};
 ghost use Rattle.vend_commands.specs.commands.Selfchecked.{preparing};
 
 use crate::selfcheck::fault::SelfcheckFault;

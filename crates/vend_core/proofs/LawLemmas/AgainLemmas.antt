@@ -102,9 +102,11 @@ module _ (o : Office) where
   stayed_by forward at (requests.Reprint number) e other = stayed_by_reprint (sale_numbered o number)
   stayed_by forward at (requests.ShiftReport number) e other = stayed_by_report (shift_numbered o number) (sales_of_shift o number)
 
+-- tariffs and meters stay as they are over any request but SetTariff and MoveBase
 pub step_stays : (forward : ℕ → ℕ → ℕ) (o : Office) (at : Stamped) → ChangesNoMeter at → HaveStayed o (step forward o at)
 step_stays forward o at other = stayed_by o forward at at.request refl other
 
+-- the same over any number of such requests
 pub after_stays : (forward : ℕ → ℕ → ℕ) (o : Office) (ats : List Stamped) → All ChangesNoMeter ats → HaveStayed o (after forward o ats)
 unfolding after
 after_stays forward o [] others = stayed_none o
@@ -251,9 +253,11 @@ module _ (today : ℕ) where
   granted_import o rows (Err refusal) new e granted = cc
   granted_import o rows (Ok added) new e granted = subst (λ (p : Office). All (Stands p) rows) (sym (after_add o added)) (new_rows_stand o 1 rows added e)
 
+-- rows that stand in an office still do where its tariffs and meters have stayed
 pub all_stand_still : (o p : Office) (rows : List Row) → HaveStayed o p → All (Stands o) rows → All (Stands p) rows
 all_stand_still o p rows stayed stand = All-weaker (Stands o) (Stands p) (λ row stands. stands_still o p row stayed stands) rows stand
 
+-- an import of rows that all stand is granted and changes nothing
 pub imports_nothing : (forward : ℕ → ℕ → ℕ) (o : Office) (at : Stamped) (rows : List Row) → at.request ≡ requests.Import rows
     → All (Stands o) rows → ImportsNothing forward o at
 imports_nothing forward o at rows asks stand =
@@ -261,6 +265,7 @@ imports_nothing forward o at rows asks stand =
     ap (decision_of forward o at.moment at.nibble) asks ∙ ap (λ (r : Result (List Row) Refusal). r >>= add_rows) (none_new (day_at at.moment) o 1 rows stand) in
     (ap reply_of decided, ap (office_after o) decided)
 
+-- after an import that was granted all its rows stand
 pub rows_stand : (forward : ℕ → ℕ → ℕ) (o : Office) (at : Stamped) (rows : List Row) (new : ℕ) → at.request ≡ requests.Import rows
     → reply forward o at ≡ Ok (answers.Imported new) → All (Stands (step forward o at)) rows
 rows_stand forward o at rows new asks granted =
@@ -269,6 +274,7 @@ rows_stand forward o at rows new asks granted =
     subst (λ (r : Result Change Refusal). All (Stands (office_after o r)) rows) (sym decided)
     (granted_import (day_at at.moment) o rows (new_rows o (day_at at.moment) 1 rows) new refl (ap reply_of (sym decided) ∙ granted))
 
+-- a granted import that comes again with no meter changed between changes nothing
 pub imported_again : (forward : ℕ → ℕ → ℕ) (o : Office) (at again : Stamped) (between : List Stamped) (rows : List Row) (new : ℕ)
     → at.request ≡ requests.Import rows → again.request ≡ requests.Import rows → reply forward o at ≡ Ok (answers.Imported new) → All ChangesNoMeter between
     → ImportsNothing forward (after forward (step forward o at) between) again

@@ -165,6 +165,7 @@ module _ (o : Office) (New : Sale → Type 0) where
     abbrev pub sold_to : Order → Result Change Refusal
     sold_to order = sell forward moment nibble order (open_shift o order.operator) (account_of o order.meter moment) (length o.sales)
 
+    -- whatever is asked, only sales that stand are answered, and one new at most is added
     pub honest : (request : Request) → ((order : Order) → request ≡ requests.Sell order → SellsNew (sold_to order))
         → IsHonest o New (decision_of forward o moment nibble request)
     honest (requests.AddTariff name steps) sells = stand_add_tariff name steps (o.tariffs name)

@@ -22,9 +22,11 @@ use Rattle.office_rules.specs.declared.decision.request.Request.TheVariants as r
 use Rattle.office_rules.specs.declared.decision.request.Stamped.{Stamped}
 use Rattle.office_rules.proofs.DecisionLemmas.EditLemmas.{base_eq-refl}
 
+-- each sale is under a base that its meter had
 pub sales_have_bases : (o : Office) → IsOffice o → All (λ s. o.bases s.meter s.base ≡ true) o.sales
 sales_have_bases o office = All-weaker (IsSaleRow o) (λ s. o.bases s.meter s.base ≡ true) (λ s row. row.base) o.sales office.sales
 
+-- a meter's present base is the greatest of those that it had
 pub present_is_greatest : (o : Office) (number : List ℕ) (m : Meter) → IsOffice o → o.meters number ≡ Some m → IsGreatestBase o number m.base
 present_is_greatest o number m office there = record {
   had = (office.meters number m there).base;
@@ -54,6 +56,7 @@ module _ (forward : ℕ → ℕ → ℕ) (o : Office) (at : Stamped) (number : L
       ∙ ap (λ (b : Bool). decided number base same b (nat_lt at.moment (base_date base))) y
       ∙ ap (λ (b : Bool). decided number base same earlier b) z
 
+  -- a move to a later base that has begun is granted, and the meter has it then
   pub moves : year_of m.base < year_of base → base_date base ≤ at.moment → IsMoved forward o at number base m
   moves later begun =
       let differs : base_eq m.base base ≡ false = ne_eqb (year_of m.base) (year_of base) (λ same. omega (arith, later, same)) in
@@ -73,18 +76,21 @@ module _ (forward : ℕ → ℕ → ℕ) (o : Office) (at : Stamped) (number : L
             ∙ ap (λ (b : Bool). b || o.bases number base) (base_eq-refl base);
       }
 
+  -- a move to the base that the meter has is granted, and changes nothing
   pub moves_once : m.base ≡ base → (reply forward o at ≡ Ok answers.Done) × (step forward o at ≡ o)
   moves_once same =
       let is : base_eq m.base base ≡ true = ap (λ (b : Base). base_eq b base) same ∙ base_eq-refl base in
       let e = decided_by true (is_earlier base m.base) (nat_lt at.moment (base_date base)) is refl refl in
       (ap reply_of e, ap (office_after o) e)
 
+  -- a move to an earlier base is refused
   pub moves_not_back : year_of base < year_of m.base → reply forward o at ≡ Err refusals.NotLater
   moves_not_back earlier =
       let differs : base_eq m.base base ≡ false = ne_eqb (year_of m.base) (year_of base) (λ same. omega (arith, earlier, same)) in
       let is : is_earlier base m.base ≡ true = lt-ltb (year_of base) (year_of m.base) earlier in
       ap reply_of (decided_by false true (nat_lt at.moment (base_date base)) differs is refl)
 
+  -- a move to a later base is refused before the base begins
   pub moves_not_before : year_of m.base < year_of base → at.moment < base_date base → reply forward o at ≡ Err refusals.BeforeBase
   moves_not_before later before =
       let differs : base_eq m.base base ≡ false = ne_eqb (year_of m.base) (year_of base) (λ same. omega (arith, later, same)) in

@@ -44,6 +44,7 @@ module _ (read : Reader) (before history : List Entry) where
       fold-append (after_entry read) nothing_taken before (cleared ∷ history)
       ∙ taken_alike read (taken_over read before).amounts nothing_taken history
 
+  -- a cleared meter accepts what it would if nothing had been entered before
   pub accepts_after_clearing : (text : List ℕ) (f : TokenFields) → Accepts read (before ++ cleared ∷ history) text f ↔ Accepts read history text f
   accepts_after_clearing text f =
       let same = ap (λ (t : Taken). answer_to t.tids f.tid) taken_after_clearing in (
@@ -51,6 +52,7 @@ module _ (read : Reader) (before history : List Entry) where
         λ is. record { reads = is.reads; answer = same ∙ is.answer },
       )
 
+  -- a cleared meter keeps its credit, and adds what comes after, up to the bound
   pub credit_after_clearing : credit_of read (before ++ cleared ∷ history) ≡ min (2 ^ 64 - 1) (credit_of read before + credit_of read history)
   credit_after_clearing =
       let older = (taken_over read before).amounts in

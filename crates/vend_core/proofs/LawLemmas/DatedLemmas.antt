@@ -55,6 +55,7 @@ module _ (o : Office) (name : List ℕ) (day : ℕ) where
   one_on a b (inr (none, first)) (inl y) = absurd (none-some b (sym (none y.first y.not_after) ∙ y.there))
   one_on a b (inr (none, first)) (inr (none_too, too)) = same_Some a b (sym first ∙ too)
 
+  -- the steps that are looked up for a day are exactly a tariff's steps on that day
   pub steps_on_are : (steps : List Step) → IsSome (o.tariffs name) → AreStepsOn o name day steps ↔ (steps ≡ steps_on o name day)
   steps_on_are steps some =
       let these = steps_chosen (latest (o.dated_steps name) day) (o.tariffs name) (latest_is (o.dated_steps name) day) refl some in
@@ -73,6 +74,7 @@ module _ (forward : ℕ → ℕ → ℕ) (o : Office) (at : Stamped) (name : Lis
   abbrev if_later : Bool → Result Change Refusal
   if_later later = if later then changed (edits.AddSteps name day steps) answers.Done else Err refusals.DayPast
 
+  -- further steps from a later day on are added, where there are none of that day
   pub adds_steps : o.dated_steps name day ≡ None → day_at at.moment < day → (reply forward o at ≡ Ok answers.Done)
       × ((step forward o at).dated_steps name day ≡ Some steps)
   adds_steps free later =
@@ -83,11 +85,13 @@ module _ (forward : ℕ → ℕ → ℕ) (o : Office) (at : Stamped) (name : Lis
             ∙ ap (λ (b : Bool). if b then Some steps else o.dated_steps name day) here,
       )
 
+  -- steps that stand there already are granted again, and change nothing
   pub adds_steps_once : o.dated_steps name day ≡ Some steps → (reply forward o at ≡ Ok answers.Done) × (step forward o at ≡ o)
   adds_steps_once there =
       let e = decided_with (Some steps) there ∙ ap (λ (b : Bool). if b then unchanged answers.Done else Err refusals.Differs) (steps_eq-equiv.refl steps) in
       (ap reply_of e, ap (office_after o) e)
 
+  -- further steps that are new, from a day that has begun or passed, are refused
   pub adds_no_passed_steps : o.dated_steps name day ≡ None → day ≤ day_at at.moment → reply forward o at ≡ Err refusals.DayPast
   adds_no_passed_steps free past = ap reply_of (decided_with None free ∙ ap if_later (le-ltb (day_at at.moment) day past))
 
@@ -236,6 +240,7 @@ same_steps_on o p name day (Some steps) is some stays same =
     ap (λ (l : Option (List Step)). unwrap_or (option_or l (p.tariffs name)) []) (latest_same (o.dated_steps name) (p.dated_steps name) day (same name))
     ∙ ap (λ (t : Option (List Step)). unwrap_or (option_or (latest (o.dated_steps name) day) t) []) (stays steps is ∙ sym is)
 
+-- a tariff's steps on a day stay over all requests that come on that day or later
 pub passed_steps_stay : LowerLaws → (forward : ℕ → ℕ → ℕ) (o : Office) (ats : List Stamped) (name : List ℕ) (day : ℕ) → IsOffice o
     → All IsStamped ats → KeepsRange forward → IsSome (o.tariffs name) → All (IsNotBefore day) ats
     → steps_on (after forward o ats) name day ≡ steps_on o name day

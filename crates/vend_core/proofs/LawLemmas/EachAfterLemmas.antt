@@ -7,6 +7,7 @@ use Rattle.std.proofs.lemmas.List.{get_or_append_left, get_or_push, length_push,
 use Rattle.std.proofs.lemmas.Option.{get_or_from_slice_get, slice_get-get_or, slice_get_within}
 use Rattle.vend_core.specs.Law.Reached.{EachAfter}
 
+-- of no rows each is so after those before it
 pub each_after_none : {X : Type 0} (P : List X → X → Type 0) → EachAfter P []
 each_after_none P i row at = cc
 

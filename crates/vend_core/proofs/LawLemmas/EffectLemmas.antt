@@ -38,6 +38,7 @@ by_result : (P : Office → Type 0) (o : Office) (r : Result Change Refusal) →
 by_result P o (Err refusal) none each = none
 by_result P o (Ok change) none each = by_edit P o change.edit none (λ e is. each change e refl is)
 
+-- what holds of no change and of each edit that meets its office holds after a request
 pub step_by_edit : LowerLaws → (P : Office → Type 0) (forward : ℕ → ℕ → ℕ) (o : Office)
     (at : Stamped) → IsOffice o → IsStamped at → KeepsRange forward → P o
     → ((e : Edit) → Meets e o → P (applied e o)) → P (step forward o at)
@@ -71,6 +72,7 @@ shifts_of_rows : (rows : List Row) (o : Office) → (with_rows rows o).shifts �
 shifts_of_rows [] o = refl
 shifts_of_rows (row ∷ rest) o = shifts_of_rows rest (with_row row o) ∙ shifts_of_row row o
 
+-- an edit leaves the shifts, or opens one, or closes one
 pub shifts_by : (o : Office) (e : Edit) → Meets e o → ShiftsChange o (applied e o)
 shifts_by o (edits.AddTariff name steps) meets = inl refl
 shifts_by o (edits.AddSteps name day steps) meets = inl refl
@@ -94,6 +96,7 @@ abbrev pub KeysStay : Office → Office → Type 0
 KeysStay o p = (number : List ℕ) (m : Meter) → o.meters number ≡ Some m
     → (n : Meter) × (p.meters number ≡ Some n) × (n.key ≡ m.key)
 
+-- keys stay where nothing changes
 pub keys_same : (o : Office) → KeysStay o o
 keys_same o number m there = (m, there, refl)
 
@@ -124,6 +127,7 @@ key_with_base : (b : Bool) (m : Meter) (base : Base) → (if b then with_base ba
 key_with_base true m base = refl
 key_with_base false m base = refl
 
+-- an edit leaves each meter in the office, with its key
 pub keys_by : (o : Office) (e : Edit) → Meets e o → KeysStay o (applied e o)
 keys_by o (edits.AddTariff name steps) meets = keys_by_row (kinds.Tariff name steps) o meets
 keys_by o (edits.AddSteps name day steps) meets = keys_by_row (kinds.Steps name day steps) o meets

@@ -71,6 +71,7 @@ grown o p names rest sales shifts = record {
   bases = names.bases;
 }
 
+-- an office that does not change counts as grown
 pub grown_none : (o : Office) → HasGrown o o
 grown_none o = grown o o (names_same o o refl refl refl refl) [] (sym (append-nil o.sales)) (λ i s at. (s, at, same_shift s))
 
@@ -82,6 +83,7 @@ same_shift_twice a b c x y = record {
   closed = λ some. y.closed (ap is_some (x.closed some) ∙ some) ∙ x.closed some;
 }
 
+-- an office that grows and grows again has grown
 pub grown_twice : (o p q : Office) → HasGrown o p → HasGrown p q → HasGrown o q
 grown_twice o p q a b = record {
   sales = (a.sales.0 ++ b.sales.0, b.sales.1 ∙ ap (λ xs. xs ++ b.sales.0) a.sales.1 ∙ append_assoc o.sales a.sales.0 b.sales.0);
@@ -286,6 +288,7 @@ module _ (o : Office) (office : IsOffice o) where
   grown_by forward moment nibble (requests.Reprint number) = grown_by_reprint (sale_numbered o number)
   grown_by forward moment nibble (requests.ShiftReport number) = grown_by_report (shift_numbered o number) (sales_of_shift o number)
 
+-- a request makes an office grow: nothing that stands in it is taken away
 pub step_grows : (forward : ℕ → ℕ → ℕ) (o : Office) (at : Stamped) → IsOffice o → HasGrown o (step forward o at)
 step_grows forward o at office = grown_by o office forward at.moment at.nibble at.request
 
@@ -298,6 +301,7 @@ after_keeps_office laws forward o (at ∷ ats) office are range =
     after_keeps_office laws forward (step forward o at) ats
     (step_keeps_office laws forward o at office (All-head IsStamped at ats are) range) (All-tail IsStamped at ats are) range
 
+-- an office grows along any number of requests
 pub after_grows : LowerLaws → (forward : ℕ → ℕ → ℕ) (o : Office) (ats : List Stamped) → IsOffice o → All IsStamped ats → KeepsRange forward
     → HasGrown o (after forward o ats)
 unfolding after

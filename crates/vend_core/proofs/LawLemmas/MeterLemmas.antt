@@ -137,6 +137,7 @@ module _ (laws : LowerLaws) (meter_laws : MeterLaws) (lives : List Life) (o : Of
     fields_from = All-map (Contains (map fields_of sales)) fields_of came
         (all_from_contains (λ s. Contains (map fields_of sales) (fields_of s)) came (λ s in_came. contains_map fields_of sales s (came_from s in_came)))
 
+    -- a meter's credit is the sum of the sales of which it accepted the tokens
     pub credit_is : credit_of (reads_by m) (tokens_of came) ≡ sum_by (λ s. s.tenths) (accepted_of (reads_by m) (tokens_of came) sales)
     credit_is =
         let read = reads_by m in
@@ -147,12 +148,14 @@ module _ (laws : LowerLaws) (meter_laws : MeterLaws) (lives : List Life) (o : Of
         ∙ ap (λ fs. sum_by (λ (f : TokenFields). f.tenths) fs) (kept_of_map fields_of accepted sales)
         ∙ sum_of_map fields_of (λ f. f.tenths) (accepted_of read (tokens_of came) sales)
 
+    -- a meter's credit is at most the sum of the sales to it
     pub credit_within : credit_of (reads_by m) (tokens_of came) ≤ sum_by (λ s. s.tenths) sales
     credit_within =
         subst (λ n. credit_of (reads_by m) (tokens_of came) ≤ n) (sum_of_map fields_of (λ f. f.tenths) sales)
         (subst (λ (history : List Entry). credit_of (reads_by m) history ≤ sum_by (λ f. f.tenths) (map fields_of sales)) entries
         (meter_laws.at_most_sold m.forward m.inverse m.key (map fields_of sales) (map fields_of came) to.transform to.key_bits are_sold fields_from))
 
+    -- a sale counts as accepted exactly where a text was accepted with its identifier
     pub accepted_is : (s : Sale) → Contains (accepted_of (reads_by m) (tokens_of came) sales) s ↔
         (Contains sales s × WasAccepted (reads_by m) (map digits_of came) s.tid)
     accepted_is s =
@@ -189,6 +192,7 @@ module _ (laws : LowerLaws) (meter_laws : MeterLaws) (lives : List Life) (o : Of
         not (subst (λ t. Contains came t) (one_of_tid o c.0 s office (there c.0 in_c) (there s in_s)
         (meter_of c.0 in_c ∙ sym (meter_of s in_s)) (base_of c.0 in_c ∙ sym (base_of s in_s)) (ap tid_of c.2)) c.1)
 
+    -- a first entry is accepted exactly where fewer than 50 later tokens have come
     pub first_entry_is : (s : Sale) → Contains sales s → ¬ Contains came s
         → Accepts (reads_by m) (tokens_of came) s.digits (fields_of s) ↔ (later_sales_come sales came s < 50)
     first_entry_is s in_s not =
@@ -200,6 +204,7 @@ module _ (laws : LowerLaws) (meter_laws : MeterLaws) (lives : List Life) (o : Of
         (subst (λ history. Accepts (reads_by m) history (token_of m.forward m.key (fields_of s)) (fields_of s) ↔
         (sold.later_come (map fields_of sales) (map fields_of came) (fields_of s) < 50)) entries is))
 
+  -- the sum of all sales to a meter stays below the bound of its credit
   pub bound_above : sum_by (λ s. s.tenths) sales < 2 ^ 64 - 1
   bound_above = subst (λ n. n < 2 ^ 64 - 1) (sum_of_map fields_of (λ f. f.tenths) sales) (meter_laws.below_bound (map fields_of sales) are_sold)
 

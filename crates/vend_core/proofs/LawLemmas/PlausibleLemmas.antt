@@ -62,6 +62,7 @@ closing_at false moment s = record { number = refl; operator = refl; closed = λ
 same_closing : (number moment : ℕ) (s : Shift) → IsSameClosing s (closing number moment s)
 same_closing number moment s = closing_at (s.number == number) moment s
 
+-- an operator's shifts before the last stay closed while shifts are opened and closed
 pub shifts_go_on : (o p : Office) → AllPairs IsClosedFirst o.shifts → ShiftsChange o p
     → AllPairs IsClosedFirst p.shifts
 shifts_go_on o p pairs (inl same) = subst (AllPairs IsClosedFirst) (sym same) pairs
@@ -146,6 +147,7 @@ module _ (o p : Office) (grown : HasGrown o p) (goes : ShiftsChange o p) where
     ];
   }
 
+  -- a sale that the rules grant after those before it is one in the grown office too
   pub granted_stays : (earlier : List Sale) (s : Sale) → All (λ (a : Sale). a.shift ≤ length o.shifts) earlier
       → IsGrantedAfter o earlier s → IsGrantedAfter p earlier s
   granted_stays earlier s within granted = record {
@@ -287,6 +289,7 @@ module _ (codes : AmountCodes) (forward : ℕ → ℕ → ℕ) (range : KeepsRan
         tenths = subst IsRepresentable (sym new.tenths) new.bought_is.representable;
       }
 
+  -- a new sale is one that the rules grant after all that stand
   pub new_granted : AllPairs IsClosedFirst o.shifts → IsGrantedAfter o o.sales s
   new_granted pairs = record {
     operator = new_own;

@@ -39,6 +39,7 @@ module _ (forward : ℕ → ℕ → ℕ) (o : Office) (at : Stamped) (order : Or
   has_tariff office = (office.meters order.meter new.to_meter new.meter_is).tariff
 
 module _ (laws : LowerLaws) (forward : ℕ → ℕ → ℕ) (o : Office) (range : KeepsRange forward) (office : IsOffice o) where
+  -- a new sale stands after all later requests, at a price by the steps of its own day
   pub keeps_price : (at : Stamped) (order : Order) (s : Sale) (later : List Stamped) → IsStamped at → All IsStamped later → at.request ≡ requests.Sell order
       → sale_of_ref o order.operator order.order_ref ≡ None → reply forward o at ≡ Ok (answers.Sold s)
       → All (IsNotBefore (day_at at.moment)) later → KeepsPrice o (after forward (step forward o at) later) s

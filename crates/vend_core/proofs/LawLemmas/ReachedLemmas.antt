@@ -42,6 +42,7 @@ module _ (laws : LowerLaws) (codes : AmountCodes) where
   goes_on forward o at office is range =
       step_by_edit laws (ShiftsChange o) forward o at office is range (inl refl) (shifts_by o)
 
+  -- a request leads from a plausible office to a plausible one
   pub step_plausible : (forward : ℕ → ℕ → ℕ) (o : Office) (at : Stamped) → IsOffice o
       → IsStamped at → KeepsRange forward → IsPlausible o → IsPlausible (step forward o at)
   step_plausible forward o at office is range plausible =
@@ -61,12 +62,14 @@ module _ (laws : LowerLaws) (codes : AmountCodes) where
         ];
       }
 
+  -- the empty office is plausible
   pub empty_plausible : IsPlausible empty_office
   empty_plausible = record {
     shifts = λ i j d before within. absurd (omega arith);
     sales = each_after_none (IsGrantedAfter empty_office);
   }
 
+  -- requests lead from the empty office to a plausible one
   pub after_plausible : (forward : ℕ → ℕ → ℕ) (ats : List Stamped) → All IsStamped ats
       → KeepsRange forward → IsPlausible (after forward empty_office ats)
   after_plausible forward ats are range =
@@ -74,6 +77,7 @@ module _ (laws : LowerLaws) (codes : AmountCodes) where
       (λ o at office is range holds. step_plausible forward o at office is range holds)
       empty_office ats empty_is_office are range empty_plausible
 
+  -- lives lead to a plausible office
   pub lives_plausible : (lives : List Life) (o : Office) → AreLives lives o → IsPlausible o
   lives_plausible lives o are =
       lives_keep_by laws IsPlausible lives o (λ k d below o at office is range holds.
@@ -90,6 +94,7 @@ module _ (laws : LowerLaws) (codes : AmountCodes) where
         token = subst (λ key. IsToken forward key (fields_of s) s.digits) (sym m.2) was.token;
       }
 
+  -- if each sale has the token of its fields, it has it after a request too
   pub step_writes : (forward : ℕ → ℕ → ℕ) (o : Office) (at : Stamped) → IsOffice o
       → IsStamped at → KeepsRange forward → HasTokensOf forward o
       → HasTokensOf forward (step forward o at)
@@ -111,6 +116,7 @@ module _ (laws : LowerLaws) (codes : AmountCodes) where
             })))
       ]
 
+  -- requests from the empty office on lead to sales with the tokens of their fields
   pub after_writes : (forward : ℕ → ℕ → ℕ) (ats : List Stamped) → All IsStamped ats
       → KeepsRange forward → HasTokensOf forward (after forward empty_office ats)
   after_writes forward ats are range =
@@ -124,6 +130,7 @@ module _ (laws : LowerLaws) (codes : AmountCodes) where
       subst (StepKeepsBy (HasTokensOf forward)) (sym same)
       (λ o at office is range holds. step_writes forward o at office is range holds)
 
+  -- the same of the office that lives under one transform lead to
   pub lives_write : (forward : ℕ → ℕ → ℕ) (lives : List Life) (o : Office) → AreLives lives o
       → All (λ (life : Life). life.forward ≡ forward) lives → HasTokensOf forward o
   lives_write forward lives o are one =

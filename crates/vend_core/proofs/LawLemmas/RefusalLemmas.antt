@@ -171,9 +171,11 @@ own_decision forward o moment nibble (requests.Sell order) =
 own_decision forward o moment nibble (requests.Reprint number) = own_there (sale_numbered o number) refusals.NoSale _ refl (λ s. refl)
 own_decision forward o moment nibble (requests.ShiftReport number) = own_there (shift_numbered o number) refusals.NoSuchShift _ refl (λ s. refl)
 
+-- each reply of the rules is a grant or a refusal for a reason of the request's own
 pub own_reply : (forward : ℕ → ℕ → ℕ) (o : Office) (at : Stamped) → acknowledges (reply forward o at) ≡ true
 own_reply forward o at = own_decision forward o at.moment at.nibble at.request
 
+-- so the rules never tell that memory is short, the store failed or the office stopped
 pub never_answers : (forward : ℕ → ℕ → ℕ) (o : Office) (at : Stamped) (refusal : Refusal) → acknowledges (Err refusal) ≡ false
     → reply forward o at ≢ Err refusal
 never_answers forward o at refusal own e = false≢true (sym own ∙ ap acknowledges (sym e) ∙ own_reply forward o at)

@@ -34,12 +34,14 @@ module _ (laws : LowerLaws) where
             (λ a there. new_rises o office forward at order s a new there))
       ]
 
+  -- identifiers that rise still do after any number of requests
   pub after_rises : (forward : ℕ → ℕ → ℕ) (o : Office) (ats : List Stamped) → IsOffice o
       → All IsStamped ats → KeepsRange forward → AllPairs Rises o.sales
       → AllPairs Rises (after forward o ats).sales
   after_rises forward o ats office are range rise =
       after_keeps laws Rise step_rises forward o ats office are range rise
 
+  -- the identifiers of a meter under a base rise in each office that lives lead to
   pub lives_rise : (lives : List Life) (o : Office) → AreLives lives o → AllPairs Rises o.sales
   lives_rise lives o are =
       lives_keep laws Rise step_rises lives o are (λ i j d before within. absurd (omega arith))
@@ -57,11 +59,13 @@ module _ (laws : LowerLaws) where
             (omega (arith, some, new.tenths)))
       ]
 
+  -- if each sale has a tenth at least, each has one after any number of requests
   pub after_sells_some : (forward : ℕ → ℕ → ℕ) (o : Office) (ats : List Stamped) → IsOffice o
       → All IsStamped ats → KeepsRange forward → HaveTenths o → HaveTenths (after forward o ats)
   after_sells_some forward o ats office are range have =
       after_keeps laws HaveTenths step_sells_some forward o ats office are range have
 
+  -- each sale has a tenth at least in what lives may leave
   pub lives_sell_some : (lives : List Life) (o : Office) → AreLives lives o → HaveTenths o
   lives_sell_some lives o are =
       lives_keep laws HaveTenths step_sells_some lives o are (All-nil (λ (s : Sale). 1 ≤ s.tenths))

@@ -58,6 +58,7 @@ module _ (laws : LowerLaws) (P : Sale → Type 0) where
       led_all left lives o (left_office laws life is opening left may) leads (λ later there. keeps later (contains_further life later lives there))
       (left_all life is opening (keeps life (contains_first life lives)) (subst (λ (p : Office). All P p.sales) (sym opens) all) left may)
 
+  -- what each life's new sales keep holds of each sale that lives hand out
   pub handed_keeps : (lives : List Life) (o : Office) (s : Sale) → AreLives lives o
       → ((life : Life) → Contains lives life → KeepsNew life.forward) → IsHanded lives s → P s
   handed_keeps lives o s are keeps handed =

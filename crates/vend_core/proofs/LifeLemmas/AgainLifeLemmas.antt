@@ -161,6 +161,7 @@ led_stand start [] later life o before between e rows new (is, opens, (left, may
 led_stand start (first ∷ earlier) later life o before between e rows new (is, opens, (left, may, leads)) exchanges asks granted others later_others =
     led_stand left earlier later life o before between e rows new leads exchanges asks granted others later_others
 
+-- the same over lives, where no exchange after the import asks to change a meter
 pub imported_again_in_lives : (earlier later : List Life) (life : Life) (o : Office) (before between : List Exchange) (e : Exchange)
     (rows : List Row) (new : ℕ) (forward : ℕ → ℕ → ℕ) (again : Stamped)
     → AreLives (earlier ++ life ∷ later) o → life.exchanges ≡ before ++ e ∷ between

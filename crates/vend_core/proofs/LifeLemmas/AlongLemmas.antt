@@ -18,11 +18,13 @@ abbrev pub StepKeepsBy : (Office → Type 0) → (ℕ → ℕ → ℕ) → Type 
 StepKeepsBy P forward = (o : Office) (at : Stamped) → IsOffice o → IsStamped at → KeepsRange forward
     → P o → P (step forward o at)
 
+-- a step of an office under any transform keeps P
 abbrev pub StepKeeps : (Office → Type 0) → Type 0
 StepKeeps P = (forward : ℕ → ℕ → ℕ) (o : Office) (at : Stamped) → IsOffice o → KeepsRange forward
     → P o → P (step forward o at)
 
 module _ (laws : LowerLaws) (P : Office → Type 0) where
+  -- what each step under a transform keeps is kept along requests
   pub after_keeps_by : (forward : ℕ → ℕ → ℕ) → StepKeepsBy P forward → (o : Office)
       (ats : List Stamped) → IsOffice o → All IsStamped ats → KeepsRange forward → P o
       → P (after forward o ats)
@@ -57,6 +59,7 @@ module _ (laws : LowerLaws) (P : Office → Type 0) where
       led_keeps left lives o rest (left_office laws life is opening left may) leads
       (left_keeps life keeps is opening (subst P (sym opens) holds) left may)
 
+  -- what the steps under each life's transform keep holds of what lives may leave
   pub lives_keep_by : (lives : List Life) (o : Office)
       → All (λ (life : Life). StepKeepsBy P life.forward) lives → AreLives lives o
       → P empty_office → P o
@@ -67,11 +70,13 @@ module _ (laws : LowerLaws) (P : Office → Type 0) (keeps : StepKeeps P) where
   by_each : (forward : ℕ → ℕ → ℕ) → StepKeepsBy P forward
   by_each forward o at office is range holds = keeps forward o at office range holds
 
+  -- what a step under any transform keeps is kept along requests
   pub after_keeps : (forward : ℕ → ℕ → ℕ) (o : Office) (ats : List Stamped) → IsOffice o
       → All IsStamped ats → KeepsRange forward → P o → P (after forward o ats)
   after_keeps forward o ats office are range holds =
       after_keeps_by laws P forward (by_each forward) o ats office are range holds
 
+  -- what a step under any transform keeps holds of what lives may leave
   pub lives_keep : (lives : List Life) (o : Office) → AreLives lives o → P empty_office → P o
   lives_keep lives o are holds =
       lives_keep_by laws P lives o (λ k d below. by_each (get_or lives k d).forward) are holds

@@ -20,21 +20,26 @@ use Rattle.vend_core.proofs.LifeLemmas.{after-append}
 use Rattle.vend_core.proofs.LawLemmas.RefusalLemmas.{own_reply}
 use Rattle.office_rules.proofs.OfficeLemmas.RowLemmas.{contains_cases, contains_first}
 
+-- what a request gets: an answer or a refusal
 abbrev pub Reply : Type 0
 Reply = Result Answer Refusal
 
+-- the request of an exchange
 abbrev pub request_of : Exchange → Stamped
 request_of e = e.request
 
+-- the reply of an exchange
 abbrev pub reply_in : Exchange → Reply
 reply_in e = e.reply
 
+-- whether an exchange's reply acknowledges its request
 abbrev pub passes : Exchange → Bool
 passes e = acknowledges e.reply
 
 abbrev is_doubted : Exchange → Bool
 is_doubted e = doubts e.reply
 
+-- a request and the reply that it got
 abbrev pub exchange : Stamped → Reply → Exchange
 exchange at reply = record { request = at; reply = reply }
 
@@ -49,6 +54,7 @@ replies-append forward o (at ∷ ats) more =
 
 -- what more exchanges bring
 module _ (life : Life) (more : List Exchange) where
+  -- the requests acknowledged then are those before and those among the new exchanges
   pub acknowledged_more : acknowledged (extended life more)
       ≡ acknowledged life ++ map request_of (filter passes more)
   acknowledged_more = ap (λ es. map request_of es) (filter-append passes life.exchanges more)
@@ -124,6 +130,7 @@ no_doubts (e ∷ es) sound =
 undoubted : (life : Life) → GoesOn life → in_doubt life ≡ []
 undoubted life goes_on = ap (λ es. map request_of es) (no_doubts life.exchanges goes_on)
 
+-- a life that goes on may leave only its present office
 pub running_leaves : (life : Life) (o p : Office) → IsRunning life o → MayLeave life p ↔ (p ≡ o)
 running_leaves life o p is = (
   λ may. elim may [
@@ -201,6 +208,7 @@ module _ (life : Life) (o : Office) (at : Stamped) (is : IsRunning life o)
       (sym (pass_none (exchange at r) none)))
       (stops_later life.exchanges (exchange at r ∷ []) is.goes_on stops)
 
+  -- a request for which memory was short leaves the life going on with its office
   pub runs_on_without_memory : IsRunning (extended_by life at (Err Memory)) o
   runs_on_without_memory = record {
     is_life = is_life_unacknowledged (Err Memory) refl tt;
@@ -209,6 +217,7 @@ module _ (life : Life) (o : Office) (at : Stamped) (is : IsRunning life o)
     present = present_stays (Err Memory) refl;
   }
 
+  -- a life in which the store fails at a request is a life still
   pub fails_at : IsLife (extended_by life at (Err Store))
   fails_at = is_life_unacknowledged (Err Store) refl (All-nil _)
 
@@ -216,6 +225,7 @@ module _ (life : Life) (o : Office) (at : Stamped) (is : IsRunning life o)
   doubted_alone = doubted_more life (exchange at (Err Store) ∷ [])
       ∙ ap (λ ats. ats ++ at ∷ []) (undoubted life is.goes_on)
 
+  -- after a failed store a life may leave its office, or that with the request in doubt
   pub doubted_leaves : (p : Office)
       → MayLeave (extended_by life at (Err Store)) p ↔ ((p ≡ o) ⊎ (p ≡ step life.forward o at))
   doubted_leaves p = (
@@ -238,6 +248,7 @@ module _ (life : Life) (o : Office) (at : Stamped) (is : IsRunning life o)
     ],
   )
 
+  -- where a store failed at a request that only reads, a life may leave only its office
   pub read_leaves : (p : Office) → IsReadingRequest at.request
       → MayLeave (extended_by life at (Err Store)) p ↔ (p ≡ o)
   read_leaves p reads =
@@ -291,6 +302,7 @@ module _ (life : Life) (at : Stamped) where
   stopped_doubts : in_doubt (extended_by life at (Err Stopped)) ≡ in_doubt life
   stopped_doubts = doubted_more life (exchange at (Err Stopped) ∷ []) ∙ append-nil (in_doubt life)
 
+  -- a life with a request more that is answered as stopped is a life
   pub stopped_is_life : IsLife life → IsStamped at → IsLife (extended_by life at (Err Stopped))
   unfolding replies_to
   stopped_is_life is stamped =
@@ -301,6 +313,7 @@ module _ (life : Life) (at : Stamped) where
       (map-append reply_in life.exchanges (exchange at (Err Stopped) ∷ [])))
       (stops_still (map reply_in life.exchanges) is.stops))
 
+  -- a life may leave the same after one request more that is answered as stopped
   pub stopped_stays : (p : Office)
       → MayLeave (extended_by life at (Err Stopped)) p ↔ MayLeave life p
   stopped_stays p =

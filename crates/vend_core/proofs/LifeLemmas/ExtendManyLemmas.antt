@@ -29,6 +29,7 @@ extended_twice life es more =
     ap (λ all. extended (opened life.forward life.opening) all)
     (append_assoc life.exchanges es more)
 
+-- a life with no requests more is the same life
 pub along_none : (life : Life) → extended_along life [] [] ≡ life
 along_none life = extended_none life
 
@@ -41,6 +42,7 @@ exchanges_push (a ∷ ats) [] at r same = absurd (omega (arith, same))
 exchanges_push (a ∷ ats) (q ∷ rs) at r same =
     ap (λ es. exchange a q ∷ es) (exchanges_push ats rs at r (omega (arith, same)))
 
+-- many requests more and then one are those requests at once
 pub along_one : (life : Life) (ats : List Stamped) (rs : List Reply) (at : Stamped) (r : Reply)
     → length ats ≡ length rs
     → extended_by (extended_along life ats rs) at r
@@ -52,6 +54,7 @@ along_first : (life : Life) (at : Stamped) (ats : List Stamped) (r : Reply) (rs 
     → extended_along (extended_by life at r) ats rs ≡ extended_along life (at ∷ ats) (r ∷ rs)
 along_first life at ats r rs = extended_twice life (exchange at r ∷ []) (exchanges_of ats rs)
 
+-- a life that goes on still does after many requests that the rules answer
 pub runs_along : (life : Life) (o : Office) (ats : List Stamped) → IsRunning life o
     → All IsStamped ats → IsRunning (extended_along life ats (replies_to life.forward o ats))
     (after life.forward o ats)
@@ -77,6 +80,7 @@ hands_out_reply life at r s holds =
       holds,
     )
 
+-- a life hands out each sale of its present office
 pub hands_out_present : (life : Life) (o : Office) (s : Sale) → IsRunning life o
     → Contains o.sales s → HandsOut life s
 hands_out_present life o s is there =
@@ -94,6 +98,7 @@ begins_longer : (ats more : List Stamped) (n : ℕ)
 begins_longer ats more n = take-append-le (min n (length ats)) ats more (omega arith)
     ∙ take_min n ats
 
+-- what a life hands out it hands out with one exchange more too
 pub hands_out_still : (life : Life) (at : Stamped) (r : Reply) (s : Sale) → HandsOut life s
     → HandsOut (extended_by life at r) s
 hands_out_still life at r s (inl (q, there, holds)) =
@@ -120,6 +125,7 @@ pub left_is : LowerLaws → (life : Life) (o : Office) → IsLife life → IsOff
 left_is laws life o is office may =
     (left_office laws life is office o may, opening_grown laws life is office o may)
 
+-- a sale that a life hands out stands in what it may leave
 pub handed_is : LowerLaws → (life : Life) (o : Office) (s : Sale) → IsLife life
     → IsOffice life.opening → MayLeave life o → HandsOut life s → Contains o.sales s
 handed_is laws life o s is office may hands = handed_left laws life is office o s may hands
@@ -131,6 +137,7 @@ led_on start (first ∷ lives) life o p
     (first_is, first_opens, (left, first_may, leads)) is opens may =
     (first_is, first_opens, (left, first_may, led_on left lives life o p leads is opens may))
 
+-- a life that opens what lives may leave is one more of them
 pub lives_go_on : (lives : List Life) (life : Life) (o p : Office) → AreLives lives o → IsLife life
     → life.opening ≡ o → MayLeave life p → AreLives (lives ++ life ∷ []) p
 lives_go_on lives life o p are is opens may = led_on empty_office lives life o p are is opens may

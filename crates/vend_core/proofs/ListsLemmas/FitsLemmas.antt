@@ -146,6 +146,7 @@ if_sell_once : (o : Office) (forward : ℕ → ℕ → ℕ) (moment nibble : ℕ
 if_sell_once o forward moment nibble order (Some first) shift meter = if_sell_again o order first
 if_sell_once o forward moment nibble order None shift meter = if_sell o forward moment nibble order shift meter
 
+-- whatever is requested, the edit of the decision fits the office
 pub decision_fits : (forward : ℕ → ℕ → ℕ) (o : Office) (moment nibble : ℕ) (request : Request) → EditFits o (decision_of forward o moment nibble request)
 decision_fits forward o moment nibble (AddTariff name steps) = if_add_tariff o name steps (o.tariffs name)
 decision_fits forward o moment nibble (AddSteps name day steps) =
@@ -173,6 +174,7 @@ adds_if_not_set : (edit : Edit) (b : Bool) → b ≡ sets_only edit → (sets_on
 adds_if_not_set edit true is sets_not = absurd (sets_not (sym is))
 adds_if_not_set edit false is sets_not = sym is
 
+-- an edit that was decided and does not only set a row is one that adds a row
 pub adds_if_decided : (forward : ℕ → ℕ → ℕ) (o : Office) (at : Stamped) (change : Change) (edit : Edit)
     → IsUnlessMemory (Ok change) (decision forward o at) → change.edit ≡ Some edit → (sets_only edit ≡ true → ⊥) → AddsRow (decision forward o at)
 adds_if_decided forward o at change edit (inl is) edits sets_not =

@@ -24,6 +24,7 @@ module _ {X : Type 0} (f : X → ℕ) (p : X → Bool) (xs : List X) (i : ℕ) (
       ∙ ap (λ (b : Bool). filter p (take i xs) ++ cond b (x ∷ []) []) fails
       ∙ append-nil (filter p (take i xs))
 
+  -- where the next element passes, the greatest so far is the greater of the two
   pub greatest_more_in : p x ≡ true
       → greatest_of (map f (filter p (take (i + 1) xs))) ≡ Some (max (unwrap_or (greatest_of (map f (filter p (take i xs)))) 0) (f x))
   greatest_more_in passes =
@@ -31,16 +32,19 @@ module _ {X : Type 0} (f : X → ℕ) (p : X → Bool) (xs : List X) (i : ℕ) (
       ∙ ap greatest_of (map-append f (filter p (take i xs)) (x ∷ []))
       ∙ greatest_of-push (map f (filter p (take i xs))) (f x)
 
+  -- where the next element does not pass, the greatest so far stays
   pub greatest_more_out : p x ≡ false
       → greatest_of (map f (filter p (take (i + 1) xs))) ≡ greatest_of (map f (filter p (take i xs)))
   greatest_more_out fails = ap (λ (l : List X). greatest_of (map f l)) (filter_more_out fails)
 
+  -- where the next element passes, the sum so far grows by it
   pub sum_more_in : p x ≡ true → sum_by f (filter p (take (i + 1) xs)) ≡ sum_by f (filter p (take i xs)) + f x
   sum_more_in passes =
       let at_end : sum_by f (filter p (take i xs) ++ x ∷ []) ≡ sum_by f (filter p (take i xs)) + sum_by f (x ∷ []) =
       sum_by-append f (filter p (take i xs)) (x ∷ []) in
       ap (λ (l : List X). sum_by f l) (filter_more_in passes) ∙ omega (arith, at_end)
 
+  -- where the next element does not pass, the sum so far stays
   pub sum_more_out : p x ≡ false → sum_by f (filter p (take (i + 1) xs)) ≡ sum_by f (filter p (take i xs))
   sum_more_out fails = ap (λ (l : List X). sum_by f l) (filter_more_out fails)
 
@@ -58,6 +62,7 @@ unfolding latest
 latest-here dated zero steps is = is
 latest-here dated (suc day) steps is = ap (λ (o : Option (List Step)). option_or o (latest dated day)) is
 
+-- where a day has none, the latest steps are those of the day before
 pub latest-before : (dated : ℕ → Option (List Step)) (day before : ℕ) → day ≡ before + 1 → dated day ≡ None → latest dated day ≡ latest dated before
 unfolding latest
 latest-before dated zero before next none = absurd (omega (arith, next))
@@ -65,6 +70,7 @@ latest-before dated (suc day) before next none =
     let same : day ≡ before = omega (arith, next) in
     ap (λ (o : Option (List Step)). option_or o (latest dated day)) none ∙ ap (latest dated) same
 
+-- on the first day of all the latest steps are those of that day
 pub latest-first : (dated : ℕ → Option (List Step)) (day : ℕ) → day ≡ 0 → latest dated day ≡ dated day
 unfolding latest
 latest-first dated day first = ap (latest dated) first ∙ sym (ap dated first)

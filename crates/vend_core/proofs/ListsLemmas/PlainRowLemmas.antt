@@ -64,6 +64,7 @@ set_at true f g m there is same =
     ap (option_map f) (is refl) ∙ ap (λ (k : Meter). let o : Option Meter = Some k in o) same ∙ sym (ap (option_map g) (is refl))
 set_at false f g m there is same = refl
 
+-- where the meter of the number is known, what it becomes is put in its place
 pub set_known : (number : List ℕ) (f : Meter → Meter) (m : Meter) (q : List ℕ) (ms : List (List ℕ × Meter)) → row_of ms number ≡ Some m
     → set_meter number (λ _. f m) (row_of ms) q ≡ set_meter number f (row_of ms) q
 set_known number f m q ms is =
@@ -73,6 +74,7 @@ unset_at : (b : Bool) (f : Meter → Meter) (there : Option Meter) → (b ≡ tr
 unset_at true f there is = is refl ∙ sym (ap (option_map f) (is refl))
 unset_at false f there is = refl
 
+-- where no meter has the number, setting it changes nothing
 pub set_unknown : (number : List ℕ) (f : Meter → Meter) (q : List ℕ) (ms : List (List ℕ × Meter)) → row_of ms number ≡ None
     → row_of ms q ≡ set_meter number f (row_of ms) q
 set_unknown number f q ms is = unset_at (bytes_eq q number) f (row_of ms q) (λ same. ap (row_of ms) ((bytes_eq-Decides q number).0 same) ∙ is)
@@ -85,6 +87,7 @@ found_set true f None m is P given kept = absurd (none-some m is)
 found_set true f (Some k) m is P given kept = subst (λ (n : Meter). P n.tariff) (same_Some (f k) m is) (given refl k refl)
 found_set false f found m is P given kept = kept m is
 
+-- each meter still has a tariff where the meter set is given one that is there
 pub have_tariffs-set : (number : List ℕ) (f : Meter → Meter) (ts : List (List ℕ × List Step)) (ms : List (List ℕ × Meter))
     → ((k : Meter) → row_of ms number ≡ Some k → IsSome (row_of ts (f k).tariff)) → HaveTariffs ts ms → HaveTariffs ts (map (row_set number f) ms)
 have_tariffs-set number f ts ms there have q m is =
@@ -99,6 +102,7 @@ tariffs_of-push (kinds.Tariff n s ∷ rest) row =
 tariffs_of-push (kinds.Steps n d s ∷ rest) row = tariffs_of-push rest row
 tariffs_of-push (kinds.Meter n m ∷ rest) row = tariffs_of-push rest row
 
+-- the same of further steps: those of the last row go in front
 pub dated_steps_of-push : (rows : List Row) (row : Row) → dated_steps_of (rows ++ row ∷ []) ≡ dated_steps_of (row ∷ []) ++ dated_steps_of rows
 dated_steps_of-push [] row = sym (append-nil (dated_steps_of (row ∷ [])))
 dated_steps_of-push (kinds.Tariff n s ∷ rest) row = dated_steps_of-push rest row
@@ -107,6 +111,7 @@ dated_steps_of-push (kinds.Steps n d s ∷ rest) row =
     ∙ append_assoc (dated_steps_of (row ∷ [])) (dated_steps_of rest) (((n, d), s) ∷ [])
 dated_steps_of-push (kinds.Meter n m ∷ rest) row = dated_steps_of-push rest row
 
+-- the same of meters: the one of the last row goes in front
 pub meters_of-push : (rows : List Row) (row : Row) → meters_of (rows ++ row ∷ []) ≡ meters_of (row ∷ []) ++ meters_of rows
 meters_of-push [] row = sym (append-nil (meters_of (row ∷ [])))
 meters_of-push (kinds.Tariff n s ∷ rest) row = meters_of-push rest row

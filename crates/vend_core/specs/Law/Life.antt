@@ -1,6 +1,7 @@
 -- Lives of an office: what was asked and answered from an opening to a stop, what a stop may leave,
 -- and one life after another.
-use Rattle.std.specs.Prelude.{◌≡◌, ℕ, ◌⊎◌, Bool, true, false, List, [], ◌∷◌, map, filter, take, Result, Ok, Err, All, Contains}
+use Rattle.std.specs.Prelude.{◌≡◌, ℕ, ◌⊎◌, Bool, true, false, List, [], ◌∷◌, map, filter, take}
+use Rattle.std.specs.Prelude.{Result, Ok, Err, All, Contains}
 use Rattle.sts_token.specs.Token.{KeepsRange, BlockFunction}
 use Rattle.office_rules.specs.Decision.Fold.{after, replies_to, reply, step}
 use Rattle.office_rules.specs.Law.Handed.{sales_of}

@@ -1,6 +1,7 @@
 -- What each office keeps that requests lead to from the empty one, beside what every office keeps:
 -- as far as its rows show how they came there.
-use Rattle.std.specs.Prelude.{◌≡◌, ◌⊎◌, ◌-◌, ◌<◌, ◌≤◌, ℕ, List, Some, IsSome, Ok, All, AllPairs, Contains, slice_get, take}
+use Rattle.std.specs.Prelude.{◌≡◌, ◌⊎◌, ◌-◌, ◌<◌, ◌≤◌, ℕ, List, Some, IsSome, Ok, All, AllPairs}
+use Rattle.std.specs.Prelude.{Contains, slice_get, take}
 use Rattle.sts_fields.specs.Base.{year_of}
 use Rattle.sts_fields.specs.Calendar.{month_at}
 use Rattle.sts_fields.specs.Day.{day_at}

@@ -1,6 +1,7 @@
 -- The tokens of handed sales: where they were written, and how those of one meter come to the
 -- simulated meter.
-use Rattle.std.specs.Prelude.{◌≡◌, ℕ, ◌^◌, ◌<◌, ◌&&◌, ◌==◌, Bool, List, All, AllPairs, Contains, map, filter, nat_lt, count_by}
+use Rattle.std.specs.Prelude.{◌≡◌, ℕ, ◌^◌, ◌<◌, ◌&&◌, ◌==◌, Bool, List, All, AllPairs, Contains}
+use Rattle.std.specs.Prelude.{map, filter, nat_lt, count_by}
 use Rattle.std.specs.List.{list_any}
 use Rattle.sts_fields.specs.declared.base.Base.{Base}
 use Rattle.sts_token.specs.Meter.{Entry, Reader, entered, is_member, taken_over}

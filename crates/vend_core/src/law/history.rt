@@ -1,4 +1,5 @@
-ghost use Rattle.std.specs.Prelude.{◌≡◌, ◌+◌, ◌-◌, ◌<◌, ◌≤◌, ◌^◌, ◌↔◌, ◌++◌, ◌∷◌, [], ℕ, List, Ok, All, AllPairs, Contains, map, min, sum_by};
+ghost use Rattle.std.specs.Prelude.{◌≡◌, ◌+◌, ◌-◌, ◌<◌, ◌≤◌, ◌^◌, ◌↔◌, ◌++◌, ◌∷◌, [], ℕ, List, Ok};
+ghost use Rattle.std.specs.Prelude.{All, AllPairs, Contains, map, min, sum_by};
 ghost use Rattle.sts_fields.specs.Tid.{IsReserved};
 ghost use Rattle.sts_fields.specs.Text.{Text};
 ghost use Rattle.sts_token.specs.Fields.{TokenFields};
@@ -6,10 +7,12 @@ ghost use Rattle.sts_token.specs.Meter.{Accepts, Entry, WasAccepted, cleared, cr
 ghost use Rattle.sts_token.specs.Token.{BlockFunction};
 ghost use Rattle.office_rules.specs.Law.Cash.{AskForReports, cash_of, cash_of_reports};
 ghost use Rattle.vend_core.specs.Law.Imports.{AsksNoMeterChange, ImportsNothing};
-ghost use Rattle.vend_core.specs.Law.Life.{Answered, AreLives, Exchange, IsHanded, IsLife, Life, MayLeave};
+ghost use Rattle.vend_core.specs.Law.Life.{Answered, AreLives, Exchange, IsHanded, IsLife, Life};
+ghost use Rattle.vend_core.specs.Law.Life.{MayLeave};
 ghost use Rattle.office_rules.specs.Law.NewSale.{fields_of};
 ghost use Rattle.office_rules.specs.Office.{IsOffice, Office, Rises};
-ghost use Rattle.vend_core.specs.Law.SoldTokens.{AreSalesTo, SimMeter, WasWritten, accepted_of, digits_of, later_sales_come, reads_by, tokens_of};
+ghost use Rattle.vend_core.specs.Law.SoldTokens.{AreSalesTo, SimMeter, WasWritten, accepted_of};
+ghost use Rattle.vend_core.specs.Law.SoldTokens.{digits_of, later_sales_come, reads_by, tokens_of};
 ghost use Rattle.office_rules.specs.declared.decision.answer.Answer.{Answer};
 ghost use Rattle.office_rules.specs.declared.decision.request.Request.{Request};
 ghost use Rattle.office_rules.specs.declared.decision.request.Stamped.{Stamped};

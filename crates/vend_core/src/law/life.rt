@@ -1,10 +1,12 @@
-ghost use Rattle.std.specs.Prelude.{◌≡◌, ◌⊎◌, ◌↔◌, ◌++◌, ◌∷◌, [], List, Result, Err, All, Contains, length};
+ghost use Rattle.std.specs.Prelude.{◌≡◌, ◌⊎◌, ◌↔◌, ◌++◌, ◌∷◌, [], List, Result, Err, All, Contains};
+ghost use Rattle.std.specs.Prelude.{length};
 ghost use Rattle.sts_token.specs.Token.{KeepsRange, BlockFunction};
 ghost use Rattle.office_rules.specs.Decision.Fold.{after, replies_to, reply, step};
 ghost use Rattle.office_rules.specs.Law.Growth.{HasGrown};
 ghost use Rattle.office_rules.specs.Law.Handed.{sales_of};
 ghost use Rattle.vend_core.specs.Law.Life.{HandsOut, IsLife, Life, MayLeave};
-ghost use Rattle.vend_core.specs.Law.LifeLaws.{IsRunning, IsReadingRequest, extended_along, extended_by, opened};
+ghost use Rattle.vend_core.specs.Law.LifeLaws.{IsRunning, IsReadingRequest, extended_along};
+ghost use Rattle.vend_core.specs.Law.LifeLaws.{extended_by, opened};
 ghost use Rattle.office_rules.specs.Office.{IsOffice, Office};
 ghost use Rattle.office_rules.specs.Decision.Requests.{IsStamped};
 ghost use Rattle.office_rules.specs.declared.decision.answer.Answer.{Answer};

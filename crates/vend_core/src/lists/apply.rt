@@ -1,10 +1,12 @@
-ghost use Rattle.std.specs.Prelude.{◌≡◌, ◌==◌, ◌≤◌, ◌<◌, IfOk, IsOk, IsSome, List, ℕ, true, if◌then◌else◌, length, map, [], ◌∷◌, ◌++◌};
+ghost use Rattle.std.specs.Prelude.{◌≡◌, ◌==◌, ◌≤◌, ◌<◌, IfOk, IsOk, IsSome, ℕ, true};
+ghost use Rattle.std.specs.Prelude.{if◌then◌else◌, length, map, [], ◌∷◌, ◌++◌};
 ghost use Rattle.sts_fields.specs.Tid.{last_tid};
 ghost use Rattle.office_rules.specs.Decision.Edits.{RowsFit, set_meter, with_base};
 ghost use Rattle.office_rules.specs.Decision.Fold.{applied, closed_at};
-ghost use Rattle.vend_core.specs.Lists.{Fits, MakesEdit, recorded, sets_only};
+ghost use Rattle.vend_core.specs.Lists.{Fits, AppliesEdit, recorded, sets_only};
 ghost use Rattle.office_rules.specs.Office.{greatest_count};
-ghost use Rattle.vend_core.specs.Lists.PlainRows.{base_row, dated_steps_of, meters_of, row_put, tariffs_of};
+ghost use Rattle.vend_core.specs.Lists.PlainRows.{base_row, dated_steps_of, meters_of, row_put};
+ghost use Rattle.vend_core.specs.Lists.PlainRows.{tariffs_of};
 
 use crate::lists::look_up;
 use crate::lists::records::Records;
@@ -17,7 +19,7 @@ use tariff::Steps;
 pub(crate) fn apply(alloc: Global, records: &mut Records, edit: Edit) -> Result<(), AllocError>
     requires { Fits edit (recorded records.old) }
     ensures exact { sets_only edit ≡ true → IsOk result }
-    ensures made { MakesEdit edit (recorded records.old) (recorded records.new) result }
+    ensures made { AppliesEdit edit (recorded records.old) (recorded records.new) result }
 {
     match edit {
         Edit::AddTariff(name, steps) => add_tariff(records, name, steps),
@@ -39,8 +41,8 @@ pub(crate) fn apply(alloc: Global, records: &mut Records, edit: Edit) -> Result<
 }
 
 fn add_tariff(records: &mut Records, name: TariffName, steps: Steps) -> Result<(), AllocError>
-    ensures { MakesEdit (Edit.AddTariff name steps) (recorded records.old)
-        (recorded records.new) result }
+    ensures { AppliesEdit (Edit.AddTariff name steps)
+        (recorded records.old) (recorded records.new) result }
 {
     records.tariffs.insert(0, (name, steps))?;
     Ok(())
@@ -52,8 +54,8 @@ fn add_steps(
     day: Day,
     steps: Steps,
 ) -> Result<(), AllocError>
-    ensures { MakesEdit (Edit.AddSteps name day steps) (recorded records.old)
-        (recorded records.new) result }
+    ensures { AppliesEdit (Edit.AddSteps name day steps)
+        (recorded records.old) (recorded records.new) result }
 {
     records.dated_steps.insert(0, ((name, day), steps))?;
     Ok(())
@@ -62,8 +64,8 @@ fn add_steps(
 // Room is made first, so that both rows are added or none.
 fn add_meter(records: &mut Records, number: MeterNo, meter: Meter) -> Result<(), AllocError>
     requires { IsSome ((recorded records.old).tariffs meter.tariff) }
-    ensures { MakesEdit (Edit.AddMeter number meter) (recorded records.old)
-        (recorded records.new) result }
+    ensures { AppliesEdit (Edit.AddMeter number meter)
+        (recorded records.old) (recorded records.new) result }
 {
     let base = meter.base;
     records.bases.reserve(1)?;
@@ -75,7 +77,7 @@ fn add_meter(records: &mut Records, number: MeterNo, meter: Meter) -> Result<(),
 // Room is made first, so that all the rows are added or none.
 fn add_rows(alloc: Global, records: &mut Records, rows: Rows) -> Result<(), AllocError>
     requires { RowsFit rows (recorded records.old) }
-    ensures { MakesEdit (Edit.AddRows rows) (recorded records.old) (recorded records.new) result }
+    ensures { AppliesEdit (Edit.AddRows rows) (recorded records.old) (recorded records.new) result }
 {
     let (mut tariffs, mut dated_steps, mut meters) = last_first(alloc, rows)?;
     let mut bases = bases_of(alloc, &meters)?;
@@ -144,8 +146,8 @@ fn set_tariff(records: &mut Records, number: MeterNo, name: TariffName)
 }
 
 fn move_base(records: &mut Records, number: MeterNo, base: Base) -> Result<(), AllocError>
-    ensures { MakesEdit (Edit.MoveBase number base) (recorded records.old)
-        (recorded records.new) result }
+    ensures { AppliesEdit (Edit.MoveBase number base)
+        (recorded records.old) (recorded records.new) result }
 {
     records.bases.insert(0, (number, base))?;
     set_base(records, number, base);
@@ -190,8 +192,8 @@ fn row_put(row: &(MeterNo, Meter), number: MeterNo, meter: &Meter) -> (MeterNo, 
 }
 
 fn open_shift(records: &mut Records, shift: Shift) -> Result<(), AllocError>
-    ensures { MakesEdit (Edit.OpenShift shift) (recorded records.old)
-        (recorded records.new) result }
+    ensures { AppliesEdit (Edit.OpenShift shift)
+        (recorded records.old) (recorded records.new) result }
 {
     records.shifts.extend_from_slice(&[shift])
 }
@@ -230,7 +232,7 @@ fn closed_if(shift: &Shift, number: u32, moment: Moment) -> Shift
 fn add_sale(records: &mut Records, sale: Sale) -> Result<(), AllocError>
     requires tid { sale.tid ≤ last_tid }
     requires room { length (recorded records.old).sales < greatest_count }
-    ensures { MakesEdit (Edit.AddSale sale) (recorded records.old) (recorded records.new) result }
+    ensures { AppliesEdit (Edit.AddSale sale) (recorded records.old) (recorded records.new) result }
 {
     records.sales.push(sale)?;
     Ok(())

@@ -1,7 +1,11 @@
-ghost use Rattle.std.specs.Prelude.{◌≡◌, ℕ, IfOk, IsNone, IsSome, List, OnErr, Err, Some, is_some, length, true};
+ghost use Rattle.std.specs.Prelude.{◌≡◌, ℕ, IfOk, IsNone, IsSome, List, OnErr, Err, Some, is_some};
+ghost use Rattle.std.specs.Prelude.{true};
 ghost use Rattle.std.specs.Option.{option_copied};
 ghost use Rattle.office_rules.specs.Decision.{account_of, row_decision};
-ghost use Rattle.office_rules.specs.Decision.Facts.{AreDatedFacts, AreFacts, AreMeterFacts, AreNewSaleFacts, AreOpeningFacts, AreRowsFacts, AreSaleFacts, AreSettingFacts, report_of, row_facts};
+ghost use Rattle.office_rules.specs.Decision.Facts.{AreDatedFacts, AreFacts, AreMeterFacts};
+ghost use Rattle.office_rules.specs.Decision.Facts.{AreNewSaleFacts, AreOpeningFacts, AreRowsFacts};
+ghost use Rattle.office_rules.specs.Decision.Facts.{AreSaleFacts, AreSettingFacts, report_of};
+ghost use Rattle.office_rules.specs.Decision.Facts.{row_facts};
 ghost use Rattle.vend_core.specs.Lists.{CopiesList, recorded};
 ghost use Rattle.office_rules.specs.Office.Lookup.{open_shift, sale_of_ref, steps_on};
 ghost use Rattle.office_rules.specs.Office.{Office};

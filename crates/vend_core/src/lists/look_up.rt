@@ -1,4 +1,5 @@
-ghost use Rattle.std.specs.Prelude.{◌≡◌, ◌≤◌, ◌^◌, ◌&&◌, ◌==◌, All, IfOk, filter, find, is_none, length, map, sum_by, bytes_eq};
+ghost use Rattle.std.specs.Prelude.{◌≡◌, ◌≤◌, ◌^◌, ◌&&◌, ◌==◌, All, IfOk, filter, find, is_none};
+ghost use Rattle.std.specs.Prelude.{length, map, sum_by, bytes_eq};
 ghost use Rattle.std.specs.Option.{ForSome, option_copied};
 ghost use Rattle.sts_fields.specs.Calendar.{month_at};
 ghost use Rattle.sts_fields.specs.Tid.{last_tid};

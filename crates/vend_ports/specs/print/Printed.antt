@@ -9,7 +9,8 @@ use Rattle.tariff.specs.declared.bought.Buy.{Buy}
 use Rattle.office_rules.specs.Decision.Refusals.{refusal_name, refusal_number}
 use Rattle.office_rules.specs.Decision.RowCauses.{cause_text}
 use Rattle.office_rules.specs.declared.decision.refusal.Refusal.{Refusal}
-use Rattle.office_rules.specs.declared.decision.refusal.Refusal.TheVariants.{ImportRow, Memory, Store}
+use Rattle.office_rules.specs.declared.decision.refusal.Refusal.TheVariants.{ImportRow, Memory}
+use Rattle.office_rules.specs.declared.decision.refusal.Refusal.TheVariants.{Store}
 use Rattle.command_line.specs.declared.address.Address.{Address}
 use Rattle.vend_ports.specs.declared.port.file_fault.FileFault.{FileFault}
 use Rattle.vend_ports.specs.declared.port.file_fault.FileFault.TheVariants as read

@@ -1,9 +1,7 @@
-ghost use Rattle.std.specs.Prelude.{⊤, ℕ, List};
-ghost use Rattle.command_line.specs.Transform.{forward_of};
+ghost use Rattle.std.specs.Prelude.{⊤, ℕ};
 ghost use Rattle.vend_ports.specs.commands.Timed.{IsTimed};
 ghost use Rattle.vend_ports.specs.port.Dial.{dial_of};
 ghost use Rattle.vend_ports.specs.print.Told.{Takes, outputs};
-ghost use Rattle.vend_ports.specs.commands.Trial.{IsTrial};
 ghost use Rattle.vend_ports.specs.commands.Tried.{IsTried, token_lines, trial_fault_line};
 
 use crate::clock::moment_or_now;

@@ -2,9 +2,11 @@
 ghost use Rattle.std.specs.Prelude.{◌≡◌, ◌≢◌, ℕ, IfOk, map, string_bytes};
 ghost use Rattle.office_rules.specs.Decision.RowCauses.{cause_text};
 ghost use Rattle.vend_ports.specs.print.Printed.{added_line, address_text, answer_line, clock_line};
-ghost use Rattle.vend_ports.specs.print.Printed.{credit_line, host_text, joined_line, line_of, open_line};
+ghost use Rattle.vend_ports.specs.print.Printed.{credit_line, host_text, joined_line, line_of};
+ghost use Rattle.vend_ports.specs.print.Printed.{open_line};
 ghost use Rattle.vend_ports.specs.print.Printed.{opened_line, pair_text, progress_line, quote_line};
-ghost use Rattle.vend_ports.specs.print.Printed.{read_fault_line, refusal_line, table_row_of, shift_line};
+ghost use Rattle.vend_ports.specs.print.Printed.{read_fault_line, refusal_line, table_row_of};
+ghost use Rattle.vend_ports.specs.print.Printed.{shift_line};
 ghost use Rattle.vend_ports.specs.print.Printed.{stopped_line, token_line};
 ghost use Rattle.vend_ports.specs.print.Told.{IsPutOn, Takes};
 

@@ -1,4 +1,4 @@
-use Rattle.std.proofs.Common.{◌<◌, length, refl, arith}
+use Rattle.std.proofs.Common.{◌<◌, length, arith}
 use Rattle.office_rules.specs.Office.{greatest_count}
 use Rattle.audit_lists.proofs.EachLemmas.{row_below}
 use Rattle.audit_lists.proofs.numbers.test_count.Goals as goal

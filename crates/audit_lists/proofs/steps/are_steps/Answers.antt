@@ -1,7 +1,6 @@
-use Rattle.std.proofs.Common.{◌≡◌, List, rules, sym, subst}
+use Rattle.std.proofs.Common.{◌≡◌, rules, sym, subst}
 use Rattle.std.proofs.lemmas.Bool.{false≢true}
 use Rattle.tariff.specs.Steps.{IsSteps}
-use Rattle.tariff.specs.declared.step.Step.{Step}
 use Rattle.audit_lists.specs.Keys.{owned_key}
 use Rattle.audit_lists.proofs.StepLemmas.{same_first}
 use Rattle.audit_lists.proofs.steps.are_steps.Goals as goal

@@ -1,7 +1,6 @@
-use Rattle.std.proofs.Common.{◌≡◌, ◌≢◌, ℕ, Ok, true, false, eqb, ap, refl, sym, ◌∙◌, arith}
+use Rattle.std.proofs.Common.{◌≡◌, ◌≢◌, ℕ, Ok, true, false, ap, sym, ◌∙◌, arith}
 use Rattle.std.proofs.lemmas.Bool.{false≢true}
 use Rattle.std.proofs.lemmas.Bool.Decides.{nat_tests}
-use Rattle.sts_token.specs.Fields.{TokenFields}
 use Rattle.office_rules.specs.Law.NewSale.{fields_of}
 use Rattle.audit_lists.proofs.TokenLemmas.{fields_same, same_fields}
 use Rattle.audit_lists.proofs.tokens.is_token_of.Goals.{then-read-sale, else-read-sale}

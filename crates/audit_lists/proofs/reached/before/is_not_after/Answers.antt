@@ -4,7 +4,7 @@ use Rattle.std.proofs.lemmas.Bool.Decides.{nat_tests}
 use Rattle.sts_fields.specs.Base.{year_of}
 use Rattle.audit_lists.specs.reached.Walk.{IsNotAfter}
 use Rattle.audit_lists.proofs.ReachedLemmas.BaseLemmas.{not_after_or}
-use Rattle.audit_lists.proofs.ReachedLemmas.TextLemmas.{turned}
+use Rattle.audit_lists.proofs.TextLemmas.{turned}
 use Rattle.audit_lists.proofs.reached.before.is_not_after.Goals as goal
 
 pub returns : goal.returns

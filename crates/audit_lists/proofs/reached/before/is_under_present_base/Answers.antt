@@ -1,7 +1,7 @@
 use Rattle.std.proofs.lemmas.Bool.{false≢true}
 use Rattle.sts_fields.specs.declared.base.Base.TheVariants.{Y2014, Y2035}
 use Rattle.audit_lists.proofs.ReachedLemmas.BaseLemmas.{not_after_of, under_present}
-use Rattle.audit_lists.proofs.ReachedLemmas.TextLemmas.{is_false}
+use Rattle.audit_lists.proofs.TextLemmas.{is_false}
 use Rattle.audit_lists.proofs.reached.before.is_under_present_base.Goals as goal
 
 pub returns-then-not-is_not_after : goal.returns-then-not-is_not_after

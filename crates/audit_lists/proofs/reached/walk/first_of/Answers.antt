@@ -3,7 +3,7 @@ use Rattle.std.proofs.lemmas.List.Elements.{All-push}
 use Rattle.audit_rows.specs.declared.finding.Rule.{Rule}
 use Rattle.audit_lists.specs.reached.Finds.{Keeps}
 use Rattle.audit_lists.specs.reached.Walk.{FindsRule}
-use Rattle.audit_lists.proofs.ReachedLemmas.TextLemmas.{is_false}
+use Rattle.audit_lists.proofs.TextLemmas.{is_false}
 use Rattle.audit_lists.proofs.ReachedLemmas.WalkLemmas.{breaks_last, breaks_still}
 use Rattle.audit_lists.proofs.reached.walk.first_of.Goals as goal
 

@@ -1,4 +1,4 @@
-use Rattle.std.proofs.Common.{None, Option, Some, inl, inr, refl, subst, sym}
+use Rattle.std.proofs.Common.{Option, Some, inl, inr, refl, subst, sym}
 use Rattle.sqlite.specs.Held.{state}
 use Rattle.office_rules.specs.Office.{IsOffice}
 use Rattle.office_rules.specs.declared.decision.change.Edit.{Edit}
