@@ -8,7 +8,7 @@ mod ports;
 
 use crate::folder;
 use crate::lapses::lapse::{Faults, NO_FAULTS};
-use crate::lapses::ports::{LapsingMachine, LapsingOffice, NoTexts, Texts, Trouble, Unseen};
+use crate::lapses::ports::{LapsingOffice, NoTexts, ScriptedMachine, Texts, Trouble, Unseen};
 use crate::support::{Failing, words_of};
 use desk::Script;
 use std::fs;
@@ -71,7 +71,7 @@ fn served_all(
     errors_room: usize,
 ) -> Result<Outcome, Fail> {
     fs::write(rt, "replies", "")?;
-    let ports: Ports<LapsingMachine> = Ports {
+    let ports: Ports<ScriptedMachine<LapsingOffice>> = Ports {
         office: LapsingOffice {
             alloc: rt.alloc(),
             trouble,

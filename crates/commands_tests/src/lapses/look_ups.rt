@@ -1,7 +1,7 @@
 //! Look-ups and lists in a new office, at the moment that is given or else at the clock's; and
 //! where a call of its store fails once, which is told, and nothing is printed.
 use crate::lapses::calls_fail;
-use crate::lapses::ports::{LapsingMachine, LapsingOffice, NoTexts, Texts, Trouble, Unseen};
+use crate::lapses::ports::{LapsingOffice, NoTexts, ScriptedMachine, Texts, Trouble, Unseen};
 use crate::support::words_of;
 use desk::Script;
 use std::test::Fail;
@@ -86,7 +86,7 @@ fn ran(
     line: &str,
     clock: i64,
 ) -> Result<(CommandEnd, Left), Fail> {
-    let ports: Ports<LapsingMachine> = Ports {
+    let ports: Ports<ScriptedMachine<LapsingOffice>> = Ports {
         office: LapsingOffice {
             alloc: rt.alloc(),
             trouble,

@@ -14,14 +14,15 @@ use vend_commands::{
     Door, FileFault, Follows, Machine, OfficeFile, Part, Progress, SaltSource, TextFiles,
 };
 
-/// A machine whose office's file lapses, and whose clock is a script. Nothing else of it is the
+/// A machine with an office's file of this type, and whose clock is a script. Nothing of it is the
 /// computer's but the connection that a command makes.
-pub(crate) struct LapsingMachine<'a> {
+pub(crate) struct ScriptedMachine<'a, O: OfficeFile> {
+    office: PhantomData<O>,
     rt: PhantomData<&'a HostRuntime>,
 }
 
-impl<'a> Machine for LapsingMachine<'a> {
-    type Office = LapsingOffice;
+impl<'a, O: OfficeFile> Machine for ScriptedMachine<'a, O> {
+    type Office = O;
 
     type Texts = NoTexts;
 
