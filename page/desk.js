@@ -63,16 +63,27 @@ function parsed(text) {
   }
 }
 
+/** The request of a message; null where this browser cannot send it. Its address has no password in it, though that
+ * of the page may have one: no browser sends to such an address. */
+function requestOf(method, target, body, signal) {
+  const words = { method, body, headers: { "X-Till": "1" }, cache: "no-store", redirect: "error", signal };
+  try {
+    return new Request(new URL(`/api${target}`, location.origin), words);
+  } catch {
+    return null;
+  }
+}
+
 /** Sends one message. The outcome has `done`, the good reply; or `refused`, the desk's own error: nothing was
- * done; or `unknown`, why it is not known what was done, with `waits` where it may help to send it again. It is
- * given up when its time is over, or when the caller aborts `stop`. */
+ * done; or `unsent`, why it never left this browser; or `unknown`, why it is not known what was done, with `waits`
+ * where it may help to send it again. It is given up when its time is over, or when the caller aborts `stop`. */
 export async function ask(method, target, body, stop = new AbortController()) {
+  const request = requestOf(method, target, body, stop.signal);
+  if (!request) return { unsent: "This browser did not send it, so nothing was done. Load this page again." };
   const late = setTimeout(() => stop.abort(), PATIENCE);
   let status, text;
   try {
-    const reply = await fetch(`/api${target}`, {
-      method, body, headers: { "X-Till": "1" }, cache: "no-store", redirect: "error", signal: stop.signal,
-    });
+    const reply = await fetch(request);
     status = reply.status;
     text = await reply.text();
   } catch {
@@ -95,5 +106,8 @@ export async function askAgain(method, target, body) {
     await wait(pause);
   }
 }
+
+/** What is said of an outcome that is neither done nor refused. */
+export const unanswered = ({ unsent, unknown }) => unsent ?? `${unknown} Try again.`;
 
 export const wait = (pause) => new Promise((go) => setTimeout(go, pause));

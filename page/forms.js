@@ -1,6 +1,6 @@
 // What both pages do with their forms: one thing at a time, the answer at the form that asked, and the fields as
 // people fill them.
-import { askAgain, inWords } from "./desk.js";
+import { askAgain, inWords, unanswered } from "./desk.js";
 
 const SOON = 400; // milliseconds without an answer, after which a form says that it waits
 const WAITS = "Please wait. The office has not answered yet.";
@@ -91,7 +91,7 @@ export async function replyTo(method, target, body, field) {
   const outcome = await askAgain(method, target, body);
   if (outcome.done !== undefined) return outcome.done;
   if (outcome.refused) throw new Wrong(inWords(outcome.refused), field);
-  throw new Error(`${outcome.unknown} Try again.`);
+  throw new Error(unanswered(outcome));
 }
 
 export const MOST = 100000000; // cents of one tender

@@ -17,8 +17,12 @@ function list(rows) {
   return element("dl", "", ...rows.flatMap(([name, value]) => [element("dt", "", name), element("dd", "", value)]));
 }
 
-/** A line of a table. */
-export const line = (cells, name = "td") => element("tr", "", ...cells.map((cell) => element(name, "", cell)));
+/** A line of a table. With `names` each cell has that of its column, for screens on which columns have no room. */
+export function line(cells, name = "td", names = []) {
+  const row = element("tr", "", ...cells.map((cell) => element(name, "", cell)));
+  names.forEach((it, place) => { row.cells[place].dataset.name = it; });
+  return row;
+}
 
 /** A table under the names of its columns. */
 export function table(names, lines) {

@@ -1,12 +1,14 @@
 // The cashier's page. A sale is kept in this browser before it is sent, and stays until the desk has said what
 // became of it: so a lost reply, a reload, a double click and a second tab lead to one sale and its receipt.
-import { PAUSES, ask, askAgain, inWords, wait } from "./desk.js";
+import { PAUSES, ask, askAgain, inWords, unanswered, wait } from "./desk.js";
 import { MOST, Wrong, act, cents, find, hush, meterIn, numberIn, onSubmit, replyTo, say } from "./forms.js";
 import { PENDING, SHIFT, keep, kept, pending, shift } from "./kept.js";
 import { giveUpLooks } from "./looks.js";
 import { offer } from "./offer.js";
 import { money, receipt, report } from "./paper.js";
-import { showRecent } from "./recent.js";
+import { fitPaper } from "./print.js";
+import { addRecent, lastOf, showRecent } from "./recent.js";
+import { askAbove } from "./settings.js";
 
 const LOCK = "till.sale"; // one tab at a time sends a sale
 const SOON = 400; // milliseconds after a sending in which another one is not wanted: a double click, a key held down
@@ -18,7 +20,12 @@ const DOUBT = "It is not known whether the sale was made. Let the customer wait.
 const ELSEWHERE = "Another tab of this page has asked the office for this sale. Wait for the receipt there.";
 const UNANSWERED = `This sale has no answer yet. Another tab of this page may be waiting for it. If not, press 'Ask again now'. ${ONCE}`;
 
+/** The field that a refusal of a sale is about; others are about none. */
+const FIELDS = { NoMeter: "meter", BeforeBase: "meter", IdentifiersSpent: "meter", IdentifierAhead: "meter", TooLittle: "tender" };
+
 let closing = null; // the shift that the cashier was asked about, whether to close it
+let large = null; // the money of a sale that the cashier was asked about, whether it is right
+let taken = null; // the name that the cashier was asked about, whether it is not another's
 
 /** 128 random bits in 32 hexadecimal digits: no other order of any till has this ref. */
 function newRef() {
@@ -46,6 +53,8 @@ function show() {
   find("order").textContent = order ? `Meter ${order.meter}, ${money(order.tender)} paid` : "";
   find("start").hidden = Boolean(who || order);
   find("sale").hidden = !who || Boolean(order) || !find("paper").hidden;
+  find("sure-form").hidden = large === null;
+  find("order-form").hidden = large !== null;
   find("more").hidden = Boolean(order);
   find("end").hidden = !who || Boolean(closing);
   find("end-form").hidden = !closing;
@@ -76,6 +85,7 @@ function showPaper([title, ...parts]) {
   find("content").replaceChildren(...parts);
   find("print").disabled = false;
   find("paper").hidden = false;
+  fitPaper();
   showAt("paper");
 }
 
@@ -119,14 +129,15 @@ async function askUntilKnown(name, fresh) {
   tell(SELLING);
   let pauses = [...PAUSES];
   while (true) {
-    const { done, refused, unknown, waits } = await send(body);
+    const { done, refused, unsent, unknown, waits } = await send(body);
     if (done && isSaleOf(done, order)) return sold(name, order, done);
     if (refused && (refused.refusal || fresh)) return notSold(name, order, refused);
+    if (unsent && fresh) return neverSent(name, unsent);
     fresh = false;
     if (!pressed) {
       const isLast = !waits || pauses.length === 0;
       const next = isLast ? "Press 'Ask again now'." : "The page asks again by itself.";
-      tell(`${unknown ?? "The answer was not to this sale."} ${DOUBT} ${next} ${ONCE}`);
+      tell(`${unsent ?? unknown ?? "The answer was not to this sale."} ${DOUBT} ${next} ${ONCE}`);
       if (isLast) return find("retry").focus();
       await rest(pauses.shift());
     }
@@ -154,7 +165,16 @@ function sold(name, order, sale) {
   // The number was not known where the answer to the opening was lost.
   const who = shift();
   if (who?.operator === order.operator && !who.number) keep(SHIFT, JSON.stringify({ ...who, number: sale.shift }));
+  addRecent(sale);
   showAt("paper");
+}
+
+/** The order never left this browser, so nothing was sold. */
+function neverSent(name, why) {
+  localStorage.removeItem(name);
+  clearPaper();
+  showAt("meter");
+  say("order-form", why);
 }
 
 /** The order was refused, so that it can be corrected or left. */
@@ -163,9 +183,10 @@ function notSold(name, order, refused) {
   if (refused.error === "NoShift" && shift()?.operator === order.operator) localStorage.removeItem(SHIFT);
   clearPaper();
   const isOpen = Boolean(shift());
-  const field = refused.error === "TooLittle" ? "tender" : "meter"; // what may have to be corrected
-  showAt(isOpen ? field : "operator");
-  say(isOpen ? "order-form" : "start-form", inWords(refused));
+  const field = FIELDS[refused.error];
+  showAt(isOpen ? field ?? "meter" : "operator");
+  say(isOpen ? "order-form" : "start-form", inWords(refused), "bad", isOpen && field ? find(field) : null);
+  if (isOpen) find(field ?? "meter").select(); // the next key begins it anew
 }
 
 /** Has the one tab that may do so send an order that is without an outcome. */
@@ -198,37 +219,73 @@ function press() {
 onSubmit("start-form", async ({ operator }) => {
   const name = operator.value.trim();
   if (!/^[0-9A-Za-z]{1,16}$/.test(name)) throw new Wrong("Your name has 1 to 16 letters or digits, without spaces.", operator);
-  const { done, refused, unknown } = await askAgain("POST", "/shifts", JSON.stringify({ operator: name }));
+  const [own, other] = await lastOf(name);
+  if (other && !own && taken !== name) {
+    taken = name;
+    throw new Wrong(`${other.operator} sells here. If ${name} is somebody else, press 'Open my shift' again.`, operator);
+  }
+  taken = null;
+  const outcome = await askAgain("POST", "/shifts", JSON.stringify({ operator: name }));
+  const { done, refused } = outcome;
   // The answer to an opening that was lost is that the shift is open.
-  if (!done && refused?.error !== "ShiftOpen") throw new Error(refused ? inWords(refused) : `${unknown} Try again.`);
-  keep(SHIFT, JSON.stringify({ operator: name, number: done?.shift ?? null }));
+  if (!done && refused?.error !== "ShiftOpen") throw new Error(refused ? inWords(refused) : unanswered(outcome));
+  const number = done?.shift ?? await openShiftOf(name, own);
+  keep(SHIFT, JSON.stringify({ operator: name, number }));
   showRecent();
   showAt("meter");
-  const text = done ? `Shift ${done.shift} is open.` : `${inWords(refused)} Its number comes with the next sale.`;
-  say("order-form", text, "good");
+  const joined = number ? `It is shift ${number}.` : "Its number comes with the next sale.";
+  say("order-form", done ? `Shift ${number} is open.` : `${inWords(refused)} ${joined}`, "good");
 });
 
+/** The number of a cashier's open shift, where a sale of it is among the last ones; else null. */
+async function openShiftOf(name, sale) {
+  if (!sale) return null;
+  const { done } = await ask("GET", `/shifts/${sale.shift}`);
+  return typeof done === "string" && /^CLOSED -$/m.test(done) ? sale.shift : null;
+}
+
+/** Asks whether so much money is right, above the sum that whoever runs the office has set. */
+function askWhetherRight(amount) {
+  large = amount;
+  find("sure-question").textContent = `Did the customer pay ${money(amount)}?`;
+  find("sure").textContent = `Sell for ${money(amount)}`;
+  showAt("unsure");
+}
+
+function correct() {
+  large = null;
+  showAt("tender");
+  find("tender").select();
+}
+
 /** Keeps the order that is written and sends it, under the lock where this tab has it. */
-async function sell({ meter, tender }, lock) {
+async function sell({ meter, tender }, lock, isSure) {
   const amount = cents(tender.value);
   const order = { meter: meterIn(meter), operator: shift().operator, ref: newRef(), tender: amount };
   if (!amount || amount > MOST) throw new Wrong("Write the money as 12 or 12.50, up to 1000000.00.", tender);
+  if (!isSure && amount > await askAbove()) return askWhetherRight(amount);
+  large = null;
   if (!lock) throw new Error("Another tab of this page is selling. Nothing was sold here. Try again when it has ended.");
   if (pending()[0]) return show();
   keep(PENDING + order.ref, JSON.stringify(order)); // before it is sent: from here on it can be asked for again
   await settle(PENDING + order.ref, true);
 }
 
-onSubmit("order-form", (fields) => {
+function sellAs(isSure) {
   offer(true);
   giveUpLooks();
-  return navigator.locks.request(LOCK, { ifAvailable: true }, (lock) => sell(fields, lock)).finally(showRecent);
-});
+  const fields = find("order-form").elements;
+  return navigator.locks.request(LOCK, { ifAvailable: true }, (lock) => sell(fields, lock, isSure)).finally(showRecent);
+}
+
+onSubmit("order-form", () => sellAs(false));
+onSubmit("sure-form", () => sellAs(true));
 
 /** Shows what a number in a field asks for. The paper is taken away first: what is refused leaves none to print. */
 async function showPaperOf(field, target, partsOf) {
   clearPaper();
   showPaper(partsOf(await replyTo("GET", `${target}${numberIn(field)}`, undefined, field)));
+  field.form.reset(); // the next number is written anew
 }
 
 onSubmit("reprint-form", ({ number }) =>
@@ -264,9 +321,10 @@ function keepOpen() {
 
 onSubmit("end-form", async () => {
   const { operator, number } = closing;
-  const { done, refused, unknown } = await askAgain("POST", "/shifts/close", JSON.stringify({ operator }));
+  const outcome = await askAgain("POST", "/shifts/close", JSON.stringify({ operator }));
+  const { done, refused } = outcome;
   // The answer to a closing that was lost is that no shift is open.
-  if (!done && refused?.error !== "NoShift") throw new Error(refused ? inWords(refused) : `${unknown} Try again.`);
+  if (!done && refused?.error !== "NoShift") throw new Error(refused ? inWords(refused) : unanswered(outcome));
   leave();
   const closed = done?.shift ?? number;
   const text = closed ? `Shift ${closed} is closed.` : "Your shift is closed.";
@@ -287,10 +345,19 @@ function leave() {
   showNext();
 }
 
-find("order-form").addEventListener("input", () => offer(false));
+find("order-form").addEventListener("input", () => {
+  hush(); // what was said is about what was written before
+  offer(false);
+});
 find("order-form").addEventListener("reset", () => offer(true));
 find("last").addEventListener("click", () => act("order-form", showLast));
 find("other").addEventListener("click", () => act("start-form", leave));
+find("unsure").addEventListener("click", () => act("sure-form", correct));
+find("sure").addEventListener("click", (event) => event.detail > 1 && event.preventDefault()); // a double click is no answer
+find("recent-sales").addEventListener("click", ({ target }) => target.value && act("recent", async () => {
+  clearPaper();
+  showPaper(receipt(await replyTo("GET", `/sales/${target.value}`), "Receipt, printed again"));
+}));
 find("retry").addEventListener("click", press);
 find("print").addEventListener("click", () => print());
 find("next").addEventListener("click", ({ detail }) => {

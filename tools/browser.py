@@ -20,11 +20,12 @@ const answerOf = (id) => {
 };
 const isIdle = () => !document.body.classList.contains('busy');
 """
-# Counts the requests of a page: those under way, and the most at a time.
+# Counts what a page asks the desk: the requests under way, and the most at a time.
 COUNT_REQUESTS = """
 const real = window.fetch.bind(window);
 window.requests = window.most = 0;
 window.fetch = async (...words) => {
+  if (!words[0].url?.includes("/api/")) return real(...words);
   window.most = Math.max(window.most, ++window.requests);
   try { return await real(...words); } finally { window.requests -= 1; }
 };"""
@@ -67,9 +68,13 @@ class Browser:
 
     def sign_in(self, user):
         """As a person does in the browser's dialog, once for the cashier's page and once for the manager's."""
-        name, word = user
         for page in ("/index.html", "/office.html"):
-            self.driver.get(self.home.replace("//", f"//{name}:{word}@") + page)
+            self.open_with_password(user, page)
+
+    def open_with_password(self, user, page="/"):
+        """Loads a page by an address that has a name and a password in it."""
+        name, word = user
+        self.driver.get(self.home.replace("//", f"//{name}:{word}@") + page)
 
     def open(self, page="/"):
         self.driver.get(self.home + page)

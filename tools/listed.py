@@ -38,6 +38,7 @@ def check_recent(counter):
     def is_listed(where):
         """The list is that of the file, as soon as its look-ups were answered."""
         found = last_sales(counter, shift)
+        browser.when("by('recent').ariaBusy !== 'true'", where)
         until(lambda: browser.run(ROWS, "#recent-sales tbody tr") == found,
               lambda: f"{where}: {browser.run(ROWS, '#recent-sales tbody tr')}\nexpected {found}")
         same(browser.are_shown("recent"), ["recent"] if found else [], where)
@@ -58,6 +59,7 @@ def check_recent(counter):
         sell(str(10 + number), "a sale before its list")
         is_listed("a sale")
         count = counter.sold
+        until(lambda: len(asked()) == before + 2, "the look-ups after a sale")
         same(asked()[before:], ["/health", f"/sales?after={max(count - 100, 0)}"], "the look-ups after a sale")
     browser.is_usable()
     # Another cashier sells much: older pages are looked through, three at the most.
@@ -71,6 +73,7 @@ def check_recent(counter):
         before = len(asked())
         sell("12", "a sale after many others")
         afters = [max(counter.sold - 100 * page, 0) for page in range(1, pages + 1)]
+        until(lambda: len(asked()) == before + 1 + pages, "the look-ups behind the sales of others")
         few = is_listed("a sale after many others")
         same(asked()[before:], ["/health", *(f"/sales?after={after}" for after in afters)],
              "the look-ups behind the sales of others")
@@ -108,7 +111,7 @@ def check_recent(counter):
     counter.is_first_receipt_after(browser.receipt("14.00"), "a sale that is looked for")
     browser.next()
     is_listed("a sale that was looked for")
-    # Look-ups that fail say nothing and leave the list as it was.
+    # Look-ups that fail leave the list as it was, and it is said that it may not be whole.
     rows = browser.run(ROWS, "#recent-sales tbody tr")
     for plans in ([Plan(answer=said(503, error="Store", refusal=16))], [Plan(), Plan(answer=said(404, error="NoRoute"))],
                   [Plan(after=lambda _: b"")], [Plan(), Plan(answer=said(200, other=1))]):
@@ -119,6 +122,16 @@ def check_recent(counter):
         same(browser.run(ROWS, "#recent-sales tbody tr"), rows, "a list after a look-up that failed")
         same(browser.run("return [...document.querySelectorAll('.answer')].map((it) => it.innerText).join('')"), "",
              "what is said of a look-up that failed")
+        same("may be missing" in browser.text("lacks"), True, "what is said of the list then")
+    browser.run("dispatchEvent(new StorageEvent('storage'))")
+    browser.when("textOf('lacks') === ''", "a list that is whole again")
+    # A number of the list shows that receipt.
+    number = rows[0][0]
+    browser.run("[...document.querySelectorAll('#recent-sales button')].find((it) => it.innerText === arguments[0]).click()",
+                number)
+    browser.when("textOf('title') === 'Receipt, printed again'", "a receipt of the list")
+    same(browser.receipt("14.00")["Sale"], number, "a receipt of the list")
+    browser.next()
     browser.when("window.requests === 0", "the end of all requests")
     same(browser.run("return window.most"), 1, "requests at a time")
     # It goes with the shift, and comes back with it.
@@ -153,6 +166,8 @@ def check_lists(counter):
         while not is_whole:
             before, count = count, min(count + PAGE, len(wanted))
             is_whole = count - before < PAGE
+            # Shifts are read downwards, so their first one ends the list.
+            is_whole = is_whole or (kind == "shifts" and count == len(wanted))
             found = shows(kind, f"{count} {kind}{'' if is_whole else ' so far'}.")
             names = [row for row in found if row[1] == "today"] if kind == "tariffs" else found
             same((names, button(kind)), (wanted[:count], "Show again" if is_whole else "More"), f"the list of {kind}")
@@ -176,7 +191,7 @@ def check_lists(counter):
         "tariffs": rows_in(desk.file, "SELECT tariff, 'today', printf('%.2f', price / 100.0) FROM tariff_steps "
                                       "WHERE ends IS NULL ORDER BY tariff;"),
         "shifts": rows_in(desk.file, f"SELECT number, operator, opened, closed, {totals} FROM shifts "
-                                     "LEFT JOIN shift_totals ON shift = number ORDER BY number;")}
+                                     "LEFT JOIN shift_totals ON shift = number ORDER BY number DESC;")}
     rows = {kind: [*map(list, found)] for kind, found in rows.items()}
     rows["tariffs"][0][2] = "1.00 up to 50.0 kWh, 1.50 up to 100.5 kWh, then 2.00"
     rows["shifts"] = [[str(number), operator, moment(opened), moment(closed) if closed else "still open", str(sales),

@@ -6,7 +6,7 @@ import time
 
 from browser import COUNT_REQUESTS, WORDS
 from program import METER
-from servers import Plan, said, until
+from servers import CASHIER, Plan, said, until
 from shared import same
 
 
@@ -91,6 +91,10 @@ def check_lost(counter):
     browser.when("isShown('retry') && textOf('why')", "a sale in doubt")
     browser.picture("doubt")
     desk.start()
+    rows = browser.receipt("10.00")
+    # Its sale is on top of the list, though the desk that was asked for it is gone.
+    same(browser.run("return document.querySelector('#recent-sales button').innerText"), rows["Sale"],
+         "the list after a desk that is killed")
     one_sale("a desk that is killed")
     # nginx is killed after the desk has sold.
     died = relay.plan(Plan(after=lambda _: proxy.kill() or b""))
@@ -131,6 +135,19 @@ def check_lost(counter):
     browser.fill(meter=METER, tender="10")
     browser.keys(*[Keys.ENTER] * 4)
     one_sale("a key that is pressed again", 1)
+    # A page whose address has the password in it, as a kiosk opens it, sells as any other.
+    browser.open_with_password(CASHIER)
+    browser.sell("10")
+    one_sale("an address with a password", 1)
+    # What never left the browser is not in doubt, and nothing was sold.
+    browser.run("window.RealRequest = Request; window.Request = function () { throw new TypeError('no'); };")
+    browser.sell("10")
+    browser.says("order-form", "did not send it, so nothing was done")
+    same(browser.run("return Object.keys(localStorage).filter((it) => it.startsWith('till.pending'))"), [],
+         "what is kept of an order that was never sent")
+    counter.has_sold(0, 0, "an order that was never sent")
+    browser.run("window.Request = window.RealRequest")
+    browser.open()
     print("lost replies: desk killed after its commit, nginx killed, replies lost, cut and wrong, reloads, double "
           "clicks: one sale and its first receipt each")
 

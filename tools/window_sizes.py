@@ -81,6 +81,11 @@ def look_at_sale(counter):
     held = Plan(waits=True)
     relay.plan(held, Plan(answer=said(503, error="Store", refusal=16)), last := Plan(waits=True))
     browser.sell(MOST_MONEY)
+    browser.shows("sure-form", "the question about a large sum")
+    for part in ("sure-question", "unsure", "sure"):
+        browser.is_seen(f"#{part}", "the question about a large sum")
+    browser.is_usable()
+    browser.send("sure-form")
     until(held.came.is_set, "an order")
     browser.is_seen("#why", "a sale under way")
     browser.fits("a sale under way")
