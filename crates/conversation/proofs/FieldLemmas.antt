@@ -1,11 +1,9 @@
 -- The values of a name, field by field.
-use Rattle.std.proofs.Common.{◌≡◌, ◌≢◌, ℕ, suc, ◌<◌, Bool, true, false, ◌||◌, cond, List, ◌∷◌, ◌++◌, length, map, get_or, take, drop, refl, ap, ◌∙◌, arith}
+use Rattle.std.proofs.Common.{◌≡◌, ◌≢◌, ℕ, suc, ◌<◌, Bool, true, cond, List, ◌∷◌, ◌++◌, length, map, get_or, take, drop, refl, ap, ◌∙◌, arith}
 use Rattle.std.specs.Prelude.{filter}
-use Rattle.std.specs.List.{list_any}
 use Rattle.std.proofs.Math.Seq.{split_at}
 use Rattle.std.proofs.lemmas.List.{map-append, length-append}
 use Rattle.std.proofs.lemmas.List.Elements.{filter-append}
-use Rattle.std.proofs.lemmas.List.Folds.{list_any-append}
 use Rattle.httparse.specs.Spans.{header_bytes}
 use Rattle.httparse.specs.declared.spans.HeaderSpan.{HeaderSpan}
 use Rattle.conversation.specs.declared.message.fields.Only.{Only}
@@ -42,17 +40,6 @@ values_of-at name input spans i d h e =
     ∙ ap (values_of name) (map-append (header_bytes input) (take i spans) (get_or spans i d ∷ drop (suc i) spans))
     ∙ values_of-append name (fields_at input (take i spans)) (header_bytes input (get_or spans i d) ∷ rest)
     ∙ ap (λ vs. values_of name (fields_at input (take i spans)) ++ vs) (values_of-named name _ rest e)
-
--- one of the values passes the test
-pub list_any-values_at : (test : List ℕ → Bool) (before after : List (List ℕ)) (value : List ℕ) → test value ≡ true
-    → list_any test (before ++ value ∷ after) ≡ true
-list_any-values_at test before after value e =
-    list_any-append test before (value ∷ after)
-    ∙ ap (λ b. list_any test before || (b || list_any test after)) e ∙ settled (list_any test before)
-  where
-    settled : (b : Bool) → (b || true) ≡ true
-    settled true = refl
-    settled false = refl
 
 -- a value was found before
 pub some_found : (values : List (List ℕ)) (only : Only) → IsOnly values only → only ≢ Absent → 0 < length values

@@ -2,11 +2,11 @@
 -- method, the minor version and the header fields.
 use Rattle.std.specs.Prelude.{ℕ, Bool, ◌&&◌, ◌||◌, List, [], ◌∷◌, map, length, Result, Ok, Err}
 use Rattle.std.specs.Prelude.{if◌then◌else◌, ◌==◌, nat_lt, nat_le, bytes_eq, codes}
-use Rattle.std.specs.List.{list_all, list_any}
+use Rattle.std.specs.List.{list_all}
 use Rattle.std.specs.Char.{is_ascii_digit}
-use Rattle.std.specs.Str.{str_eq_ignore_ascii_case}
 use Rattle.std.specs.Str.Parse.{digits_value}
 use Rattle.httparse.specs.Grammar.{RequestHead}
+use Rattle.http1.specs.Fields.{elements_named, has_option}
 use Rattle.httparse.specs.Spans.{name_and_value}
 use Rattle.conversation.specs.declared.message.framing.Framing.{Framing}
 use Rattle.conversation.specs.declared.message.message_fault.MessageFault.{MessageFault}
@@ -52,13 +52,13 @@ body_len [] = Ok 0
 body_len (value ∷ []) = length_of value
 body_len (value ∷ other ∷ values) = Err faults.Length
 
--- a whole value that is `close`, in any case
-abbrev pub is_close : List ℕ → Bool
-is_close value = str_eq_ignore_ascii_case value (codes "close")
+-- a `Connection` field lists `close`, in any case, alone or among other options
+abbrev pub lists_close : List (List ℕ × List ℕ) → Bool
+lists_close fields = has_option (codes "close") (elements_named (codes "connection") fields)
 
 -- the conversation ends after a message of HTTP/1.0, and where a `Connection` field asks for it
 abbrev pub is_last : ℕ → List (List ℕ × List ℕ) → Bool
-is_last minor fields = (minor == 0) || list_any is_close (values_of (codes "connection") fields)
+is_last minor fields = (minor == 0) || lists_close fields
 
 -- a step of reading a head that may find a fault
 infixl 10 ◌>>=◌

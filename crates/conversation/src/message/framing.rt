@@ -4,11 +4,13 @@ ghost use Rattle.std.specs.List.{list_all};
 ghost use Rattle.httparse.specs.Spans.{IsHeaderWithin};
 ghost use Rattle.conversation.specs.message.Fields.{fields_at, values_of};
 ghost use Rattle.conversation.specs.message.Framing.{body_len, framing, is_number, is_uncoded};
-ghost use Rattle.conversation.specs.message.Framing.{length_of, method_of, names_its_host};
+ghost use Rattle.conversation.specs.message.Framing.{length_of, lists_close, method_of};
+ghost use Rattle.conversation.specs.message.Framing.{names_its_host};
 
-use crate::message::fields::{Only, asks_to_close, only_value};
+use crate::message::fields::{Only, only_value};
 use crate::message::message_fault::MessageFault;
 use crate::message::method::Method;
+use http1::fields::KnownFields;
 use httparse::spans::HeaderSpan;
 
 /// The most bytes that a body may have.
@@ -46,7 +48,7 @@ pub(crate) fn framing_of(
     Ok(Framing {
         method,
         body,
-        closes: minor == 0 || asks_to_close(input, spans),
+        closes: minor == 0 || lists_close(input, spans),
     })
 }
 
@@ -88,6 +90,15 @@ fn body_len(input: &[u8], spans: &[HeaderSpan]) -> Result<usize, MessageFault>
         Only::One(digits) => length_of(digits),
         Only::Several => Err(MessageFault::Length),
     }
+}
+
+// Whether a `Connection` field lists `close`.
+#[tactic(auto, unfolding(http1::specs::Fields::known_fields))]
+fn lists_close(input: &[u8], spans: &[HeaderSpan]) -> bool
+    requires { All (IsHeaderWithin (length input.now)) spans.now }
+    ensures { result ≡ lists_close (fields_at input.now spans.now) }
+{
+    KnownFields::from_spans(input, spans).close
 }
 
 // The length of a body that the value writes. It is compared as a number, leading zeros and all.
