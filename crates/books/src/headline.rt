@@ -36,7 +36,10 @@ use vend_core::{history_law, life_law};
 ///
 /// `Books::open_from` begins a life for the office that the file stands for, `Books::serve` adds to
 /// it, and each keeps the relation `Represents` that is the premise here (`OverLives`).
-pub fn headline_law<S: Alter, T: BlockTransform>()
+///
+/// What the file held is part of the type of a store that was opened on it. So the books are over
+/// `S`, and the connection that opens again, as the next run does, is over any other store `R`.
+pub fn headline_law<S: Alter, R: Alter, T: BlockTransform>()
     // The lives of which books keep the last one are lives of one office.
     ensures lives { OverLives S.Store T.BlockTransform (λ lives office _. AreLives lives office) }
 
@@ -47,10 +50,10 @@ pub fn headline_law<S: Alter, T: BlockTransform>()
 
     // A connection that is opened on it stands for that office, which is the one that the next life
     // begins with; and what is left stands for no other.
-    ensures opens_again { OverLives S.Store T.BlockTransform (λ lives _ books. (again : Held S)
-        → books.state.may_leave (state S.Store again).committed.trees
-        → Opens (state S.Store again) → IsLive (state S.Store again)
-        → (o : Office) × StoreStandsFor (state S.Store again) o × AreLives lives o) }
+    ensures opens_again { OverLives S.Store T.BlockTransform (λ lives _ books. (again : Held R)
+        → books.state.may_leave (state R.Store again).committed.trees
+        → Opens (state R.Store again) → IsLive (state R.Store again)
+        → (o : Office) × StoreStandsFor (state R.Store again) o × AreLives lives o) }
     ensures one_office { (trees : Trees) (o p : Office)
         → RecoversTo trees o → RecoversTo trees p → o ≡ p }
 
@@ -121,5 +124,5 @@ pub fn headline_law<S: Alter, T: BlockTransform>()
     life_law();
     history_law();
     meter_law();
-    opening_law::<S>();
+    opening_law::<R>();
 }

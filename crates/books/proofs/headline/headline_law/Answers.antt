@@ -14,7 +14,7 @@ returns-clause-left g c = λ lives life books h trees left. leave c.history_law.
 
 pub returns-clause-opens_again : goal.returns-clause-opens_again
 returns-clause-opens_again g c = λ lives life books h again left opens live.
-    let p = leave c.history_law.ensures.goes_on lives life (seen books) h (state g.S.Store again).committed.trees left in
+    let p = leave c.history_law.ensures.goes_on lives life (seen books) h (state g.R.Store again).committed.trees left in
     (p.0, c.opening_law.ensures.opens_again again p.0 opens live p.1, p.2)
 
 pub returns-clause-stands : goal.returns-clause-stands
