@@ -1,5 +1,5 @@
 -- The files of a connection that was ended.
-use Rattle.std.proofs.Common.{◌≡◌, Result, Ok, Err, IfErr, IfOk, IsTrue, refl}
+use Rattle.std.proofs.Common.{◌≡◌, Bool, true, false, Result, Ok, Err, IfErr, IfOk, IsTrue, refl}
 use Rattle.sqlite.specs.Closing.{IsCopied}
 use Rattle.sqlite.specs.Files.{FailsToClose, IsClosed, file_state}
 use Rattle.sqlite.specs.Held.{Held}
@@ -29,8 +29,8 @@ module _ {D : Type 0} {g : Ghosts D} (conn : Held (FileStore D g)) where
   ends_closed (Err e) ok copied err = record { closed = tt; unclosed = err }
 
   -- and its files were let go
-  pub are_closed : (LetsGo : D → D → Type 0) (end : Result (Files D) (Error × FileStore D g)) → EndsIn conn end
-      → IfOk end (λ files. LetsGo files.log files.db) → IfErr end (λ e. LetsGo (store_files e.1).0 (store_files e.1).1)
+  pub are_closed : (LetsGo : (whole : Bool) → D → D → Type 0) (end : Result (Files D) (Error × FileStore D g)) → EndsIn conn end
+      → IfOk end (λ files. LetsGo true files.log files.db) → IfErr end (λ e. LetsGo false (store_files e.1).0 (store_files e.1).1)
       → AreClosed g LetsGo (file_state conn)
   are_closed LetsGo (Ok files) ends let_go none = let at = ends.closed in closed conn at.0 files seen_as at.2 at.1 at.3 let_go
   are_closed LetsGo (Err e) ends none let_go = unclosed conn e.1 e.0 seen_as ends.unclosed.0 ends.unclosed.1 let_go

@@ -3,6 +3,7 @@ pub mod ClosingLemmas
 pub mod ExportLemmas
 pub mod FileAuditLemmas
 pub mod ListingLemmas
+pub mod LostLemmas
 pub mod OnlyReadLemmas
 pub mod RefusedLemmas
 pub mod ReopeningLemmas

@@ -1,2 +1,4 @@
+pub mod Back
+pub mod Found
 pub mod Names
 pub mod Places

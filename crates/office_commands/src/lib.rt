@@ -11,8 +11,9 @@ mod print;
 
 pub use audit::{Follows, Part};
 pub use office::opening::{close_office, open_office};
-pub use office::reopening::{open_again, reopen};
-pub use port::machine::MachineFile;
+pub use office::reopening::{lost_law, open_again, reopen};
+pub use port::ended::{Back, Ended};
+pub use port::machine::{MachineFile, machine_file_law};
 pub use port::openings::EachTry;
 pub use port::ports::{Machine, OfficeFile, Ports, SaltSource};
 pub use port::progress::{Progress, TerminalProgress};

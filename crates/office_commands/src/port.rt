@@ -1,5 +1,6 @@
 //! What a command has of the machine beside what `vend_ports` has, and the machine's own.
 
+pub(crate) mod ended;
 pub(crate) mod machine;
 pub(crate) mod openings;
 pub(crate) mod ports;

@@ -7,7 +7,7 @@ use sqlite::Unknown;
 use std::process::ExitCode;
 use std::rt::Env;
 use std::{env, io};
-use vend_commands::{Watched, refuse, run};
+use vend_commands::{Computer, Watched, refuse, run};
 
 fn main(rt: HostRuntime) -> ExitCode {
     let status = match words_given(&rt) {
@@ -37,7 +37,16 @@ fn unreadable(error: io::Error) -> BadWords {
 fn run_given(rt: &HostRuntime, given: &[String]) -> u8 {
     let words: Result<Vec<&str>, _> = given.iter().map(|word| word.as_str()).collect(rt.alloc());
     match words {
-        Ok(words) => run(rt, rt, Unknown, &words, &mut rt.stdout(), &mut rt.stderr()),
+        Ok(words) => {
+            let ports = Computer::ports(rt, rt, Unknown);
+            run(
+                rt.alloc(),
+                ports,
+                &words,
+                &mut rt.stdout(),
+                &mut rt.stderr(),
+            )
+        }
         Err(_) => refuse_words(rt, BadWords::Memory),
     }
 }

@@ -1,12 +1,14 @@
 -- Connections that are served one after another.
-use Rattle.std.proofs.Common.{◌≡◌, ℕ, ℤ, ◌+◌, true, false, if◌then◌else◌, [], ◌++◌, add-one, ap, refl, subst, sym}
+use Rattle.std.proofs.Common.{◌≡◌, ℕ, ℤ, ◌+◌, Bool, true, false, if◌then◌else◌, List, [], ◌++◌, Option, Result, Ok, Err, add-one, ap, refl, subst, sym}
+use Rattle.std.specs.Prelude.{IfErr}
+use Rattle.book_opening.specs.declared.fault.OpenFault.{OpenFault}
 use Rattle.books.specs.Keeps.{Seen}
 use Rattle.conversation.specs.Exchanges.{clocked}
 use Rattle.conversation.proofs.WiderLemmas.{clocked_wider, paced_wider, run_wider}
 use Rattle.desk.specs.Answering.{answers_by, books_serve, life_serves, message_refusal_of}
 use Rattle.sts_fields.specs.Text.{Text}
 use Rattle.sts_token.specs.Token.{BlockFunction}
-use Rattle.vend_commands.specs.serving.Connections.{AreHeld, AreReady, IsHeld, Service, open_text, service, stopped_text}
+use Rattle.vend_commands.specs.serving.Connections.{AreHeld, AreReady, AreServed, IsHeld, Service, open_text, service, stopped_text}
 use Rattle.vend_commands.specs.port.Machines.{Way}
 use Rattle.vend_ports.specs.print.Printed.{open_line, stopped_line}
 use Rattle.vend_ports.specs.print.Sink.{Sink}
@@ -77,3 +79,20 @@ module _ {D R W B : Type 0} (way : Way D R W) (gives : ℤ → Type 0) (forward 
   -- all that were asked for
   pub all_held : (count asked : ℕ) (old new : Service D B) (a b : Sink) → AreHeldTelling count old new a b → count ≡ asked → AreHeldTelling asked old new a b
   all_held count asked old new a b held is = subst (λ n. AreHeldTelling n old new a b) is held
+
+  -- connections that were served, where another value stands for what was given back of a lost file
+  pub served_as : {G : Type 0} (loses : G → Seen → OpenFault → Type 0) (old_back new_back : G) (asked : ℕ) (old : Service D B) (door : D)
+      (answers : Option (List ℤ)) (served : Result (B × Bool) OpenFault) (printed : Text) → IfErr served (λ _. new_back ≡ old_back)
+      → AreServed way gives forward see (loses old_back) asked old door answers served printed
+      → AreServed way gives forward see (loses new_back) asked old door answers served printed
+  served_as loses old_back new_back asked old door answers (Ok (books, true)) printed same held = held
+  served_as loses old_back new_back asked old door answers (Ok (books, false)) printed same none = none
+  served_as loses old_back new_back asked old door answers (Err fault) printed same lost = record {
+    count = lost.count;
+    fewer = lost.fewer;
+    last = lost.last;
+    held = lost.held;
+    lost = (lost.lost.0, subst (λ back. loses back (see lost.last.books) fault) (sym same) lost.lost.1);
+    door = lost.door;
+    answers = lost.answers;
+  }

@@ -2,6 +2,5 @@ pub mod ConnectionLemmas
 pub mod RunLemmas
 pub mod SameLemmas
 pub mod SelfcheckLemmas
-pub mod UntoldLemmas
 pub mod UnwatchedLemmas
 pub mod WordLemmas

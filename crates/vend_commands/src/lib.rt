@@ -12,9 +12,9 @@ mod serving;
 
 pub use commands::selfcheck::run_selfcheck;
 pub use office_commands::{
-    Follows, Machine, OfficeFile, Part, Ports, Progress, SaltSource, reopen,
+    Back, Ended, Follows, Machine, OfficeFile, Part, Ports, Progress, SaltSource, reopen,
 };
-pub use running::{refuse, run, run_over, status};
+pub use running::{Computer, refuse, run, run_over, status};
 pub use selfcheck::fault::SelfcheckFault;
 pub use selfcheck::{gives_exactly, replies_over_memory};
 pub use serving::serve;

@@ -1,12 +1,9 @@
-ghost use Rattle.std.specs.Prelude.{◌≡◌, ◌≢◌, ◌⊎◌, ◌≤◌, ℕ, Bool, false, [], map};
+ghost use Rattle.std.specs.Prelude.{◌≡◌, ◌≢◌, ◌⊎◌, ◌≤◌, ℕ, Bool, false, [], map, Option};
 ghost use Rattle.sqlite.specs.Files.{over_files};
-ghost use Rattle.sqlite_wal.specs.Files.{image_at};
 ghost use Rattle.sts_fields.specs.Text.{Text};
 ghost use Rattle.office_rules.specs.declared.decision.refusal.Refusal.TheVariants.{Memory};
 ghost use Rattle.command_line.specs.Asked.{AskFor};
-ghost use Rattle.conversation.specs.declared.machine_clock.MachineClock.{MachineClock};
-ghost use Rattle.vend_ports.specs.port.Dial.{dial_of};
-ghost use Rattle.vend_commands.specs.port.Machines.{machine_of, untold};
+ghost use Rattle.vend_commands.specs.port.Machines.{machine_of};
 ghost use Rattle.vend_ports.specs.print.Printed.{refusal_line};
 ghost use Rattle.vend_commands.specs.Run.{IsCarriedOut, IsExplained, IsProgramRun};
 ghost use Rattle.vend_ports.specs.Status.{status_of};
@@ -21,14 +18,12 @@ use crate::commands::selfcheck::run_selfcheck;
 use crate::print::explanation::Explanation;
 use clap::error::ErrorKind;
 use command_line::{Asked, BadWords, meant, parse};
-use desk::{Clock, MachineClock, TimeSource};
+use desk::{MachineClock, TimeSource};
 use desk_commands::at_desk;
 use office_commands::commands::{file_audit, import, list, offer, report, request, show};
-use office_commands::{EachTry, Machine, MachineFile, OfficeFile, Ports, TerminalProgress};
+use office_commands::{Ended, Machine, MachineFile, OfficeFile, Ports, TerminalProgress};
 use office_rules::Refusal;
-use sqlite::{FileFrom, FileStore, Start};
-use sqlite_disk::Disk;
-use sqlite_trees::store::Store;
+use sqlite::Start;
 use std::alloc::Global;
 use std::io::Write;
 use std::marker::PhantomData;
@@ -38,9 +33,9 @@ use vend_ports::{
     put_refusal,
 };
 
-// The computer that the program runs on. `start` stands for what the office's file holds, and
-// `time` tells the time of day.
-struct Computer<'a, B: Start, T> {
+/// The computer that the program runs on. `B` stands for what the office's file holds, and `T`
+/// tells the time of day.
+pub struct Computer<'a, B: Start, T> {
     start: PhantomData<B>,
     time: PhantomData<&'a T>,
 }
@@ -59,25 +54,37 @@ impl<'a, B: Start, T: TimeSource> Machine for Computer<'a, B, T> {
     type Progress = TerminalProgress<'a>;
 }
 
-/// Runs the command that some words give, the program's own name left out, and answers the exit
-/// status.
+impl<'a, B: Start, T: TimeSource> Computer<'a, B, T> {
+    /// Its ports. Its clock is this one.
+    pub fn ports(rt: &'a HostRuntime, time: &'a T, start: B) -> Ports<Computer<'a, B, T>>
+        ensures { result.clock.source.now ≡ time.now }
+    {
+        Ports {
+            office: MachineFile { rt, start },
+            texts: MachineTexts { rt },
+            clock: MachineClock::new(time),
+            door: MachineDoor::new(rt),
+            loopback: rt,
+            progress: TerminalProgress::new(rt),
+        }
+    }
+}
+
+/// Runs the command that some words give, the program's own name left out, with what some ports
+/// give, and answers the exit status.
 ///
 /// A value outside its rule is told as `bad word`; of words that are no command's `clap` tells what
-/// is wrong, or shows its help. `time` tells the time of day, and `start` stands for what the
-/// office's file holds.
-pub fn run<B: Start, T: TimeSource, O: Write, E: Write>(
-    rt: &HostRuntime,
-    time: &T,
-    start: B,
+/// is wrong, or shows its help.
+pub fn run<M: Machine, O: Write, E: Write>(
+    alloc: Global,
+    ports: Ports<M>,
     words: &[&str],
     out: &mut O,
     err: &mut E,
 ) -> u8
     ensures run { (end : CommandEnd) × (out_failed err_failed : Bool) × (out_name err_name : ℕ)
-        × (clock : MachineClock T) × (clock.source.now ≡ time.now)
-        × IsProgramRun ⟦<FileStore<FileFrom<EachTry<B>>> as Store>⟧
-        (untold ⟦<FileFrom<EachTry<B>> as Disk>⟧ (image_at B.Start)
-        (dial_of ⟦<MachineClock<'static, T> as Clock>⟧ clock))
+        × (back : Option (M.Office.Medium × M.Office.Medium))
+        × IsProgramRun (over_files {g = M.Office.Medium.Disk}) (machine_of ports back)
         (map (λ w. w.now) words.now)
         (outputs (writer (O.contents out.old) false out_name)
         (writer (O.contents out.new) out_failed out_name)
@@ -86,22 +93,14 @@ pub fn run<B: Start, T: TimeSource, O: Write, E: Write>(
         × (result ≡ status_of end out_failed) }
     ensures asked { (asked : Asked) → AskFor (map (λ w. w.now) words.now) asked → result ≤ 1 }
 {
-    let ports: Ports<Computer<B, T>> = Ports {
-        office: MachineFile { rt, start },
-        texts: MachineTexts { rt },
-        clock: MachineClock::new(time),
-        door: MachineDoor::new(rt),
-        loopback: rt,
-        progress: TerminalProgress::new(rt),
-    };
     let mut out = Watched::new(out);
     let mut err = Watched::new(err);
-    let end = run_over(rt.alloc(), ports, words, &mut out, &mut err);
+    let ran = run_over(alloc, ports, words, &mut out, &mut err);
     let failed = out.has_failed();
     // What the watches held is the writers' again.
     out.into_inner();
     err.into_inner();
-    status(end, failed)
+    status(ran.end, failed)
 }
 
 /// The exit status, where the output failed or not.
@@ -114,33 +113,39 @@ pub fn status(end: CommandEnd, failed: bool) -> u8
     end.status()
 }
 
-/// Does what the words ask for with what some ports give, or says why not.
+/// Does what the words ask for with what some ports give, or says why not. Where it found the files
+/// of an office, it lets them go, and hands on what is given back of them.
 pub fn run_over<M: Machine, O: Write, E: Write>(
     alloc: Global,
     ports: Ports<M>,
     words: &[&str],
     out: &mut Watched<'_, O>,
     err: &mut Watched<'_, E>,
-) -> CommandEnd
-    ensures { IsProgramRun (over_files {g = M.Office.Medium.Disk}) (machine_of ports)
-        (map (λ w. w.now) words.now) (outputs out.old out.new err.old err.new) result }
+) -> Ended<<M::Office as OfficeFile>::Medium>
+    ensures { IsProgramRun (over_files {g = M.Office.Medium.Disk}) (machine_of ports result.back)
+        (map (λ w. w.now) words.now) (outputs out.old out.new err.old err.new) result.end }
 {
     let Ok(line) = meant(alloc, words) else {
         leave_all(ports.office, ports.texts, ports.door, ports.loopback);
         put_refusal(Refusal::Memory, err);
-        return CommandEnd::Refused;
+        return Ended {
+            end: CommandEnd::Refused,
+            back: None,
+        };
     };
     match parse(alloc, &line) {
         Ok(matches) => match Asked::read(alloc, &matches) {
             Ok(asked) => answer(alloc, ports, asked, out, err),
             Err(fault) => {
                 leave_all(ports.office, ports.texts, ports.door, ports.loopback);
-                refuse(fault, err)
+                let end = refuse(fault, err);
+                Ended { end, back: None }
             }
         },
         Err(error) => {
             leave_all(ports.office, ports.texts, ports.door, ports.loopback);
-            explain(alloc, &error, out, err)
+            let end = explain(alloc, &error, out, err);
+            Ended { end, back: None }
         }
     }
 }
@@ -187,15 +192,16 @@ fn answer<M: Machine, O: Write, E: Write>(
     asked: Asked<'_, '_>,
     out: &mut Watched<'_, O>,
     err: &mut Watched<'_, E>,
-) -> CommandEnd
-    ensures { IsCarriedOut (over_files {g = M.Office.Medium.Disk}) (machine_of ports) asked.entry
-        (outputs out.old out.new err.old err.new) result }
+) -> Ended<<M::Office as OfficeFile>::Medium>
+    ensures { IsCarriedOut (over_files {g = M.Office.Medium.Disk}) (machine_of ports result.back)
+        asked.entry (outputs out.old out.new err.old err.new) result.end }
 {
     let mut clock = ports.clock;
     match asked {
         Asked::Trial(words) => {
             leave_all(ports.office, ports.texts, ports.door, ports.loopback);
-            trial::run(&words, alloc, &mut clock, out, err)
+            let end = trial::run(&words, alloc, &mut clock, out, err);
+            Ended { end, back: None }
         }
         Asked::Import(words) => {
             go_offline(ports.door, ports.loopback);
@@ -232,11 +238,13 @@ fn answer<M: Machine, O: Write, E: Write>(
         }
         Asked::Meter(words) => {
             leave_all(ports.office, ports.texts, ports.door, ports.loopback);
-            meter::run(&words, out)
+            let end = meter::run(&words, out);
+            Ended { end, back: None }
         }
         Asked::Quote(words) => {
             leave_all(ports.office, ports.texts, ports.door, ports.loopback);
-            quote::run(&words, out, err)
+            let end = quote::run(&words, out, err);
+            Ended { end, back: None }
         }
         Asked::Serve(words) => {
             M::Texts::leave(ports.texts);
@@ -247,13 +255,15 @@ fn answer<M: Machine, O: Write, E: Write>(
             M::Office::leave(ports.office);
             M::Texts::leave(ports.texts);
             M::Door::leave(ports.door);
-            run_selfcheck(&words, alloc, ports.loopback, out, err)
+            let end = run_selfcheck(&words, alloc, ports.loopback, out, err);
+            Ended { end, back: None }
         }
         Asked::Desk(words) => {
             M::Office::leave(ports.office);
             M::Door::leave(ports.door);
             let loopback = ports.loopback;
-            at_desk::run(&words, alloc, ports.texts, loopback, out, err)
+            let end = at_desk::run(&words, alloc, ports.texts, loopback, out, err);
+            Ended { end, back: None }
         }
         Asked::Audit(words) => {
             be_alone(ports.texts, ports.door, ports.loopback);

@@ -1,6 +1,6 @@
 //! Connections to a door, served one after another over any books.
 
-ghost use Rattle.std.specs.Prelude.{ℤ, [], MatchResult};
+ghost use Rattle.std.specs.Prelude.{ℤ, [], false, MatchResult, None};
 ghost use Rattle.std.specs.Bool.{MatchBool};
 ghost use Rattle.command_line.specs.Transform.{forward_of};
 ghost use Rattle.sts_fields.specs.Text.{Text};
@@ -8,6 +8,7 @@ ghost use Rattle.vend_commands.specs.serving.Connections.{AreLost, AreReady, Are
 ghost use Rattle.vend_commands.specs.serving.Connections.{IsUnheld, open_text, service};
 ghost use Rattle.vend_commands.specs.serving.Connections.{stopped_text};
 ghost use Rattle.office_commands.specs.office.Lost.{IsUnreopened};
+ghost use Rattle.office_commands.specs.port.Back.{lets_go_giving};
 ghost use Rattle.vend_commands.specs.port.Machines.{way};
 ghost use Rattle.office_commands.specs.office.Visited.{seen_in};
 ghost use Rattle.vend_ports.specs.print.Told.{Takes};
@@ -41,7 +42,8 @@ pub fn serve<H: OfficeFile, D: Door, C: Clock, E: Write>(
     ensures { (printed : Text) × AreServed
         (way D.Door D.Reader.remaining D.Writer.contents) (C.reads clock.old)
         (forward_of words.now.transform) seen_in
-        (IsUnreopened H.Medium.Disk H.Salts.SaltSource (H.lets_go H.Medium)) words.now.connections
+        (IsUnreopened H.Medium.Disk H.Salts.SaltSource (lets_go_giving H.OfficeFile None false))
+        words.now.connections
         (service door.old books (C.answers clock.old)) door.new (C.answers clock.new) result printed
         × Takes err.old err.new printed }
 {
@@ -70,7 +72,8 @@ fn readied<H: OfficeFile, E: Write>(
     ensures ready { MatchResult result
         (AreReady seen_in (forward_of transform) books)
         (AreLost seen_in
-        (IsUnreopened H.Medium.Disk H.Salts.SaltSource (H.lets_go H.Medium)) books) }
+        (IsUnreopened H.Medium.Disk H.Salts.SaltSource (lets_go_giving H.OfficeFile None false))
+        books) }
     ensures told { MatchResult result
         (λ _. Takes err.old err.new (open_text (seen_in books))) (λ _. Takes err.old err.new []) }
 {

@@ -1,6 +1,6 @@
 -- What comes of the audit of two files.
 use Rattle.std.specs.Prelude.{◌≡◌, ◌≢◌, ◌≤◌, ℕ, ◌+◌, length, slice_get, take, Option, Some, None}
-use Rattle.std.specs.Prelude.{Result, Ok, Err, IfErr, IfOk}
+use Rattle.std.specs.Prelude.{Bool, Result, Ok, Err, IfErr, IfOk}
 use Rattle.sqlite.specs.Effect.{Database}
 use Rattle.sqlite.specs.Files.{FailsToClose, file_state}
 use Rattle.sqlite.specs.Held.{Held}
@@ -71,7 +71,7 @@ module _ {D : Type 0} {g : Ghosts D} where
         → told ≡ told_of audited partial → LooksAtShifts old new found told
 
   -- and its files were closed
-  pub record EndsAudit (LetsGo : D → D → Type 0) (conn : Held (FileStore D g))
+  pub record EndsAudit (LetsGo : (whole : Bool) → D → D → Type 0) (conn : Held (FileStore D g))
       (found told : Result Audited AuditFault) : Type 0 where
     pub last : Held (FileStore D g)
     pub looks : LooksAtShifts conn last found told
@@ -107,8 +107,8 @@ module _ {D : Type 0} {g : Ghosts D} where
 
 -- A connection was just made to the files, an audit of it, by the transform that was given, where
 -- one was, answered this, and they were closed with nothing done beside.
-pub record AuditsIn {D : Type 0} (g : Ghosts D) (image : Image) (LetsGo : D → D → Type 0)
-    (given : Option BlockFunction) (answer : Result Audited AuditFault) : Type 0 where
+pub record AuditsIn {D : Type 0} (g : Ghosts D) (image : Image)
+    (LetsGo : (whole : Bool) → D → D → Type 0) (given : Option BlockFunction) (answer : Result Audited AuditFault) : Type 0 where
   pub first : Held (FileStore D g)
   pub last : Held (FileStore D g)
   pub connected : HasCleanDisk (file_state first) → IsConnected image (file_state first)

@@ -1,5 +1,5 @@
 -- What comes of closing the files of a connection, and of books.
-use Rattle.std.specs.Prelude.{◌≡◌}
+use Rattle.std.specs.Prelude.{◌≡◌, Bool, true, false}
 use Rattle.sqlite.specs.Closing.{IsCopied}
 use Rattle.sqlite.specs.Files.{FailsToClose, IsClosed as ClosesAs, file_state}
 use Rattle.sqlite.specs.Held.{Held}
@@ -29,17 +29,19 @@ pub record IsSeenAs {D : Type 0} {g : Ghosts D} (conn : Held (FileStore D g))
 -- holds it after a crash too; or there is a cause why they could not be closed. Either way a crash
 -- leaves of the files nothing that it could not leave of the connection, and these files were let
 -- go.
-pub data AreClosed {D : Type 0} (g : Ghosts D) (LetsGo : D → D → Type 0) (s : State) : Type 0 where
+pub data AreClosed {D : Type 0} (g : Ghosts D) (LetsGo : (whole : Bool) → D → D → Type 0)
+    (s : State) : Type 0 where
   closed : (conn : Held (FileStore D g)) (last : FileStore D g) (here : Files D)
       → IsSeenAs conn s
       → ClosesAs conn last → files last ≡ (here.log, here.db)
-      → (AreClean g here.log here.db → IsCopied conn here) → LetsGo here.log here.db
+      → (AreClean g here.log here.db → IsCopied conn here) → LetsGo true here.log here.db
       → AreClosed g LetsGo s
   unclosed : (conn : Held (FileStore D g)) (last : FileStore D g) (error : Error)
       → IsSeenAs conn s → ClosesAs conn last
       → (IsClean (view last) → FailsToClose conn last error)
-      → LetsGo (files last).0 (files last).1 → AreClosed g LetsGo s
+      → LetsGo false (files last).0 (files last).1 → AreClosed g LetsGo s
 
 -- so were those of books
-abbrev pub IsClosed : {D : Type 0} → (g : Ghosts D) → (LetsGo : D → D → Type 0) → Seen → Type 0
+abbrev pub IsClosed : {D : Type 0} → (g : Ghosts D)
+    → (LetsGo : (whole : Bool) → D → D → Type 0) → Seen → Type 0
 IsClosed g LetsGo books = AreClosed g LetsGo books.state

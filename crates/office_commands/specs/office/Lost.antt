@@ -1,5 +1,5 @@
 -- The file of stopped books that is not opened again.
-use Rattle.std.specs.Prelude.{◌≡◌, ◌⊎◌, ◌&&◌, ℕ, false}
+use Rattle.std.specs.Prelude.{◌≡◌, ◌⊎◌, ◌&&◌, ℕ, false, IsTrue}
 use Rattle.book_opening.specs.Opening.{LeavesRefused, Refuses, fault_of}
 use Rattle.book_opening.specs.declared.fault.OpenFault.{OpenFault}
 use Rattle.book_opening.specs.declared.fault.OpenFault.TheVariants.{Store}
@@ -7,15 +7,21 @@ use Rattle.books.specs.Keeps.{Seen}
 use Rattle.books.specs.Path.{AreTakenFrom}
 use Rattle.books.specs.declared.refused_files.RefusedFiles.{RefusedFiles}
 use Rattle.books.specs.declared.refused_files.RefusedFiles.TheVariants.{Connected, Unconnected}
-use Rattle.sqlite.specs.Files.{FailsToOpenFiles, IsCleanLeft, IsClosed, LeavesFiles, file_state}
+use Rattle.sqlite.specs.Files.{FailsToOpenFiles, HoldsDatabase, IsCleanLeft, IsClosed, LeavesFiles}
+use Rattle.sqlite.specs.Files.{file_state, image_of}
 use Rattle.sqlite.specs.Held.{Held}
 use Rattle.sqlite.specs.State.{HasCleanDisk, Survives}
 use Rattle.sqlite.specs.declared.error.Error.{Error}
 use Rattle.sqlite.specs.declared.file.Leftover.{Leftover}
 use Rattle.sqlite_disk.specs.declared.Disk as disk
 use Rattle.sqlite_disk.specs.declared.Files.{Files}
-use Rattle.sqlite_store.specs.FileStore.{files as store_files}
+use Rattle.sqlite_store.specs.FileStore.{files as store_files, view}
 use Rattle.sqlite_store.specs.declared.store.FileStore.{FileStore}
+use Rattle.sqlite_trees.specs.Tree.{Trees}
+use Rattle.sqlite_trees.specs.View.{IsClean}
+use Rattle.sqlite_wal.specs.Files.{outcomes}
+use Rattle.sqlite_wal.specs.Reads.{AreClean}
+use Rattle.sqlite_wal.specs.Recovery.{Image}
 use Rattle.office_commands.specs.office.Closed.{IsSeenAs}
 use Rattle.office_commands.specs.office.Reopened.{IsNextOf}
 use Rattle.office_commands.specs.declared.port.ports.SaltSource as source
@@ -29,6 +35,7 @@ module _ {D : Type 0} {g : disk.Ghosts D} where
       Type 0 where
     pub last : FileStore D g
     pub closed : IsClosed old last
+    pub numbered : IsClean (view last) → IsTrue (view last).is_numbered
     pub here : Files D
     pub files : store_files last ≡ (here.log, here.db)
     pub cause : ((g.is_usable here.log && g.is_usable here.db) ≡ false)
@@ -52,6 +59,23 @@ module _ {D : Type 0} {g : disk.Ghosts D} where
   RefusesAgain old fault (Connected last) = RefusesNext old fault last
   RefusesAgain old fault (Unconnected left) =
       (error : Error) × (fault ≡ fault_of error) × FailsToReconnect old error left
+
+  -- a database that a connection may leave
+  abbrev pub IsLeftOf : Held (FileStore D g) → Image → Type 0
+  IsLeftOf old image =
+      ∥ ((trees : Trees) × (file_state old).may_leave trees × HoldsDatabase image trees) ∥₁
+
+  -- its files hold one, and so does whatever a crash may leave of them
+  pub record HoldWhatIsLeft (old : Held (FileStore D g)) (files : Files D) : Type 0 where
+    pub present : IsLeftOf old (image_of g files)
+    pub crash : (image : Image) → outcomes g files.log files.db image → IsLeftOf old image
+
+-- While the disk returned what was written, the files of a connection that was closed, to which none
+-- could be made again, hold a database that this may leave.
+abbrev pub LosesNothing : {D : Type 0} → disk.Ghosts D → Type 0
+LosesNothing {D} g = (old : Held (FileStore D g)) (error : Error) (left : Leftover D g)
+    → (lost : FailsToReconnect old error left) → AreClean g lost.here.log lost.here.db
+    → HoldWhatIsLeft old lost.here
 
 -- Stopped books lost their file: there was no salt for a new log, or with a salt that was drawn the
 -- office was not opened again. Either way the files were let go as the books, or the opening, left

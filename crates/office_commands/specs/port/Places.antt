@@ -1,5 +1,5 @@
 -- The files that keep offices, each at its path.
-use Rattle.std.specs.Prelude.{◌≡◌, ℕ, ⊤, Option, Result}
+use Rattle.std.specs.Prelude.{◌≡◌, ℕ, false, Option, None, Result}
 use Rattle.sqlite_disk.specs.declared.Disk as disk
 use Rattle.sqlite_disk.specs.declared.Files.{Files}
 use Rattle.sqlite_wal.specs.Recovery.{Image}
@@ -16,6 +16,7 @@ use Rattle.office_commands.specs.office.Audits.{AuditsIn}
 use Rattle.office_commands.specs.office.Closed.{IsClosed}
 use Rattle.office_commands.specs.office.Lost.{IsUnreopened}
 use Rattle.office_commands.specs.office.Opened.{OpensIn}
+use Rattle.office_commands.specs.port.Back.{lets_go_giving}
 use Rattle.office_commands.specs.declared.port.ports.OfficeFile as file
 use Rattle.office_commands.specs.declared.port.ports.SaltSource as source
 
@@ -63,38 +64,21 @@ Places = Text → (wait : ℕ) → Place
 abbrev pub where_present : Place → Place
 where_present place = record place { finds = place.meets; fails = place.refuses }
 
--- what keeps offices has a file at each path
+-- what keeps offices has a file at each path, and this was given back of it
 abbrev pub places_of : {H D S : Type 0} → (disk : disk.Ghosts D) → source.Ghosts S
-    → file.Ghosts H D S
-    → H → Places
-places_of {H} {D} {S} disk salts of office path wait = record {
+    → file.Ghosts H D S → H → (back : Option (D × D))
+    → Places
+places_of {D = D} disk salts of office back path wait = record {
   image = of.image office path;
   finds = (log : D) × (db : D) × of.finds office path wait log db;
   opens = OpensIn disk (of.image office path);
-  fails = IsUnopened disk salts (of.finds office path wait) (of.lets_go D)
-      (of.fails office path wait);
-  closes = IsClosed disk (of.lets_go D);
-  loses = IsUnreopened disk salts (of.lets_go D);
+  fails = IsUnopened disk salts (of.finds office path wait) (lets_go_giving of back false)
+      (λ fault. of.fails office path wait fault × (back ≡ None));
+  closes = IsClosed disk (lets_go_giving of back);
+  loses = IsUnreopened disk salts (lets_go_giving of back false);
   meets = (log : D) × (db : D) × of.meets office path wait log db;
-  misses = of.misses office path wait;
-  refuses = IsUnopened disk salts (of.meets office path wait) (of.lets_go D)
-      (of.fails office path wait);
-  audits = AuditsIn disk (of.image office path) (of.lets_go D);
-}
-
--- a file of which nothing is told but what it holds, how an office is opened there and closed, and
--- what an audit answers
-abbrev pub untold_place : Image → (opens closes : Seen → Type 0)
-    → (audits : Option BlockFunction → Result Audited AuditFault → Type 0) → Place
-untold_place image opens closes audits = record {
-  image = image;
-  finds = ⊤;
-  opens = opens;
-  fails = λ fault. ⊤;
-  closes = closes;
-  loses = λ books fault. ⊤;
-  meets = ⊤;
-  misses = ⊤;
-  refuses = λ fault. ⊤;
-  audits = audits;
+  misses = of.misses office path wait × (back ≡ None);
+  refuses = IsUnopened disk salts (of.meets office path wait) (lets_go_giving of back false)
+      (λ fault. of.fails office path wait fault × (back ≡ None));
+  audits = AuditsIn disk (of.image office path) (lets_go_giving of back);
 }

@@ -5,6 +5,7 @@ ghost use Rattle.office_commands.specs.port.Places.{places_of};
 ghost use Rattle.vend_ports.specs.print.Told.{outputs};
 
 use crate::office::auditing::{audit_files, connect, end_audit};
+use crate::port::ended::Ended;
 use crate::port::ports::OfficeFile;
 use crate::port::progress::Progress;
 use crate::print::audit_lines::{put_broken, put_sound};
@@ -27,27 +28,34 @@ pub fn run<H: OfficeFile, P: Progress, O: Write, E: Write>(
     progress: &mut P,
     out: &mut Watched<'_, O>,
     err: &mut Watched<'_, E>,
-) -> CommandEnd
+) -> Ended<H::Medium>
     ensures { IsAudited
-        (places_of H.Medium.Disk H.Salts.SaltSource H.OfficeFile office words.now.file.now
-        words.now.wait) (option_map forward_of words.now.transform)
-        (outputs out.old out.new err.old err.new) result }
+        (places_of H.Medium.Disk H.Salts.SaltSource H.OfficeFile office result.back
+        words.now.file.now words.now.wait) (option_map forward_of words.now.transform)
+        (outputs out.old out.new err.old err.new) result.end }
 {
     let salts = office.salts();
     match connect(alloc, office, &salts, words.file, words.wait) {
         Ok(Some(mut conn)) => {
             progress.tell_opened();
             let found = audit_files(alloc, &mut conn, words.transform, progress);
-            let answer = end_audit::<H>(alloc, found, conn);
-            tell(answer, out, err)
+            let (answer, back) = end_audit::<H>(alloc, found, conn);
+            let end = tell(answer, out, err);
+            Ended { end, back }
         }
         Ok(None) => {
             put_line(&[b"file"], err);
-            CommandEnd::Refused
+            Ended {
+                end: CommandEnd::Refused,
+                back: None,
+            }
         }
         Err(fault) => {
             put_opening(fault, err);
-            CommandEnd::Refused
+            Ended {
+                end: CommandEnd::Refused,
+                back: None,
+            }
         }
     }
 }

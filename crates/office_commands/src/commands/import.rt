@@ -5,11 +5,13 @@ ghost use Rattle.office_commands.specs.commands.Imported.{IsFileImported, IsImpo
 ghost use Rattle.office_commands.specs.commands.Imported.{refusal_of_rows};
 ghost use Rattle.vend_ports.specs.port.Dial.{dial_of};
 ghost use Rattle.office_commands.specs.port.Places.{places_of};
+ghost use Rattle.office_commands.specs.port.Back.{is_untouched};
 ghost use Rattle.vend_ports.specs.port.Texts.{texts_of};
 ghost use Rattle.vend_ports.specs.commands.Timed.{IsTimed};
 ghost use Rattle.vend_ports.specs.print.Told.{outputs};
 
 use crate::commands::request::ask_at;
+use crate::port::ended::Ended;
 use crate::port::ports::OfficeFile;
 use command_line::{ImportWords, RequestWords};
 use conversation::Clock;
@@ -34,12 +36,14 @@ pub fn run<H: OfficeFile, F: TextFiles, C: Clock, O: Write, E: Write>(
     clock: &mut C,
     out: &mut Watched<'_, O>,
     err: &mut Watched<'_, E>,
-) -> CommandEnd
+) -> Ended<H::Medium>
     ensures { let o = outputs out.old out.new err.old err.new in
-        IsTimed (H.leaves H office × F.leaves F texts) words.now.at (dial_of C.Clock clock.old)
+        IsTimed (is_untouched H.OfficeFile office result.back × F.leaves F texts) words.now.at
+        (dial_of C.Clock clock.old)
         (λ moment. IsFileImported ⟦<FileStore<H::Medium> as Store>⟧
-        (places_of H.Medium.Disk H.Salts.SaltSource H.OfficeFile office)
-        (H.leaves H office) (texts_of F.TextFiles texts) words.now moment o result) o result }
+        (places_of H.Medium.Disk H.Salts.SaltSource H.OfficeFile office result.back)
+        (is_untouched H.OfficeFile office result.back) (texts_of F.TextFiles texts) words.now
+        moment o result.end) o result.end }
 {
     match moment_or_now(words.at, clock) {
         Some(moment) => import_at(words, alloc, office, texts, moment, out, err),
@@ -47,7 +51,10 @@ pub fn run<H: OfficeFile, F: TextFiles, C: Clock, O: Write, E: Write>(
             H::leave(office);
             F::leave(texts);
             put_no_moment(err);
-            CommandEnd::Refused
+            Ended {
+                end: CommandEnd::Refused,
+                back: None,
+            }
         }
     }
 }
@@ -61,18 +68,21 @@ fn import_at<H: OfficeFile, F: TextFiles, O: Write, E: Write>(
     moment: Moment,
     out: &mut Watched<'_, O>,
     err: &mut Watched<'_, E>,
-) -> CommandEnd
+) -> Ended<H::Medium>
     ensures { IsFileImported ⟦<FileStore<H::Medium> as Store>⟧
-        (places_of H.Medium.Disk H.Salts.SaltSource H.OfficeFile office)
-        (H.leaves H office) (texts_of F.TextFiles texts) words.now moment
-        (outputs out.old out.new err.old err.new) result }
+        (places_of H.Medium.Disk H.Salts.SaltSource H.OfficeFile office result.back)
+        (is_untouched H.OfficeFile office result.back) (texts_of F.TextFiles texts) words.now moment
+        (outputs out.old out.new err.old err.new) result.end }
 {
     match texts.read(words.csv) {
         Ok(bytes) => add(words, alloc, office, moment, &bytes, out, err),
         Err(fault) => {
             H::leave(office);
             put_read_fault(fault, err);
-            CommandEnd::Refused
+            Ended {
+                end: CommandEnd::Refused,
+                back: None,
+            }
         }
     }
 }
@@ -86,11 +96,11 @@ fn add<H: OfficeFile, O: Write, E: Write>(
     bytes: &[u8],
     out: &mut Watched<'_, O>,
     err: &mut Watched<'_, E>,
-) -> CommandEnd
+) -> Ended<H::Medium>
     ensures { IsImported ⟦<FileStore<H::Medium> as Store>⟧
-        (places_of H.Medium.Disk H.Salts.SaltSource H.OfficeFile office)
-        (H.leaves H office) words.now moment bytes.now
-        (outputs out.old out.new err.old err.new) result }
+        (places_of H.Medium.Disk H.Salts.SaltSource H.OfficeFile office result.back)
+        (is_untouched H.OfficeFile office result.back) words.now moment bytes.now
+        (outputs out.old out.new err.old err.new) result.end }
 {
     match rows_of(words, alloc, bytes) {
         Ok(rows) => {
@@ -106,7 +116,10 @@ fn add<H: OfficeFile, O: Write, E: Write>(
         Err(fault) => {
             H::leave(office);
             put_refusal(refusal_of(fault), err);
-            CommandEnd::Refused
+            Ended {
+                end: CommandEnd::Refused,
+                back: None,
+            }
         }
     }
 }

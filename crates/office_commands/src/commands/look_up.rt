@@ -3,11 +3,13 @@
 ghost use Rattle.office_commands.specs.commands.LookedUp.{IsShown, IsShownAt};
 ghost use Rattle.vend_ports.specs.port.Dial.{dial_of};
 ghost use Rattle.office_commands.specs.port.Places.{places_of};
+ghost use Rattle.office_commands.specs.port.Back.{is_untouched};
 ghost use Rattle.vend_ports.specs.print.Told.{outputs};
 
 use crate::office::looking::read;
 use crate::office::opening::{close_office, open_present_office};
 use crate::office::wanted::Wanted;
+use crate::port::ended::Ended;
 use crate::port::ports::OfficeFile;
 use crate::print::opening::put_opening;
 use command_line::Shipped;
@@ -39,19 +41,22 @@ pub(crate) fn run<H: OfficeFile, C: Clock, O: Write, E: Write>(
     clock: &mut C,
     out: &mut Watched<'_, O>,
     err: &mut Watched<'_, E>,
-) -> CommandEnd
+) -> Ended<H::Medium>
     ensures { IsShown ⟦<FileStore<H::Medium> as Store>⟧
-        (places_of H.Medium.Disk H.Salts.SaltSource H.OfficeFile office)
-        (H.leaves H office) (dial_of C.Clock clock.old)
+        (places_of H.Medium.Disk H.Salts.SaltSource H.OfficeFile office result.back)
+        (is_untouched H.OfficeFile office result.back) (dial_of C.Clock clock.old)
         asked.now.at asked.now.file.now asked.now.wait asked.now.wanted
-        (outputs out.old out.new err.old err.new) result }
+        (outputs out.old out.new err.old err.new) result.end }
 {
     match moment_or_now(asked.at, clock) {
         Some(moment) => run_at(asked, alloc, office, moment, out, err),
         None => {
             H::leave(office);
             put_no_moment(err);
-            CommandEnd::Refused
+            Ended {
+                end: CommandEnd::Refused,
+                back: None,
+            }
         }
     }
 }
@@ -65,11 +70,11 @@ fn run_at<H: OfficeFile, O: Write, E: Write>(
     moment: Moment,
     out: &mut Watched<'_, O>,
     err: &mut Watched<'_, E>,
-) -> CommandEnd
+) -> Ended<H::Medium>
     ensures { IsShownAt ⟦<FileStore<H::Medium> as Store>⟧
-        (places_of H.Medium.Disk H.Salts.SaltSource H.OfficeFile office)
+        (places_of H.Medium.Disk H.Salts.SaltSource H.OfficeFile office result.back)
         asked.now.file.now asked.now.wait moment asked.now.wanted
-        (outputs out.old out.new err.old err.new) result }
+        (outputs out.old out.new err.old err.new) result.end }
 {
     let salts = office.salts();
     match open_present_office(
@@ -82,16 +87,22 @@ fn run_at<H: OfficeFile, O: Write, E: Write>(
     ) {
         Ok(Some(mut books)) => {
             let end = read(alloc, &mut books, moment, &asked.wanted, out, err);
-            close_office::<H>(books);
-            end
+            let back = close_office::<H>(books);
+            Ended { end, back }
         }
         Ok(None) => {
             put_line(&[b"file"], err);
-            CommandEnd::Refused
+            Ended {
+                end: CommandEnd::Refused,
+                back: None,
+            }
         }
         Err(fault) => {
             put_opening(fault, err);
-            CommandEnd::Refused
+            Ended {
+                end: CommandEnd::Refused,
+                back: None,
+            }
         }
     }
 }

@@ -7,6 +7,7 @@ ghost use Rattle.office_commands.specs.office.Visited.{seen_in};
 
 use crate::office::asking::ask;
 use crate::office::opening::{close_office, open_present_office};
+use crate::port::ended::Ended;
 use crate::port::ports::OfficeFile;
 use crate::port::progress::Progress;
 use crate::print::opening::put_opening;
@@ -31,10 +32,10 @@ pub fn run<H: OfficeFile, P: Progress, O: Write, E: Write>(
     progress: &mut P,
     out: &mut Watched<'_, O>,
     err: &mut Watched<'_, E>,
-) -> CommandEnd
+) -> Ended<H::Medium>
     ensures { IsReported ⟦<FileStore<H::Medium> as Store>⟧
-        (places_of H.Medium.Disk H.Salts.SaltSource H.OfficeFile office) words.now
-        (outputs out.old out.new err.old err.new) result }
+        (places_of H.Medium.Disk H.Salts.SaltSource H.OfficeFile office result.back) words.now
+        (outputs out.old out.new err.old err.new) result.end }
 {
     let salts = office.salts();
     match open_present_office(
@@ -47,16 +48,22 @@ pub fn run<H: OfficeFile, P: Progress, O: Write, E: Write>(
     ) {
         Ok(Some(mut books)) => {
             let end = print(alloc, &mut books, words.paper, progress, out, err);
-            close_office::<H>(books);
-            end
+            let back = close_office::<H>(books);
+            Ended { end, back }
         }
         Ok(None) => {
             put_line(&[b"file"], err);
-            CommandEnd::Refused
+            Ended {
+                end: CommandEnd::Refused,
+                back: None,
+            }
         }
         Err(fault) => {
             put_opening(fault, err);
-            CommandEnd::Refused
+            Ended {
+                end: CommandEnd::Refused,
+                back: None,
+            }
         }
     }
 }

@@ -1,11 +1,13 @@
 ghost use Rattle.office_commands.specs.commands.Asked.{IsAskedAt};
 ghost use Rattle.vend_ports.specs.port.Dial.{dial_of};
 ghost use Rattle.office_commands.specs.port.Places.{places_of};
+ghost use Rattle.office_commands.specs.port.Back.{is_untouched};
 ghost use Rattle.vend_ports.specs.commands.Timed.{IsTimed};
 ghost use Rattle.vend_ports.specs.print.Told.{outputs};
 
 use crate::office::asking::ask;
 use crate::office::opening::{close_office, open_office};
+use crate::port::ended::Ended;
 use crate::port::ports::OfficeFile;
 use crate::print::opening::put_opening;
 use command_line::RequestWords;
@@ -26,20 +28,24 @@ pub fn run<H: OfficeFile, C: Clock, O: Write, E: Write>(
     clock: &mut C,
     out: &mut Watched<'_, O>,
     err: &mut Watched<'_, E>,
-) -> CommandEnd
+) -> Ended<H::Medium>
     ensures { let o = outputs out.old out.new err.old err.new in
-        IsTimed (H.leaves H office) words.entry.at (dial_of C.Clock clock.old)
+        IsTimed (is_untouched H.OfficeFile office result.back) words.entry.at
+        (dial_of C.Clock clock.old)
         (λ moment. IsAskedAt ⟦<FileStore<H::Medium> as Store>⟧
-        (places_of H.Medium.Disk H.Salts.SaltSource H.OfficeFile office)
+        (places_of H.Medium.Disk H.Salts.SaltSource H.OfficeFile office result.back)
         words.entry.transform words.entry.file.now words.entry.wait moment words.entry.request o
-        result) o result }
+        result.end) o result.end }
 {
     match moment_or_now(words.at, clock) {
         Some(moment) => ask_at(words, alloc, office, moment, out, err),
         None => {
             H::leave(office);
             put_no_moment(err);
-            CommandEnd::Refused
+            Ended {
+                end: CommandEnd::Refused,
+                back: None,
+            }
         }
     }
 }
@@ -53,11 +59,11 @@ pub(crate) fn ask_at<H: OfficeFile, O: Write, E: Write>(
     moment: Moment,
     out: &mut Watched<'_, O>,
     err: &mut Watched<'_, E>,
-) -> CommandEnd
+) -> Ended<H::Medium>
     ensures { IsAskedAt ⟦<FileStore<H::Medium> as Store>⟧
-        (places_of H.Medium.Disk H.Salts.SaltSource H.OfficeFile office)
+        (places_of H.Medium.Disk H.Salts.SaltSource H.OfficeFile office result.back)
         words.entry.transform words.entry.file.now words.entry.wait moment words.entry.request
-        (outputs out.old out.new err.old err.new) result }
+        (outputs out.old out.new err.old err.new) result.end }
 {
     let salts = office.salts();
     match open_office(
@@ -70,12 +76,15 @@ pub(crate) fn ask_at<H: OfficeFile, O: Write, E: Write>(
     ) {
         Ok(mut books) => {
             let end = ask(alloc, &mut books, moment, words.request, out, err);
-            close_office::<H>(books);
-            end
+            let back = close_office::<H>(books);
+            Ended { end, back }
         }
         Err(fault) => {
             put_opening(fault, err);
-            CommandEnd::Refused
+            Ended {
+                end: CommandEnd::Refused,
+                back: None,
+            }
         }
     }
 }

@@ -2,10 +2,12 @@ ghost use Rattle.std.specs.Prelude.{◌≡◌};
 ghost use Rattle.office_commands.specs.commands.LookedUp.{IsShown, lookup_of};
 ghost use Rattle.vend_ports.specs.port.Dial.{dial_of};
 ghost use Rattle.office_commands.specs.port.Places.{places_of};
+ghost use Rattle.office_commands.specs.port.Back.{is_untouched};
 ghost use Rattle.vend_ports.specs.print.Told.{outputs};
 
 use crate::commands::look_up::{self, FileLookup};
 use crate::office::wanted::Wanted;
+use crate::port::ended::Ended;
 use crate::port::ports::OfficeFile;
 use books::Lookup;
 use command_line::{ShowWords, Shown};
@@ -14,7 +16,7 @@ use sqlite::FileStore;
 use sqlite_trees::store::Store;
 use std::alloc::Global;
 use std::io::Write;
-use vend_ports::{CommandEnd, Watched};
+use vend_ports::Watched;
 
 /// Prints a meter, a sale or the receipt of a meter's last sale, as the office of a file has it.
 pub fn run<H: OfficeFile, C: Clock, O: Write, E: Write>(
@@ -24,13 +26,13 @@ pub fn run<H: OfficeFile, C: Clock, O: Write, E: Write>(
     clock: &mut C,
     out: &mut Watched<'_, O>,
     err: &mut Watched<'_, E>,
-) -> CommandEnd
+) -> Ended<H::Medium>
     ensures { IsShown ⟦<FileStore<H::Medium> as Store>⟧
-        (places_of H.Medium.Disk H.Salts.SaltSource H.OfficeFile office)
-        (H.leaves H office) (dial_of C.Clock clock.old)
+        (places_of H.Medium.Disk H.Salts.SaltSource H.OfficeFile office result.back)
+        (is_untouched H.OfficeFile office result.back) (dial_of C.Clock clock.old)
         words.now.at words.now.file.now words.now.wait
         (Wanted.One (lookup_of words.now.shown) words.now.json)
-        (outputs out.old out.new err.old err.new) result }
+        (outputs out.old out.new err.old err.new) result.end }
 {
     let asked = FileLookup {
         file: words.file,

@@ -1,6 +1,6 @@
 //! A file that is looked at where it is there: it is not made, and no office is opened in it.
 
-ghost use Rattle.std.specs.Prelude.{◌≡◌, false, IfErr, IfNone, IfOk, IfSome, option_map};
+ghost use Rattle.std.specs.Prelude.{◌≡◌, false, IfErr, IfNone, IfOk, IfSome, None, option_map};
 ghost use Rattle.sqlite.specs.Files.{file_state};
 ghost use Rattle.sqlite.specs.State.{HasCleanDisk};
 ghost use Rattle.one_table.specs.Standing.{tree_in};
@@ -8,10 +8,12 @@ ghost use Rattle.book_tables.specs.Kept.{shifts_kept};
 ghost use Rattle.audit.specs.Audited.{IsAuditOf};
 ghost use Rattle.books.specs.Path.{IsConnected};
 ghost use Rattle.command_line.specs.Transform.{forward_of};
+ghost use Rattle.office_commands.specs.port.Back.{lets_go_giving};
 ghost use Rattle.office_commands.specs.office.Audits.{EndsAudit, told_of};
 ghost use Rattle.office_commands.specs.port.Places.{places_of};
 
 use crate::office::opening::{close_connection, let_go_ended, options_of};
+use crate::port::ended::Back;
 use crate::port::ports::{OfficeFile, SaltSource};
 use crate::port::progress::Progress;
 use audit::{AuditFault, Audited, Finding, RowKey, Rule, TableName, audit};
@@ -44,12 +46,14 @@ pub(crate) fn connect<H: OfficeFile>(
     ensures rests { IfOk result
         (λ found. IfSome found (λ conn. conn.in_transaction ≡ false)) }
     ensures meets { IfOk result (λ found. IfSome found
-        (λ _. (places_of H.Medium.Disk H.Salts.SaltSource H.OfficeFile office path.now
+        (λ _. (places_of H.Medium.Disk H.Salts.SaltSource H.OfficeFile office None path.now
         wait).meets)) }
     ensures misses { IfOk result (λ found. IfNone found
-        (places_of H.Medium.Disk H.Salts.SaltSource H.OfficeFile office path.now wait).misses) }
+        (places_of H.Medium.Disk H.Salts.SaltSource H.OfficeFile office None path.now
+        wait).misses) }
     ensures refuses { IfErr result
-        (places_of H.Medium.Disk H.Salts.SaltSource H.OfficeFile office path.now wait).refuses }
+        (places_of H.Medium.Disk H.Salts.SaltSource H.OfficeFile office None path.now
+        wait).refuses }
 {
     found_law::<FileStore<H::Medium>>();
     let found = match office.find_present(path, wait) {
@@ -123,23 +127,23 @@ pub(crate) fn end_audit<H: OfficeFile>(
     alloc: Global,
     found: Result<Audited, AuditFault>,
     conn: Connection<FileStore<H::Medium>>,
-) -> Result<Audited, AuditFault>
-    ensures { EndsAudit (H.lets_go H.Medium) conn found result }
+) -> (Result<Audited, AuditFault>, Back<H::Medium>)
+    ensures { EndsAudit (lets_go_giving H.OfficeFile result.1) conn found result.0 }
 {
     match found {
         Ok(audited) => {
             if audited.format == 0 {
-                close_connection::<H>(conn);
-                return Ok(audited);
+                let back = close_connection::<H>(conn);
+                return (Ok(audited), back);
             }
             let tree = tree_of_shifts(conn.schema());
             let (partial, ended) = end_looking(alloc, conn, tree, SHIFT_WIDTH);
-            let_go_ended::<H>(ended);
-            told_of(audited, partial)
+            let back = let_go_ended::<H>(ended);
+            (told_of(audited, partial), back)
         }
         Err(fault) => {
-            close_connection::<H>(conn);
-            Err(fault)
+            let back = close_connection::<H>(conn);
+            (Err(fault), back)
         }
     }
 }

@@ -1,16 +1,18 @@
 //! An office in a file: how it is opened, and closed.
 
-ghost use Rattle.std.specs.Prelude.{◌≡◌, IfErr, IfNone, IfOk, IfSome, IsTrue};
+ghost use Rattle.std.specs.Prelude.{◌≡◌, false, true, IfErr, IfNone, IfOk, IfSome, IsTrue, None};
 ghost use Rattle.sqlite.specs.Files.{file_state};
 ghost use Rattle.sqlite_disk.specs.declared.Files.{Files};
 ghost use Rattle.sqlite_store.specs.FileStore.{files as store_files};
 ghost use Rattle.sqlite_wal.specs.Files.{seen_image};
 ghost use Rattle.books.specs.Path.{AreTakenFrom};
+ghost use Rattle.office_commands.specs.port.Back.{lets_go_giving};
 ghost use Rattle.office_commands.specs.office.Closed.{AreClosed, IsClosed};
 ghost use Rattle.office_commands.specs.office.Opened.{OpensIn};
 ghost use Rattle.office_commands.specs.port.Places.{IsUnopenedIn, places_of};
 ghost use Rattle.office_commands.specs.office.Visited.{IsOpened, seen_in};
 
+use crate::port::ended::Back;
 use crate::port::ports::{OfficeFile, SaltSource};
 use books::{Books, OpenFault, RefusedFiles};
 use command_line::Shipped;
@@ -51,10 +53,11 @@ pub fn open_office<H: OfficeFile>(
     ensures opened { IfOk result (IsOpened (H.image office path.now)
         (OpensIn H.Medium.Disk (H.image office path.now)) transform) }
     ensures finds { IfOk result
-        (λ _. (places_of H.Medium.Disk H.Salts.SaltSource H.OfficeFile office path.now
+        (λ _. (places_of H.Medium.Disk H.Salts.SaltSource H.OfficeFile office None path.now
         wait).finds) }
     ensures fails { IfErr result
-        (places_of H.Medium.Disk H.Salts.SaltSource H.OfficeFile office path.now wait).fails }
+        (places_of H.Medium.Disk H.Salts.SaltSource H.OfficeFile office None path.now
+        wait).fails }
 {
     let (log, db) = match office.find(path, wait) {
         Ok(files) => files,
@@ -82,11 +85,14 @@ pub(crate) fn open_present_office<H: OfficeFile>(
     ensures opened { IfOk result (λ found. IfSome found (IsOpened (H.image office path.now)
         (OpensIn H.Medium.Disk (H.image office path.now)) transform)) }
     ensures meets { IfOk result (λ found. IfSome found (λ _.
-        (places_of H.Medium.Disk H.Salts.SaltSource H.OfficeFile office path.now wait).meets)) }
+        (places_of H.Medium.Disk H.Salts.SaltSource H.OfficeFile office None path.now
+        wait).meets)) }
     ensures misses { IfOk result (λ found. IfNone found
-        (places_of H.Medium.Disk H.Salts.SaltSource H.OfficeFile office path.now wait).misses) }
+        (places_of H.Medium.Disk H.Salts.SaltSource H.OfficeFile office None path.now
+        wait).misses) }
     ensures refuses { IfErr result
-        (places_of H.Medium.Disk H.Salts.SaltSource H.OfficeFile office path.now wait).refuses }
+        (places_of H.Medium.Disk H.Salts.SaltSource H.OfficeFile office None path.now
+        wait).refuses }
 {
     let found = match office.find_present(path, wait) {
         Ok(found) => found,
@@ -113,7 +119,8 @@ fn open_in<H: OfficeFile>(
     ensures opened { IfOk result (IsOpened (seen_image H.Medium.Disk found.log found.db)
         (OpensIn H.Medium.Disk (seen_image H.Medium.Disk found.log found.db)) transform) }
     ensures refused { IfErr result
-        (IsUnopenedIn H.Medium.Disk H.Salts.SaltSource (H.lets_go H.Medium) found) }
+        (IsUnopenedIn H.Medium.Disk H.Salts.SaltSource (lets_go_giving H.OfficeFile None false)
+        found) }
 {
     let Some(salt) = salts.draw() else {
         H::let_go(found.log, found.db);
@@ -131,40 +138,44 @@ fn open_in<H: OfficeFile>(
 /// Lets the files go in which no office is open.
 pub(crate) fn let_refused_go<H: OfficeFile>(refused: RefusedFiles<H::Medium>)
     ensures { (left : Files H.Medium) × AreTakenFrom refused left
-        × H.lets_go H.Medium left.log left.db }
+        × lets_go_giving H.OfficeFile None false left.log left.db }
 {
     let files = refused.into_files();
     H::let_go(files.log, files.db);
 }
 
 /// Closes the file of an office, so that it alone holds the office. That may fail: what was done
-/// stands all the same.
-pub fn close_office<H: OfficeFile>(books: Books<FileStore<H::Medium>, Shipped>)
-    ensures { IsClosed H.Medium.Disk (H.lets_go H.Medium) (seen_in books) }
+/// stands all the same, and nothing is given back.
+pub fn close_office<H: OfficeFile>(books: Books<FileStore<H::Medium>, Shipped>) -> Back<H::Medium>
+    ensures { IsClosed H.Medium.Disk (lets_go_giving H.OfficeFile result) (seen_in books) }
 {
-    close_connection::<H>(books.into_connection());
+    close_connection::<H>(books.into_connection())
 }
 
 /// Closes the files of a connection, as it is left.
-pub(crate) fn close_connection<H: OfficeFile>(conn: Connection<FileStore<H::Medium>>)
-    ensures { AreClosed H.Medium.Disk (H.lets_go H.Medium) (file_state conn) }
+pub(crate) fn close_connection<H: OfficeFile>(
+    conn: Connection<FileStore<H::Medium>>,
+) -> Back<H::Medium>
+    ensures { AreClosed H.Medium.Disk (lets_go_giving H.OfficeFile result) (file_state conn) }
 {
-    let_go_ended::<H>(conn.close_files());
+    let_go_ended::<H>(conn.close_files())
 }
 
 /// Lets the files of a connection go that was ended, be they closed or not.
 pub(crate) fn let_go_ended<H: OfficeFile>(
     ended: Result<Files<H::Medium>, (Error, FileStore<H::Medium>)>,
-)
-    ensures closed { IfOk ended (λ files. H.lets_go H.Medium files.log files.db) }
-    ensures unclosed { IfErr ended
-        (λ e. H.lets_go H.Medium (store_files e.1).0 (store_files e.1).1) }
+) -> Back<H::Medium>
+    ensures closed { IfOk ended
+        (λ files. lets_go_giving H.OfficeFile result true files.log files.db) }
+    ensures unclosed { IfErr ended (λ e.
+        lets_go_giving H.OfficeFile result false (store_files e.1).0 (store_files e.1).1) }
 {
     match ended {
         Ok(files) => H::let_go(files.log, files.db),
         Err((_, store)) => {
             let files = store.close();
             H::let_go(files.log, files.db);
+            None
         }
     }
 }

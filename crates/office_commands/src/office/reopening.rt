@@ -1,12 +1,14 @@
 //! An office in files, opened again where its books have stopped.
 
-ghost use Rattle.std.specs.Prelude.{◌≡◌, false, IfErr, IfOk};
+ghost use Rattle.std.specs.Prelude.{◌≡◌, false, IfErr, IfOk, None};
 ghost use Rattle.sqlite.specs.Files.{file_state};
 ghost use Rattle.sqlite.specs.State.{HasCleanDisk};
 ghost use Rattle.books.specs.Keeps.{seen};
 ghost use Rattle.command_line.specs.Transform.{forward_of};
+ghost use Rattle.office_commands.specs.port.Back.{lets_go_giving};
 ghost use Rattle.office_commands.specs.office.Reopened.{IsNextLife, IsNextOf, IsReopened};
-ghost use Rattle.office_commands.specs.office.Lost.{FailsToReconnect, IsUnreopened, RefusesAgain};
+ghost use Rattle.office_commands.specs.office.Lost.{FailsToReconnect, IsUnreopened, LosesNothing};
+ghost use Rattle.office_commands.specs.office.Lost.{RefusesAgain};
 ghost use Rattle.office_commands.specs.office.Visited.{seen_in};
 
 use crate::office::opening::{let_refused_go, options_of};
@@ -32,7 +34,8 @@ pub fn open_again<H: OfficeFile>(
     ensures reopened { IfOk result
         (λ next. IsReopened (forward_of transform) (seen_in books) (seen_in next)) }
     ensures lost { IfErr result
-        (IsUnreopened H.Medium.Disk H.Salts.SaltSource (H.lets_go H.Medium) (seen_in books)) }
+        (IsUnreopened H.Medium.Disk H.Salts.SaltSource (lets_go_giving H.OfficeFile None false)
+        (seen_in books)) }
 {
     let Some(salt) = salts.draw() else {
         let_refused_go::<H>(RefusedFiles::Connected(books.into_connection()));
@@ -74,6 +77,11 @@ pub fn reopen<D: Disk + Drop, T: BlockTransform + Drop>(
         Err((fault, conn)) => Err((fault, RefusedFiles::Connected(conn))),
     }
 }
+
+/// What becomes of files that stopped books have lost: they hold what the books may have left.
+pub fn lost_law<D: Disk>()
+    ensures { LosesNothing D.Disk }
+{}
 
 // Opens the database of a connection again.
 fn reconnect<D: Disk + Drop>(

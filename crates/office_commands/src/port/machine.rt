@@ -1,13 +1,16 @@
 //! The files of this machine.
 
-ghost use Rattle.std.specs.Prelude.{⊤};
+ghost use Rattle.std.specs.Prelude.{◌≡◌, ⊤, IfSome, None};
 ghost use Rattle.sqlite_wal.specs.Files.{image_at};
+ghost use Rattle.office_commands.specs.port.Found.{AreFresh, HoldWhatWasFound, IsUnopenable};
 
+use crate::port::ended::Back;
 use crate::port::openings::{EachTry, Openings, Pair, PresentOpenings};
 use crate::port::ports::{OfficeFile, SaltSource};
 use crate::port::tries::try_for;
 use books::OpenFault;
 use sqlite::{FileFrom, Start};
+use sqlite_disk::Disk;
 use std::hash::{BuildHasher, RandomState};
 
 /// The file of an office on this machine. `start` stands for what it holds.
@@ -34,6 +37,12 @@ impl SaltSource for MachineSalts<'_> {
     }
 }
 
+/// What the files of this machine hold as they are found, and after a crash: what `B` stands for.
+pub fn machine_file_law<B: Start>()
+    ensures { (log db : _) → AreFresh log db
+        → HoldWhatWasFound ⟦<FileFrom<EachTry<B>> as Disk>⟧ B.Start log db }
+{}
+
 impl<'a, B: Start> OfficeFile for MachineFile<'a, B> {
     type Medium = FileFrom<EachTry<B>>;
 
@@ -41,11 +50,11 @@ impl<'a, B: Start> OfficeFile for MachineFile<'a, B> {
 
     ghost image = { λ _ _. image_at B.Start };
 
-    ghost finds = { λ _ _ _ _ _. ⊤ };
+    ghost finds = { λ _ _ _ log db. AreFresh log db };
 
-    ghost fails = { λ _ _ _ _. ⊤ };
+    ghost fails = { λ _ _ _ fault. IsUnopenable fault };
 
-    ghost meets = { λ _ _ _ _ _. ⊤ };
+    ghost meets = { λ _ _ _ log db. AreFresh log db };
 
     ghost misses = { λ _ _ _. ⊤ };
 
@@ -73,11 +82,13 @@ impl<'a, B: Start> OfficeFile for MachineFile<'a, B> {
         }
     }
 
-    fn let_go<D: Drop>(log: D, db: D)
-        ensures { ⊤ }
+    fn let_go<D: Drop>(log: D, db: D) -> Back<D>
+        ensures none { result ≡ None }
+        ensures back { IfSome result (λ it. it ≡ (log, db)) }
     {
         drop(log);
         drop(db);
+        None
     }
 
     fn leave<T: Drop>(it: T)

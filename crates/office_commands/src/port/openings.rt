@@ -1,7 +1,7 @@
 //! Tries to open the files of an office on this machine.
 
-ghost use Rattle.std.specs.Prelude.{◌≡◌, true, false, IfOk, IfSome};
-ghost use Rattle.sqlite_std_file.specs.File.{IsFresh};
+ghost use Rattle.std.specs.Prelude.{◌≡◌, IfSome, MatchResult};
+ghost use Rattle.office_commands.specs.port.Found.{AreFresh, IsUnopenable};
 ghost use Rattle.office_commands.specs.port.Names.{is_address};
 
 use crate::port::tries::Tries;
@@ -67,7 +67,7 @@ impl<B: Start> Tries for Openings<'_, B> {
     ghost pauses = { λ openings. openings.pauses };
 
     ghost gives = { λ outcome.
-        IfOk outcome (λ pair. IsFresh true pair.0 × IsFresh false pair.1) };
+        MatchResult outcome (λ pair. AreFresh pair.0 pair.1) IsUnopenable };
 
     fn attempt(&mut self) -> Option<Result<Pair<B>, OpenFault>> {
         if is_address(self.path) {
@@ -98,8 +98,8 @@ impl<B: Start> Tries for PresentOpenings<'_, B> {
 
     ghost pauses = { λ present. present.openings.pauses };
 
-    ghost gives = { λ outcome. IfOk outcome
-        (λ found. IfSome found (λ pair. IsFresh true pair.0 × IsFresh false pair.1)) };
+    ghost gives = { λ outcome. MatchResult outcome
+        (λ found. IfSome found (λ pair. AreFresh pair.0 pair.1)) IsUnopenable };
 
     // Its name is looked at before each try, for it may be taken away while it is waited for. Where
     // it is taken away between the two calls, an empty one is made.
@@ -128,7 +128,9 @@ fn is_address(path: &str) -> bool
 }
 
 // Why there are no files, by what opening them met.
-fn refused_files_fault(error: OpenError) -> OpenFault {
+fn refused_files_fault(error: OpenError) -> OpenFault
+    ensures { IsUnopenable result }
+{
     match error {
         OpenError::OutOfMemory => OpenFault::Memory,
         OpenError::Io(error) if error.kind() == ErrorKind::OutOfMemory => OpenFault::Memory,

@@ -7,6 +7,7 @@ ghost use Rattle.sqlite_wal.specs.Recovery.{Image};
 ghost use Rattle.sts_fields.specs.Text.{Text};
 ghost use Rattle.book_opening.specs.declared.fault.OpenFault.{OpenFault};
 
+use crate::port::ended::Back;
 use crate::port::progress::Progress;
 use books::OpenFault;
 use conversation::Clock;
@@ -89,10 +90,11 @@ pub trait OfficeFile: Drop {
         ensures misses { IfOk result (λ found. IfNone found (misses self path.now wait)) }
         ensures fails { IfErr result (fails self path.now wait) };
 
-    /// Lets the log and the database file go. Whatever this is given, it can do nothing else with
-    /// it.
-    fn let_go<D: Drop>(log: D, db: D)
-        ensures { lets_go D log db };
+    /// Lets the log and the database file go, or gives them back to whoever gave the port. Whatever
+    /// this is given, it can do nothing else with it.
+    fn let_go<D: Drop>(log: D, db: D) -> Back<D>
+        ensures lets_go { lets_go D log db }
+        ensures back { IfSome result (λ it. it ≡ (log, db)) };
 
     /// Leaves it as it is. Then no files can be opened any more. Whatever this is given, it can do
     /// nothing with it.

@@ -1,20 +1,17 @@
 -- What a command has of the machine beside its outputs.
-use Rattle.std.specs.Prelude.{ℕ, ⊤}
+use Rattle.std.specs.Prelude.{ℕ, Option}
 use Rattle.std.specs.declared.io.Read as reads
 use Rattle.std.specs.declared.io.Write as writes
 use Rattle.sqlite.specs.Steps.{over_memory}
 use Rattle.sqlite_disk.specs.declared.Disk as disk
-use Rattle.sqlite_wal.specs.Recovery.{Image}
 use Rattle.books.specs.Keeps.{seen}
 use Rattle.command_line.specs.Transform.{forward_of, shipped}
 use Rattle.command_line.specs.declared.address.Address.{Address}
 use Rattle.command_line.specs.declared.transform.Shipped.{Shipped}
 use Rattle.conversation.specs.declared.clock.Clock as clocks
-use Rattle.desk_commands.specs.Exchanged.{Calls, calls_of, untold_calls}
-use Rattle.office_commands.specs.office.Audits.{AuditsIn}
-use Rattle.office_commands.specs.office.Closed.{IsClosed}
-use Rattle.office_commands.specs.office.Opened.{OpensIn}
-use Rattle.office_commands.specs.port.Places.{Places, places_of, untold_place}
+use Rattle.desk_commands.specs.Exchanged.{Calls, calls_of}
+use Rattle.office_commands.specs.port.Back.{is_untouched}
+use Rattle.office_commands.specs.port.Places.{Places, places_of}
 use Rattle.office_commands.specs.declared.port.ports.OfficeFile as file
 use Rattle.office_commands.specs.declared.port.ports.Ports.{Ports}
 use Rattle.office_commands.specs.declared.port.ports.SaltSource as source
@@ -24,7 +21,7 @@ use Rattle.vend_ports.specs.print.Sink.{Held}
 use Rattle.vend_ports.specs.declared.port.door.Door as doors
 use Rattle.vend_ports.specs.declared.port.loopback.Loopback as loopback
 use Rattle.vend_ports.specs.declared.port.text_files.TextFiles as files
-use Rattle.vend_commands.specs.commands.Selfchecked.{AgreesOver, Disagrees, HasReplies}
+use Rattle.vend_commands.specs.commands.Selfchecked.{AgreesOver, Disagrees}
 use Rattle.vend_commands.specs.declared.selfcheck.fault.SelfcheckFault.{SelfcheckFault}
 
 -- What a door tells: where it listens or that it could not, which connection came in or that none
@@ -109,7 +106,7 @@ machine at untouched texts clock way door loop = record {
   loop = loop;
 }
 
--- the machine that these are the ports of
+-- the machine that these are the ports of, to which this was given back
 abbrev pub machine_of : {M H F C D L P K S R W N : Type 0} → {office : file.Ghosts H K S}
     → {disk : disk.Ghosts K} → {salts : source.Ghosts S} → {texts : files.Ghosts F}
     → {clock : clocks.Ghosts C} → {door : doors.Ghosts D R W} → {reader : reads.Ghosts R}
@@ -117,44 +114,12 @@ abbrev pub machine_of : {M H F C D L P K S R W N : Type 0} → {office : file.Gh
     → {end_writes : writes.Ghosts N}
     → Ports M H F C D L P K S R W N office disk salts texts clock door reader writer net end_reads
     end_writes
-    → Machine D R W
-machine_of {H = H} {office = office} {disk = disk} {salts = salts} {texts = texts} {clock = clock}
+    → (back : Option (K × K)) → Machine D R W
+machine_of {office = office} {disk = disk} {salts = salts} {texts = texts} {clock = clock}
     {door = door} {reader = reader} {writer = writer} {net = net} {end_reads = end_reads}
-    {end_writes = end_writes} ports =
-    machine (places_of disk salts office ports.office) (office.leaves H ports.office)
+    {end_writes = end_writes} ports back =
+    machine (places_of disk salts office ports.office back)
+    (is_untouched office ports.office back)
     (texts_of texts ports.texts) (dial_of clock ports.clock)
     (way door reader.remaining writer.contents) ports.door
     (loop_of net end_reads.remaining end_writes.contents ports.loopback)
-
--- a door of which nothing is told but the bytes of each connection
-abbrev pub untold_way : Way ⊤ Held Held
-untold_way = record {
-  listens = λ old address port new. ⊤;
-  fails = λ old address new. ⊤;
-  accepts = λ old reader writer new. ⊤;
-  refuses = λ old new. ⊤;
-  ends = λ reader writer. ⊤;
-  leaves = λ door. ⊤;
-  remaining = λ unread. unread;
-  contents = λ held. held;
-}
-
--- a connection of which nothing is told but that there are replies over memory
-abbrev pub untold_loop : Loop
-untold_loop = record {
-  leaves = ⊤;
-  agrees = HasReplies;
-  disagrees = λ transform fault. ⊤;
-  calls = untold_calls;
-}
-
--- files that are read, of which nothing is told
-abbrev pub untold_texts : Texts
-untold_texts = record { reads = λ path bytes. ⊤; lacks = λ path fault. ⊤; leaves = ⊤ }
-
--- a machine of which nothing is told but that, the bytes of each connection, and the clock
-abbrev pub untold : {D : Type 0} → disk.Ghosts D → Image → Dial → Machine ⊤ Held Held
-untold disk image clock = machine
-    (λ path wait. untold_place image (OpensIn disk image) (IsClosed disk (λ log db. ⊤))
-    (AuditsIn disk image (λ log db. ⊤))) ⊤
-    untold_texts clock untold_way tt untold_loop

@@ -1,8 +1,9 @@
-ghost use Rattle.std.specs.Prelude.{◌≡◌, MatchOption};
+ghost use Rattle.std.specs.Prelude.{◌≡◌, IfErr, MatchOption, None};
 ghost use Rattle.office_commands.specs.office.Closed.{IsClosed};
 ghost use Rattle.vend_commands.specs.serving.Listening.{IsClosedAfter, IsDeaf, IsServing, Listens};
 ghost use Rattle.vend_commands.specs.serving.Listening.{last_line, serving_end};
 ghost use Rattle.vend_ports.specs.port.Dial.{dial_of};
+ghost use Rattle.office_commands.specs.port.Back.{lets_go_giving};
 ghost use Rattle.office_commands.specs.port.Places.{places_of};
 ghost use Rattle.vend_commands.specs.port.Machines.{way};
 ghost use Rattle.vend_ports.specs.print.Told.{Takes};
@@ -12,7 +13,7 @@ use crate::serving::serve;
 use books::{Books, OpenFault};
 use command_line::{Address, ServeWords, Shipped};
 use desk::{Clock, Desk};
-use office_commands::{OfficeFile, close_office, open_office, put_opening};
+use office_commands::{Ended, OfficeFile, close_office, open_office, put_opening};
 use office_rules::Refusal;
 use sqlite::FileStore;
 use sqlite_trees::store::Store;
@@ -29,12 +30,12 @@ pub(crate) fn run<H: OfficeFile, D: Door, C: Clock, E: Write>(
     door: D,
     clock: &mut C,
     err: &mut Watched<'_, E>,
-) -> CommandEnd
+) -> Ended<H::Medium>
     ensures { IsServing ⟦<FileStore<H::Medium> as Store>⟧
         (way D.Door D.Reader.remaining D.Writer.contents)
-        (places_of H.Medium.Disk H.Salts.SaltSource H.OfficeFile office)
+        (places_of H.Medium.Disk H.Salts.SaltSource H.OfficeFile office result.back)
         door (dial_of C.Clock clock.old) words.now
-        err.old err.new result }
+        err.old err.new result.end }
 {
     let mut door = door;
     let salts = office.salts();
@@ -56,14 +57,20 @@ pub(crate) fn run<H: OfficeFile, D: Door, C: Clock, E: Write>(
             }
             None => {
                 D::leave(door);
-                close_office::<H>(books);
-                CommandEnd::Refused
+                let back = close_office::<H>(books);
+                Ended {
+                    end: CommandEnd::Refused,
+                    back,
+                }
             }
         },
         Err(fault) => {
             D::leave(door);
             put_opening(fault, err);
-            CommandEnd::Refused
+            Ended {
+                end: CommandEnd::Refused,
+                back: None,
+            }
         }
     }
 }
@@ -101,28 +108,39 @@ fn listen<D: Door, E: Write>(
     Some(desk)
 }
 
-// Closes the file of the books that are left, and tells why not all connections were served.
+// Closes the file of the books that are left, and tells why not all connections were served. Of a
+// file that was lost nothing is given back.
 fn end_with<H: OfficeFile, E: Write>(
     served: Result<(Books<FileStore<H::Medium>, Shipped>, bool), OpenFault>,
     err: &mut Watched<'_, E>,
-) -> CommandEnd
-    ensures closed { IsClosedAfter
-        (λ books. IsClosed H.Medium.Disk (H.lets_go H.Medium) (seen_in books)) served }
+) -> Ended<H::Medium>
+    ensures closed { IsClosedAfter (λ books. IsClosed H.Medium.Disk
+        (lets_go_giving H.OfficeFile result.back) (seen_in books)) served }
+    ensures lost { IfErr served (λ _. result.back ≡ None) }
     ensures told { Takes err.old err.new (last_line served) }
-    ensures end { result ≡ serving_end served }
+    ensures end { result.end ≡ serving_end served }
 {
     match served {
         Ok((books, all)) => {
-            close_office::<H>(books);
+            let back = close_office::<H>(books);
             if all {
-                return CommandEnd::Done;
+                return Ended {
+                    end: CommandEnd::Done,
+                    back,
+                };
             }
             put_line(&[b"net"], err);
-            CommandEnd::Refused
+            Ended {
+                end: CommandEnd::Refused,
+                back,
+            }
         }
         Err(fault) => {
             put_opening(fault, err);
-            CommandEnd::Refused
+            Ended {
+                end: CommandEnd::Refused,
+                back: None,
+            }
         }
     }
 }

@@ -1,4 +1,4 @@
-use Rattle.std.proofs.Common.{map, subst}
+use Rattle.std.proofs.Common.{map, refl, subst}
 use Rattle.std.specs.Prelude.{⊤}
 use Rattle.command_line.specs.Asked.{CommandAsks}
 use Rattle.vend_commands.specs.Run.IsProgramRun.{answered}
@@ -18,10 +18,10 @@ returns-in-Ok-read g c =
 pub returns-in-Err : goal.returns-in-Err
 returns-in-Err g c =
     let words = map (λ w. w.now) c.args.words.now in
-    told_by_clap _ _ c.in-Err.error _ (λ error text. ⊤) _ c.explain.result (c.in-Err.ensures words (meant_so words _ _ c.deref.ensures.value c.in-Ok.ensures)) (
-      c.leave_all-in-Err.ensures.office,
+    told_by_clap _ _ c.in-Err.error _ (λ error text. ⊤) _ c.explain-end.result (c.in-Err.ensures words (meant_so words _ _ c.deref.ensures.value c.in-Ok.ensures)) (
+      (c.leave_all-in-Err.ensures.office, refl),
       (
         (c.leave_all-in-Err.ensures.door, c.leave_all-in-Err.ensures.loopback),
         c.leave_all-in-Err.ensures.texts,
       ),
-    ) c.explain.ensures
+    ) c.explain-end.ensures

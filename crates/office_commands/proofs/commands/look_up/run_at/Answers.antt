@@ -10,11 +10,11 @@ use Rattle.office_commands.proofs.commands.look_up.run_at.Goals as goal
 
 pub returns-in-Ok-Some : goal.returns-in-Ok-Some
 returns-in-Ok-Some g c =
-    let at = places_of g.H.Medium.Disk g.H.Salts.SaltSource g.H.OfficeFile c.args.office c.args.asked.now.file.now c.args.asked.now.wait in
+    let at = places_of g.H.Medium.Disk g.H.Salts.SaltSource g.H.OfficeFile c.args.office c.close_office-back.result c.args.asked.now.file.now c.args.asked.now.wait in
     let opened = subst (λ found. IfSome found (IsOpened at.image (OpensIn g.H.Medium.Disk at.image) Plain)) c.in-Ok-Some.field-0-is
     c.in-Ok-Some.ensures.opened in
     let meets = subst (λ found. IfSome found (λ books. at.meets)) c.in-Ok-Some.field-0-is c.in-Ok-Some.ensures.meets in
-    present (visited c.in-Ok-Some.books c.read-end.new.books opened meets c.read-end.ensures c.close_office.ensures)
+    present (visited c.in-Ok-Some.books c.read-end.new.books opened meets c.read-end.ensures c.close_office-back.ensures)
 
 pub returns : goal.returns
 returns g c = present (unopened c.in-Err.fault c.in-Err.ensures.refuses (takes_none c.args.out.now, c.put_opening.ensures, refl))

@@ -11,7 +11,7 @@ pub returns-in_default-draw-clause-refuses : goal.returns-in_default-draw-clause
 returns-in_default-draw-clause-refuses g c =
     let meets = subst (λ found. IfSome found (λ pair. g.H.OfficeFile.meets c.args.office c.args.path.now c.args.wait pair.0 pair.1))
     c.in-Some.is c.in-Ok.ensures.meets in
-    unopened (record { log = c.in-Some.log; db = c.in-Some.db }) meets (unsalted c.args.salts.now c.in_default-draw.ensures.lacks refl c.let_go.ensures)
+    unopened (record { log = c.in-Some.log; db = c.in-Some.db }) meets (unsalted c.args.salts.now c.in_default-draw.ensures.lacks refl (c.let_go.ensures.lets_go, refl))
 
 pub returns-in-Ok-open_files-clause-connected : goal.returns-in-Ok-open_files-clause-connected
 returns-in-Ok-open_files-clause-connected g c = λ clean.
@@ -35,4 +35,4 @@ returns-in-Err-open_files-clause-refuses g c =
     let told = c.in-Err-open_files.ensures in
     unopened (record { log = c.in-Some.log; db = c.in-Some.db }) meets (refused c.into_files-files.result (Unconnected c.in-Err-open_files.left)
     (record { error = c.in-Err-open_files.error; answered = c.fault_of.ensures.value; fails = told.cause; kept = told.unharmed })
-    c.into_files-files.ensures c.let_go-in-Err-open_files.ensures)
+    c.into_files-files.ensures (c.let_go-in-Err-open_files.ensures.lets_go, refl))

@@ -3,7 +3,7 @@ use Rattle.office_commands.specs.port.Places.IsUnopenedIn.{refused, unsalted}
 use Rattle.office_commands.proofs.office.opening.open_in.Goals as goal
 
 pub returns-in_default-clause-refused : goal.returns-in_default-clause-refused
-returns-in_default-clause-refused g c = unsalted c.args.salts.now c.in_default.ensures.lacks refl c.let_go.ensures
+returns-in_default-clause-refused g c = unsalted c.args.salts.now c.in_default.ensures.lacks refl (c.let_go.ensures.lets_go, refl)
 
 pub returns-in-Ok-clause-opened : goal.returns-in-Ok-clause-opened
 returns-in-Ok-clause-opened g c = record {

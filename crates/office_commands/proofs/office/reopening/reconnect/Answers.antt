@@ -44,6 +44,7 @@ pub returns-then-not-may_be_used-clause-fails : goal.returns-then-not-may_be_use
 returns-then-not-may_be_used-clause-fails g c = record {
   last = c.into_store.result;
   closed = record { quiet = c.into_store.ensures.quiet; sound = c.into_store.ensures.sound };
+  numbered = c.into_store.ensures.numbered;
   here = c.close-files.result;
   files = sym c.close-files.ensures;
   cause = inl (sym c.may_be_used.ensures ∙ c.if-not-may_be_used.true);
@@ -54,6 +55,7 @@ pub returns-in-Err-clause-fails : goal.returns-in-Err-clause-fails
 returns-in-Err-clause-fails g c = record {
   last = c.into_store.result;
   closed = record { quiet = c.into_store.ensures.quiet; sound = c.into_store.ensures.sound };
+  numbered = c.into_store.ensures.numbered;
   here = c.close-files.result;
   files = sym c.close-files.ensures;
   cause = inr c.in-Err.ensures.cause;
