@@ -40,7 +40,7 @@ use Rattle.desk_client.proofs.HeadLemmas.{one_head}
 use Rattle.desk_client.proofs.PlainLemmas.{plain_number}
 use Rattle.desk_client.proofs.RefusalLemmas.{few_refusals, plain_cause, plain_refusal_name, same_refusal, told_plainly}
 use Rattle.desk_client.proofs.SaleLemmas.{plain_sale}
-use Rattle.desk_client.proofs.SummaryLemmas.{plain_meter, plain_quote, plain_totals}
+use Rattle.desk_client.proofs.SummaryLemmas.{plain_meter, plain_quote, plain_totals, small_cash, small_sales, small_tenths}
 use Rattle.desk_client.proofs.WovenLemmas.{cut, one_reading}
 
 -- ---- values
@@ -77,9 +77,9 @@ not_null n small e =
 
 same_last_sale : (a b : Option ℕ) → IsLastSaleNumber a → IsLastSaleNumber b → last_number_text a ≡ last_number_text b → a ≡ b
 same_last_sale None None small few e = refl
-same_last_sale None (Some n) small few e = absurd (not_null n (omega (arith, few)) e)
-same_last_sale (Some m) None small few e = absurd (not_null m (omega (arith, small)) (sym e))
-same_last_sale (Some m) (Some n) small few e = ap Some (decimal_injective m n (omega (arith, small)) (omega (arith, few)) e)
+same_last_sale None (Some n) small few e = absurd (not_null n (omega (arith, few.most)) e)
+same_last_sale (Some m) None small few e = absurd (not_null m (omega (arith, small.most)) (sym e))
+same_last_sale (Some m) (Some n) small few e = ap Some (decimal_injective m n (omega (arith, small.most)) (omega (arith, few.most)) e)
 
 -- the value at a place of two lists that are one
 pub value_at : (vs ws : List (List ℕ)) (i : ℕ) → vs ≡ ws → get_or vs i [] ≡ get_or ws i []
@@ -87,8 +87,8 @@ value_at vs ws i same = ap (λ (values : List (List ℕ)). get_or values i []) s
 
 -- ---- what is granted
 
--- a number between a front and a brace
-same_count : (front : List ℕ) (m n : ℕ) → m < 2 ^ 32 → n < 2 ^ 32 → front ++ (decimal m ++ codes "}") ≡ front ++ (decimal n ++ codes "}") → m ≡ n
+-- a text has one number between a front and a brace
+pub same_count : (front : List ℕ) (m n : ℕ) → m < 2 ^ 32 → n < 2 ^ 32 → front ++ (decimal m ++ codes "}") ≡ front ++ (decimal n ++ codes "}") → m ≡ n
 same_count front m n small few e =
     let behind = append_cancel_left front (decimal m ++ codes "}") (decimal n ++ codes "}") e in
     let digits = cut (decimal m) (decimal n) (codes "}") (codes "}")
@@ -106,11 +106,11 @@ same_sale most s t is are e =
     let base : s.base ≡ t.base = same_base s.base t.base (at 0) in
     let meter : s.meter ≡ t.meter = at 2 in
     let moment : s.moment ≡ t.moment = decimal_injective s.moment t.moment (omega (arith, is.moment)) (omega (arith, are.moment)) (at 3) in
-    let number : s.number ≡ t.number = decimal_injective s.number t.number (omega (arith, is.number)) (omega (arith, are.number)) (at 4) in
+    let number : s.number ≡ t.number = decimal_injective s.number t.number (omega (arith, is.number.most)) (omega (arith, are.number.most)) (at 4) in
     let operator : s.operator ≡ t.operator = at 5 in
     let price : s.price ≡ t.price = decimal_injective s.price t.price (omega (arith, is.price, is.tender)) (omega (arith, are.price, are.tender)) (at 6) in
     let order_ref : s.order_ref ≡ t.order_ref = at 7 in
-    let shift : s.shift ≡ t.shift = decimal_injective s.shift t.shift (omega (arith, is.shift)) (omega (arith, are.shift)) (at 8) in
+    let shift : s.shift ≡ t.shift = decimal_injective s.shift t.shift (omega (arith, is.shift.most)) (omega (arith, are.shift.most)) (at 8) in
     let tender : s.tender ≡ t.tender = decimal_injective s.tender t.tender (omega (arith, is.tender)) (omega (arith, are.tender)) (at 9) in
     let tenths : s.tenths ≡ t.tenths = same_amount most s.tenths t.tenths is.tenths are.tenths (at 10) in
     let tid : s.tid ≡ t.tid = decimal_injective s.tid t.tid (omega (arith, is.tid)) (omega (arith, are.tid)) (at 11) in
@@ -143,7 +143,7 @@ same_meter m n is are e =
     let number : m.number ≡ n.number = at 1 in
     let last_sale : m.last_sale ≡ n.last_sale = same_last_sale m.last_sale n.last_sale is.last_sale are.last_sale (at 2) in
     let tariff : m.tariff ≡ n.tariff = at 3 in
-    let tenths : m.tenths ≡ n.tenths = decimal_injective m.tenths n.tenths is.tenths are.tenths (at 4) in
+    let tenths : m.tenths ≡ n.tenths = decimal_injective m.tenths n.tenths (omega (arith, is.tenths)) (omega (arith, are.tenths)) (at 4) in
     λ i. record { number = number i; base = base i; tariff = tariff i; tenths = tenths i; last_sale = last_sale i }
 
 -- nor are those of two quotes: what would be given back follows from the rest
@@ -167,18 +167,18 @@ same_totals m n t u is are e =
     one_reading (totals_as_read m t) (codes "{\"cash\":") (totals_values m t) (totals_values n u) totals_ends (omega arith) refl
     (refl, (refl, (refl, (refl, tt)))) (plain_totals m t is) (plain_totals n u are) refl e in
     let at = λ (i : ℕ). value_at (totals_values m t) (totals_values n u) i same in
-    let cash : t.cash ≡ u.cash = decimal_injective t.cash u.cash is.cash are.cash (at 0) in
-    let sales : t.sales ≡ u.sales = decimal_injective t.sales u.sales is.sales are.sales (at 1) in
-    let number : m ≡ n = decimal_injective m n (omega (arith, is.shift)) (omega (arith, are.shift)) (at 2) in
-    let tenths : t.tenths ≡ u.tenths = decimal_injective t.tenths u.tenths is.tenths are.tenths (at 3) in
+    let cash : t.cash ≡ u.cash = decimal_injective t.cash u.cash (small_cash t is.are) (small_cash u are.are) (at 0) in
+    let sales : t.sales ≡ u.sales = decimal_injective t.sales u.sales (small_sales t is.are) (small_sales u are.are) (at 1) in
+    let number : m ≡ n = decimal_injective m n (omega (arith, is.shift.most)) (omega (arith, are.shift.most)) (at 2) in
+    let tenths : t.tenths ≡ u.tenths = decimal_injective t.tenths u.tenths (small_tenths t is.are) (small_tenths u are.are) (at 3) in
     (number, λ i. record { sales = sales i; tenths = tenths i; cash = cash i })
 
 -- what answers one question by one text is one thing
 same_granted : ((t : ℕ) → IsRepresentable t → t ≤ greatest_amount) → (g h : Granted) → IsAnswer g → IsAnswer h → wanted_of g ≡ wanted_of h
     → granted_text g ≡ granted_text h → GrantAlike g h
 same_granted most granted.Done granted.Done is are kind e = tt
-same_granted most (granted.Imported m) (granted.Imported n) is are kind e = same_count (codes "{\"added\":") m n is are e
-same_granted most (granted.Shift m) (granted.Shift n) is are kind e = same_count (codes "{\"shift\":") m n is are e
+same_granted most (granted.Imported m) (granted.Imported n) is are kind e = same_count (codes "{\"added\":") m n (omega (arith, is)) (omega (arith, are)) e
+same_granted most (granted.Shift m) (granted.Shift n) is are kind e = same_count (codes "{\"shift\":") m n (omega (arith, is.most)) (omega (arith, are.most)) e
 same_granted most (granted.Sale s) (granted.Sale t) is are kind e = same_sale most s t is are e
 same_granted most (granted.Meter m) (granted.Meter n) is are kind e = same_meter m n is are e
 same_granted most (granted.Quote p) (granted.Quote q) is are kind e = same_quote most p q is are e

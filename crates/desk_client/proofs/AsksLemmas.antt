@@ -39,7 +39,7 @@ use Rattle.desk_client.specs.declared.question.Question.{Question}
 use Rattle.desk_client.specs.declared.question.Question.TheVariants.{Import, MoveBase, OpenShift, CloseShift, Sell, ShiftReport, Receipt, ShiftTotals, Meter, LastSale, SaleOfRef, Quote, Tariffs, Meters, Shifts, Sales}
 use Rattle.desk_client.proofs.JsonLemmas.{base_json, base_read, operator_json, operator_read, order_json, order_read}
 use Rattle.desk_client.proofs.MessageLemmas.{is_message}
-use Rattle.desk_client.proofs.TargetLemmas.{IsFoundFor, found_base, found_close, found_first_meters, found_first_tariffs, found_imports_meters, found_imports_tariffs, found_last, found_meter, found_meters_after, found_quote, found_receipt, found_ref, found_sales, found_sales_after, found_shift, found_shifts, found_shifts_after, found_tariffs_after, found_totals, some_target}
+use Rattle.desk_client.proofs.TargetLemmas.{IsFoundFor, found_base, found_close, found_first_meters, found_first_tariffs, found_imports_meters, found_imports_tariffs, found_last, found_meter, found_meters_after, found_quote, found_ref, found_sale, found_sales, found_sales_after, found_shift, found_shifts, found_shifts_after, found_tariffs_after, found_totals, some_target}
 use Rattle.desk_client.proofs.WordLemmas.{IsPart, IsWord, is_seen, meter_word, name_word, number_text, number_word, operator_word, parts_seen, parts_short, seen_text, seen_visible, word_part, word_plain, word_value}
 
 -- ---- the route of each question
@@ -52,7 +52,7 @@ route_by (OpenShift operator) = routes.Object kinds.OpenShift
 route_by (CloseShift operator) = routes.Object kinds.CloseShift
 route_by (Sell order) = routes.Object kinds.Sell
 route_by (ShiftReport number) = routes.ShiftReport number
-route_by (Receipt number) = routes.Receipt number
+route_by (Receipt number) = routes.Reprint number
 route_by (ShiftTotals number) = routes.LookUp (lookups.ShiftTotals number)
 route_by (Meter meter) = routes.LookUp (lookups.Meter meter)
 route_by (LastSale meter) = routes.LookUp (lookups.LastSale meter)
@@ -131,7 +131,7 @@ target_parts (OpenShift operator) is = one_part _ (fixed _ refl)
 target_parts (CloseShift operator) is = one_part _ (fixed _ refl)
 target_parts (Sell order) is = one_part _ (fixed _ refl)
 target_parts (ShiftReport number) is = two_parts _ _ (fixed _ refl) (number_part number is.most)
-target_parts (Receipt number) is = three_parts _ _ _ (fixed _ refl) (number_part number is.most) (fixed _ refl)
+target_parts (Receipt number) is = two_parts _ _ (fixed _ refl) (number_part number is.most)
 target_parts (ShiftTotals number) is = three_parts _ _ _ (fixed _ refl) (number_part number is.most) (fixed _ refl)
 target_parts (Meter meter) is = two_parts _ _ (fixed _ refl) (meter_part meter is)
 target_parts (LastSale meter) is = three_parts _ _ _ (fixed _ refl) (meter_part meter is) (fixed _ refl)
@@ -157,7 +157,7 @@ target_found (OpenShift operator) is = found_shifts
 target_found (CloseShift operator) is = found_close
 target_found (Sell order) is = found_sales
 target_found (ShiftReport number) is = found_shift (decimal number) (number_text number is.most)
-target_found (Receipt number) is = found_receipt (decimal number) (number_text number is.most)
+target_found (Receipt number) is = found_sale (decimal number) (number_text number is.most)
 target_found (ShiftTotals number) is = found_totals (decimal number) (number_text number is.most)
 target_found (Meter meter) is = found_meter meter (word_value meter (meter_word meter is))
 target_found (LastSale meter) is = found_last meter (word_value meter (meter_word meter is))
@@ -367,7 +367,7 @@ means (Sell order) moment is h =
     let at = comes (Sell order) moment is h in
     record { route = routes.Object kinds.Sell; comes = at; asked = (says.0, says.1, (order, refl, says.2)); told = refl }
 means (ShiftReport number) moment is h = record { route = routes.ShiftReport number; comes = comes (ShiftReport number) moment is h; asked = refl; told = refl }
-means (Receipt number) moment is h = record { route = routes.Receipt number; comes = comes (Receipt number) moment is h; asked = refl; told = refl }
+means (Receipt number) moment is h = record { route = routes.Reprint number; comes = comes (Receipt number) moment is h; asked = refl; told = refl }
 means (ShiftTotals number) moment is h = record { comes = comes (ShiftTotals number) moment is h; told = refl }
 means (Meter meter) moment is h = record { comes = comes (Meter meter) moment is h; told = refl }
 means (LastSale meter) moment is h = record { comes = comes (LastSale meter) moment is h; told = refl }

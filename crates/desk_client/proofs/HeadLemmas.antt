@@ -117,6 +117,15 @@ start_is asked (told.Granted granted) h = subst (λ w. IsStart asked (granted_st
 start_is asked (told.Refused refusal) h = refused_is asked (refusal_category refusal)
 start_is asked told.NoMoment h = tt
 
+-- no reply begins another
+pub alone : (asked : Wanted) (text more : List ℕ) (t u : Told) → IsReply asked text t → IsReply asked (text ++ more) u → more ≡ []
+alone asked text more t u one other =
+    let n = length (told_text t) in
+    let read : IsReply asked (head_bytes (told_start t) n (told_text t) ++ more) u =
+    subst (λ (bytes : List ℕ). IsReply asked (bytes ++ more) u) one.is_text other in
+    let lengths = reply_lengths asked (told_start t) n (told_text t) more u (omega (arith, one.short)) read in
+    nil_from_length more (omega (arith, lengths.1))
+
 short_start : (s : Start) → length (start_text s) ≤ 83
 short_start Json = omega arith
 short_start Paper = omega arith
@@ -141,6 +150,11 @@ short_front s n h =
 
 behind_front : (s d r : List ℕ) → s ++ (d ++ 13 ∷ 10 ∷ 13 ∷ 10 ∷ r) ≡ (s ++ (d ++ 13 ∷ 10 ∷ 13 ∷ 10 ∷ [])) ++ r
 behind_front s d r = simp (append_assoc, cons-append)
+
+-- a head that tells a length of a body that may be read has fewer bytes than the longest head
+pub head_within : (s : Start) (n : ℕ) (r : List ℕ) → n ≤ longest_reply_body → length (head_bytes s n r) ≤ longest_reply_head + length r
+head_within s n r few =
+    omega (arith, ap length (behind_front (start_text s) (decimal n) r), length-append (front s n) r, short_front s n few)
 
 -- where no head is found in as many bytes as any has, no reply begins so
 pub no_reply : (asked : Wanted) (input : List ℕ) → longest_reply_head ≤ length input

@@ -1,4 +1,5 @@
 pub mod AlikeLemmas
+pub mod AnswersLemmas
 pub mod AsksLemmas
 pub mod FoundLemmas
 pub mod FrontLemmas

@@ -16,6 +16,7 @@ use Rattle.desk_client.specs.Page.{IsToldEnd, IsToldListedMeter, IsToldListedShi
 use Rattle.desk_client.specs.Text.{LackStops, LacksStop}
 use Rattle.desk_client.proofs.AlikeLemmas.{not_null, same_base, value_at}
 use Rattle.desk_client.proofs.PlainLemmas.{plain_digits, plain_letters, plain_name, plain_number, plain_year}
+use Rattle.desk_client.proofs.SummaryLemmas.{small_cash, small_sales, small_tenths}
 use Rattle.desk_client.proofs.WovenLemmas.{one_reading}
 
 plain_end : (end : Option ℕ) → IsToldEnd end → LacksStop (closing_text end)
@@ -29,18 +30,18 @@ plain_listed_meter m told = (plain_year m.base, (plain_digits m.number told.numb
 -- nor has one of a shift
 pub plain_listed_shift : (l : ListedShift) → IsToldListedShift l → LackStops (listed_shift_values l)
 plain_listed_shift l told = (
-  plain_number l.totals.cash (omega (arith, told.cash)),
+  plain_number l.totals.cash (small_cash l.totals told.totals),
   (
     plain_end l.shift.closed told.closed,
     (
-      plain_number l.shift.number (omega (arith, told.number)),
+      plain_number l.shift.number (omega (arith, told.number.most)),
       (
         plain_number l.shift.opened (omega (arith, told.opened)),
         (
           plain_letters l.shift.operator told.operator.bytes,
           (
-            plain_number l.totals.sales (omega (arith, told.sales)),
-            (plain_number l.totals.tenths (omega (arith, told.tenths)), tt),
+            plain_number l.totals.sales (small_sales l.totals told.totals),
+            (plain_number l.totals.tenths (small_tenths l.totals told.totals), tt),
           ),
         ),
       ),
@@ -73,15 +74,15 @@ same_listed_shift l m is are e =
     one_reading (listed_shift_as_read l) (codes "{\"cash\":") (listed_shift_values l) (listed_shift_values m) listed_shift_ends (omega arith) refl
     (refl, (refl, (refl, (refl, (refl, (refl, (refl, tt))))))) (plain_listed_shift l is) (plain_listed_shift m are) refl e in
     let at = λ (i : ℕ). value_at (listed_shift_values l) (listed_shift_values m) i same in
-    let cash : l.totals.cash ≡ m.totals.cash = decimal_injective l.totals.cash m.totals.cash is.cash are.cash (at 0) in
+    let cash : l.totals.cash ≡ m.totals.cash = decimal_injective l.totals.cash m.totals.cash (small_cash l.totals is.totals) (small_cash m.totals are.totals) (at 0) in
     let closed : l.shift.closed ≡ m.shift.closed = same_end l.shift.closed m.shift.closed is.closed are.closed (at 1) in
     let number : l.shift.number ≡ m.shift.number =
-    decimal_injective l.shift.number m.shift.number (omega (arith, is.number)) (omega (arith, are.number)) (at 2) in
+    decimal_injective l.shift.number m.shift.number (omega (arith, is.number.most)) (omega (arith, are.number.most)) (at 2) in
     let opened : l.shift.opened ≡ m.shift.opened =
     decimal_injective l.shift.opened m.shift.opened (omega (arith, is.opened)) (omega (arith, are.opened)) (at 3) in
     let operator : l.shift.operator ≡ m.shift.operator = at 4 in
-    let sales : l.totals.sales ≡ m.totals.sales = decimal_injective l.totals.sales m.totals.sales is.sales are.sales (at 5) in
-    let tenths : l.totals.tenths ≡ m.totals.tenths = decimal_injective l.totals.tenths m.totals.tenths is.tenths are.tenths (at 6) in
+    let sales : l.totals.sales ≡ m.totals.sales = decimal_injective l.totals.sales m.totals.sales (small_sales l.totals is.totals) (small_sales m.totals are.totals) (at 5) in
+    let tenths : l.totals.tenths ≡ m.totals.tenths = decimal_injective l.totals.tenths m.totals.tenths (small_tenths l.totals is.totals) (small_tenths m.totals are.totals) (at 6) in
     λ i. record {
       shift = record { number = number i; operator = operator i; opened = opened i; closed = closed i };
       totals = record { sales = sales i; tenths = tenths i; cash = cash i };

@@ -35,7 +35,7 @@ plain_sale most s told = (
       (
         plain_number s.moment (omega (arith, told.moment)),
         (
-          plain_number s.number (omega (arith, told.number)),
+          plain_number s.number (omega (arith, told.number.most)),
           (
             plain_letters s.operator told.operator.bytes,
             (
@@ -43,7 +43,7 @@ plain_sale most s told = (
               (
                 plain_name s.order_ref told.order_ref.bytes,
                 (
-                  plain_number s.shift (omega (arith, told.shift)),
+                  plain_number s.shift (omega (arith, told.shift.most)),
                   (
                     plain_number s.tender (omega (arith, told.tender)),
                     (

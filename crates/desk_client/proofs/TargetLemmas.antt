@@ -6,7 +6,7 @@ use Rattle.matchit.specs.Rows.{param_token}
 use Rattle.matchit.specs.Seek.{cuts, first, longest_suffix, own, step, with_suffix}
 use Rattle.matchit.proofs.OnLiterals.{matchit_on_literals}
 use Rattle.desk_messages.specs.declared.route.endpoint.Endpoint.{Endpoint}
-use Rattle.desk_messages.specs.declared.route.endpoint.Endpoint.TheVariants.{MeterBase, Shifts, ShiftClosing, Shift, Sales, SaleReceipt, MeterImports, TariffImports, Meter, LastSale, Quote, SaleOfRef, ShiftTotals, FirstTariffs, TariffsAfter, FirstMeters, MetersAfter, ShiftsAfter, SalesAfter}
+use Rattle.desk_messages.specs.declared.route.endpoint.Endpoint.TheVariants.{MeterBase, Shifts, ShiftClosing, Shift, Sales, Sale, MeterImports, TariffImports, Meter, LastSale, Quote, SaleOfRef, ShiftTotals, FirstTariffs, TariffsAfter, FirstMeters, MetersAfter, ShiftsAfter, SalesAfter}
 use Rattle.desk_messages.specs.route.Endpoint.{table, Table}
 use Rattle.desk_client.proofs.WordLemmas.{IsNumberText, IsValue}
 use Rattle.desk_client.proofs.WalkLemmas.{IsInside, Leads, at_end, before_slash, behind, through}
@@ -136,13 +136,13 @@ found_totals (b ∷ text) is =
     (rw (apart 99 b (omega (arith, is.0)), apart 256 b (omega (arith, is.0))) refl) (λ seg e. rw e refl) refl)
 found_totals [] is = absurd is
 
--- the target of a sale's receipt finds its endpoint
-pub found_receipt : (digits : List ℕ) → IsNumberText digits → IsFoundFor (codes "/sales/" ++ (digits ++ codes "/receipt")) SaleReceipt
+-- the target of a sale, by its number, finds its endpoint
+pub found_sale : (digits : List ℕ) → IsNumberText digits → IsFoundFor (codes "/sales/" ++ (digits ++ [])) Sale
 unfolding matchit_on_literals table
-found_receipt (b ∷ text) is =
-    through value_of (codes "/sales/") table ((b ∷ text) ++ codes "/receipt") SaleReceipt
-    (before_slash value_of sale_rows b text (codes "receipt") SaleReceipt is.1 (rw (apart 256 b (omega (arith, is.0))) refl) (λ seg e. rw e refl) refl)
-found_receipt [] is = absurd is
+found_sale (b ∷ text) is =
+    through value_of (codes "/sales/") table ((b ∷ text) ++ []) Sale
+    (at_end value_of sale_rows b text Sale is.1 (rw (apart 256 b (omega (arith, is.0))) refl) (λ seg e. rw e refl) refl)
+found_sale [] is = absurd is
 
 -- ---- the sale of a ref
 

@@ -7,7 +7,7 @@ use Rattle.book_states.specs.declared.lookup.Lookup.TheVariants as lookups
 use Rattle.conversation.specs.message.Framing.{longest_body}
 use Rattle.conversation.specs.message.Messages.{Message}
 use Rattle.desk_messages.specs.declared.reply.form.Form.{Form}
-use Rattle.desk_messages.specs.declared.reply.form.Form.TheVariants.{Json, Paper}
+use Rattle.desk_messages.specs.declared.reply.form.Form.TheVariants.{Json}
 use Rattle.desk_messages.specs.declared.reply.outcome.Outcome.TheVariants.{Replied}
 use Rattle.desk_messages.specs.Meaning.{IsIdle, MessageAsks, MessageLooks, lookup_form}
 use Rattle.desk_messages.specs.route.Route.{IsPageStart, IsTargetNumber}
@@ -77,7 +77,8 @@ pub data Asked : Type 0 where
   looked_up : Lookup → Asked
   imported : FileKind → List ℕ → Asked
 
--- What each question asks. A receipt is asked as a reprint that is told on paper.
+-- What each question asks. A receipt is asked as a reprint that is told in JSON: so its sale is read,
+-- and the receipt is made of it.
 abbrev pub asked_by : Question → Asked
 asked_by (Import kind csv) = imported kind csv.now
 asked_by (MoveBase meter base) = requested Json (requests.MoveBase meter base)
@@ -85,7 +86,7 @@ asked_by (OpenShift operator) = requested Json (requests.OpenShift operator)
 asked_by (CloseShift operator) = requested Json (requests.CloseShift operator)
 asked_by (Sell order) = requested Json (requests.Sell order)
 asked_by (ShiftReport number) = requested Json (requests.ShiftReport number)
-asked_by (Receipt number) = requested Paper (requests.Reprint number)
+asked_by (Receipt number) = requested Json (requests.Reprint number)
 asked_by (ShiftTotals number) = looked_up (lookups.ShiftTotals number)
 asked_by (Meter meter) = looked_up (lookups.Meter meter)
 asked_by (LastSale meter) = looked_up (lookups.LastSale meter)

@@ -1,4 +1,5 @@
 pub mod Alike
+pub mod Answers
 pub mod Asks
 pub mod Items
 pub mod ListedMeter

@@ -1,5 +1,5 @@
 -- Pages of lists in replies: their texts, and the pages that they tell.
-use Rattle.std.specs.Prelude.{◌≡◌, ℕ, ◌^◌, ◌<◌, ◌≤◌, List, All, length, map, Option, Some, None, ⊤}
+use Rattle.std.specs.Prelude.{◌≡◌, ℕ, ◌≤◌, List, All, length, map, Option, Some, None, ⊤}
 use Rattle.book_states.specs.declared.lookup.Found.{Found}
 use Rattle.book_states.specs.declared.lookup.Found.TheVariants as found
 use Rattle.book_states.specs.declared.lookup.LaterSteps.{LaterSteps}
@@ -9,12 +9,14 @@ use Rattle.book_states.specs.declared.lookup.ListedTariff.{ListedTariff}
 use Rattle.book_lists.specs.Pages.{page_size}
 use Rattle.desk_messages.specs.declared.reply.form.Form.TheVariants.{Json}
 use Rattle.desk_messages.specs.reply.Body.{found_body}
+use Rattle.desk_messages.specs.route.Route.{IsTargetNumber}
 use Rattle.sts_fields.specs.Day.{IsDay}
 use Rattle.sts_fields.specs.Moment.{IsMoment}
 use Rattle.tariff.specs.Steps.{IsSteps}
 use Rattle.tariff.specs.declared.step.Step.{Step}
 use Rattle.office_rules.specs.Name.{IsMeterNo, IsName, IsOperator}
 use Rattle.desk_client.specs.Sale.{IsSaleTold}
+use Rattle.desk_client.specs.Totals.{AreTotals}
 use Rattle.desk_client.specs.declared.page.PageKind.{PageKind}
 use Rattle.desk_client.specs.declared.page.PageKind.TheVariants.{Tariffs, Meters, Shifts, Sales}
 
@@ -45,13 +47,11 @@ IsToldEnd (Some moment) = IsMoment moment
 
 -- a shift with its totals
 pub record IsToldListedShift (l : ListedShift) : Type 0 where
-  pub number : l.shift.number < 2 ^ 32
+  pub number : IsTargetNumber l.shift.number
   pub operator : IsOperator l.shift.operator
   pub opened : IsMoment l.shift.opened
   pub closed : IsToldEnd l.shift.closed
-  pub sales : l.totals.sales < 2 ^ 64
-  pub tenths : l.totals.tenths < 2 ^ 64
-  pub cash : l.totals.cash < 2 ^ 64
+  pub totals : AreTotals l.totals
 
 -- members that keep their rules, no more than a page has
 pub record AreTold {A : Type 0} (IsItem : A → Type 0) (items : List A) : Type 0 where

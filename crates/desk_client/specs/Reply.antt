@@ -1,5 +1,5 @@
 -- Whole replies, and what their first bytes are.
-use Rattle.std.specs.Prelude.{◌≡◌, ◌<◌, ◌≤◌, ℕ, List, ◌++◌, length, decimal, ⊤}
+use Rattle.std.specs.Prelude.{◌≡◌, ◌+◌, ◌<◌, ◌≤◌, ℕ, List, ◌++◌, length, decimal, ⊤}
 use Rattle.desk_client.specs.Start.{head_end, start_text}
 use Rattle.desk_client.specs.Told.{IsTellable, told_start, told_text}
 use Rattle.desk_client.specs.declared.reply.Reading.{Reading}
@@ -49,5 +49,6 @@ IsReplyReading asked input NeedHead =
 IsReplyReading asked input (NeedBody missing) =
     (0 < missing)
     × ((more : List ℕ) (told : Told) → IsReply asked (input ++ more) told → length more ≡ missing)
+    × (length input + missing ≤ longest_reply_head + longest_reply_body)
 IsReplyReading asked input OutOfForm =
     (more : List ℕ) (told : Told) → ¬ IsReply asked (input ++ more) told

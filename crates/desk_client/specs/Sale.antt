@@ -1,9 +1,11 @@
 -- The text of a sale in a reply, and the sales that it tells.
-use Rattle.std.specs.Prelude.{◌≡◌, ℕ, ◌^◌, ◌<◌, ◌≤◌, List, [], ◌∷◌, ◌++◌, codes, decimal}
+use Rattle.std.specs.Prelude.{◌≡◌, ℕ, ◌≤◌, List, [], ◌∷◌, ◌++◌, codes, decimal}
+use Rattle.desk_messages.specs.route.Route.{IsTargetNumber}
 use Rattle.papers.specs.Text.{change_of}
 use Rattle.sts_fields.specs.Amount.{IsRepresentable}
 use Rattle.sts_fields.specs.Base.{year_of}
 use Rattle.sts_fields.specs.Moment.{IsMoment}
+use Rattle.sts_fields.specs.Tid.{last_tid}
 use Rattle.sts_token.specs.Token.{AreTwentyDigits}
 use Rattle.tariff.specs.Tender.{IsTender}
 use Rattle.office_rules.specs.Name.{IsMeterNo, IsName, IsOperator}
@@ -30,13 +32,13 @@ sale_as_read s = codes "{\"base\":" ++ woven (sale_values s) sale_ends []
 
 -- a sale by its rules, whose token's nibble is not told
 pub record IsSaleTold (s : Sale) : Type 0 where
-  pub number : s.number < 2 ^ 32
+  pub number : IsTargetNumber s.number
   pub moment : IsMoment s.moment
-  pub shift : s.shift < 2 ^ 32
+  pub shift : IsTargetNumber s.shift
   pub operator : IsOperator s.operator
   pub order_ref : IsName s.order_ref
   pub meter : IsMeterNo s.meter
-  pub tid : s.tid < 2 ^ 32
+  pub tid : s.tid ≤ last_tid
   pub nibble : s.rnd ≡ 0
   pub tenths : IsRepresentable s.tenths
   pub price : s.price ≤ s.tender

@@ -1,6 +1,8 @@
 -- What replies tell, and their bodies.
-use Rattle.std.specs.Prelude.{◌≡◌, ℕ, ◌^◌, ◌<◌, List, ◌++◌, codes, decimal, ⊤}
+use Rattle.std.specs.Prelude.{◌≡◌, ℕ, ◌≤◌, List, ◌++◌, codes, decimal, ⊤}
+use Rattle.desk_messages.specs.route.Route.{IsTargetNumber}
 use Rattle.office_rules.specs.Decision.Refusals.{refusal_category}
+use Rattle.office_rules.specs.Office.Rows.{greatest_rows}
 use Rattle.office_rules.specs.declared.decision.category.Category.{Category}
 use Rattle.office_rules.specs.declared.decision.category.Category.TheVariants.{Missing, Forbidden}
 use Rattle.office_rules.specs.declared.decision.category.Category.TheVariants.{Unfit, UnfitRow}
@@ -34,11 +36,11 @@ wanted_of (Totals number totals) = wanted.Totals
 wanted_of (Paper text) = wanted.Paper
 wanted_of (Page text) = wanted.Page
 
--- numbers have 32 bits, and all else keeps its rules
+-- what it tells keeps its rules
 abbrev pub IsAnswer : Granted → Type 0
 IsAnswer Done = ⊤
-IsAnswer (Imported count) = count < 2 ^ 32
-IsAnswer (Shift number) = number < 2 ^ 32
+IsAnswer (Imported count) = count ≤ greatest_rows
+IsAnswer (Shift number) = IsTargetNumber number
 IsAnswer (Sale sale) = IsSaleTold sale
 IsAnswer (Meter meter) = IsToldMeter meter
 IsAnswer (Quote quote) = IsToldQuote quote

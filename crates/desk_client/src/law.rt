@@ -1,4 +1,4 @@
-ghost use Rattle.std.specs.Prelude.{◌≡◌, ◌≤◌, ℕ, List, false, length};
+ghost use Rattle.std.specs.Prelude.{◌≡◌, ◌≤◌, ◌++◌, ℕ, List, [], false, length};
 ghost use Rattle.desk_messages.specs.declared.reply.outcome.Outcome.{Outcome};
 ghost use Rattle.desk_messages.specs.reply.Text.{reply_bytes_of};
 ghost use Rattle.desk_client.specs.Alike.{TellAlike};
@@ -14,7 +14,7 @@ use desk_messages::reply_law;
 use sts_fields::amount_law;
 
 /// What a desk replies, where the conversation goes on, is the text of what the reply tells; it is
-/// read as a whole reply; and one text tells one thing, value for value.
+/// read as a whole reply; one text tells one thing, value for value; and no reply begins another.
 pub fn told_law()
     ensures text { (asked : Wanted) (outcome : Outcome) (told : Told) → Tells outcome told
         → IsTellable asked told → length (told_text told) ≤ longest_reply_body
@@ -24,6 +24,8 @@ pub fn told_law()
         → (read : Told) × (reading ≡ Whole read) × IsReply asked text read }
     ensures alike { (asked : Wanted) (text : List ℕ) (told other : Told)
         → IsReply asked text told → IsReply asked text other → TellAlike told other }
+    ensures alone { (asked : Wanted) (text more : List ℕ) (told other : Told)
+        → IsReply asked text told → IsReply asked (text ++ more) other → more ≡ [] }
 {
     reply_law();
     amount_law();

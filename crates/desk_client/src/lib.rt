@@ -2,6 +2,7 @@
 //! socket and no file.
 #![tactic(auto)]
 
+mod answers;
 mod asks;
 mod count;
 mod items;

@@ -4,10 +4,10 @@ ghost use Rattle.desk_client.specs.Page.{IsToldListedShift};
 ghost use Rattle.desk_client.specs.Text.{IsFound, now};
 
 use crate::items::Item;
-use crate::text::{Values, number, read_front_values, small_number};
-use crate::values::{end_of, moment_of, operator_of};
+use crate::text::{Values, number, read_front_values};
+use crate::totals::totals_within;
+use crate::values::{end_of, moment_of, operator_of, row_number_of};
 use book_states::ListedShift;
-use book_tables::Totals;
 use office_rules::Shift;
 use std::alloc::{AllocError, Global};
 
@@ -54,11 +54,12 @@ fn shift_item_of(values: &Values<'_>) -> Option<ListedShift>
     let [cash, closed, shift, opened, operator, sales, tenths, ..] = values.of;
     let cash = number(cash)?;
     let closed = end_of(closed)?;
-    let shift = small_number(shift)?;
+    let shift = row_number_of(shift)?;
     let opened = moment_of(opened)?;
     let operator = operator_of(operator)?;
     let sales = number(sales)?;
     let tenths = number(tenths)?;
+    let totals = totals_within(sales, tenths, cash)?;
     Some(ListedShift {
         shift: Shift {
             number: shift,
@@ -66,10 +67,6 @@ fn shift_item_of(values: &Values<'_>) -> Option<ListedShift>
             opened,
             closed,
         },
-        totals: Totals {
-            sales,
-            tenths,
-            cash,
-        },
+        totals,
     })
 }

@@ -2,8 +2,8 @@ ghost use Rattle.std.specs.Prelude.{◌≡◌, map, take};
 ghost use Rattle.desk_client.specs.Meter.{IsToldMeter, meter_text, meter_values};
 ghost use Rattle.desk_client.specs.Text.{IsFound, now};
 
-use crate::text::{Values, number, read_values};
-use crate::values::{base_of, last_sale_of, meter_of, tariff_of};
+use crate::text::{Values, read_values};
+use crate::values::{base_of, last_sale_of, meter_of, month_tenths_of, tariff_of};
 use book_states::MeterSummary;
 
 // What stands behind each value of a meter.
@@ -35,7 +35,7 @@ fn summary_of(values: &Values<'_>) -> Option<MeterSummary>
     let meter = meter_of(meter)?;
     let last_sale = last_sale_of(last_sale)?;
     let tariff = tariff_of(tariff)?;
-    let tenths = number(tenths)?;
+    let tenths = month_tenths_of(tenths)?;
     Some(MeterSummary {
         number: meter,
         base,

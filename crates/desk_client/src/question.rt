@@ -65,10 +65,8 @@ impl Question<'_> {
             Question::Import(..) => Wanted::Imported,
             Question::MoveBase(..) => Wanted::Done,
             Question::OpenShift(_) | Question::CloseShift(_) => Wanted::Shift,
-            Question::Sell(_) | Question::SaleOfRef(..) => Wanted::Sale,
-            Question::ShiftReport(_) | Question::Receipt(_) | Question::LastSale(_) => {
-                Wanted::Paper
-            }
+            Question::Sell(_) | Question::Receipt(_) | Question::SaleOfRef(..) => Wanted::Sale,
+            Question::ShiftReport(_) | Question::LastSale(_) => Wanted::Paper,
             Question::ShiftTotals(_) => Wanted::Totals,
             Question::Meter(_) => Wanted::Meter,
             Question::Quote(..) => Wanted::Quote,
@@ -113,7 +111,7 @@ impl Question<'_> {
             Question::CloseShift(_) => joined(alloc, &[b"/shifts/close"]),
             Question::Sell(_) => joined(alloc, &[b"/sales"]),
             Question::ShiftReport(number) => numbered(alloc, b"/shifts/", *number, b""),
-            Question::Receipt(number) => numbered(alloc, b"/sales/", *number, b"/receipt"),
+            Question::Receipt(number) => numbered(alloc, b"/sales/", *number, b""),
             Question::ShiftTotals(number) => numbered(alloc, b"/shifts/", *number, b"/totals"),
             Question::Meter(meter) => joined(alloc, &[b"/meters/", meter.as_bytes()]),
             Question::LastSale(meter) => {

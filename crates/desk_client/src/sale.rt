@@ -5,7 +5,8 @@ ghost use Rattle.desk_client.specs.Text.{IsFound, now};
 use crate::items::Item;
 use crate::text::{Values, read_front_values, read_values, small_number};
 use crate::values::{
-    amount_of, base_of, meter_of, moment_of, operator_of, ref_of, tender_of, token_of,
+    amount_of, base_of, meter_of, moment_of, operator_of, ref_of, row_number_of, tender_of, tid_of,
+    token_of,
 };
 use office_rules::Sale;
 use std::alloc::{AllocError, Global};
@@ -95,12 +96,12 @@ fn sale_of(values: &Values<'_>) -> Option<Sale>
     let base = base_of(base)?;
     let meter = meter_of(meter)?;
     let moment = moment_of(moment)?;
-    let number = small_number(number)?;
+    let number = row_number_of(number)?;
     let operator = operator_of(operator)?;
     let order_ref = ref_of(order_ref)?;
-    let shift = small_number(shift)?;
+    let shift = row_number_of(shift)?;
     let tenths = amount_of(tenths)?;
-    let tid = small_number(tid)?;
+    let tid = tid_of(tid)?;
     let digits = token_of(token)?;
     Some(Sale {
         number,

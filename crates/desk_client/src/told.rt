@@ -4,7 +4,7 @@ ghost use Rattle.desk_client.specs.Told.{granted_start, granted_text, refusal_st
 ghost use Rattle.desk_client.specs.Told.{told_start, told_text, wanted_of};
 ghost use Rattle.desk_client.specs.Text.{IsFound};
 
-use crate::count::read_count;
+use crate::count::{read_added, read_shift};
 use crate::meter::read_meter;
 use crate::quote::read_quote;
 use crate::refusal::{plain_refusal, row_refusal};
@@ -82,11 +82,11 @@ pub(crate) fn read_granted(wanted: Wanted, text: &[u8]) -> Option<Granted<'_>>
     match wanted {
         Wanted::Done if text == b"{\"done\":true}".as_slice() => Some(Granted::Done),
         Wanted::Done => None,
-        Wanted::Imported => match read_count(text, "{\"added\":") {
+        Wanted::Imported => match read_added(text) {
             Some(count) => Some(Granted::Imported(count)),
             None => None,
         },
-        Wanted::Shift => match read_count(text, "{\"shift\":") {
+        Wanted::Shift => match read_shift(text) {
             Some(number) => Some(Granted::Shift(number)),
             None => None,
         },

@@ -1,23 +1,25 @@
 //! What the values of a text are: names, moments, money, tokens.
 
-ghost use Rattle.std.specs.Prelude.{◌≡◌, ◌↔◌, IsTrue, decimal};
+ghost use Rattle.std.specs.Prelude.{◌≡◌, ◌≤◌, ◌↔◌, IsTrue, decimal};
 ghost use Rattle.std.specs.Char.{is_ascii_digit};
 ghost use Rattle.std.specs.List.{AllPass};
+ghost use Rattle.desk_messages.specs.route.Route.{IsTargetNumber};
 ghost use Rattle.sts_fields.specs.Amount.{IsRepresentable};
 ghost use Rattle.sts_fields.specs.Base.{year_of};
 ghost use Rattle.sts_fields.specs.Moment.{IsMoment};
+ghost use Rattle.sts_fields.specs.Tid.{last_tid};
 ghost use Rattle.sts_token.specs.Token.{AreTwentyDigits};
 ghost use Rattle.tariff.specs.Tender.{IsTender};
 ghost use Rattle.office_rules.specs.Name.{IsMeterNo, IsName, IsOperator};
 ghost use Rattle.desk_client.specs.ListedShift.{closing_text};
-ghost use Rattle.desk_client.specs.Meter.{IsLastSaleNumber, last_number_text};
+ghost use Rattle.desk_client.specs.Meter.{IsLastSaleNumber, last_number_text, most_month_tenths};
 ghost use Rattle.desk_client.specs.Page.{IsToldEnd};
 ghost use Rattle.desk_client.specs.Text.{IsFound};
 
 use crate::text::{number, small_number};
-use office_rules::{MeterNo, Operator, Ref, TariffName};
-use sts_fields::{Amount, Base, Moment, amount_law};
-use tariff::Tender;
+use office_rules::{GREATEST_COUNT, MeterNo, Operator, Ref, TariffName};
+use sts_fields::{Amount, Base, LAST_TID, Moment, amount_law};
+use tariff::{MAX_PRIOR, Tender};
 
 // The base date whose year a value writes.
 pub(crate) fn base_of(value: &[u8]) -> Option<Base>
@@ -57,6 +59,37 @@ pub(crate) fn tariff_of(value: &[u8]) -> Option<TariffName>
     TariffName::read(value)
 }
 
+// The number of a sale or of a shift that a value writes.
+pub(crate) fn row_number_of(value: &[u8]) -> Option<u32>
+    ensures { IsFound (λ number. IsTargetNumber number × (value.now ≡ decimal number)) result }
+{
+    match small_number(value) {
+        Some(number) if (1..=GREATEST_COUNT as u32).contains(&number) => Some(number),
+        _ => None,
+    }
+}
+
+// The identifier of a token that a value writes.
+pub(crate) fn tid_of(value: &[u8]) -> Option<u32>
+    ensures { IsFound (λ tid. (tid ≤ last_tid) × (value.now ≡ decimal tid)) result }
+{
+    match small_number(value) {
+        Some(tid) if tid <= LAST_TID => Some(tid),
+        _ => None,
+    }
+}
+
+// The tenths of a kWh that were sold to a meter in a month, as a value writes them.
+pub(crate) fn month_tenths_of(value: &[u8]) -> Option<u64>
+    ensures { IsFound (λ tenths. (tenths ≤ most_month_tenths) × (value.now ≡ decimal tenths))
+        result }
+{
+    match number(value) {
+        Some(tenths) if tenths <= MAX_PRIOR => Some(tenths),
+        _ => None,
+    }
+}
+
 // The number of a sale that a value writes, or that there is none.
 pub(crate) fn last_sale_of(value: &[u8]) -> Option<Option<u32>>
     ensures { IsFound (λ sale. IsLastSaleNumber sale × (value.now ≡ last_number_text sale)) result }
@@ -64,7 +97,7 @@ pub(crate) fn last_sale_of(value: &[u8]) -> Option<Option<u32>>
     if value == b"null".as_slice() {
         return Some(None);
     }
-    match small_number(value) {
+    match row_number_of(value) {
         Some(number) => Some(Some(number)),
         None => None,
     }

@@ -11,7 +11,7 @@ use Rattle.desk_commands.proofs.PageLemmas.{more_text, some_behind}
 use Rattle.vend_ports.proofs.TakeLemmas.{takes_as, takes_last, takes_next, takes_none}
 use Rattle.desk_commands.specs.ListedAtDesk.{IsListedAtDesk, IsPageAsked, IsPageIn, IsPagePrinted, IsPageReply, IsPageStop, TellPages, and_next, page_fault_line, page_question}
 use Rattle.desk_commands.specs.Exchanged.{AreRounds, Exchanges, IsRound, Round, calls_of}
-use Rattle.desk_commands.specs.Exchanged.IsUnsent.{no_room, unreached, unsent}
+use Rattle.desk_commands.specs.Exchanged.IsUnsent.{unreached, unread, unsent}
 use Rattle.desk_commands.specs.print.Pages.{list_behind, most_pages}
 use Rattle.desk_commands.specs.print.ListTexts.{page_text, pages_text}
 use Rattle.vend_ports.specs.print.Printed.{net_line}
@@ -20,7 +20,6 @@ use Rattle.vend_ports.specs.print.Told.{Takes, outputs}
 use Rattle.vend_ports.specs.declared.command_end.CommandEnd.TheVariants as how
 use Rattle.desk_commands.specs.declared.list_at_desk.PageFault.{PageFault}
 use Rattle.desk_commands.specs.declared.list_at_desk.PageFault.TheVariants as faults
-use Rattle.desk_commands.specs.declared.exchange.ExchangeFault.TheVariants as exchanges
 use Rattle.vend_ports.specs.declared.port.loopback.Loopback as loopback
 
 -- ---- a page
@@ -30,7 +29,8 @@ pub page_asked : {S : Type 0} (remaining contents : S → Held) (list : Listed) 
     → IsRound remaining contents fresh last (question_text (page_question list)) came → IsPageIn list came page
     → IsPageAsked remaining contents list fresh last page
 page_asked remaining contents list fresh last came (Ok page) round is = (came, round, is)
-page_asked remaining contents list fresh last came (Err (faults.Unsent fault)) round is = tt
+page_asked remaining contents list fresh last came (Err faults.NoMessage) round is = absurd is
+page_asked remaining contents list fresh last came (Err faults.Unsent) round is = absurd is
 page_asked remaining contents list fresh last came (Err (faults.Refused refusal)) round is = (came, round, is)
 page_asked remaining contents list fresh last came (Err faults.NoMoment) round is = (came, round, is)
 page_asked remaining contents list fresh last came (Err faults.OutOfForm) round is = (came, round, is)
@@ -88,19 +88,20 @@ module _ {N S : Type 0} (of : loopback.Ghosts N S) (remaining contents : S → H
     rounds = [];
     pages = [];
     left = Some list;
-    stop = Some (faults.Unsent exchanges.Net);
+    stop = Some faults.Unsent;
     told = (takes_none before, says, refl);
     are = refl;
-    stops = unreached misses refl refl;
+    stops = (list, refl, unreached misses refl);
   }
 
   module _ (now last : S) (part after : Sink) (next : Listed) (page : ℕ) (so_far : AskedSoFar now part next page) where
-    has_held : Exchanges of remaining contents net desk so_far.rounds
-    has_held = record { fresh = so_far.fresh; last = now; calls = so_far.calls; held = so_far.held }
+    has_held : of.ends S now → Exchanges of remaining contents net desk so_far.rounds
+    has_held ended = record { fresh = so_far.fresh; last = now; calls = so_far.calls; held = so_far.held; ended = ended }
 
-    holds_more : (came : Text) → IsRound remaining contents now last (question_text (page_question next)) came
+    holds_more : of.ends S last → (came : Text) → IsRound remaining contents now last (question_text (page_question next)) came
         → Exchanges of remaining contents net desk (and_next so_far.rounds next came)
-    holds_more came round = record {
+    holds_more ended came round = record {
+      ended = ended;
       fresh = so_far.fresh;
       last = last;
       calls = so_far.calls;
@@ -129,51 +130,56 @@ module _ {N S : Type 0} (of : loopback.Ghosts N S) (remaining contents : S → H
     }
 
     -- a page that no list follows was printed: the list ends as done
-    pub page_last : (err : Sink) (behind : Option Listed) → behind ≡ None
+    pub page_last : of.ends S last → (err : Sink) (behind : Option Listed) → behind ≡ None
         → IsPagePrinted remaining contents next json (page == 0) now last part after (Ok behind)
         → IsListedAtDesk (calls_of of remaining contents net) desk list json (outputs before after err err) how.Done
-    page_last err behind none (found, (came, round, told), (put, follows)) = record {
+    page_last ended err behind none (found, (came, round, told), (put, follows)) = record {
       rounds = and_next so_far.rounds next came;
       pages = so_far.pages ++ found ∷ [];
       left = list_behind found;
       stop = None;
       told = (put_more found put, takes_none err, refl);
       are = more_told (Some list) so_far.rounds so_far.pages next came found so_far.are told;
-      stops = (holds_more came round, last_page _ behind (list_behind found) after.failed none follows);
+      stops = (holds_more ended came round, last_page _ behind (list_behind found) after.failed none follows);
     }
 
     -- more pages than any office has
-    pub most_printed : (err : Sink) → page ≡ most_pages
+    pub most_printed : of.ends S now → (err : Sink) → page ≡ most_pages
         → IsListedAtDesk (calls_of of remaining contents net) desk list json (outputs before part err err) how.Done
-    most_printed err most = record {
+    most_printed ended err most = record {
       rounds = so_far.rounds;
       pages = so_far.pages;
       left = Some next;
       stop = None;
       told = (so_far.put, takes_none err, refl);
       are = so_far.are;
-      stops = (has_held, inr (inr (so_far.count ∙ most)));
+      stops = (has_held ended, inr (inr (so_far.count ∙ most)));
     }
 
-    stops_at : (fault : PageFault) → IsPageAsked remaining contents next now last (Err fault)
+    stops_at : of.ends S last → (fault : PageFault) → IsPageAsked remaining contents next now last (Err fault)
         → IsPageStop (calls_of of remaining contents net) desk so_far.rounds (Some next) fault
-    stops_at (faults.Unsent exchanges.Net) asked = unsent has_held refl
-    stops_at (faults.Unsent exchanges.Memory) asked = no_room has_held refl
-    stops_at (faults.Refused refusal) (came, round, why) = (next, refl, came, holds_more came round, why)
-    stops_at faults.NoMoment (came, round, why) = (next, refl, came, holds_more came round, why)
-    stops_at faults.OutOfForm (came, round, why) = (next, refl, came, holds_more came round, why)
-    stops_at faults.Memory (came, round, why) = (next, refl, came, holds_more came round, why)
+    stops_at ended faults.NoMessage same = has_held (subst (λ (s : S). of.ends S s) same ended)
+    stops_at ended faults.Unsent (inl cut) = (
+      next,
+      refl,
+      unsent (record { fresh = so_far.fresh; between = now; last = last; calls = so_far.calls; held = so_far.held; cut = cut; ended = ended }),
+    )
+    stops_at ended faults.Unsent (inr (came, round)) = (next, refl, unread came (holds_more ended came round))
+    stops_at ended (faults.Refused refusal) (came, round, why) = (next, refl, came, holds_more ended came round, why)
+    stops_at ended faults.NoMoment (came, round, why) = (next, refl, came, holds_more ended came round, why)
+    stops_at ended faults.OutOfForm (came, round, why) = (next, refl, came, holds_more ended came round, why)
+    stops_at ended faults.Memory (came, round, why) = (next, refl, came, holds_more ended came round, why)
 
     -- a page could not be had: the list ends with those before it and a line on the fault
-    pub page_stopped : (err told : Sink) (fault : PageFault)
+    pub page_stopped : of.ends S last → (err told : Sink) (fault : PageFault)
         → IsPagePrinted remaining contents next json (page == 0) now last part after (Err fault) → Takes err told (page_fault_line fault)
         → IsListedAtDesk (calls_of of remaining contents net) desk list json (outputs before after err told) how.Refused
-    page_stopped err told fault (asked, put) says = record {
+    page_stopped ended err told fault (asked, put) says = record {
       rounds = so_far.rounds;
       pages = so_far.pages;
       left = Some next;
       stop = Some fault;
       told = (takes_last before part after (pages_text json so_far.pages) [] _ so_far.put (sym (append-nil (pages_text json so_far.pages))) put, says, refl);
       are = so_far.are;
-      stops = stops_at fault asked;
+      stops = stops_at ended fault asked;
     }

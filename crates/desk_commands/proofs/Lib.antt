@@ -1,3 +1,4 @@
 pub mod DeskListLemmas
 pub mod PageLemmas
+pub mod PageOrderLemmas
 pub mod TableLemmas

@@ -6,8 +6,8 @@ use Rattle.std.specs.Borrow.{Bor}
 use Rattle.book_states.specs.declared.lookup.Found.TheVariants as found
 use Rattle.book_states.specs.declared.lookup.Lookup.TheVariants as lookups
 use Rattle.conversation.specs.message.Framing.{longest_body}
-use Rattle.desk_client.specs.Question.{question_text, wanted_by}
-use Rattle.desk_client.specs.Reply.{IsReply}
+use Rattle.desk_client.specs.Answers.{IsReplyTo}
+use Rattle.desk_client.specs.Question.{question_text}
 use Rattle.desk_client.specs.declared.question.Question.{Question}
 use Rattle.desk_client.specs.declared.question.Question.TheVariants as questions
 use Rattle.desk_client.specs.declared.told.Granted.{Granted}
@@ -26,7 +26,7 @@ use Rattle.command_line.specs.declared.commands.show.Shown.{Shown}
 use Rattle.command_line.specs.declared.commands.show.Shown.TheVariants as shown
 use Rattle.vend_ports.specs.print.Printed.{added_line, clock_line, done_line, file_line, net_line}
 use Rattle.vend_ports.specs.print.Printed.{read_fault_line, refusal_line, shift_line}
-use Rattle.desk_commands.specs.ListedAtDesk.{IsListedAtDesk, exchange_fault_line, page_question}
+use Rattle.desk_commands.specs.ListedAtDesk.{IsListedAtDesk, page_question}
 use Rattle.desk_commands.specs.Exchanged.{Calls, IsUnsent, one_round}
 use Rattle.vend_ports.specs.port.Texts.{Texts}
 use Rattle.desk_commands.specs.print.FoundTexts.{IsMadeWhole, found_text}
@@ -36,7 +36,6 @@ use Rattle.desk_commands.specs.declared.at_desk.RowsFault.{RowsFault}
 use Rattle.desk_commands.specs.declared.at_desk.RowsFault.TheVariants.{Unread, TooLong}
 use Rattle.vend_ports.specs.declared.command_end.CommandEnd.{CommandEnd}
 use Rattle.vend_ports.specs.declared.command_end.CommandEnd.TheVariants.{Done, Refused}
-use Rattle.desk_commands.specs.declared.exchange.ExchangeFault.{ExchangeFault}
 
 -- ---- the question
 
@@ -138,18 +137,18 @@ rows_fault_line TooLong = file_line
 
 -- ---- one question
 
--- The question is asked by one message, and what the reply tells is printed; or no reply came, and
--- that is told; or there was no room for the message, and no desk was called.
+-- The question is asked by one message, and what the reply to it tells is printed. Whatever else came
+-- of the message, it is told that no reply did. Where there was no room for the message, no desk was
+-- called.
 pub data IsAsked (calls : Calls) (uncalled : Type 0) (desk : Address) (json : Bool)
     (question : Question) (o : Outputs) (end : CommandEnd) : Type 0 where
   replied : (came : Text) → calls.exchanges desk (one_round (question_text question) came)
-      → (told : Told) → IsReply (wanted_by question) came told → TellsTold json question told o end
+      → (told : Told) → IsReplyTo question came told → TellsTold json question told o end
       → IsAsked calls uncalled desk json question o end
   broken : (came : Text) → calls.exchanges desk (one_round (question_text question) came)
-      → ((told : Told) → ¬ IsReply (wanted_by question) came told)
+      → ((told : Told) → ¬ IsReplyTo question came told)
       → IsTold o [] net_line Refused end → IsAsked calls uncalled desk json question o end
-  unsent : (fault : ExchangeFault) → IsUnsent calls desk [] fault
-      → IsTold o [] (exchange_fault_line fault) Refused end
+  unsent : IsUnsent calls desk [] (question_text question) → IsTold o [] net_line Refused end
       → IsAsked calls uncalled desk json question o end
   no_room : uncalled → IsTold o [] (refusal_line refusals.Memory) Refused end
       → IsAsked calls uncalled desk json question o end

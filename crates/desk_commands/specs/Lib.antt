@@ -1,4 +1,5 @@
 pub mod AskedOfDesk
 pub mod Exchanged
 pub mod ListedAtDesk
+pub mod PageOrder
 pub mod print

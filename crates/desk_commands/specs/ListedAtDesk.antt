@@ -7,9 +7,9 @@ use Rattle.book_states.specs.declared.lookup.Found.{Found}
 use Rattle.command_line.specs.declared.address.Address.{Address}
 use Rattle.command_line.specs.declared.commands.list.Listed.{Listed}
 use Rattle.command_line.specs.declared.commands.list.Listed.TheVariants as listed
+use Rattle.desk_client.specs.Answers.{IsReplyTo}
 use Rattle.desk_client.specs.Page.{IsToldPage, page_as_read}
 use Rattle.desk_client.specs.Question.{question_text}
-use Rattle.desk_client.specs.Reply.{IsReply}
 use Rattle.desk_client.specs.declared.question.Question.{Question}
 use Rattle.desk_client.specs.declared.question.Question.TheVariants as questions
 use Rattle.desk_client.specs.declared.page.PageKind.{PageKind}
@@ -17,10 +17,10 @@ use Rattle.desk_client.specs.declared.page.PageKind.TheVariants as kinds
 use Rattle.desk_client.specs.declared.told.Granted.TheVariants as grants
 use Rattle.desk_client.specs.declared.told.Told.{Told}
 use Rattle.desk_client.specs.declared.told.Told.TheVariants as tells
-use Rattle.desk_client.specs.declared.told.Wanted.TheVariants as wanted
 use Rattle.sts_fields.specs.Text.{Text}
 use Rattle.office_rules.specs.declared.decision.refusal.Refusal.TheVariants as refusals
-use Rattle.desk_commands.specs.Exchanged.{Calls, IsRound, IsUnsent, Round}
+use Rattle.desk_commands.specs.Exchanged.{Calls, IsRound, IsUnheld, IsUnsent, Round}
+use Rattle.desk_commands.specs.PageOrder.{ComesAfter}
 use Rattle.desk_commands.specs.print.ListTexts.{pages_text}
 use Rattle.desk_commands.specs.print.Pages.{IsPagePut, list_behind, most_pages}
 use Rattle.vend_ports.specs.print.Printed.{clock_line, net_line, refusal_line}
@@ -30,8 +30,6 @@ use Rattle.vend_ports.specs.declared.command_end.CommandEnd.{CommandEnd}
 use Rattle.vend_ports.specs.declared.command_end.CommandEnd.TheVariants.{Done, Refused}
 use Rattle.desk_commands.specs.declared.list_at_desk.PageFault.{PageFault}
 use Rattle.desk_commands.specs.declared.list_at_desk.PageFault.TheVariants as faults
-use Rattle.desk_commands.specs.declared.exchange.ExchangeFault.{ExchangeFault}
-use Rattle.desk_commands.specs.declared.exchange.ExchangeFault.TheVariants as exchanges
 
 -- ---- pages
 
@@ -49,11 +47,16 @@ page_kind (listed.Meters after) = kinds.Meters
 page_kind (listed.Shifts after) = kinds.Shifts
 page_kind (listed.Sales after) = kinds.Sales
 
--- a whole reply came that tells this page of the list
+-- a whole reply came that tells a text for a page
+abbrev pub IsTextReply : Listed → (came : Text) → (body : Bor Text) → Type 0
+IsTextReply list came body = IsReplyTo (page_question list) came (tells.Granted (grants.Page body))
+
+-- a whole reply came that tells this page of the list; its members come after what was asked for
 pub record IsPageReply (list : Listed) (came : Text) (page : Found) : Type 0 where
   pub body : Bor Text
-  pub reply : IsReply wanted.Page came (tells.Granted (grants.Page body))
+  pub reply : IsTextReply list came body
   pub told : IsToldPage (page_kind list) page
+  pub order : ComesAfter list page
   pub text : body.now ≡ page_as_read page
 
 -- These rounds told these pages of a list: the first, and each next one the first of the list
@@ -67,37 +70,38 @@ TellPages list rounds pages left = ⊥
 
 -- ---- why there are no more of them
 
--- why nothing came of a message
-abbrev pub exchange_fault_line : ExchangeFault → Text
-exchange_fault_line exchanges.Net = net_line
-exchange_fault_line exchanges.Memory = refusal_line refusals.Memory
-
 -- why no further page is printed, as it is told
 abbrev pub page_fault_line : PageFault → Text
-page_fault_line (faults.Unsent fault) = exchange_fault_line fault
+page_fault_line faults.NoMessage = refusal_line refusals.Memory
+page_fault_line faults.Unsent = net_line
 page_fault_line (faults.Refused refusal) = refusal_line refusal
 page_fault_line faults.NoMoment = clock_line
 page_fault_line faults.OutOfForm = net_line
 page_fault_line faults.Memory = refusal_line refusals.Memory
 
--- a whole reply came that tells a text for a page
-abbrev pub IsTextReply : (came : Text) → (body : Bor Text) → Type 0
-IsTextReply came body = IsReply wanted.Page came (tells.Granted (grants.Page body))
-
--- the text is no page of the list
+-- the text is no page of the list, or one whose members do not come after what was asked for
 abbrev pub IsOtherText : Listed → Text → Type 0
-IsOtherText list text = (page : Found) → IsToldPage (page_kind list) page → text ≢ page_as_read page
+IsOtherText list text = (page : Found) → IsToldPage (page_kind list) page → ComesAfter list page
+    → text ≢ page_as_read page
+
+-- why a text is not printed as a page of a list: it is none, or there is no room for its page
+abbrev pub IsNoPageText : Listed → Text → PageFault → Type 0
+IsNoPageText list text faults.OutOfForm = IsOtherText list text
+IsNoPageText list text faults.Memory = ⊤
+IsNoPageText list text fault = ⊥
 
 -- why what came is not printed as the next page of a list: a refusal; that the desk's clock has no
 -- moment; what is no whole reply, or tells no page of the list; or a text, and there is no room for
 -- its page or for what is printed of it
 abbrev pub IsNoPage : Listed → (came : Text) → PageFault → Type 0
-IsNoPage list came (faults.Unsent fault) = ⊥
-IsNoPage list came (faults.Refused refusal) = IsReply wanted.Page came (tells.Refused refusal)
-IsNoPage list came faults.NoMoment = IsReply wanted.Page came tells.NoMoment
-IsNoPage list came faults.OutOfForm = ((told : Told) → ¬ IsReply wanted.Page came told)
-    ⊎ ((body : Bor Text) × IsTextReply came body × IsOtherText list body.now)
-IsNoPage list came faults.Memory = (body : Bor Text) × IsTextReply came body
+IsNoPage list came faults.NoMessage = ⊥
+IsNoPage list came faults.Unsent = ⊥
+IsNoPage list came (faults.Refused refusal) =
+    IsReplyTo (page_question list) came (tells.Refused refusal)
+IsNoPage list came faults.NoMoment = IsReplyTo (page_question list) came tells.NoMoment
+IsNoPage list came faults.OutOfForm = ((told : Told) → ¬ IsReplyTo (page_question list) came told)
+    ⊎ ((body : Bor Text) × IsTextReply list came body × IsOtherText list body.now)
+IsNoPage list came faults.Memory = (body : Bor Text) × IsTextReply list came body
 
 -- what came tells this page of the list, or it does not, for this fault
 abbrev pub IsPageIn : Listed → (came : Text) → Result Found PageFault → Type 0
@@ -107,10 +111,13 @@ IsPageIn list came (Err fault) = IsNoPage list came fault
 -- ---- one page
 
 -- A message that asks for the first page of a list was sent on a stream, and what came tells this
--- page, or it does not; or nothing came of the message.
+-- page, or it does not; or the message was cut off, or there was no room for what came; or there was
+-- none for the message, and the stream is as it was.
 abbrev pub IsPageAsked : {S : Type 0} → (remaining contents : S → Held) → Listed
     → (fresh last : S) → Result Found PageFault → Type 0
-IsPageAsked remaining contents list fresh last (Err (faults.Unsent fault)) = ⊤
+IsPageAsked remaining contents list fresh last (Err faults.NoMessage) = last ≡ fresh
+IsPageAsked remaining contents list fresh last (Err faults.Unsent) =
+    IsUnheld remaining contents fresh last (question_text (page_question list))
 IsPageAsked remaining contents list fresh last page = (came : Text)
     × IsRound remaining contents fresh last (question_text (page_question list)) came
     × IsPageIn list came page
@@ -132,9 +139,12 @@ abbrev pub and_next : List Round → Listed → (came : Text) → List Round
 and_next rounds list came =
     rounds ++ record { message = question_text (page_question list); came = came } ∷ []
 
--- A page is not printed, for this fault: the message for it was not sent, or what came is no page.
+-- A page is not printed, for this fault: there was no room for the message for it, no connection, no
+-- room for what came, or what came is no page.
 abbrev pub IsPageStop : Calls → Address → List Round → (left : Option Listed) → PageFault → Type 0
-IsPageStop calls desk rounds left (faults.Unsent fault) = IsUnsent calls desk rounds fault
+IsPageStop calls desk rounds left faults.NoMessage = calls.exchanges desk rounds
+IsPageStop calls desk rounds left faults.Unsent = (list : Listed) × (left ≡ Some list)
+    × IsUnsent calls desk rounds (question_text (page_question list))
 IsPageStop calls desk rounds left fault = (list : Listed) × (left ≡ Some list) × (came : Text)
     × calls.exchanges desk (and_next rounds list came) × IsNoPage list came fault
 

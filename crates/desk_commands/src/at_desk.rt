@@ -12,8 +12,8 @@ ghost use Rattle.desk_commands.specs.Exchanged.{calls_of};
 ghost use Rattle.vend_ports.specs.port.Texts.{texts_of};
 ghost use Rattle.vend_ports.specs.print.Told.{Takes, outputs};
 
-use crate::exchange::{exchange, told_in};
-use crate::list_at_desk::{list, page_question, put_exchange_fault};
+use crate::exchange::exchange;
+use crate::list_at_desk::{list, page_question};
 use crate::print::found::put_found;
 use crate::print::totals::put_totals;
 use book_states::{Found, Lookup};
@@ -170,15 +170,15 @@ fn ask<L: Loopback, O: Write, E: Write>(
         return CommandEnd::Refused;
     };
     match exchange(alloc, loopback, desk, &message, question.wanted()) {
-        Ok(came) => match told_in(&came, question.wanted()) {
+        Some(came) => match question.answer_in(&came) {
             Some(told) => tell(alloc, question, json, &told, out, err),
             None => {
                 put_line(&[b"net"], err);
                 CommandEnd::Refused
             }
         },
-        Err(fault) => {
-            put_exchange_fault(fault, err);
+        None => {
+            put_line(&[b"net"], err);
             CommandEnd::Refused
         }
     }

@@ -6,6 +6,7 @@
 pub mod at_desk;
 mod exchange;
 mod list_at_desk;
+mod page_order;
 mod print;
 
 pub use print::found::put_found;

@@ -1,18 +1,21 @@
 //! A list that a running desk has, printed page by page.
 
-ghost use Rattle.std.specs.Prelude.{◌≡◌, IfOk};
+ghost use Rattle.std.specs.Prelude.{◌≡◌, IfOk, MatchResult};
+ghost use Rattle.desk_client.specs.Page.{IsToldPage, page_as_read};
 ghost use Rattle.desk_client.specs.Question.{question_text};
-ghost use Rattle.desk_commands.specs.ListedAtDesk.{IsListedAtDesk, IsPageAsked, IsPageIn};
+ghost use Rattle.desk_commands.specs.ListedAtDesk.{IsListedAtDesk, IsNoPageText, IsPageAsked, IsPageIn};
 ghost use Rattle.desk_commands.specs.ListedAtDesk.{IsPagePrinted, page_fault_line, page_kind};
-ghost use Rattle.desk_commands.specs.ListedAtDesk.{exchange_fault_line, page_question};
+ghost use Rattle.desk_commands.specs.ListedAtDesk.{page_question};
 ghost use Rattle.desk_commands.specs.Exchanged.{calls_of};
+ghost use Rattle.desk_commands.specs.PageOrder.{ComesAfter};
 ghost use Rattle.vend_ports.specs.print.Told.{Takes, outputs};
 
-use crate::exchange::{ExchangeFault, exchange_on, told_in};
+use crate::exchange::exchange_on;
+use crate::page_order::comes_after;
 use crate::print::pages::put_page;
 use book_states::Found;
 use command_line::{Address, Listed};
-use desk_client::{Granted, PageKind, Question, Told, Wanted, page_in};
+use desk_client::{Granted, PageKind, Question, Told, Wanted, page_in, page_law};
 use office_rules::Refusal;
 use std::alloc::{AllocError, Global};
 use std::io::{Read, Write};
@@ -21,8 +24,10 @@ use vend_ports::{CommandEnd, Loopback, Watched, put_line, put_no_moment, put_ref
 /// Why a page of a list is not printed.
 #[derive(Clone, Copy, Debug, PartialEq, Eq)]
 pub enum PageFault {
-    /// Nothing came of the message that asks for it.
-    Unsent(ExchangeFault),
+    /// There is no room for the message that asks for it.
+    NoMessage,
+    /// There is no connection, the message was cut off, or there was no room for what came.
+    Unsent,
     /// The office refuses it.
     Refused(Refusal),
     /// The desk's clock is outside the moments of an office.
@@ -59,13 +64,18 @@ pub(crate) fn list<L: Loopback, O: Write, E: Write>(
     for page in 0..u64::MAX {
         match print_page(alloc, &mut stream, next, json, page == 0, out) {
             Ok(Some(behind)) => next = behind,
-            Ok(None) => return CommandEnd::Done,
+            Ok(None) => {
+                L::end(stream);
+                return CommandEnd::Done;
+            }
             Err(fault) => {
+                L::end(stream);
                 put_page_fault(fault, err);
                 return CommandEnd::Refused;
             }
         }
     }
+    L::end(stream);
     CommandEnd::Done
 }
 
@@ -101,11 +111,11 @@ fn ask_page<S: Read + Write>(
     ensures { IsPageAsked S.remaining S.contents list stream.old stream.new result }
 {
     let Ok(message) = page_message(alloc, list) else {
-        return Err(PageFault::Unsent(ExchangeFault::Memory));
+        return Err(PageFault::NoMessage);
     };
     match exchange_on(alloc, stream, &message, Wanted::Page) {
-        Ok(came) => page_of(alloc, &list, &came),
-        Err(fault) => Err(PageFault::Unsent(fault)),
+        Some(came) => page_of(alloc, &list, &came),
+        None => Err(PageFault::Unsent),
     }
 }
 
@@ -120,16 +130,32 @@ fn page_message(alloc: Global, list: Listed) -> Result<Vec<u8>, AllocError>
 fn page_of(alloc: Global, list: &Listed, came: &[u8]) -> Result<Found, PageFault>
     ensures { IsPageIn list.now came.now result }
 {
-    match told_in(came, Wanted::Page) {
-        Some(Told::Granted(Granted::Page(body))) => match page_in(alloc, page_kind(*list), body) {
-            Ok(Some(page)) => Ok(page),
-            Ok(None) => Err(PageFault::OutOfForm),
-            Err(_) => Err(PageFault::Memory),
-        },
+    match page_question(*list).answer_in(came) {
+        Some(Told::Granted(Granted::Page(body))) => page_told(alloc, list, body),
         Some(Told::Refused(refusal)) => Err(PageFault::Refused(refusal)),
         Some(Told::NoMoment) => Err(PageFault::NoMoment),
         // No other grant is wanted.
         Some(Told::Granted(_)) | None => Err(PageFault::OutOfForm),
+    }
+}
+
+// The page of a list that a text tells.
+fn page_told(alloc: Global, list: &Listed, text: &[u8]) -> Result<Found, PageFault>
+    ensures { MatchResult result
+        (λ page. IsToldPage (page_kind list.now) page × ComesAfter list.now page
+        × (text.now ≡ page_as_read page))
+        (IsNoPageText list.now text.now) }
+{
+    page_law();
+    let page = match page_in(alloc, page_kind(*list), text) {
+        Ok(Some(page)) => page,
+        Ok(None) => return Err(PageFault::OutOfForm),
+        Err(_) => return Err(PageFault::Memory),
+    };
+    if comes_after(list, &page) {
+        Ok(page)
+    } else {
+        Err(PageFault::OutOfForm)
     }
 }
 
@@ -162,20 +188,11 @@ fn put_page_fault<E: Write>(fault: PageFault, err: &mut Watched<'_, E>)
     ensures { Takes err.old err.new (page_fault_line fault) }
 {
     match fault {
-        PageFault::Unsent(fault) => put_exchange_fault(fault, err),
+        PageFault::NoMessage => put_refusal(Refusal::Memory, err),
+        PageFault::Unsent => put_line(&[b"net"], err),
         PageFault::Refused(refusal) => put_refusal(refusal, err),
         PageFault::NoMoment => put_no_moment(err),
         PageFault::OutOfForm => put_line(&[b"net"], err),
         PageFault::Memory => put_refusal(Refusal::Memory, err),
-    }
-}
-
-/// Tells why nothing came of a message.
-pub(crate) fn put_exchange_fault<E: Write>(fault: ExchangeFault, err: &mut Watched<'_, E>)
-    ensures { Takes err.old err.new (exchange_fault_line fault) }
-{
-    match fault {
-        ExchangeFault::Net => put_line(&[b"net"], err),
-        ExchangeFault::Memory => put_refusal(Refusal::Memory, err),
     }
 }

@@ -32,6 +32,9 @@ pub trait Loopback: Drop {
     /// None could be had there.
     ghost misses: { Self → Address → Type 0 };
 
+    /// The connection of this end was let go.
+    ghost ends: { (S : Type 0) → S → Type 0 };
+
     /// It was left: none was asked for.
     ghost leaves: { (T : Type 0) → T → Type 0 };
 
@@ -46,6 +49,10 @@ pub trait Loopback: Drop {
     fn call(self, address: Address) -> io::Result<Self::Stream>
         ensures calls { IfOk result (calls self address) }
         ensures misses { IfErr result (λ error. misses self address) };
+
+    /// Lets the connection go. Whatever this is given, it can do nothing with it.
+    fn end<S: Drop>(stream: S)
+        ensures { ends S stream };
 
     /// Leaves it as it is. Whatever this is given, it can do nothing with it.
     fn leave<T: Drop>(it: T)
@@ -62,6 +69,8 @@ impl<N: Net> Loopback for &N {
     ghost calls = { λ _ _ _. ⊤ };
 
     ghost misses = { λ _ _. ⊤ };
+
+    ghost ends = { λ _ _. ⊤ };
 
     ghost leaves = { λ _ _. ⊤ };
 
@@ -84,6 +93,12 @@ impl<N: Net> Loopback for &N {
         stream.set_read_timeout(Some(patience))?;
         stream.set_write_timeout(Some(patience))?;
         Ok(stream)
+    }
+
+    fn end<S: Drop>(stream: S)
+        ensures { ⊤ }
+    {
+        drop(stream);
     }
 
     fn leave<T: Drop>(it: T)

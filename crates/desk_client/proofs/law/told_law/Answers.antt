@@ -1,4 +1,5 @@
 use Rattle.desk_client.proofs.AlikeLemmas.{alike}
+use Rattle.desk_client.proofs.HeadLemmas.{alone}
 use Rattle.desk_client.proofs.TellsLemmas.{is_reply, is_whole}
 use Rattle.desk_client.proofs.law.told_law.Goals as goal
 
@@ -10,3 +11,6 @@ returns-clause-read c = is_whole
 
 pub returns-clause-alike : goal.returns-clause-alike
 returns-clause-alike c = alike c.amount_law.ensures.greatest
+
+pub returns-clause-alone : goal.returns-clause-alone
+returns-clause-alone c = alone

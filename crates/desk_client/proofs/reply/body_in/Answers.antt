@@ -1,5 +1,5 @@
 use Rattle.std.proofs.Common.{arith}
-use Rattle.desk_client.proofs.HeadLemmas.{reply_lengths, reply_now}
+use Rattle.desk_client.proofs.HeadLemmas.{head_within, reply_lengths, reply_now}
 use Rattle.desk_client.proofs.reply.body_in.Goals as goal
 
 pub returns-then-head-gt-MAX_BODY : goal.returns-then-head-gt-MAX_BODY
@@ -21,6 +21,13 @@ returns-then-have-head-2 c = (
       let h = c.args.head.now in
       let lengths = reply_lengths c.args.wanted h.start h.len h.rest.now more told c.requires.len reply in
       omega (arith, lengths.1, c.if-have-head-2.true),
+  let h = c.args.head.now in
+      omega (
+        arith,
+        head_within h.start h.len h.rest.now (omega (arith, c.if-head-gt-MAX_BODY.false)),
+        c.if-have-head-2.true,
+        c.if-head-gt-MAX_BODY.false,
+      ),
 )
 
 pub returns-in-None : goal.returns-in-None

@@ -23,7 +23,7 @@ returns-in-Ok-None g c =
     rw so_far.1 (page_last g.L.Loopback g.L.Stream.Read.remaining g.L.Stream.Write.contents c.args.loopback c.args.desk c.args.list
     c.args.json c.args.out.now c.loop-page.stream c.print_page.new.stream
     c.loop-page.out c.print_page.new.out c.loop-page.next c.loop-page.page so_far.0
-    c.args.err.now _ c.in-Ok-None.field-0-is c.in-Ok-None.ensures)
+    c.end.ensures c.args.err.now _ c.in-Ok-None.field-0-is c.in-Ok-None.ensures)
 
 pub returns-in-Err-print_page : goal.returns-in-Err-print_page
 returns-in-Err-print_page g c =
@@ -32,7 +32,7 @@ returns-in-Err-print_page g c =
     c.put_page_fault.ensures in
     page_stopped g.L.Loopback g.L.Stream.Read.remaining g.L.Stream.Write.contents c.args.loopback c.args.desk c.args.list c.args.json
     c.args.out.now c.loop-page.stream c.print_page.new.stream c.loop-page.out
-    c.print_page.new.out c.loop-page.next c.loop-page.page so_far.0 c.args.err.now
+    c.print_page.new.out c.loop-page.next c.loop-page.page so_far.0 c.end-in-Err-print_page.ensures c.args.err.now
     c.put_page_fault.new.err c.in-Err-print_page.fault c.in-Err-print_page.ensures told
 
 pub loop-page-preserved : goal.loop-page-preserved
@@ -54,4 +54,4 @@ returns g c =
     rw so_far.1 (most_printed g.L.Loopback g.L.Stream.Read.remaining g.L.Stream.Write.contents c.args.loopback c.args.desk c.args.list
     c.args.json c.args.out.now c.loop-page.stream c.loop-page.stream
     c.loop-page.out c.loop-page.out c.loop-page.next c.loop-page.page so_far.0
-    c.args.err.now most)
+    c.end-2.ensures c.args.err.now most)

@@ -1,0 +1,30 @@
+-- What tells the same answers the same questions.
+use Rattle.std.proofs.Common.{subst}
+use Rattle.desk_client.specs.Alike.{GrantAlike, TellAlike}
+use Rattle.desk_client.specs.Answers.{Answers, GrantsWhat, MayRefuse}
+use Rattle.desk_client.specs.declared.question.Question.{Question}
+use Rattle.desk_client.specs.declared.told.Granted.{Granted}
+use Rattle.desk_client.specs.declared.told.Granted.TheVariants as granted
+use Rattle.desk_client.specs.declared.told.Told.{Told}
+use Rattle.desk_client.specs.declared.told.Told.TheVariants as told
+use Rattle.office_rules.specs.declared.decision.refusal.Refusal.{Refusal}
+
+alike_grants : (q : Question) (g h : Granted) → GrantAlike g h → GrantsWhat g q → GrantsWhat h q
+alike_grants q granted.Done granted.Done alike is = tt
+alike_grants q (granted.Imported m) (granted.Imported n) alike is = tt
+alike_grants q (granted.Shift m) (granted.Shift n) alike is = tt
+alike_grants q (granted.Sale s) (granted.Sale t) alike is = subst (λ s. GrantsWhat (granted.Sale s) q) alike is
+alike_grants q (granted.Meter m) (granted.Meter n) alike is = subst (λ m. GrantsWhat (granted.Meter m) q) alike is
+alike_grants q (granted.Quote p) (granted.Quote r) alike is = subst (λ p. GrantsWhat (granted.Quote p) q) alike is
+alike_grants q (granted.Totals m t) (granted.Totals n u) alike is =
+    subst (λ t. GrantsWhat (granted.Totals n t) q) alike.1 (subst (λ m. GrantsWhat (granted.Totals m t) q) alike.0 is)
+alike_grants q (granted.Paper text) (granted.Paper other) alike is = tt
+alike_grants q (granted.Page text) (granted.Page other) alike is = tt
+alike_grants q g h alike is = absurd alike
+
+-- two things that are told alike answer the same questions
+pub alike_answers : (q : Question) (t u : Told) → TellAlike t u → Answers q t → Answers q u
+alike_answers q (told.Granted g) (told.Granted h) alike is = alike_grants q g h alike is
+alike_answers q (told.Refused r) (told.Refused s) alike is = subst (λ (r : Refusal). MayRefuse r q) alike is
+alike_answers q told.NoMoment told.NoMoment alike is = tt
+alike_answers q t u alike is = absurd alike

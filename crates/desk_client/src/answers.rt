@@ -1,0 +1,136 @@
+//! Which replies answer a question.
+
+ghost use Rattle.std.specs.Prelude.{◌↔◌, IsTrue, MatchOption};
+ghost use Rattle.desk_client.specs.Answers.{Answers, GrantsWhat, IsReplyTo, IsRowRefused};
+ghost use Rattle.desk_client.specs.Answers.{IsSaleFor, MayRefuse};
+ghost use Rattle.desk_client.specs.declared.told.Told.{Told as WhatIsTold};
+
+use crate::law::told_law;
+use crate::question::Question;
+use crate::reply::{Reading, reply_in};
+use crate::told::{Granted, Told};
+use office_rules::{Order, Refusal, RowCause, Rows, Sale};
+
+// The number of the last row that a file may have.
+const LAST_ROW: u32 = Rows::MAX as u32;
+
+impl Question<'_> {
+    /// What these bytes tell, where they are a whole reply that answers the question.
+    pub fn answer_in<'b>(&self, came: &'b [u8]) -> Option<Told<'b>>
+        ensures { MatchOption result ((told : WhatIsTold) → ¬ IsReplyTo self.now came.now told)
+            (IsReplyTo self.now came.now) }
+    {
+        told_law();
+        let Reading::Whole(told) = reply_in(came, self.wanted()) else {
+            return None;
+        };
+        if self.is_answered(&told) {
+            Some(told)
+        } else {
+            None
+        }
+    }
+
+    // Whether this answers the question.
+    fn is_answered(&self, told: &Told<'_>) -> bool
+        ensures { IsTrue result ↔ Answers self.now told.now }
+    {
+        match told {
+            Told::Granted(granted) => self.is_granted(granted),
+            Told::Refused(refusal) => self.may_refuse(*refusal),
+            Told::NoMoment => true,
+        }
+    }
+
+    // Whether what is granted is what the question names.
+    fn is_granted(&self, granted: &Granted<'_>) -> bool
+        ensures { IsTrue result ↔ GrantsWhat granted.now self.now }
+    {
+        match (self, granted) {
+            (Question::Sell(order), Granted::Sale(sale)) => is_sale_for(order, sale),
+            (Question::Receipt(number), Granted::Sale(sale)) => sale.number == *number,
+            (Question::SaleOfRef(operator, order_ref), Granted::Sale(sale)) => {
+                sale.operator.as_bytes() == operator.as_bytes()
+                    && sale.order_ref.as_bytes() == order_ref.as_bytes()
+            }
+            (Question::ShiftTotals(number), Granted::Totals(shift, _)) => shift == number,
+            (Question::Meter(meter), Granted::Meter(summary)) => {
+                summary.number.as_bytes() == meter.as_bytes()
+            }
+            (Question::Quote(meter, tender), Granted::Quote(quote)) => {
+                quote.meter.as_bytes() == meter.as_bytes() && quote.tender.cents() == tender.cents()
+            }
+            _ => true,
+        }
+    }
+
+    // Whether the office has this refusal for the question.
+    fn may_refuse(&self, refusal: Refusal) -> bool
+        ensures { IsTrue result ↔ MayRefuse refusal self.now }
+    {
+        match refusal {
+            Refusal::RefReused => matches!(self, Question::Sell(_)),
+            Refusal::NoShift => matches!(self, Question::CloseShift(_) | Question::Sell(_)),
+            Refusal::ShiftOpen => matches!(self, Question::OpenShift(_)),
+            Refusal::NoMeter => matches!(
+                self,
+                Question::MoveBase(..)
+                    | Question::Sell(_)
+                    | Question::Meter(_)
+                    | Question::LastSale(_)
+                    | Question::Quote(..)
+            ),
+            Refusal::BeforeBase => {
+                matches!(
+                    self,
+                    Question::MoveBase(..) | Question::Sell(_) | Question::Quote(..)
+                )
+            }
+            Refusal::IdentifiersSpent | Refusal::IdentifierAhead | Refusal::TooLittle => {
+                matches!(self, Question::Sell(_) | Question::Quote(..))
+            }
+            Refusal::OfficeFull => {
+                matches!(
+                    self,
+                    Question::OpenShift(_) | Question::Sell(_) | Question::Quote(..)
+                )
+            }
+            Refusal::NoSale => matches!(
+                self,
+                Question::Receipt(_) | Question::LastSale(_) | Question::SaleOfRef(..)
+            ),
+            Refusal::NoSuchShift => {
+                matches!(self, Question::ShiftReport(_) | Question::ShiftTotals(_))
+            }
+            Refusal::ImportRow(row, cause) => {
+                matches!(self, Question::Import(..)) && is_row_refused(row, cause)
+            }
+            Refusal::NotLater => matches!(self, Question::MoveBase(..)),
+            Refusal::Memory | Refusal::Store | Refusal::Stopped => true,
+            Refusal::NoTariff | Refusal::Differs | Refusal::DayPast => false,
+        }
+    }
+}
+
+// Whether a sale is that of an order.
+fn is_sale_for(order: &Order, sale: &Sale) -> bool
+    ensures { IsTrue result ↔ IsSaleFor order.now sale.now }
+{
+    sale.operator.as_bytes() == order.operator.as_bytes()
+        && sale.order_ref.as_bytes() == order.order_ref.as_bytes()
+        && sale.meter.as_bytes() == order.meter.as_bytes()
+        && sale.tender.cents() == order.tender.cents()
+}
+
+// Whether this row of a file may be refused for this cause.
+fn is_row_refused(row: u32, cause: RowCause) -> bool
+    ensures { IsTrue result ↔ IsRowRefused row cause }
+{
+    let is_row = (1..=LAST_ROW).contains(&row);
+    match cause {
+        RowCause::Header => row == 0,
+        RowCause::Field(number) => is_row && (1..=4).contains(&number),
+        RowCause::TooManyRows => row == LAST_ROW + 1,
+        RowCause::Columns | RowCause::Differs | RowCause::NoTariff | RowCause::DayPast => is_row,
+    }
+}
