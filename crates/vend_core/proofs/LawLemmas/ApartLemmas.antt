@@ -1,14 +1,15 @@
--- Identifiers of sales that lie 1,441 minutes apart: what is at most 1,440 minutes ahead of the earlier
--- one's minute is before the later one's.
-use Rattle.std.proofs.Common.{◌≡◌, ℕ, List, ◌+◌, ◌-◌, ◌/◌, ◌<◌, ◌≤◌, Bool, true, false, Some, Ok, Err, refl, ◌∙◌, ap, arith}
+-- Identifiers of sales that lie a day and a minute apart: what is at most 1,440 minutes ahead of the
+-- earlier one's minute is before the later one's.
+use Rattle.std.proofs.Common.{◌≡◌, ℕ, List, ◌+◌, ◌-◌, ◌*◌, ◌/◌, ◌<◌, ◌≤◌, Bool, true, false, Some, Ok, Err, refl, ◌∙◌, ap, arith}
 use Rattle.std.specs.Prelude.{Contains, nat_lt, if◌then◌else◌}
 use Rattle.std.proofs.lemmas.Bool.Decides.{nat_tests}
 use Rattle.std.proofs.lemmas.Option.{slice_get-get_or}
 use Rattle.sts_fields.specs.Base.{base_date}
 use Rattle.sts_fields.specs.Tid.{last_tid, minute_of, minutes_since}
 use Rattle.sts_fields.specs.declared.base.Base.{Base}
+use Rattle.sts_fields.specs.declared.base.Base.TheVariants.{Y1993, Y2014, Y2035}
 use Rattle.sts_fields.specs.declared.fault.TidFault.TheVariants.{BeforeBase, PastEnd}
-use Rattle.vend_core.specs.Law.Apart.{HaveMade, IsTimely, seconds_apart}
+use Rattle.vend_core.specs.Law.Apart.{HaveMade, IsTimely, day_after, seconds_apart}
 use Rattle.vend_core.specs.Law.Life.{Life}
 use Rattle.vend_core.specs.Law.Reached.{IsPlausible}
 use Rattle.office_rules.specs.Office.{Office}
@@ -32,19 +33,30 @@ minute_is base moment minute e =
     let before : nat_lt moment (base_date base) ≡ false = at.0 in
     (grind (arith, nat_tests), at.1)
 
--- 1,441 minutes later the minute is as many greater
-minutes_later : (date early late : ℕ) → date ≤ early → early + seconds_apart ≤ late
-    → (early - date) / 60 + 1441 ≤ (late - date) / 60
-minutes_later date early late from apart = omega arith
+-- base dates begin with a minute
+begins_minute : (base : Base) → base_date base ≡ base_date base / 60 * 60
+begins_minute Y1993 = refl
+begins_minute Y2014 = refl
+begins_minute Y2035 = refl
+
+-- a day after the end of a minute the minute is 1,441 greater
+minutes_later : (date early late : ℕ) → date ≡ date / 60 * 60 → date ≤ early
+    → day_after early ≤ late → (early - date) / 60 + 1441 ≤ (late - date) / 60
+minutes_later date early late minute from apart = omega (arith, minute, apart)
+
+-- so many seconds are enough
+pub enough_seconds : (moment : ℕ) → day_after moment ≤ moment + seconds_apart
+enough_seconds moment = omega arith
 
 -- of two timely sales under one base that lie so far apart the later one has the greater identifier
 pub timely_apart : (s t : Sale) → IsTimely s → IsTimely t → s.base ≡ t.base
-    → s.moment + seconds_apart ≤ t.moment → s.tid < t.tid
+    → day_after s.moment ≤ t.moment → s.tid < t.tid
 timely_apart s t early late same apart =
     let a = minute_is s.base s.moment early.minute early.minute_is in
     let b = minute_is s.base t.moment late.minute
     (ap (λ base. minute_of base t.moment) same ∙ late.minute_is) in
-    let more = minutes_later (base_date s.base) s.moment t.moment a.0 apart in
+    let more =
+    minutes_later (base_date s.base) s.moment t.moment (begins_minute s.base) a.0 apart in
     omega (arith, more, a.1, b.1, early.lead, late.not_past)
 
 -- a sale that lives made is timely, and so is one of a plausible office

@@ -1,5 +1,6 @@
 -- Sales of one office or of two that lie so far apart that the later one has the greater identifier.
-use Rattle.std.specs.Prelude.{◌≡◌, ℕ, ◌+◌, ◌≤◌, List, Ok}
+use Rattle.std.specs.Prelude.{◌≡◌, ℕ, ◌+◌, ◌*◌, ◌/◌, ◌≤◌, List, Ok}
+use Rattle.sts_fields.specs.Moment.{UnixSeconds}
 use Rattle.sts_fields.specs.Tid.{greatest_lead, minute_of}
 use Rattle.vend_core.specs.Law.Life.{LeadTo, Life, WasMadeSince}
 use Rattle.office_rules.specs.Office.{IsOffice, Office}
@@ -20,6 +21,12 @@ pub record IsTimely (s : Sale) : Type 0 where
   pub not_past : minute ≤ s.tid
   pub lead : s.tid ≤ minute + greatest_lead
 
--- after so many seconds: 1,441 minutes
+-- the first moment that is a day after the end of the minute of another one: in minutes of 60
+-- seconds, by which base dates begin too
+abbrev pub day_after : UnixSeconds → UnixSeconds
+day_after moment = (moment / 60 + greatest_lead + 1) * 60
+
+-- by so many seconds after a moment it has come, in whichever second of its minute that lies:
+-- 1,441 minutes
 abbrev pub seconds_apart : ℕ
 seconds_apart = 86460

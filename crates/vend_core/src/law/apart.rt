@@ -1,5 +1,5 @@
-ghost use Rattle.std.specs.Prelude.{◌≡◌, ◌+◌, ◌<◌, ◌≤◌, List, Contains};
-ghost use Rattle.vend_core.specs.Law.Apart.{HaveMade, IsTimely, seconds_apart};
+ghost use Rattle.std.specs.Prelude.{◌≡◌, ◌+◌, ◌<◌, ◌≤◌, ℕ, List, Contains};
+ghost use Rattle.vend_core.specs.Law.Apart.{HaveMade, IsTimely, day_after, seconds_apart};
 ghost use Rattle.vend_core.specs.Law.Life.{Life};
 ghost use Rattle.vend_core.specs.Law.Reached.{IsPlausible};
 ghost use Rattle.office_rules.specs.Office.{Office};
@@ -14,16 +14,18 @@ use tariff::purchase_law;
 /// So it is after a restore, which loses the last sales, and where a meter moves to another file:
 /// no identifier of the meter comes again if the office waits so long before it sells to it.
 pub fn apart_law()
-    // Of any two lists of lives, of one office or of two, a sale at least 1,441 minutes later than
-    // another under the same base, to the same meter or to another, has a greater identifier.
+    // Of any two lists of lives, of one office or of two, a sale that is made a day after the end
+    // of the minute of another under the same base, or later, has a greater identifier, whether it
+    // is to the same meter or to another. 86,460 seconds are always enough.
     //
     // An identifier is a minute, and lies ahead of the sale's own by 1,440 at the most. One second
-    // less does not do: a sale at a full minute may have taken the minute 1,440 later (where the
-    // clock was ahead before), and 86,459 seconds after it that very minute still lasts, which is
-    // what another office gives.
+    // less does not do: a sale in the first second of a minute may have the identifier 1,440
+    // minutes ahead of it (where the clock was ahead before), and 86,459 seconds later that very
+    // minute still lasts, which is then what another office gives.
     ensures apart { (lives others : List Life) (s t : Sale)
         → HaveMade lives s → HaveMade others t → s.base ≡ t.base
-        → s.moment + seconds_apart ≤ t.moment → s.tid < t.tid }
+        → day_after s.moment ≤ t.moment → s.tid < t.tid }
+    ensures enough { (moment : ℕ) → day_after moment ≤ moment + seconds_apart }
 
     // It follows from this of each of the two, which the rows of a plausible office show too.
     ensures timely { (lives : List Life) (s : Sale) → HaveMade lives s → IsTimely s }
@@ -31,7 +33,7 @@ pub fn apart_law()
         → IsPlausible o → Contains o.sales s → IsTimely s }
     ensures timely_apart { (s t : Sale)
         → IsTimely s → IsTimely t → s.base ≡ t.base
-        → s.moment + seconds_apart ≤ t.moment → s.tid < t.tid }
+        → day_after s.moment ≤ t.moment → s.tid < t.tid }
 {
     fresh_law();
     purchase_law();

@@ -1,5 +1,5 @@
 use Rattle.office_rules.proofs.DecisionLemmas.NewSaleLemmas.{LowerLaws}
-use Rattle.vend_core.proofs.LawLemmas.ApartLemmas.{have_made_timely, plausible_timely, timely_apart}
+use Rattle.vend_core.proofs.LawLemmas.ApartLemmas.{enough_seconds, have_made_timely, plausible_timely, timely_apart}
 use Rattle.vend_core.proofs.law.apart.apart_law.Goals as goal
 
 -- the laws that the body calls
@@ -9,6 +9,9 @@ lower c = record { fresh = c.fresh_law.ensures.computed; purchase = c.purchase_l
 pub returns-clause-apart : goal.returns-clause-apart
 returns-clause-apart c = λ lives others s t early late.
     timely_apart s t (have_made_timely (lower c) lives s early) (have_made_timely (lower c) others t late)
+
+pub returns-clause-enough : goal.returns-clause-enough
+returns-clause-enough c = enough_seconds
 
 pub returns-clause-timely : goal.returns-clause-timely
 returns-clause-timely c = have_made_timely (lower c)
