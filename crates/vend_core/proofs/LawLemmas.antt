@@ -1,6 +1,7 @@
 -- What single requests do: a ref that comes again, a refusal, a reprint, a report, a new sale.
 pub mod AgainLemmas
 pub mod AnswerLemmas
+pub mod ApartLemmas
 pub mod BaseLemmas
 pub mod CashLemmas
 pub mod ClearedLemmas
@@ -15,6 +16,7 @@ pub mod ReachedLemmas
 pub mod RefusalLemmas
 pub mod RiseLemmas
 pub mod SaleLemmas
+pub mod WrittenLemmas
 use Rattle.std.proofs.Common.{◌≡◌, ℕ, Bool, true, false, List, [], ◌∷◌, ◌++◌, length, Option, Some, None, Result, Ok, Err, refl, sym, ◌∙◌, ap, subst}
 use Rattle.std.specs.Prelude.{◌==◌, Contains, if◌then◌else◌}
 use Rattle.std.proofs.lemmas.Bool.{false≢true}

@@ -114,20 +114,22 @@ module _ (laws : LowerLaws) where
     pub handed_left : (o : Office) (s : Sale) → MayLeave life o → HandsOut life s → Contains o.sales s
     handed_left o s may hands = stands_on (present life) o s (left_grown o may) (handed_present s hands)
 
-  -- along the lives
-  led_office : (start : Office) (lives : List Life) (o : Office) → IsOffice start → LeadTo start lives o → IsOffice o
+  -- along the lives: an office that they may leave is an office
+  pub led_office : (start : Office) (lives : List Life) (o : Office) → IsOffice start → LeadTo start lives o → IsOffice o
   led_office start [] o office e = subst IsOffice (sym e) office
   led_office start (life ∷ lives) o office (is, opens, (left, may, leads)) =
       led_office left lives o (left_office life is (subst IsOffice (sym opens) office) left may) leads
 
-  led_grown : (start : Office) (lives : List Life) (o : Office) → IsOffice start → LeadTo start lives o → HasGrown start o
+  -- what they may leave has grown out of the office that the first of them opened
+  pub led_grown : (start : Office) (lives : List Life) (o : Office) → IsOffice start → LeadTo start lives o → HasGrown start o
   led_grown start [] o office e = subst (λ p. HasGrown start p) (sym e) (grown_none start)
   led_grown start (life ∷ lives) o office (is, opens, (left, may, leads)) =
       let opening = subst IsOffice (sym opens) office in
       grown_twice start left o (subst (λ p. HasGrown p left) opens (opening_grown life is opening left may))
       (led_grown left lives o (left_office life is opening left may) leads)
 
-  led_stands : (start : Office) (lives : List Life) (o : Office) (s : Sale) → IsOffice start → LeadTo start lives o → IsHanded lives s → Contains o.sales s
+  -- each sale that any of the lives hands out stands in what they may leave
+  pub led_stands : (start : Office) (lives : List Life) (o : Office) (s : Sale) → IsOffice start → LeadTo start lives o → IsHanded lives s → Contains o.sales s
   led_stands start [] o s office leads handed = absurd (omega (arith, handed.1.1))
   led_stands start (life ∷ lives) o s office (is, opens, (left, may, leads)) (by, there, hands) =
       let opening = subst IsOffice (sym opens) office in
@@ -137,14 +139,6 @@ module _ (laws : LowerLaws) where
             (handed_left life is opening left s may (subst (λ l. HandsOut l s) (sym first) hands))
         | inr further ↦ led_stands left lives o s left_is leads (by, further, hands)
       ]
-
-  -- an office that lives may leave, and what stands in it
-  pub lives_office : (lives : List Life) (o : Office) → AreLives lives o → IsOffice o
-  lives_office lives o are = led_office empty_office lives o empty_is_office are
-
-  -- each sale that any of the lives hands out stands in what they may leave
-  pub handed_stands : (lives : List Life) (o : Office) (s : Sale) → AreLives lives o → IsHanded lives s → Contains o.sales s
-  handed_stands lives o s are handed = led_stands empty_office lives o s empty_is_office are handed
 
 -- a sale that was answered was handed out
 pub answered_handed : (lives : List Life) (answer : Answer) (s : Sale) → Answered lives answer → Contains (sales_of (Ok answer)) s → IsHanded lives s

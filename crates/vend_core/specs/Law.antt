@@ -1,4 +1,5 @@
 -- What holds of an office over requests, stops and lives.
+pub mod Apart
 pub mod Imports
 pub mod Life
 pub mod LifeLaws

@@ -6,7 +6,7 @@
 mod law;
 mod lists;
 
-pub use law::{history_law, life_law, office_law, reached_law};
+pub use law::{apart_law, credited_law, history_law, life_law, lives_law, office_law, reached_law};
 pub use lists::Lists;
 pub use office_decisions::decide;
 pub use office_rules::{

@@ -1,28 +1,26 @@
--- Requests and lives lead from the empty office to plausible ones, and under one transform each sale
+-- Requests and lives lead from plausible offices, as the empty one, to plausible ones, and under one transform each sale
 -- has the token of its fields.
-use Rattle.std.proofs.Common.{◌≡◌, ℕ, ◌≤◌, inl, inr, List, length, get_or, take, refl, sym, ◌∙◌, ap, subst, arith}
+use Rattle.std.proofs.Common.{ℕ, ◌≤◌, inl, inr, List, length, get_or, take, refl, sym, subst, arith}
 use Rattle.std.specs.Prelude.{All}
-use Rattle.std.proofs.lemmas.List.Elements.{All-nil, All-push, All-take, All-weaker}
-use Rattle.sts_token.specs.Token.{IsToken, KeepsRange}
+use Rattle.std.proofs.lemmas.List.Elements.{All-take, All-weaker}
+use Rattle.sts_token.specs.Token.{KeepsRange}
 use Rattle.office_rules.specs.Decision.Fold.{after, step}
 use Rattle.office_rules.specs.Decision.Requests.{IsStamped}
 use Rattle.office_rules.specs.Law.Growth.{HasGrown}
-use Rattle.vend_core.specs.Law.Life.{AreLives, Life}
-use Rattle.office_rules.specs.Law.NewSale.{fields_of}
-use Rattle.vend_core.specs.Law.Reached.{EachAfter, HasTokensOf, IsGrantedAfter, IsPlausible, IsWrittenBy}
+use Rattle.vend_core.specs.Law.Life.{LeadTo, Life}
+use Rattle.vend_core.specs.Law.Reached.{EachAfter, IsGrantedAfter, IsPlausible}
 use Rattle.office_rules.specs.Office.{IsOffice, IsSaleRow, Office, empty_office}
 use Rattle.office_rules.specs.declared.decision.request.Stamped.{Stamped}
 use Rattle.office_rules.specs.declared.office.sale.Sale.{Sale}
 use Rattle.office_rules.proofs.DecisionLemmas.NewSaleLemmas.{LowerLaws}
 use Rattle.vend_core.proofs.LawLemmas.AnswerLemmas.{sells_one}
 use Rattle.vend_core.proofs.LawLemmas.EachAfterLemmas.{each_after_none, each_after_push, each_after_weaker}
-use Rattle.vend_core.proofs.LawLemmas.EffectLemmas.{ShiftsChange, KeysStay, keys_by, keys_same, shifts_by, step_by_edit}
+use Rattle.vend_core.proofs.LawLemmas.EffectLemmas.{ShiftsChange, shifts_by, step_by_edit}
 use Rattle.vend_core.proofs.LawLemmas.FoldLemmas.{step_grows}
-use Rattle.vend_core.proofs.LifeLemmas.AlongLemmas.{StepKeepsBy, after_keeps_by, lives_keep_by}
+use Rattle.vend_core.proofs.LifeLemmas.AlongLemmas.{after_keeps_by, led_keeps}
 use Rattle.vend_core.proofs.LawLemmas.PlausibleLemmas.{AmountCodes, granted_stays, new_granted, shifts_go_on}
 use Rattle.office_rules.proofs.OfficeLemmas.{empty_is_office}
 
--- ---- a step
 within_shifts : (o : Office) → IsOffice o → All (λ (a : Sale). a.shift ≤ length o.shifts) o.sales
 within_shifts o office =
     All-weaker (IsSaleRow o) (λ (a : Sale). a.shift ≤ length o.shifts) (λ a row. row.shift.1) o.sales
@@ -77,65 +75,9 @@ module _ (laws : LowerLaws) (codes : AmountCodes) where
       (λ o at office is range holds. step_plausible forward o at office is range holds)
       empty_office ats empty_is_office are range empty_plausible
 
-  -- lives lead to a plausible office
-  pub lives_plausible : (lives : List Life) (o : Office) → AreLives lives o → IsPlausible o
-  lives_plausible lives o are =
-      lives_keep_by laws IsPlausible lives o (λ k d below o at office is range holds.
-      step_plausible (get_or lives k d).forward o at office is range holds) are empty_plausible
-
-  -- ---- the tokens of one transform
-  written_stays : (forward : ℕ → ℕ → ℕ) (o p : Office) (s : Sale) → KeysStay o p
-      → IsWrittenBy forward o s → IsWrittenBy forward p s
-  written_stays forward o p s stay was =
-      let m = stay s.meter was.meter was.meter_is in
-      record {
-        meter = m.0;
-        meter_is = m.1;
-        token = subst (λ key. IsToken forward key (fields_of s) s.digits) (sym m.2) was.token;
-      }
-
-  -- if each sale has the token of its fields, it has it after a request too
-  pub step_writes : (forward : ℕ → ℕ → ℕ) (o : Office) (at : Stamped) → IsOffice o
-      → IsStamped at → KeepsRange forward → HasTokensOf forward o
-      → HasTokensOf forward (step forward o at)
-  step_writes forward o at office is range have =
-      let p = step forward o at in
-      let keys = step_by_edit laws (KeysStay o) forward o at office is range (keys_same o)
-      (keys_by o) in
-      let stay = All-weaker (IsWrittenBy forward o) (IsWrittenBy forward p)
-      (λ s was. written_stays forward o p s keys was) o.sales have in
-      elim (sells_one laws forward o at office range) [
-        | inl same ↦ subst (λ (sales : List Sale). All (IsWrittenBy forward p) sales) (sym same) stay
-        | inr (s, (order, asks, new), pushed, answered) ↦
-            subst (λ (sales : List Sale). All (IsWrittenBy forward p) sales) (sym pushed)
-            (All-push (IsWrittenBy forward p) o.sales s stay
-            (written_stays forward o p s keys (record {
-              meter = new.to_meter;
-              meter_is = ap o.meters new.meter ∙ new.meter_is;
-              token = new.digits;
-            })))
-      ]
-
-  -- requests from the empty office on lead to sales with the tokens of their fields
-  pub after_writes : (forward : ℕ → ℕ → ℕ) (ats : List Stamped) → All IsStamped ats
-      → KeepsRange forward → HasTokensOf forward (after forward empty_office ats)
-  after_writes forward ats are range =
-      after_keeps_by laws (HasTokensOf forward) forward
-      (λ o at office is range holds. step_writes forward o at office is range holds)
-      empty_office ats empty_is_office are range (All-nil (IsWrittenBy forward empty_office))
-
-  writes_by : (forward other : ℕ → ℕ → ℕ) → other ≡ forward
-      → StepKeepsBy (HasTokensOf forward) other
-  writes_by forward other same =
-      subst (StepKeepsBy (HasTokensOf forward)) (sym same)
-      (λ o at office is range holds. step_writes forward o at office is range holds)
-
-  -- the same of the office that lives under one transform lead to
-  pub lives_write : (forward : ℕ → ℕ → ℕ) (lives : List Life) (o : Office) → AreLives lives o
-      → All (λ (life : Life). life.forward ≡ forward) lives → HasTokensOf forward o
-  lives_write forward lives o are one =
-      lives_keep_by laws (HasTokensOf forward) lives o
-      (All-weaker (λ (life : Life). life.forward ≡ forward)
-      (λ (life : Life). StepKeepsBy (HasTokensOf forward) life.forward)
-      (λ life same. writes_by forward life.forward same) lives one)
-      are (All-nil (IsWrittenBy forward empty_office))
+  -- lives lead from a plausible office to one
+  pub led_plausible : (start : Office) (lives : List Life) (o : Office) → IsOffice start
+      → LeadTo start lives o → IsPlausible start → IsPlausible o
+  led_plausible start lives o office lead plausible =
+      led_keeps laws IsPlausible start lives o (λ k d below o at office is range holds.
+      step_plausible (get_or lives k d).forward o at office is range holds) office lead plausible

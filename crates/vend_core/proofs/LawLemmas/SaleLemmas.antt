@@ -1,22 +1,23 @@
--- What holds of each new sale holds of each sale that lives hand out.
-use Rattle.std.proofs.Common.{ℕ, ◌≤◌, inl, inr, List, [], ◌∷◌, sym, subst}
+-- What holds of each new sale holds of each sale that lives made.
+use Rattle.std.proofs.Common.{◌⊎◌, ℕ, ◌≤◌, inl, inr, List, [], ◌∷◌, sym, ◌∙◌, ap, subst, arith}
 use Rattle.std.specs.Prelude.{All, Contains}
-use Rattle.std.proofs.lemmas.List.Elements.{All-contains, All-head, All-nil, All-push, All-tail}
-use Rattle.sts_fields.specs.Tid.{IsReserved}
+use Rattle.std.proofs.lemmas.List.Elements.{All-contains, All-head, All-push, All-tail, Contains-get_or}
+use Rattle.sts_fields.specs.Tid.{IsReserved, minute_of}
 use Rattle.sts_token.specs.Token.{KeepsRange}
 use Rattle.office_rules.specs.Decision.Fold.{after, step}
-use Rattle.vend_core.specs.Law.Life.{AreLives, IsHanded, IsLife, LeadTo, Life, MayLeave, acknowledged, present}
+use Rattle.vend_core.specs.Law.Life.{IsLife, LeadTo, Life, MayLeave, WasMadeSince, acknowledged, present}
 use Rattle.office_rules.specs.Law.NewSale.{IsNewSale}
-use Rattle.office_rules.specs.Office.{IsOffice, Office, empty_office}
+use Rattle.office_rules.specs.Office.{IsOffice, Office}
 use Rattle.office_rules.specs.Decision.Requests.{IsStamped}
+use Rattle.vend_core.specs.Law.Apart.{IsTimely}
 use Rattle.vend_core.specs.Law.SoldTokens.{WasWritten}
 use Rattle.office_rules.specs.declared.decision.request.Order.{Order}
 use Rattle.office_rules.specs.declared.decision.request.Stamped.{Stamped}
 use Rattle.office_rules.specs.declared.office.sale.Sale.{Sale}
 use Rattle.vend_core.proofs.LawLemmas.AnswerLemmas.{sells_one}
-use Rattle.vend_core.proofs.LifeLemmas.{acknowledged_stamped, handed_stands, left_office, present_office}
+use Rattle.vend_core.proofs.LifeLemmas.{acknowledged_stamped, left_office, present_office}
 use Rattle.office_rules.proofs.DecisionLemmas.NewSaleLemmas.{LowerLaws}
-use Rattle.office_rules.proofs.OfficeLemmas.{empty_is_office, step_keeps_office}
+use Rattle.office_rules.proofs.OfficeLemmas.{step_keeps_office}
 use Rattle.office_rules.proofs.OfficeLemmas.RowLemmas.{contains_first, contains_further}
 
 module _ (laws : LowerLaws) (P : Sale → Type 0) where
@@ -58,27 +59,50 @@ module _ (laws : LowerLaws) (P : Sale → Type 0) where
       led_all left lives o (left_office laws life is opening left may) leads (λ later there. keeps later (contains_further life later lives there))
       (left_all life is opening (keeps life (contains_first life lives)) (subst (λ (p : Office). All P p.sales) (sym opens) all) left may)
 
-  -- what each life's new sales keep holds of each sale that lives hand out
-  pub handed_keeps : (lives : List Life) (o : Office) (s : Sale) → AreLives lives o
-      → ((life : Life) → Contains lives life → KeepsNew life.forward) → IsHanded lives s → P s
-  handed_keeps lives o s are keeps handed =
-      All-contains P o.sales s (led_all empty_office lives o empty_is_office are keeps (All-nil P)) (handed_stands laws lives o s are handed)
+-- what each life's new sales keep holds of each sale that lives made
+pub made_keeps : (laws : LowerLaws) (P : Sale → Type 0) (start : Office) (lives : List Life) (o : Office) (s : Sale) → IsOffice start → LeadTo start lives o
+    → ((life : Life) → Contains lives life → KeepsNew laws P life.forward) → WasMadeSince start o s → P s
+made_keeps laws P start lives o s begins lead keeps made =
+    let OldOr : Sale → Type 0 = λ s. Contains start.sales s ⊎ P s in
+    let all = led_all laws OldOr start lives o begins lead (λ life there p at order t office new. inr (keeps life there p at order t office new))
+    (λ k d below. inl (Contains-get_or start.sales k d below)) in
+    elim (All-contains OldOr o.sales s all made.stands) [ inl old ↦ absurd (made.new old) | inr holds ↦ holds ]
 
--- an identifier that is sold is at least 2, and not reserved
-pub handed_tid : LowerLaws → (lives : List Life) (o : Office) (s : Sale) → AreLives lives o → IsHanded lives s → (2 ≤ s.tid) × ¬ IsReserved s.tid
-handed_tid laws lives o s are handed =
-    handed_keeps laws (λ (s : Sale). (2 ≤ s.tid) × ¬ IsReserved s.tid) lives o s are
-    (λ life there o at order s office new. (new.tid.0.may_sell.from_two, new.tid.0.may_sell.not_reserved)) handed
+module _ (laws : LowerLaws) (start : Office) (lives : List Life) (o : Office) (s : Sale) (begins : IsOffice start) (lead : LeadTo start lives o)
+    (made : WasMadeSince start o s) where
+  -- an identifier that is sold is at least 2, and not reserved
+  pub made_tid : (2 ≤ s.tid) × ¬ IsReserved s.tid
+  made_tid =
+      made_keeps laws (λ (s : Sale). (2 ≤ s.tid) × ¬ IsReserved s.tid) start lives o s begins lead
+      (λ life there o at order s office new. (new.tid.0.may_sell.from_two, new.tid.0.may_sell.not_reserved)) made
 
--- a sale was written under the transform of one of the lives, and a key
-pub handed_token : LowerLaws → (lives : List Life) (o : Office) (s : Sale) → AreLives lives o → IsHanded lives s → WasWritten lives s
-handed_token laws lives o s are handed =
-    handed_keeps laws (WasWritten lives) lives o s are
-    (λ life there o at order s office new.
-    record {
-      life = life;
-      key = new.to_meter.key;
-      one_of = there;
-      key_bits = (office.meters order.meter new.to_meter new.meter_is).key;
-      token = new.digits;
-    }) handed
+  -- a sale has a tenth at least
+  pub made_tenths : 1 ≤ s.tenths
+  made_tenths =
+      made_keeps laws (λ (s : Sale). 1 ≤ s.tenths) start lives o s begins lead
+      (λ life there o at order s office new. omega (arith, new.bought_is.some, new.tenths)) made
+
+  -- a sale was written under the transform of one of the lives, and a key
+  pub made_token : WasWritten lives s
+  made_token =
+      made_keeps laws (WasWritten lives) start lives o s begins lead
+      (λ life there o at order s office new.
+      record {
+        life = life;
+        key = new.to_meter.key;
+        one_of = there;
+        key_bits = (office.meters order.meter new.to_meter new.meter_is).key;
+        token = new.digits;
+      }) made
+
+  -- the identifier of a sale is its minute, or at most a day ahead of it
+  pub made_timely : IsTimely s
+  made_timely =
+      made_keeps laws IsTimely start lives o s begins lead
+      (λ life there o at order s office new.
+      record {
+        minute = new.minute;
+        minute_is = ap (λ b. minute_of b s.moment) new.base ∙ ap (λ m. minute_of new.to_meter.base m) new.moment ∙ new.minute_is;
+        not_past = new.tid.0.may_sell.not_past;
+        lead = new.tid.1;
+      }) made

@@ -6,8 +6,8 @@ use Rattle.std.proofs.lemmas.List.Elements.{All-contains, All-filter, All-head, 
 use Rattle.office_rules.specs.Decision.Fold.{after, replies_to, reply, step}
 use Rattle.office_rules.specs.Law.Growth.{HaveStayed}
 use Rattle.vend_core.specs.Law.Imports.{AsksNoMeterChange, ImportsNothing, ChangesNoMeter}
-use Rattle.vend_core.specs.Law.Life.{AreLives, Exchange, IsLife, LeadTo, Life, MayLeave, StopsAtDoubt, acknowledged, acknowledges, doubts, in_doubt, present}
-use Rattle.office_rules.specs.Office.{Office, empty_office}
+use Rattle.vend_core.specs.Law.Life.{Exchange, IsLife, LeadTo, Life, MayLeave, StopsAtDoubt, acknowledged, acknowledges, doubts, in_doubt, present}
+use Rattle.office_rules.specs.Office.{Office}
 use Rattle.office_rules.specs.declared.decision.answer.Answer.{Answer}
 use Rattle.office_rules.specs.declared.decision.answer.Answer.TheVariants as answers
 use Rattle.office_rules.specs.declared.decision.refusal.Refusal.{Refusal}
@@ -162,12 +162,12 @@ led_stand start (first ∷ earlier) later life o before between e rows new (is, 
     led_stand left earlier later life o before between e rows new leads exchanges asks granted others later_others
 
 -- the same over lives, where no exchange after the import asks to change a meter
-pub imported_again_in_lives : (earlier later : List Life) (life : Life) (o : Office) (before between : List Exchange) (e : Exchange)
+pub imported_again_in_lives : (start : Office) (earlier later : List Life) (life : Life) (o : Office) (before between : List Exchange) (e : Exchange)
     (rows : List Row) (new : ℕ) (forward : ℕ → ℕ → ℕ) (again : Stamped)
-    → AreLives (earlier ++ life ∷ later) o → life.exchanges ≡ before ++ e ∷ between
+    → LeadTo start (earlier ++ life ∷ later) o → life.exchanges ≡ before ++ e ∷ between
     → e.request.request ≡ requests.Import rows → e.reply ≡ Ok (answers.Imported new)
     → All AsksNoMeterChange between → All (λ (l : Life). All AsksNoMeterChange l.exchanges) later
     → again.request ≡ requests.Import rows → ImportsNothing forward o again
-imported_again_in_lives earlier later life o before between e rows new forward again are exchanges asks granted others later_others asks_again =
-    imports_nothing forward o again rows asks_again (led_stand empty_office earlier later life o before between e rows new are exchanges
+imported_again_in_lives start earlier later life o before between e rows new forward again lead exchanges asks granted others later_others asks_again =
+    imports_nothing forward o again rows asks_again (led_stand start earlier later life o before between e rows new lead exchanges
     asks granted others later_others)

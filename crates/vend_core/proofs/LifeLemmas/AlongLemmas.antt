@@ -5,13 +5,13 @@ use Rattle.std.specs.Prelude.{All}
 use Rattle.std.proofs.lemmas.List.Elements.{All-contains, All-head, All-tail}
 use Rattle.sts_token.specs.Token.{KeepsRange}
 use Rattle.office_rules.specs.Decision.Fold.{after, step}
-use Rattle.vend_core.specs.Law.Life.{AreLives, IsLife, LeadTo, Life, MayLeave, acknowledged, in_doubt, present}
-use Rattle.office_rules.specs.Office.{IsOffice, Office, empty_office}
+use Rattle.vend_core.specs.Law.Life.{IsLife, LeadTo, Life, MayLeave, acknowledged, in_doubt, present}
+use Rattle.office_rules.specs.Office.{IsOffice, Office}
 use Rattle.office_rules.specs.Decision.Requests.{IsStamped}
 use Rattle.office_rules.specs.declared.decision.request.Stamped.{Stamped}
 use Rattle.vend_core.proofs.LifeLemmas.{acknowledged_stamped, doubted_stamped, left_office, present_office}
 use Rattle.office_rules.proofs.DecisionLemmas.NewSaleLemmas.{LowerLaws}
-use Rattle.office_rules.proofs.OfficeLemmas.{empty_is_office, step_keeps_office}
+use Rattle.office_rules.proofs.OfficeLemmas.{step_keeps_office}
 
 -- a step of an office under a transform keeps P, and so does one under any transform
 abbrev pub StepKeepsBy : (Office → Type 0) → (ℕ → ℕ → ℕ) → Type 0
@@ -48,7 +48,9 @@ module _ (laws : LowerLaws) (P : Office → Type 0) where
       (after_keeps_by life.forward keeps life.opening (acknowledged life) office
       (acknowledged_stamped laws life is) is.range holds))
 
-  led_keeps : (start : Office) (lives : List Life) (o : Office)
+  -- what the steps under each life's transform keep holds of what lives may leave, if the office
+  -- has it that the first of them opens
+  pub led_keeps : (start : Office) (lives : List Life) (o : Office)
       → All (λ (life : Life). StepKeepsBy P life.forward) lives → IsOffice start
       → LeadTo start lives o → P start → P o
   led_keeps start [] o keep office e holds = subst P (sym e) holds
@@ -58,13 +60,6 @@ module _ (laws : LowerLaws) (P : Office → Type 0) where
       let rest = All-tail (λ (life : Life). StepKeepsBy P life.forward) life lives keep in
       led_keeps left lives o rest (left_office laws life is opening left may) leads
       (left_keeps life keeps is opening (subst P (sym opens) holds) left may)
-
-  -- what the steps under each life's transform keep holds of what lives may leave
-  pub lives_keep_by : (lives : List Life) (o : Office)
-      → All (λ (life : Life). StepKeepsBy P life.forward) lives → AreLives lives o
-      → P empty_office → P o
-  lives_keep_by lives o keep are holds =
-      led_keeps empty_office lives o keep empty_is_office are holds
 
 module _ (laws : LowerLaws) (P : Office → Type 0) (keeps : StepKeeps P) where
   by_each : (forward : ℕ → ℕ → ℕ) → StepKeepsBy P forward
@@ -77,6 +72,8 @@ module _ (laws : LowerLaws) (P : Office → Type 0) (keeps : StepKeeps P) where
       after_keeps_by laws P forward (by_each forward) o ats office are range holds
 
   -- what a step under any transform keeps holds of what lives may leave
-  pub lives_keep : (lives : List Life) (o : Office) → AreLives lives o → P empty_office → P o
-  lives_keep lives o are holds =
-      lives_keep_by laws P lives o (λ k d below. by_each (get_or lives k d).forward) are holds
+  pub led_keep : (start : Office) (lives : List Life) (o : Office) → IsOffice start
+      → LeadTo start lives o → P start → P o
+  led_keep start lives o office lead holds =
+      led_keeps laws P start lives o (λ k d below. by_each (get_or lives k d).forward) office lead
+      holds

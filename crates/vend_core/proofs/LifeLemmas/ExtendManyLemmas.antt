@@ -7,9 +7,9 @@ use Rattle.std.proofs.lemmas.List.Elements.{All-head, All-tail, Contains-append_
 use Rattle.office_rules.specs.Decision.Fold.{after, replies_to, reply, step}
 use Rattle.office_rules.specs.Law.Growth.{HasGrown}
 use Rattle.office_rules.specs.Law.Handed.{sales_of}
-use Rattle.vend_core.specs.Law.Life.{AreLives, Exchange, HandsOut, IsLife, LeadTo, Life, MayLeave, acknowledged}
+use Rattle.vend_core.specs.Law.Life.{Exchange, HandsOut, IsLife, LeadTo, Life, MayLeave, acknowledged}
 use Rattle.vend_core.specs.Law.LifeLaws.{IsRunning, exchanges_of, extended, extended_along, extended_by, opened}
-use Rattle.office_rules.specs.Office.{IsOffice, Office, empty_office}
+use Rattle.office_rules.specs.Office.{IsOffice, Office}
 use Rattle.office_rules.specs.Decision.Requests.{IsStamped}
 use Rattle.office_rules.specs.declared.decision.request.Stamped.{Stamped}
 use Rattle.office_rules.specs.declared.office.sale.Sale.{Sale}
@@ -130,14 +130,16 @@ pub handed_is : LowerLaws → (life : Life) (o : Office) (s : Sale) → IsLife l
     → IsOffice life.opening → MayLeave life o → HandsOut life s → Contains o.sales s
 handed_is laws life o s is office may hands = handed_left laws life is office o s may hands
 
-led_on : (start : Office) (lives : List Life) (life : Life) (o p : Office) → LeadTo start lives o
-    → IsLife life → life.opening ≡ o → MayLeave life p → LeadTo start (lives ++ life ∷ []) p
-led_on start [] life o p e is opens may = (is, opens ∙ e, (p, may, refl))
-led_on start (first ∷ lives) life o p
-    (first_is, first_opens, (left, first_may, leads)) is opens may =
-    (first_is, first_opens, (left, first_may, led_on left lives life o p leads is opens may))
+-- lives that open what others may leave go on where those ended
+pub led_through : (start : Office) (earlier later : List Life) (middle o : Office)
+    → LeadTo start earlier middle → LeadTo middle later o → LeadTo start (earlier ++ later) o
+led_through start [] later middle o e lead = subst (λ p. LeadTo p later o) e lead
+led_through start (life ∷ earlier) later middle o (is, opens, (left, may, leads)) lead =
+    (is, opens, (left, may, led_through left earlier later middle o leads lead))
 
 -- a life that opens what lives may leave is one more of them
-pub lives_go_on : (lives : List Life) (life : Life) (o p : Office) → AreLives lives o → IsLife life
-    → life.opening ≡ o → MayLeave life p → AreLives (lives ++ life ∷ []) p
-lives_go_on lives life o p are is opens may = led_on empty_office lives life o p are is opens may
+pub led_on : (start : Office) (lives : List Life) (life : Life) (o p : Office)
+    → LeadTo start lives o → IsLife life → life.opening ≡ o → MayLeave life p
+    → LeadTo start (lives ++ life ∷ []) p
+led_on start lives life o p lead is opens may =
+    led_through start lives (life ∷ []) o p lead (is, opens, (p, may, refl))

@@ -102,3 +102,8 @@ HandsOut life s =
 
 abbrev pub IsHanded : List Life → Sale → Type 0
 IsHanded lives s = (life : Life) × Contains lives life × HandsOut life s
+
+-- the sale stands in an office, and was made after those of the office that came to it
+pub record WasMadeSince (start o : Office) (s : Sale) : Type 0 where
+  pub stands : Contains o.sales s
+  pub new : ¬ Contains start.sales s

@@ -19,13 +19,12 @@ ghost use Rattle.office_rules.specs.declared.decision.request.Stamped.{Stamped};
 ghost use Rattle.office_rules.specs.declared.office.row.Row.{Row};
 ghost use Rattle.office_rules.specs.declared.office.sale.Sale.{Sale};
 
-use sts_fields::fresh_law;
-use sts_token::{meter_law, token_law};
-use tariff::purchase_law;
+use crate::law::lives_law;
 
 /// What holds over all lives of an office, whatever was asked and wherever each life stopped.
 ///
 /// A life ends when its program does; the next one opens an office that the one before may leave.
+/// The first opens the empty one (`lives_law`: any).
 pub fn history_law()
     ensures offices { (lives : List Life) (o : Office) → AreLives lives o → IsOffice o }
 
@@ -127,8 +126,5 @@ pub fn history_law()
     ensures cash { (lives : List Life) (forward : BlockFunction) (o : Office) (ats : ℕ → Stamped)
         → AreLives lives o → AskForReports ats → cash_of_reports forward o ats ≡ cash_of o.sales }
 {
-    fresh_law();
-    purchase_law();
-    token_law();
-    meter_law();
+    lives_law();
 }
