@@ -2,7 +2,7 @@
 use Rattle.std.proofs.Common.{◌≡◌, ◌⊎◌, ◌∙◌, ℕ, ℤ, zero, suc, List, [], ◌∷◌, ◌++◌, Option, inl, inr, refl, ap, subst, sym}
 use Rattle.std.proofs.Math.Logic.{∥∥₁_elim}
 use Rattle.sqlite.specs.State.{HasCleanDisk}
-use Rattle.books.specs.Headline.{RepresentTheLast, with_last}
+use Rattle.books.specs.Headline.{with_last}
 use Rattle.books.specs.Keeps.{Seen}
 use Rattle.desk.specs.Answering.{answers_by, life_serves, message_refusal_of}
 use Rattle.conversation.specs.Exchanges.{Exchanged, GaveUp, MessageExchange, Timed, clocked, timed}
@@ -13,11 +13,11 @@ use Rattle.conversation.specs.declared.end.End as conversation
 use Rattle.conversation.specs.declared.end.End.TheVariants.{Closed, BadMessage, ReadFault, WriteFault, Memory}
 use Rattle.sts_fields.specs.Text.{Text}
 use Rattle.sts_token.specs.Token.{BlockFunction}
-use Rattle.vend_core.specs.Law.Life.{AreLives, IsLife, Life, MayLeave}
+use Rattle.vend_core.specs.Law.Life.{IsLife, LeadTo, Life, MayLeave}
 use Rattle.vend_core.specs.Law.LifeLaws.{opened}
 use Rattle.office_rules.specs.Office.{Office}
 use Rattle.vend_commands.specs.serving.Connections.{AreHeld, AreReady, Service, service}
-use Rattle.program_laws.specs.Courses.{Course, IsNext, LiveOn, course}
+use Rattle.program_laws.specs.Courses.{Course, IsNext, KeepsLast, LiveOn, course}
 use Rattle.vend_commands.specs.port.Machines.{Way}
 
 -- ---- a life goes on from the office that it opened
@@ -56,17 +56,18 @@ run_opening old new unread left held holds Memory (input, all, text, appends, gi
 -- ---- one life after another
 
 module _ {D R W B : Type 0} (way : Way D R W) (forward : BlockFunction) (see : B → Seen)
-    (goes_on : (lives : List Life) (life : Life) (o p : Office) → AreLives lives o → IsLife life → life.opening ≡ o → MayLeave life p
-    → AreLives (lives ++ life ∷ []) p) where
+    {start : Office}
+    (goes_on : (lives : List Life) (life : Life) (o p : Office) → LeadTo start lives o → IsLife life → life.opening ≡ o → MayLeave life p
+    → LeadTo start (lives ++ life ∷ []) p) where
   -- books that were made ready and have a clean disk had one before
   pub ready_clean : (old new : B) → AreReady see forward old new → HasCleanDisk (see new).state → HasCleanDisk (see old).state
   ready_clean old new (inl (runs, same)) clean = subst (λ b. HasCleanDisk (see b).state) same clean
   ready_clean old new (inr (stopped, reopened)) clean = (reopened.next clean).clean
 
   -- books that are made ready keep the same life, or the next one
-  pub next_course : (old new : B) → AreReady see forward old new → HasCleanDisk (see new).state → (c : Course) → RepresentTheLast c.over c.life (see old)
-      → ∥ ((next : Course) × IsNext forward c next × RepresentTheLast next.over next.life (see new)) ∥₁
-  next_course old new (inl (runs, same)) clean c last = ∣ (c, inl refl, subst (λ b. RepresentTheLast c.over c.life (see b)) (sym same) last) ∣₁
+  pub next_course : (old new : B) → AreReady see forward old new → HasCleanDisk (see new).state → (c : Course) → KeepsLast start c.over c.life (see old)
+      → ∥ ((next : Course) × IsNext forward c next × KeepsLast start next.over next.life (see new)) ∥₁
+  next_course old new (inl (runs, same)) clean c last = ∣ (c, inl refl, subst (λ b. KeepsLast start c.over c.life (see b)) (sym same) last) ∣₁
   next_course old new (inr (stopped, reopened)) clean c last =
       let next = reopened.next clean in
       ∥∥₁_elim next.left squash₁ (λ found.
@@ -84,17 +85,18 @@ module _ {D R W B : Type 0} (way : Way D R W) (forward : BlockFunction) (see : B
       ) ∣₁)
 
 module _ {D R W B : Type 0} (way : Way D R W) (gives : ℤ → Type 0) (forward : BlockFunction) (see : B → Seen)
-    (goes_on : (lives : List Life) (life : Life) (o p : Office) → AreLives lives o → IsLife life → life.opening ≡ o → MayLeave life p
-    → AreLives (lives ++ life ∷ []) p) where
+    {start : Office}
+    (goes_on : (lives : List Life) (life : Life) (o p : Office) → LeadTo start lives o → IsLife life → life.opening ≡ o → MayLeave life p
+    → LeadTo start (lives ++ life ∷ []) p) where
   -- the lives of the books go on along all connections held, where the disk is clean
   pub live_on : (count : ℕ) (old new : Service D B) (printed : Text) → AreHeld way gives forward see count old new printed
-      → HasCleanDisk (see new.books).state → (start : Course) → RepresentTheLast start.over start.life (see old.books)
-      → ∥ LiveOn way forward see count (service old.door start old.answers) new ∥₁
-  live_on zero old new printed (same, none) clean start last =
-      ∣ (start, ap (λ s. service s.door start s.answers) same, subst (λ s. RepresentTheLast start.over start.life (see s.books)) (sym same) last) ∣₁
-  live_on (suc count) old new printed (mid, before, held, (ready, are, one), all) clean start last =
+      → HasCleanDisk (see new.books).state → (begin : Course) → KeepsLast start begin.over begin.life (see old.books)
+      → ∥ LiveOn start way forward see count (service old.door begin old.answers) new ∥₁
+  live_on zero old new printed (same, none) clean begin last =
+      ∣ (begin, ap (λ s. service s.door begin s.answers) same, subst (λ s. KeepsLast start begin.over begin.life (see s.books)) (sym same) last) ∣₁
+  live_on (suc count) old new printed (mid, before, held, (ready, are, one), all) clean begin last =
       let ready_is_clean = one.clean clean in
-      ∥∥₁_elim (live_on count old mid before held (ready_clean way forward see goes_on mid.books ready are ready_is_clean) start last) squash₁ (λ so_far.
+      ∥∥₁_elim (live_on count old mid before held (ready_clean way forward see goes_on mid.books ready are ready_is_clean) begin last) squash₁ (λ so_far.
       ∥∥₁_elim (next_course way forward see goes_on mid.books ready are ready_is_clean so_far.0 so_far.2) squash₁ (λ next.
       let kept = next.2 in
       let goes = one.lives clean next.0.life kept.kept in
@@ -124,7 +126,7 @@ module _ {D R W B : Type 0} (way : Way D R W) (gives : ℤ → Type 0) (forward 
           ),
         ),
         record {
-          led = subst (AreLives next.0.over) (sym opening) kept.led;
+          led = subst (LeadTo start next.0.over) (sym opening) kept.led;
           kept = goes.2;
           clean = clean;
         },

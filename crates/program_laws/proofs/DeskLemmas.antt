@@ -2,6 +2,7 @@
 use Rattle.std.proofs.Common.{◌≡◌, ◌⊎◌, ℕ, zero, suc, List, [], ◌∷◌, ◌++◌, Option, Result, inl, inr, refl, sym, subst, arith}
 use Rattle.std.specs.Prelude.{Contains}
 use Rattle.std.proofs.lemmas.List.Elements.{Contains-append_left, Contains-append_right}
+use Rattle.sqlite_disk.specs.declared.Disk as disk
 use Rattle.books.specs.Headline.{with_last}
 use Rattle.command_line.specs.Transform.{forward_of}
 use Rattle.command_line.specs.declared.transform.Shipped.TheVariants.{Plain}
@@ -24,7 +25,7 @@ use Rattle.vend_commands.specs.serving.Connections.{Service, service}
 use Rattle.program_laws.specs.Courses.{AreLived, Course, IsNext, course}
 use Rattle.program_laws.specs.SalesTold.{ConnectionsTell, CutReplyTells, ExchangeTells, ExchangesTell, RunTells}
 use Rattle.vend_commands.specs.port.Machines.{Way}
-use Rattle.program_laws.specs.runs.OneOffice.{LivesIn, TellsIn}
+use Rattle.program_laws.specs.runs.Steps.{LivesIn, TellsIn}
 use Rattle.program_laws.specs.runs.Uses.{RunUse, asking_life, connected, idle_life, many_lives, no_life, reading_life, unconnected, unseen}
 use Rattle.program_laws.proofs.FoundLemmas.{found_hands, read_hands}
 
@@ -146,9 +147,9 @@ module _ (laws : HandingLaws) (s : Sale) where
         inr (run_hands (next.life, mid.answers) (new.books.life, new.answers) _ _ _ _ goes.end goes.run told)
 
   -- what was read or told at a desk in a use was handed out in its lives, or in those before
-  pub use_hands : (made : RunUse) (before own : List Life) (lived : LivesIn made before own) → TellsIn made before own lived s → IsHanded (before ++ own) s
+  pub use_hands : {M : Type 0} {g : disk.Ghosts M} (made : RunUse g) (before own : List Life) (lived : LivesIn made before own) → TellsIn made before own lived s → IsHanded (before ++ own) s
   use_hands unseen before own lived told = absurd told
-  use_hands (unconnected g found left) before own lived told = absurd told
+  use_hands (unconnected found left) before own lived told = absurd told
   use_hands (connected image no_life last) before own lived told = absurd told
   use_hands (connected image (idle_life transform) last) before own lived told = absurd told
   use_hands (connected image (reading_life moment reading) last) before own (office, is, one) told =

@@ -4,11 +4,15 @@ mod CourseLemmas
 mod DeskLemmas
 mod FoundLemmas
 mod KeyedLemmas
+mod LeadLemmas
 mod OfferLemmas
 mod OrderLemmas
+mod PromiseLemmas
 mod ReceiptLemmas
 mod RunsLemmas
 mod SellLemmas
 mod SoundLemmas
+mod StepLemmas
 mod ToldLemmas
 mod WholeLemmas
+mod WordLemmas

@@ -6,8 +6,8 @@ use Rattle.sts_token.specs.Token.{BlockFunction, KeepsRange}
 use Rattle.office_rules.specs.Decision.Fold.{replies_to, reply, step}
 use Rattle.office_rules.specs.Decision.Requests.{IsStamped}
 use Rattle.office_rules.specs.Law.Growth.{HasGrown}
-use Rattle.vend_core.specs.Law.Life.{AreLives, Exchange, HandsOut, IsHanded, IsLife, LeadTo, Life, MayLeave, acknowledges}
-use Rattle.office_rules.specs.Office.{IsOffice, Office, empty_office}
+use Rattle.vend_core.specs.Law.Life.{Exchange, HandsOut, IsHanded, IsLife, LeadTo, Life, MayLeave, acknowledges}
+use Rattle.office_rules.specs.Office.{IsOffice, Office}
 use Rattle.office_rules.specs.declared.decision.answer.Answer.{Answer}
 use Rattle.office_rules.specs.declared.decision.answer.Answer.TheVariants.{Sold}
 use Rattle.office_rules.specs.declared.decision.refusal.Refusal.{Refusal}
@@ -16,13 +16,12 @@ use Rattle.office_rules.specs.declared.decision.request.Request.TheVariants.{Sel
 use Rattle.office_rules.specs.declared.decision.request.Stamped.{Stamped}
 use Rattle.office_rules.specs.declared.office.sale.Sale.{Sale}
 use Rattle.office_rules.proofs.OfficeLemmas.RowLemmas.{contains_cases, contains_map}
-use Rattle.program_laws.specs.runs.OneOffice.{AreSoldFor}
+use Rattle.program_laws.specs.runs.Steps.{AreSoldFor}
 use Rattle.program_laws.proofs.AgainLemmas.{IsSaleOf, OrderLaws, sold_for}
 
 -- what the laws say of offices and of orders
 pub record SellingLaws : Type 0 where
   pub orders : OrderLaws
-  pub begins : IsOffice empty_office
   pub keeps : (forward : BlockFunction) (o : Office) (at : Stamped) → IsOffice o → IsStamped at → KeepsRange forward → IsOffice (step forward o at)
   pub left : (life : Life) (o : Office) → IsLife life → IsOffice life.opening → MayLeave life o → IsOffice o × HasGrown life.opening o
 
@@ -80,7 +79,8 @@ module _ (laws : SellingLaws) (order : Order) (s : Sale) where
       → Contains life.exchanges (sold_at s at) → IsSaleOf order s
   sold_in_life life at is office asked there = sold_here life.forward is.range at asked life.opening life.exchanges office is.stamped is.replies there
 
-  sold_in_lives : (start : Office) (lives : List Life) (o : Office) → IsOffice start → LeadTo start lives o → AreSoldFor lives order s → IsSaleOf order s
+  -- so it is in lives of an office
+  pub sold_in_lives : (start : Office) (lives : List Life) (o : Office) → IsOffice start → LeadTo start lives o → AreSoldFor lives order s → IsSaleOf order s
   sold_in_lives start [] o office leads (life, there, at, asked, sold) = absurd (omega (arith, there.1))
   sold_in_lives start (first ∷ lives) o office (is, opens, (left, may, leads)) (life, there, at, asked, sold) =
       let opening : IsOffice first.opening = subst IsOffice (sym opens) office in
@@ -88,10 +88,6 @@ module _ (laws : SellingLaws) (order : Order) (s : Sale) where
         | inl same ↦ sold_in_life first at is opening asked (subst (λ (l : Life). Contains l.exchanges (sold_at s at)) (sym same) sold)
         | inr further ↦ sold_in_lives left lives o (laws.left first left is opening may).0 leads (life, further, at, asked, sold)
       ]
-
-  -- so it is in lives of an office
-  pub sold_is_orders : (lives : List Life) (o : Office) → AreLives lives o → AreSoldFor lives order s → IsSaleOf order s
-  sold_is_orders lives o are sold = sold_in_lives empty_office lives o laws.begins are sold
 
 -- which handed it out
 pub sold_handed : (order : Order) (s : Sale) (lives : List Life) → AreSoldFor lives order s → IsHanded lives s

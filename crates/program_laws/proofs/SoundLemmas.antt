@@ -1,5 +1,5 @@
 -- What an audit shows where it ends as done.
-use Rattle.std.proofs.Common.{Option, Result, Ok, Err, arith, subst, sym}
+use Rattle.std.proofs.Common.{Bool, Option, Result, Ok, Err, arith, subst, sym}
 use Rattle.audit.specs.declared.audited.Audited.{Audited}
 use Rattle.audit_rows.specs.declared.finding.AuditFault.{AuditFault}
 use Rattle.audit_rows.specs.declared.finding.AuditFault.TheVariants.{Failed, Found, NoOffice}
@@ -18,7 +18,7 @@ use Rattle.vend_ports.specs.declared.command_end.CommandEnd.TheVariants as how
 use Rattle.vend_ports.specs.print.Told.{Outputs}
 
 -- what ends as done was sound
-pub ends_sound : {D : Type 0} (g : Ghosts D) (image : Image) (LetsGo : D → D → Type 0) (given : Option BlockFunction) (place : Place) (o : Outputs)
+pub ends_sound : {D : Type 0} (g : Ghosts D) (image : Image) (LetsGo : (whole : Bool) → D → D → Type 0) (given : Option BlockFunction) (place : Place) (o : Outputs)
     → ((answer : Result Audited AuditFault) → place.audits given answer → AuditsIn g image LetsGo given answer) → IsAudited place given o how.Done
     → EndsSound g image LetsGo given o
 ends_sound g image LetsGo given place o so (absent misses told) = absurd (let end = told.2 in cc)

@@ -1,12 +1,13 @@
 -- The lives of one office along connections that are served one after another.
 use Rattle.std.specs.Prelude.{◌≡◌, ◌⊎◌, ℕ, zero, suc, List}
-use Rattle.books.specs.Headline.{RepresentTheLast, with_last}
-use Rattle.books.specs.Keeps.{Seen}
+use Rattle.sqlite.specs.State.{HasCleanDisk}
+use Rattle.books.specs.Headline.{with_last}
+use Rattle.books.specs.Keeps.{Represents, Seen}
 use Rattle.desk.specs.Answering.{answers_by, life_serves, message_refusal_of}
 use Rattle.conversation.specs.Run.{IsRun}
 use Rattle.conversation.specs.declared.end.End as conversation
 use Rattle.sts_token.specs.Token.{BlockFunction}
-use Rattle.vend_core.specs.Law.Life.{Life, MayLeave}
+use Rattle.vend_core.specs.Law.Life.{LeadTo, Life, MayLeave}
 use Rattle.vend_core.specs.Law.LifeLaws.{opened}
 use Rattle.office_rules.specs.Office.{Office}
 use Rattle.vend_commands.specs.serving.Connections.{Service, service}
@@ -48,11 +49,17 @@ module _ {D R W : Type 0} (way : Way D R W) where
       × ((next : Course) × IsNext forward mid.books next
       × GoesOnBy (service mid.door next mid.answers) new)
 
+-- Books keep this life, after others that lead from an office to the one that it opened, and the
+-- disk has returned what was written.
+pub record KeepsLast (start : Office) (over : List Life) (life : Life) (books : Seen) : Type 0 where
+  pub led : LeadTo start over life.opening
+  pub kept : Represents life books
+  pub clean : HasCleanDisk books.state
+
 -- The lives of some books go on along so many connections, to lives of the same office of which
 -- these books keep the last.
-abbrev pub LiveOn : {D R W B : Type 0} → Way D R W → BlockFunction → (B → Seen) → ℕ
-    → Service D Course
-    → Service D B → Type 0
-LiveOn way forward see count old new = (last : Course)
+abbrev pub LiveOn : {D R W B : Type 0} → Office → Way D R W → BlockFunction → (B → Seen) → ℕ
+    → Service D Course → Service D B → Type 0
+LiveOn start way forward see count old new = (last : Course)
     × AreLived way forward count old (service new.door last new.answers)
-    × RepresentTheLast last.over last.life (see new.books)
+    × KeepsLast start last.over last.life (see new.books)

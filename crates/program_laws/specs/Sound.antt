@@ -1,5 +1,5 @@
 -- What `audit` has shown where it ends as done.
-use Rattle.std.specs.Prelude.{Option}
+use Rattle.std.specs.Prelude.{Bool, Option}
 use Rattle.sqlite.specs.Effect.{Database}
 use Rattle.sqlite.specs.Files.{file_state}
 use Rattle.sqlite.specs.Held.{Held}
@@ -21,12 +21,13 @@ use Rattle.vend_ports.specs.print.Told.{Outputs, Takes}
 -- and it stands for an office that requests may lead to, whose tokens the transform that was given
 -- wrote, where one was, with these counts: as long as the disk returned what was written up to the
 -- close.
-pub record EndsSound {D : Type 0} (g : Ghosts D) (image : Image) (LetsGo : D → D → Type 0)
-    (given : Option BlockFunction) (o : Outputs) : Type 0 where
-  pub audited : Audited
-  pub printed : Takes o.old o.new (sound_line audited)
-  pub last : Held (FileStore D g)
-  pub closed : AreClosed g LetsGo (file_state last)
-  pub passes : HasCleanDisk (file_state last)
-      → (db : Database) × MayFind image db.trees × HasTablesInOrder db
-      × (sound : IsSound given db audited) × StandsFor db sound.office
+pub record EndsSound {D : Type 0} (g : Ghosts D) (image : Image)
+    (LetsGo : (whole : Bool) → D → D → Type 0) (given : Option BlockFunction) (o : Outputs) : Type 0
+  where
+    pub audited : Audited
+    pub printed : Takes o.old o.new (sound_line audited)
+    pub last : Held (FileStore D g)
+    pub closed : AreClosed g LetsGo (file_state last)
+    pub passes : HasCleanDisk (file_state last)
+        → (db : Database) × MayFind image db.trees × HasTablesInOrder db
+        × (sound : IsSound given db audited) × StandsFor db sound.office

@@ -1,5 +1,9 @@
--- Several runs of the program on one file, one after another.
+-- Runs of the program on one file, each of which goes on from the lives before it.
 pub mod Readings
+pub mod Words
 pub mod Uses
-pub mod Follow
-pub mod OneOffice
+pub mod Files
+pub mod Here
+pub mod Steps
+pub mod EachRun
+pub mod Promise

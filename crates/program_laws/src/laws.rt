@@ -17,7 +17,6 @@ ghost use Rattle.book_states.specs.declared.lookup.Found.TheVariants.{Quote as Q
 ghost use Rattle.book_states.specs.declared.lookup.ListedMeter.{ListedMeter};
 ghost use Rattle.book_states.specs.declared.lookup.ListedTariff.{ListedTariff};
 ghost use Rattle.book_states.specs.declared.lookup.Quote.{Quote};
-ghost use Rattle.books.specs.Headline.{RepresentTheLast};
 ghost use Rattle.books.specs.Lookups.{quote};
 ghost use Rattle.books.specs.Path.{StandsIn};
 ghost use Rattle.books.specs.declared.books.Books.{Books};
@@ -35,17 +34,19 @@ ghost use Rattle.office_commands.specs.commands.LookedUp.{IsPurchaseFor};
 ghost use Rattle.office_commands.specs.office.Audits.{AuditsIn};
 ghost use Rattle.office_commands.specs.office.Closed.{IsClosed};
 ghost use Rattle.vend_commands.specs.serving.Connections.{AreHeld, Service, service};
-ghost use Rattle.program_laws.specs.Courses.{Course, LiveOn};
+ghost use Rattle.program_laws.specs.Courses.{Course, KeepsLast, LiveOn};
 ghost use Rattle.vend_core.specs.Law.Life.{AreLives, Life, IsLife, acknowledges};
 ghost use Rattle.office_rules.specs.Office.{IsOffice, Office};
 ghost use Rattle.office_rules.specs.declared.decision.answer.Answer.TheVariants.{Sold};
 ghost use Rattle.office_rules.specs.declared.decision.request.Order.{Order};
 ghost use Rattle.office_rules.specs.declared.decision.request.Request.TheVariants.{Sell};
 ghost use Rattle.office_rules.specs.declared.office.sale.Sale.{Sale};
+ghost use Rattle.office_commands.specs.port.Back.{lets_go_giving};
 ghost use Rattle.office_commands.specs.port.Places.{places_of};
 ghost use Rattle.vend_commands.specs.port.Machines.{loop_of, way};
-ghost use Rattle.program_laws.specs.runs.Follow.{here_of};
-ghost use Rattle.program_laws.specs.runs.OneOffice.{KeepsPromise};
+ghost use Rattle.program_laws.specs.runs.EachRun.{KeepsEachRun};
+ghost use Rattle.program_laws.specs.runs.Here.{here_of};
+ghost use Rattle.program_laws.specs.runs.Promise.{KeepsPromise};
 ghost use Rattle.program_laws.specs.Selling.{EndsSold, PrintsSale};
 ghost use Rattle.office_commands.specs.office.Served.{TellsReply};
 ghost use Rattle.desk_commands.specs.print.Pages.{ArePages};
@@ -89,6 +90,7 @@ use books::{found_law, opening_law};
 use command_line::{DeskQuestion, Listed};
 use desk::{Clock, conversation_law, reply_law, route_law};
 use desk_client::{page_law, question_law, told_law};
+use office_commands::lost_law;
 use office_rules::store_law;
 use papers::{export_fields_law, export_law};
 use sqlite::FileStore;
@@ -96,7 +98,7 @@ use sqlite_trees::store::Store;
 use sts_fields::amount_law;
 use tariff::purchase_law;
 use vend_commands::{Door, Machine, OfficeFile};
-use vend_core::{history_law, life_law, office_law, reached_law};
+use vend_core::{credited_law, life_law, lives_law, office_law, reached_law};
 
 /// What the pages of a list print together where the last one is not full: the lines of all
 /// tariffs after a name and of all meters after a number, each once, in the order of their bytes;
@@ -132,15 +134,14 @@ pub fn list_law()
 /// a crash may leave of them as they are closed. Of a sale nothing is told but the receipt: what is
 /// told of want of memory came before any sale stood.
 pub fn sell_law<H: OfficeFile>()
-    ensures done { (file : H) (path : Text) (wait : ℕ) (transform : Shipped) (order : Order)
-        (moment : ℕ)
-        (office : Office)
+    ensures done { (file : H) (back : Option (H.Medium × H.Medium)) (path : Text) (wait : ℕ)
+        (transform : Shipped) (order : Order) (moment : ℕ) (office : Office)
         (o : Outputs) → StandsIn (H.image file path) office
         → IsAskedAt ⟦<FileStore<H::Medium> as Store>⟧
-        (places_of H.Medium.Disk H.Salts.SaltSource H.OfficeFile file)
+        (places_of H.Medium.Disk H.Salts.SaltSource H.OfficeFile file back)
         transform path wait moment (Sell order) o Done
         → EndsSold ⟦<FileStore<H::Medium> as Store>⟧
-        (IsClosed H.Medium.Disk (H.lets_go H.Medium)) transform order
+        (IsClosed H.Medium.Disk (lets_go_giving H.OfficeFile back)) transform order
         moment office o }
     ensures told { (sale : Sale) (o : Outputs) (end : CommandEnd)
         → TellsReply (Ok (Sold sale)) o end → PrintsSale sale o end }
@@ -166,10 +167,11 @@ pub fn offer_law()
 /// find, which stands for an office that requests may lead to, whose tokens the transform that was
 /// given wrote, where one was.
 pub fn sound_law<H: OfficeFile>()
-    ensures { (file : H) (path : Text) (wait : ℕ) (given : Option BlockFunction) (o : Outputs)
-        → IsAudited (places_of H.Medium.Disk H.Salts.SaltSource H.OfficeFile file path wait)
+    ensures { (file : H) (back : Option (H.Medium × H.Medium)) (path : Text) (wait : ℕ)
+        (given : Option BlockFunction) (o : Outputs)
+        → IsAudited (places_of H.Medium.Disk H.Salts.SaltSource H.OfficeFile file back path wait)
         given o Done
-        → EndsSound H.Medium.Disk (H.image file path) (H.lets_go H.Medium) given o }
+        → EndsSound H.Medium.Disk (H.image file path) (lets_go_giving H.OfficeFile back) given o }
 {}
 
 /// What `audit` tells of files that stand for an office that requests lead to, whatever lives it is
@@ -177,12 +179,12 @@ pub fn sound_law<H: OfficeFile>()
 /// was written: what it counted, or that they were not read. So of files that nothing else wrote it
 /// tells no row that breaks a rule.
 pub fn broken_law<H: OfficeFile>()
-    ensures { (image : Image) (given : Option BlockFunction)
+    ensures { (image : Image) (back : Option (H.Medium × H.Medium)) (given : Option BlockFunction)
         (answer : Result Audited AuditFault) (lives : List Life) (office : Office)
         → AreLives lives office
         → IfSome given (λ forward. All (λ life. life.forward ≡ forward) lives)
         → StandsIn image office
-        → (told : AuditsIn H.Medium.Disk image (H.lets_go H.Medium) given answer)
+        → (told : AuditsIn H.Medium.Disk image (lets_go_giving H.OfficeFile back) given answer)
         → HasCleanDisk (file_state told.last) → IfErr answer IsFailure }
 {
     found_law::<FileStore<H::Medium>>();
@@ -192,42 +194,70 @@ pub fn broken_law<H: OfficeFile>()
 /// What holds of connections that are served one after another, and of the openings between them:
 /// while the disk returns what was written, they are lives of one office. Each connection went on
 /// the last of them by the conversation over its own bytes, and by nothing beside; so what
-/// `headline_law` of `books` says of lives holds of these.
+/// `lives_law` of `vend_core` says of lives holds of these.
 pub fn serve_law<H: OfficeFile, C: Clock, D: Door>()
-    ensures { (clock : C) (forward : BlockFunction) (count : ℕ)
+    ensures { (first : Office) (clock : C) (forward : BlockFunction) (count : ℕ)
         (old new : Service D (Books (Files H.Medium H.Medium.Disk) Shipped
         ⟦<FileStore<H::Medium> as Store>⟧ shipped)) (printed : Text) (start : Course)
         → AreHeld (way D.Door D.Reader.remaining D.Writer.contents)
         (C.reads clock) forward seen_in count old new printed
         → HasCleanDisk (seen_in new.books).state
-        → RepresentTheLast start.over start.life (seen_in old.books)
-        → ∥ LiveOn (way D.Door D.Reader.remaining D.Writer.contents)
+        → KeepsLast first start.over start.life (seen_in old.books)
+        → ∥ LiveOn first (way D.Door D.Reader.remaining D.Writer.contents)
         forward seen_in count (service old.door start old.answers) new ∥₁ }
 {
-    history_law();
+    lives_law();
 }
 
-/// What holds of runs of the program on one file, one after another, each opened on what a stop of
-/// the one before may leave: stopped between two calls or within one, or not at all.
+/// What holds of each run of the program on a file, whatever lives were before it: stopped between
+/// two calls or within one, or not at all.
 ///
-/// While the disk returns what was written and nobody else writes the file, what these runs lived
-/// are lives of one office; so what `headline_law` of `books` says of lives holds of them.
+/// While the disk returns what was written and nobody else writes the file, it adds lives to those
+/// before, and whatever the file may hold after it stands for an office that all of them may leave.
+/// Each sale that it got in a reply, read, exported or told a connection of `serve` is handed out
+/// in these lives, and an order that any of them sold is sold once. The first of them opened the
+/// empty office, or one that was found in the file.
 ///
-/// Each sale that one of them got in a reply, read, exported or told a connection of `serve` stands
-/// for ever, and no two of them differ under one identifier, number or reference. An order that a
-/// command or a desk sold is sold once.
-pub fn program_law<M: Machine>()
-    ensures { KeepsPromise (here_of M.Office.Medium.Disk M.Office.Salts.SaltSource
+/// No machine but its own is spoken of. So of several runs, each on a machine of its own, each is a
+/// use of this.
+pub fn run_law<M: Machine>()
+    ensures { KeepsEachRun (here_of M.Office.Medium.Disk M.Office.Salts.SaltSource
         M.Office.OfficeFile M.Texts.TextFiles M.Clock.Clock
         (way M.Door.Door M.Door.Reader.remaining M.Door.Writer.contents)
         (loop_of M.Loopback.Loopback M.Loopback.Stream.remaining M.Loopback.Stream.contents)) }
 {
-    history_law();
+    lives_law();
     life_law();
     office_law();
     store_law();
     opening_law::<FileStore<<M::Office as OfficeFile>::Medium>>();
     found_law::<FileStore<<M::Office as OfficeFile>::Medium>>();
+    lost_law::<<M::Office as OfficeFile>::Medium>();
+}
+
+/// What holds of the lives that runs add one after another, each opened on what a stop of the one
+/// before may leave, on one machine or on two.
+///
+/// Each sale that was handed out in them stands for ever, and no two of them differ under one
+/// identifier, number or reference. The same words of `sell` print the receipt of the sale that
+/// they made before, or why they print none.
+pub fn program_law<M: Machine, N: Machine>()
+    ensures { KeepsPromise (here_of M.Office.Medium.Disk M.Office.Salts.SaltSource
+        M.Office.OfficeFile M.Texts.TextFiles M.Clock.Clock
+        (way M.Door.Door M.Door.Reader.remaining M.Door.Writer.contents)
+        (loop_of M.Loopback.Loopback M.Loopback.Stream.remaining M.Loopback.Stream.contents))
+        (here_of N.Office.Medium.Disk N.Office.Salts.SaltSource
+        N.Office.OfficeFile N.Texts.TextFiles N.Clock.Clock
+        (way N.Door.Door N.Door.Reader.remaining N.Door.Writer.contents)
+        (loop_of N.Loopback.Loopback N.Loopback.Stream.remaining N.Loopback.Stream.contents)) }
+{
+    lives_law();
+    credited_law();
+    life_law();
+    office_law();
+    store_law();
+    run_law::<M>();
+    run_law::<N>();
 }
 
 /// What is told of a sale names it: two sales of an office with one receipt are one sale, and so

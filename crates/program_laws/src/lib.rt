@@ -6,6 +6,6 @@
 mod laws;
 
 pub use laws::{
-    at_desk_law, broken_law, format_law, list_law, offer_law, program_law, receipt_once, sell_law,
-    serve_law, sound_law,
+    at_desk_law, broken_law, format_law, list_law, offer_law, program_law, receipt_once, run_law,
+    sell_law, serve_law, sound_law,
 };

@@ -63,6 +63,7 @@ use Rattle.office_commands.specs.office.Visited.IsVisited.{visited as visit_open
 use Rattle.office_commands.specs.office.Lost.{IsUnreopened}
 use Rattle.office_commands.specs.office.Lost.IsUnreopened.{refused as lost_refused}
 use Rattle.office_commands.specs.office.Lost.IsUnreopened.{unsalted as lost_unsalted}
+use Rattle.office_commands.specs.port.Back.{is_untouched}
 use Rattle.office_commands.specs.port.Places.{IsUnopened, Place, places_of, where_present}
 use Rattle.vend_commands.specs.port.Machines.{Machine, Way}
 use Rattle.office_commands.specs.port.Places.IsUnopened.{unfound, unopened as found_unopened}
@@ -152,39 +153,37 @@ TellsSo (many_lives way forward count door answers last_door left) before lives
 
 -- how the last connection ended: in this state it was let go; or then its files were found again,
 -- no connection could be made to them, and this is what was left of them
-pub data RunEnding : Type 1 where
-  let_go : State → RunEnding
-  cut_off : {D : Type 0} → State → (g : disk.Ghosts D) → (found : Files D) → (left : Leftover D g)
-      → RunEnding
+pub data RunEnding {M : Type 0} (g : disk.Ghosts M) : Type 1 where
+  let_go : State → RunEnding g
+  cut_off : State → (found : Files M) → (left : Leftover M g) → RunEnding g
 
 -- Nothing of the file was seen: none was found, or it was not looked into. Or it was found as these
 -- files, and no connection could be made to them: then this is what was left of them. Or one was
 -- made while the file held this, the office lived so, and the last one ended so.
-pub data RunUse : Type 1 where
-  unseen : RunUse
-  unconnected : {D : Type 0} → (g : disk.Ghosts D) → (found : Files D) → (left : Leftover D g)
-      → RunUse
-  connected : (image : Image) → (living : Living) → (last : RunEnding) → RunUse
+pub data RunUse {M : Type 0} (g : disk.Ghosts M) : Type 1 where
+  unseen : RunUse g
+  unconnected : (found : Files M) → (left : Leftover M g) → RunUse g
+  connected : (image : Image) → (living : Living) → (last : RunEnding g) → RunUse g
 
 -- where no office was opened
-abbrev pub use_refused : {D S : Type 0} → {disk : disk.Ghosts D} → {salts : source.Ghosts S}
-    → {finds lets_go : D → D → Type 0} → {fails : OpenFault → Type 0} → (fault : OpenFault)
-    → IsUnopened disk salts finds lets_go fails fault → RunUse
+abbrev pub use_refused : {M S : Type 0} → {disk : disk.Ghosts M} → {salts : source.Ghosts S}
+    → {finds lets_go : M → M → Type 0} → {fails : OpenFault → Type 0} → (fault : OpenFault)
+    → IsUnopened disk salts finds lets_go fails fault → RunUse disk
 use_refused fault (unfound none) = unseen
 use_refused fault (found_unopened found finds (unsalted it lacks is gone)) = unseen
 use_refused {disk = disk} fault
     (found_unopened found finds (refused left (Connected last) why taken gone)) =
     connected (image_of disk found) no_life (let_go (file_state last))
-use_refused {disk = disk} fault
-    (found_unopened found finds (refused left (Unconnected rest) why taken gone)) =
-    unconnected disk found rest
+use_refused fault (found_unopened found finds (refused left (Unconnected rest) why taken gone)) =
+    unconnected found rest
 
 -- a visit, by what is known where it opened none, and by how the office lives in it
-abbrev pub use_visited : {S : Type 0} → {store : Ghosts S} → {place : Place}
-    → {transform : Shipped} → {Does : (old new : Seen) → Type 0} → {o : Outputs}
-    → {end : CommandEnd} → ((fault : OpenFault) → place.fails fault → RunUse)
+abbrev pub use_visited : {M S : Type 0} → {disk : disk.Ghosts M} → {store : Ghosts S}
+    → {place : Place} → {transform : Shipped} → {Does : (old new : Seen) → Type 0}
+    → {o : Outputs} → {end : CommandEnd}
+    → ((fault : OpenFault) → place.fails fault → RunUse disk)
     → ((old new : Seen) → Does old new → Living)
-    → IsVisited store place transform Does o end → RunUse
+    → IsVisited store place transform Does o end → RunUse disk
 use_visited if_refused lives (visit_unopened fault fails told) = if_refused fault fails
 use_visited {place = place} if_refused lives (visit_opened old new opens finds does closes) =
     connected place.image (lives (seen_in old) (seen_in new) does) (let_go (seen_in new).state)
@@ -210,30 +209,32 @@ lives_printing (Totals number) o end old new done = idle_life Plain
 lives_printing Sales o end old new done = reading_life first_moment (exported done.text)
 
 -- what is done at a moment, if there is one
-abbrev pub use_timed : (Idle : Type 0) → (At : ℕ → Type 0) → (o : Outputs) → (end : CommandEnd)
-    → ((moment : ℕ) → At moment → RunUse) → (moment : Option ℕ) → IsDoneAt Idle At o end moment
-    → RunUse
+abbrev pub use_timed : {M : Type 0} → {disk : disk.Ghosts M} → (Idle : Type 0)
+    → (At : ℕ → Type 0) → (o : Outputs) → (end : CommandEnd)
+    → ((moment : ℕ) → At moment → RunUse disk) → (moment : Option ℕ)
+    → IsDoneAt Idle At o end moment → RunUse disk
 use_timed Idle At o end at (Some moment) done = at moment done
 use_timed Idle At o end at None idle = unseen
 
 -- the end of stopped books whose file was not opened again
-abbrev pub ends_lost : {D S : Type 0} → {disk : disk.Ghosts D} → {salts : source.Ghosts S}
-    → {lets_go : D → D → Type 0} → (old : Seen) → (fault : OpenFault)
-    → IsUnreopened disk salts lets_go old fault → RunEnding
+abbrev pub ends_lost : {M S : Type 0} → {disk : disk.Ghosts M} → {salts : source.Ghosts S}
+    → {lets_go : M → M → Type 0} → (old : Seen) → (fault : OpenFault)
+    → IsUnreopened disk salts lets_go old fault → RunEnding disk
 ends_lost old fault (lost_unsalted it lacks is conn seen left taken gone) = let_go old.state
 ends_lost old fault (lost_refused it salt draws conn seen (Connected last) why left taken gone) =
     let_go (file_state last)
-ends_lost {disk = disk} old fault
+ends_lost old fault
     (lost_refused it salt draws conn seen (Unconnected rest) why left taken gone) =
-    cut_off old.state disk why.2.here rest
+    cut_off old.state why.2.here rest
 
 -- connections that are served, by how lost books end
-abbrev pub use_served : {D R W B : Type 0} → (way : Way D R W) → (gives : ℤ → Type 0)
-    → (forward : BlockFunction) → (see : B → Seen) → (loses : Seen → OpenFault → Type 0)
-    → ((old : Seen) → (fault : OpenFault) → loses old fault → RunEnding) → (wanted : ℕ)
+abbrev pub use_served : {M D R W B : Type 0} → {disk : disk.Ghosts M} → (way : Way D R W)
+    → (gives : ℤ → Type 0) → (forward : BlockFunction) → (see : B → Seen)
+    → (loses : Seen → OpenFault → Type 0)
+    → ((old : Seen) → (fault : OpenFault) → loses old fault → RunEnding disk) → (wanted : ℕ)
     → (old : Service D B) → (door : D) → (answers : Option (List ℤ)) → (printed : Text) → Image
     → (served : Result (B × Bool) OpenFault)
-    → AreServed way gives forward see loses wanted old door answers served printed → RunUse
+    → AreServed way gives forward see loses wanted old door answers served printed → RunUse disk
 use_served way gives forward see loses ends wanted old door answers printed image (Ok (books, true))
     held = connected image (many_lives way forward wanted old.door old.answers door answers)
     (let_go (see books).state)
@@ -247,37 +248,41 @@ use_served way gives forward see loses ends wanted old door answers printed imag
     (ends (see lost.last.books) fault lost.lost.1)
 
 module _ {M S H D R W : Type 0} (disk : disk.Ghosts M) (salts : source.Ghosts S)
-    (of : file.Ghosts H M S) (office : H) (m : Machine D R W) where
-  -- the machine, with this file of an office
+    (of : file.Ghosts H M S) (office : H) (back : Option (M × M)) (m : Machine D R W) where
+  -- the machine, with this file of an office, of which this was given back
   abbrev pub with_file : Machine D R W
-  with_file = record m { at = places_of disk salts of office }
+  with_file = record m {
+    at = places_of disk salts of office back;
+    untouched = is_untouched of office back;
+  }
 
   -- one request
   abbrev pub use_asked : (transform : Shipped) → (path : Text) → (wait moment : ℕ)
       → (request : Request) → (o : Outputs) → (end : CommandEnd)
       → IsAskedAt (over_files {g = disk}) with_file.at transform path wait moment request o end
-      → RunUse
+      → RunUse disk
   use_asked transform path wait moment request o end asks =
       use_visited {place = with_file.at path wait} use_refused
       (lives_asking transform moment request o end) asks
 
   abbrev pub use_added : (words : ImportWords) → (moment : ℕ)
       → (rows : Result (List Row) RowFault) → (o : Outputs) → (end : CommandEnd)
-      → AreAdded (over_files {g = disk}) with_file.at m.untouched words moment rows o end → RunUse
+      → AreAdded (over_files {g = disk}) with_file.at with_file.untouched words moment rows o end
+      → RunUse disk
   use_added words moment (Ok rows) o end added =
       use_asked words.transform words.file.now words.wait moment (requests.Import rows) o end added
   use_added words moment (Err fault) o end told = unseen
 
   abbrev pub use_imported : (words : ImportWords) → (moment : ℕ) → (o : Outputs)
       → (end : CommandEnd)
-      → IsFileImported (over_files {g = disk}) with_file.at m.untouched m.texts words
-      moment o end → RunUse
+      → IsFileImported (over_files {g = disk}) with_file.at with_file.untouched m.texts words
+      moment o end → RunUse disk
   use_imported words moment o end (inl (bytes, reads, (records, rows, are, reading, added))) =
       use_added words moment rows o end added
   use_imported words moment o end (inr unread) = unseen
 
   abbrev pub use_reported : (words : ReportWords) → (o : Outputs) → (end : CommandEnd)
-      → IsReported (over_files {g = disk}) with_file.at words o end → RunUse
+      → IsReported (over_files {g = disk}) with_file.at words o end → RunUse disk
   use_reported words o end (report_absent misses told) = unseen
   use_reported words o end (report_present visit) =
       use_visited {place = where_present (with_file.at words.file.now words.wait)} use_refused
@@ -286,7 +291,7 @@ module _ {M S H D R W : Type 0} (disk : disk.Ghosts M) (salts : source.Ghosts S)
   -- a look-up, or a list
   abbrev pub use_shown : (path : Text) → (wait moment : ℕ) → (wanted : Wanted) → (o : Outputs)
       → (end : CommandEnd)
-      → IsShownAt (over_files {g = disk}) with_file.at path wait moment wanted o end → RunUse
+      → IsShownAt (over_files {g = disk}) with_file.at path wait moment wanted o end → RunUse disk
   use_shown path wait moment wanted o end (shown_absent misses told) = unseen
   use_shown path wait moment wanted o end (shown_present visit) =
       use_visited {place = where_present (with_file.at path wait)} use_refused
@@ -294,7 +299,7 @@ module _ {M S H D R W : Type 0} (disk : disk.Ghosts M) (salts : source.Ghosts S)
 
   abbrev pub use_serving : (words : ServeWords) → (err_old err_new : Sink) → (end : CommandEnd)
       → IsServing (over_files {g = disk}) m.way with_file.at m.door m.clock words err_old
-      err_new end → RunUse
+      err_new end → RunUse disk
   use_serving words err_old err_new end (serve_unopened fault fails leaves told ends) =
       use_refused fault fails
   use_serving words err_old err_new end
@@ -309,7 +314,7 @@ module _ {M S H D R W : Type 0} (disk : disk.Ghosts M) (salts : source.Ghosts S)
 
   abbrev pub use_audited : (words : AuditWords) → (o : Outputs) → (end : CommandEnd)
       → IsAudited (with_file.at words.file.now words.wait) (option_map forward_of words.transform)
-      o end → RunUse
+      o end → RunUse disk
   use_audited words o end (audit_absent misses told) = unseen
   use_audited words o end (audit_unopened fault why told) = use_refused fault why
   use_audited words o end (audit_looked answer meets audit told) =
@@ -317,23 +322,24 @@ module _ {M S H D R W : Type 0} (disk : disk.Ghosts M) (salts : source.Ghosts S)
 
   -- what is asked for
   abbrev pub use_carried : (asked : Asked) → (o : Outputs) → (end : CommandEnd)
-      → IsCarriedOut (over_files {g = disk}) with_file asked o end → RunUse
+      → IsCarriedOut (over_files {g = disk}) with_file asked o end → RunUse disk
   use_carried (asks.Trial words) o end done = unseen
   use_carried (asks.Import words) o end (shut, (moment, taken, done)) =
-      use_timed (m.untouched × m.texts.leaves) _ o end
+      use_timed (with_file.untouched × m.texts.leaves) _ o end
       (λ at it. use_imported words at o end it) moment done
   use_carried (asks.Request words) o end (shut, (moment, taken, done)) =
-      use_timed m.untouched _ o end (λ at it. use_asked words.transform words.file.now words.wait at
-      words.request o end it) moment done
+      use_timed with_file.untouched _ o end
+      (λ at it. use_asked words.transform words.file.now words.wait at words.request o end it)
+      moment done
   use_carried (asks.Report words) o end (shut, done) = use_reported words o end done
   use_carried (asks.Show words) o end (shut, (moment, taken, done)) =
-      use_timed m.untouched _ o end (λ at it. use_shown words.file.now words.wait at
+      use_timed with_file.untouched _ o end (λ at it. use_shown words.file.now words.wait at
       (One (lookup_of words.shown) words.json) o end it) moment done
   use_carried (asks.List words) o end (shut, (moment, taken, done)) =
-      use_timed m.untouched _ o end (λ at it. use_shown words.file.now words.wait at
+      use_timed with_file.untouched _ o end (λ at it. use_shown words.file.now words.wait at
       (Listing words.listed words.json) o end it) moment done
   use_carried (asks.Offer words) o end (shut, (moment, taken, done)) =
-      use_timed m.untouched _ o end (λ at it. use_shown words.file.now words.wait at
+      use_timed with_file.untouched _ o end (λ at it. use_shown words.file.now words.wait at
       (One (lookups.Quote words.meter words.tender) words.json) o end it) moment done
   use_carried (asks.Meter words) o end done = unseen
   use_carried (asks.Quote words) o end done = unseen
@@ -345,7 +351,7 @@ module _ {M S H D R W : Type 0} (disk : disk.Ghosts M) (salts : source.Ghosts S)
 
   -- a run, whatever its words are
   abbrev pub use_run : (words : List Text) → (o : Outputs) → (end : CommandEnd)
-      → IsProgramRun (over_files {g = disk}) with_file words o end → RunUse
+      → IsProgramRun (over_files {g = disk}) with_file words o end → RunUse disk
   use_run words o end (answered asked for done) = use_carried asked o end done
   use_run words o end (bad_word idle none asks_none told) = unseen
   use_run words o end (explained idle kind text among some says) = unseen

@@ -16,7 +16,7 @@ all_written lives office are law None by = tt
 all_written lives office are law (Some forward) by = law forward by
 
 pub returns : goal.returns
-returns g c = λ image given answer lives office are by stands audit clean.
+returns g c = λ image back given answer lives office are by stands audit clean.
     let before : HasCleanDisk (file_state audit.first) = omega (arith, audit.audited.survives.clean, clean) in
     let at = audit.connected before in
     let first = file_state audit.first in

@@ -5,8 +5,8 @@ use Rattle.program_laws.proofs.laws.sell_law.Goals as goal
 
 pub returns : goal.returns
 returns g c = record {
-  done = λ file path wait transform order moment office o stands sold. ends_sold (over_files {g = g.H.Medium.Disk})
-      c.office_law.ensures.answers_stand (places_of g.H.Medium.Disk g.H.Salts.SaltSource g.H.OfficeFile file) path wait transform order
+  done = λ file back path wait transform order moment office o stands sold. ends_sold (over_files {g = g.H.Medium.Disk})
+      c.office_law.ensures.answers_stand (places_of g.H.Medium.Disk g.H.Salts.SaltSource g.H.OfficeFile file back) path wait transform order
       moment office o stands sold;
   told = sale_told;
 }

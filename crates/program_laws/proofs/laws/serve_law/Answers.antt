@@ -4,9 +4,7 @@ use Rattle.program_laws.proofs.CourseLemmas.{live_on}
 use Rattle.program_laws.proofs.laws.serve_law.Goals as goal
 
 pub returns : goal.returns
-returns g c = λ clock forward count old new printed start held clean last.
+returns g c = λ first clock forward count old new printed start held clean last.
     let D = g.D.Door in
-    let H = g.H.OfficeFile in
     live_on (way D g.D.Reader.Read.remaining g.D.Writer.Write.contents) (g.C.Clock.reads clock) forward seen_in
-    c.history_law.ensures.goes_on count old new printed
-    held clean start last
+    (c.lives_law.ensures.goes_on first) count old new printed held clean start last
