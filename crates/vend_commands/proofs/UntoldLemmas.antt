@@ -34,8 +34,7 @@ use Rattle.desk_commands.specs.declared.list_at_desk.PageFault.TheVariants as fa
 use Rattle.book_states.specs.declared.lookup.Found.{Found}
 use Rattle.command_line.specs.declared.commands.list.Listed.{Listed}
 use Rattle.desk_commands.specs.Exchanged.{Calls, IsUnsent, Round, untold_calls}
-use Rattle.desk_commands.specs.Exchanged.IsUnsent.{no_room as full, unreached, unsent}
-use Rattle.desk_commands.specs.declared.exchange.ExchangeFault.{ExchangeFault}
+use Rattle.desk_commands.specs.Exchanged.IsUnsent.{unreached, unread as no_room_for_reply, unsent}
 use Rattle.desk_client.specs.declared.question.Question.{Question}
 use Rattle.command_line.specs.declared.commands.at_desk.DeskQuestion.{DeskQuestion}
 use Rattle.command_line.specs.declared.commands.at_desk.DeskQuestion.TheVariants as desk_asks
@@ -164,17 +163,17 @@ deaf_bare way address door last old new (no_listener fails told) = no_listener t
 deaf_bare way address door last old new (no_text port is_port listens told) = no_text port is_port tt told
 deaf_bare way address door last old new (not_told port is_port listens cut told) = not_told port is_port tt cut told
 
-unsent_bare : (calls : Calls) (desk : Address) (rounds : List Round) (fault : ExchangeFault) → IsUnsent calls desk rounds fault
-    → IsUnsent untold_calls desk rounds fault
-unsent_bare calls desk rounds fault (unreached misses none is) = unreached tt none is
-unsent_bare calls desk rounds fault (unsent held is) = unsent tt is
-unsent_bare calls desk rounds fault (full held is) = full tt is
+unsent_bare : (calls : Calls) (desk : Address) (rounds : List Round) (message : Text) → IsUnsent calls desk rounds message
+    → IsUnsent untold_calls desk rounds message
+unsent_bare calls desk rounds message (unreached misses none) = unreached tt none
+unsent_bare calls desk rounds message (unsent cut) = unsent tt
+unsent_bare calls desk rounds message (no_room_for_reply came held) = no_room_for_reply came tt
 
 desk_asked_bare : (calls : Calls) (uncalled : Type 0) (desk : Address) (json : Bool) (question : Question) (o : Outputs) (end : CommandEnd)
     → IsAsked calls uncalled desk json question o end → IsAsked untold_calls ⊤ desk json question o end
 desk_asked_bare calls uncalled desk json question o end (replied came exchanged told is done) = replied came tt told is done
 desk_asked_bare calls uncalled desk json question o end (broken came exchanged none told) = broken came tt none told
-desk_asked_bare calls uncalled desk json question o end (message_unsent fault why told) = message_unsent fault (unsent_bare calls desk [] fault why) told
+desk_asked_bare calls uncalled desk json question o end (message_unsent why told) = message_unsent (unsent_bare calls desk [] _ why) told
 desk_asked_bare calls uncalled desk json question o end (desk_full left told) = desk_full tt told
 
 asked_once_bare : (texts : Texts) (calls : Calls) (uncalled : Type 0) (desk : Address) (question : DeskQuestion) (o : Outputs) (end : CommandEnd)
@@ -184,7 +183,8 @@ asked_once_bare texts calls uncalled desk question o end (without_rows fault why
 
 page_stop_bare : (calls : Calls) (desk : Address) (rounds : List Round) (left : Option Listed) (fault : PageFault)
     → IsPageStop calls desk rounds left fault → IsPageStop untold_calls desk rounds left fault
-page_stop_bare calls desk rounds left (faults.Unsent fault) why = unsent_bare calls desk rounds fault why
+page_stop_bare calls desk rounds left faults.NoMessage held = tt
+page_stop_bare calls desk rounds left faults.Unsent (list, is, why) = (list, is, unsent_bare calls desk rounds _ why)
 page_stop_bare calls desk rounds left (faults.Refused refusal) (list, is, came, held, why) = (list, is, came, tt, why)
 page_stop_bare calls desk rounds left faults.NoMoment (list, is, came, held, why) = (list, is, came, tt, why)
 page_stop_bare calls desk rounds left faults.OutOfForm (list, is, came, held, why) = (list, is, came, tt, why)
