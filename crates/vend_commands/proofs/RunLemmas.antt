@@ -217,7 +217,7 @@ desk_asked_ends : (calls : Calls) (uncalled : Type 0) (desk : Address) (json : B
     → IsAsked calls uncalled desk json question o end → exit_status_of end ≤ 1
 desk_asked_ends calls uncalled desk json question o end (replied came exchanged told is done) = told_in_reply_ends json question told o end done
 desk_asked_ends calls uncalled desk json question o end (broken came exchanged none told) = told_ends o _ _ how.Refused end (omega arith) told
-desk_asked_ends calls uncalled desk json question o end (unsent fault why told) = told_ends o _ _ how.Refused end (omega arith) told
+desk_asked_ends calls uncalled desk json question o end (unsent why told) = told_ends o _ _ how.Refused end (omega arith) told
 desk_asked_ends calls uncalled desk json question o end (desk_full left told) = told_ends o _ _ how.Refused end (omega arith) told
 
 asked_once_ends : (texts : Texts) (calls : Calls) (uncalled : Type 0) (desk : Address) (question : DeskQuestion) (o : Outputs)

@@ -166,7 +166,7 @@ desk_asked_same : (calls : Calls) (uncalled : Type 0) (desk : Address) (json : B
     → IsAsked calls uncalled desk json question o end → AreSame o
 desk_asked_same calls uncalled desk json question o end (replied came exchanged told is done) = told_in_reply_same json question told o end done
 desk_asked_same calls uncalled desk json question o end (broken came exchanged none told) = told_same o _ _ _ end told
-desk_asked_same calls uncalled desk json question o end (unsent fault why told) = told_same o _ _ _ end told
+desk_asked_same calls uncalled desk json question o end (unsent why told) = told_same o _ _ _ end told
 desk_asked_same calls uncalled desk json question o end (desk_full left told) = told_same o _ _ _ end told
 
 asked_once_same : (texts : Texts) (calls : Calls) (uncalled : Type 0) (desk : Address) (question : DeskQuestion) (o : Outputs)
