@@ -76,14 +76,6 @@ calls_of of remaining contents net = record {
   misses = of.misses net;
 }
 
--- connections of which nothing is told
-abbrev pub untold_calls : Calls
-untold_calls = record {
-  exchanges = λ desk rounds. ⊤;
-  breaks = λ desk rounds message. ⊤;
-  misses = λ desk. ⊤;
-}
-
 -- the most bytes that are read of a reply
 abbrev pub longest_reply : ℕ
 longest_reply = longest_reply_head + longest_reply_body
