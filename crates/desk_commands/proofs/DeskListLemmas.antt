@@ -1,5 +1,5 @@
 -- Pages of a list that a desk told.
-use Rattle.std.proofs.Common.{◌≡◌, ◌∙◌, ℕ, ◌+◌, ◌==◌, true, false, List, [], ◌∷◌, ◌++◌, length, Option, Some, None, Result, Ok, Err, refl, ap, sym, subst, append-nil, inl, inr}
+use Rattle.std.proofs.Common.{◌≡◌, ◌∙◌, ℕ, ◌+◌, ◌==◌, true, false, List, [], ◌∷◌, ◌++◌, length, Option, Some, None, Ok, Err, refl, ap, sym, subst, append-nil, inl, inr}
 use Rattle.std.specs.Prelude.{◌⊎◌, Bool, if◌then◌else◌}
 use Rattle.std.proofs.lemmas.List.{length-append}
 use Rattle.book_states.specs.declared.lookup.Found.{Found}
@@ -9,7 +9,7 @@ use Rattle.desk_client.specs.Question.{question_text}
 use Rattle.sts_fields.specs.Text.{Text}
 use Rattle.desk_commands.proofs.PageLemmas.{more_text, some_behind}
 use Rattle.vend_ports.proofs.TakeLemmas.{takes_as, takes_last, takes_next, takes_none}
-use Rattle.desk_commands.specs.ListedAtDesk.{IsListedAtDesk, IsPageAsked, IsPageIn, IsPagePrinted, IsPageReply, IsPageStop, TellPages, and_next, page_fault_line, page_question}
+use Rattle.desk_commands.specs.ListedAtDesk.{IsListedAtDesk, IsPageAsked, IsPagePrinted, IsPageReply, IsPageStop, TellPages, and_next, page_fault_line, page_question}
 use Rattle.desk_commands.specs.Exchanged.{AreRounds, Exchanges, IsRound, Round, calls_of}
 use Rattle.desk_commands.specs.Exchanged.IsUnsent.{unreached, unread, unsent}
 use Rattle.desk_commands.specs.print.Pages.{list_behind, most_pages}
@@ -21,20 +21,6 @@ use Rattle.vend_ports.specs.declared.command_end.CommandEnd.TheVariants as how
 use Rattle.desk_commands.specs.declared.list_at_desk.PageFault.{PageFault}
 use Rattle.desk_commands.specs.declared.list_at_desk.PageFault.TheVariants as faults
 use Rattle.vend_ports.specs.declared.port.loopback.Loopback as loopback
-
--- ---- a page
-
--- what came of a message says what came of the page
-pub page_asked : {S : Type 0} (remaining contents : S → Held) (list : Listed) (fresh last : S) (came : Text) (page : Result Found PageFault)
-    → IsRound remaining contents fresh last (question_text (page_question list)) came → IsPageIn list came page
-    → IsPageAsked remaining contents list fresh last page
-page_asked remaining contents list fresh last came (Ok page) round is = (came, round, is)
-page_asked remaining contents list fresh last came (Err faults.NoMessage) round is = absurd is
-page_asked remaining contents list fresh last came (Err faults.Unsent) round is = absurd is
-page_asked remaining contents list fresh last came (Err (faults.Refused refusal)) round is = (came, round, is)
-page_asked remaining contents list fresh last came (Err faults.NoMoment) round is = (came, round, is)
-page_asked remaining contents list fresh last came (Err faults.OutOfForm) round is = (came, round, is)
-page_asked remaining contents list fresh last came (Err faults.Memory) round is = (came, round, is)
 
 -- ---- a round more
 

@@ -1,5 +1,5 @@
 -- A sale that is asked for again.
-use Rattle.std.proofs.Common.{◌≡◌, ◌⊎◌, ◌∙◌, ℕ, Bool, true, false, List, [], ◌∷◌, ◌++◌, length, Option, Some, None, Result, Ok, Err, inl, inr, refl, sym, subst, arith}
+use Rattle.std.proofs.Common.{◌≡◌, ◌⊎◌, ◌∙◌, ℕ, Bool, true, false, List, [], ◌∷◌, ◌++◌, length, Option, Some, None, Result, Ok, Err, inl, inr, refl, subst, arith}
 use Rattle.std.specs.Prelude.{◌&&◌, ◌==◌, ◌↔◌, Contains, bytes_eq, if◌then◌else◌}
 use Rattle.std.proofs.lemmas.Bool.{and_parts}
 use Rattle.std.proofs.lemmas.Bool.Decides.{nat_tests}
@@ -89,13 +89,3 @@ life_opens start [] life later o (is, opening, left) = (opening, is)
 life_opens start (first ∷ lives) life later o (is, opening, (left, may, on)) =
     let rest = life_opens left lives life later o on in
     ((is, opening, (left, may, rest.0)), rest.1)
-
--- the reply that gave a sale is that of the rules
-pub sold_by : (forward : BlockFunction) (o : Office) (at : Stamped) (r : Result Answer Refusal) (s : Sale)
-    → IsLife (extended_by (opened forward o) at r) → r ≡ Ok (Sold s) → reply forward o at ≡ Ok (Sold s)
-sold_by forward o at r s is sold = elim (replied forward o at r is) [
-  | inl by_rules ↦ sym by_rules ∙ sold
-  | inr (inl memory) ↦ absurd (cc)
-  | inr (inr (inl store)) ↦ absurd (cc)
-  | inr (inr (inr stopped)) ↦ absurd (cc)
-]

@@ -57,7 +57,6 @@ use Rattle.office_commands.specs.commands.Reported.{IsReported, PrintsPaper}
 use Rattle.office_commands.specs.commands.Reported.IsReported.{absent as no_file, present}
 use Rattle.vend_commands.specs.Run.{IsCarriedOut, IsExplained, IsProgramRun}
 use Rattle.vend_commands.specs.Run.IsProgramRun.{answered, bad_word, explained, no_room}
-use Rattle.vend_commands.specs.commands.Selfchecked.{IsSelfchecked}
 use Rattle.vend_commands.specs.commands.Selfchecked.IsSelfchecked.{agreed, failed}
 use Rattle.office_commands.specs.office.Served.{TellsReply}
 use Rattle.vend_ports.specs.Status.{exit_status_of, status_of}
@@ -77,7 +76,6 @@ use Rattle.command_line.specs.declared.commands.report.ReportWords.{ReportWords}
 use Rattle.command_line.specs.declared.commands.serve.ServeWords.{ServeWords}
 use Rattle.vend_ports.specs.declared.command_end.CommandEnd.TheVariants as how
 use Rattle.command_line.specs.declared.transform.Shipped.{Shipped}
-use Rattle.vend_commands.specs.declared.selfcheck.fault.SelfcheckFault.{SelfcheckFault}
 use Rattle.vend_ports.specs.declared.trials.TrialFault.{TrialFault}
 use Rattle.office_commands.specs.declared.office.wanted.Wanted.{Wanted}
 use Rattle.office_commands.specs.declared.office.wanted.Wanted.TheVariants.{One, Listing}
@@ -87,12 +85,6 @@ use Rattle.vend_ports.specs.declared.command_end.CommandEnd.{CommandEnd}
 pub done_so : {S D R W : Type 0} (store : Ghosts S) (m : Machine D R W) (asked same : Asked) (o : Outputs) (end : CommandEnd) → asked
     ≡ same → IsCarriedOut store m same o end → IsCarriedOut store m asked o end
 done_so store m asked same o end is done = subst (λ a. IsCarriedOut store m a o end) (sym is) done
-
--- what a selfcheck found is told, by less than it found
-pub selfcheck_done : (o : Outputs) (end : CommandEnd) (Agrees Has : Type 0) (Disagrees Told : SelfcheckFault → Type 0) → (Agrees → Has)
-    → ((fault : SelfcheckFault) → Disagrees fault → Told fault) → IsSelfchecked Agrees Disagrees o end → IsSelfchecked Has Told o end
-selfcheck_done o end Agrees Has Disagrees Told less fewer (agreed is told) = agreed (less is) told
-selfcheck_done o end Agrees Has Disagrees Told less fewer (failed fault why told) = failed fault (fewer fault why) told
 
 -- what `clap` says of words is a fault of theirs, or there was no room
 pub told_by_clap : {S D R W : Type 0} (store : Ghosts S) (m : Machine D R W) (error : Error) (words : List Text)

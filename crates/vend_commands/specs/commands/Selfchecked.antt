@@ -28,14 +28,12 @@ use Rattle.office_commands.specs.print.Opening.{opening_line}
 use Rattle.vend_ports.specs.port.Sent.{IsSent}
 use Rattle.vend_ports.specs.print.Sink.{Held}
 use Rattle.vend_ports.specs.print.Told.{IsTold, Outputs}
-use Rattle.command_line.specs.Transform.{forward_of}
 use Rattle.vend_ports.specs.declared.command_end.CommandEnd.{CommandEnd}
 use Rattle.vend_ports.specs.declared.command_end.CommandEnd.TheVariants.{Done, Refused as IsRefused}
 use Rattle.vend_ports.specs.declared.port.loopback.Loopback as loopback
 use Rattle.vend_commands.specs.declared.selfcheck.fault.SelfcheckFault.{SelfcheckFault}
 use Rattle.vend_commands.specs.declared.selfcheck.fault.SelfcheckFault.TheVariants.{Net, Unopened}
 use Rattle.vend_commands.specs.declared.selfcheck.fault.SelfcheckFault.TheVariants.{Refused}
-use Rattle.command_line.specs.declared.transform.Shipped.{Shipped}
 
 -- ---- the office
 
@@ -175,10 +173,6 @@ module _ {N S : Type 0} (of : loopback.Ghosts N S) (remaining contents : S → H
         → fault_over_net end ≡ Some fault → Disagrees see fault
     unlike : (text : Text) → AreReplies forward text → (near : S) → ConversesOver near Closed
         → fault ≡ Net → Disagrees see fault
-
--- there are such replies
-abbrev pub HasReplies : Shipped → Type 0
-HasReplies transform = (text : Text) × AreReplies (forward_of transform) text
 
 -- ---- what is told
 

@@ -102,6 +102,7 @@ module _ (laws : LowerLaws) where
       (λ life same. writes_by start forward life.forward same) lives one)
       office lead have
 
+  -- under one transform a sale that lives made was written by it
   pub made_writes : (forward : ℕ → ℕ → ℕ) (start : Office) (lives : List Life) (o : Office)
       (s : Sale) → IsOffice start → LeadTo start lives o
       → All (λ (life : Life). life.forward ≡ forward) lives → WasMadeSince start o s
@@ -155,6 +156,7 @@ module _ (laws : LowerLaws) where
       subst (λ key. IsToken m.forward key (fields_of s) s.digits)
       (ap (λ (k : Meter). k.key) one ∙ are.key_is) was.token
 
+  -- what is made for a meter with the key of the office is sold to it
   pub made_for_are_sold : (start : Office) (lives : List Life) (o : Office) (m : SimMeter)
       (sales : List Sale) → AreMadeFor start lives o m sales → SoldTo o m sales
   made_for_are_sold start lives o m sales are =
