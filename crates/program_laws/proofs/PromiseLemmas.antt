@@ -1,5 +1,5 @@
 -- What holds of lives that runs add one after another, on one machine and on others.
-use Rattle.std.proofs.Common.{◌≡◌, ◌⊎◌, ◌∙◌, ℕ, List, ◌∷◌, ◌++◌, Ok, inl, inr, sym, subst}
+use Rattle.std.proofs.Common.{◌≡◌, ◌⊎◌, ◌∙◌, ℕ, List, ◌∷◌, ◌++◌, Result, Ok, Err, inl, inr, sym, subst}
 use Rattle.std.specs.Prelude.{◌≤◌, All, Contains, sum_by}
 use Rattle.std.proofs.Math.Logic.{∥∥₁_map}
 use Rattle.std.proofs.lemmas.List.Elements.{Contains-append_left}
@@ -7,9 +7,12 @@ use Rattle.sqlite_disk.specs.declared.Disk as disk
 use Rattle.sqlite_wal.specs.Recovery.{Image}
 use Rattle.vend_core.specs.Law.Life.{IsHanded, LeadTo, Life}
 use Rattle.office_rules.specs.Office.{IsOffice, Office}
+use Rattle.office_rules.specs.declared.decision.answer.Answer.{Answer}
 use Rattle.office_rules.specs.declared.decision.answer.Answer.TheVariants.{Sold}
+use Rattle.office_rules.specs.declared.decision.refusal.Refusal.{Refusal}
+use Rattle.office_rules.specs.declared.decision.refusal.Refusal.TheVariants.{Memory, Store}
 use Rattle.office_rules.specs.declared.decision.request.Order.{Order}
-use Rattle.office_rules.specs.declared.decision.request.Request.TheVariants.{Sell}
+use Rattle.office_rules.specs.declared.decision.request.Request.TheVariants.{Reprint, Sell}
 use Rattle.office_rules.specs.declared.office.sale.Sale.{Sale}
 use Rattle.sqlite.specs.Files.{image_of}
 use Rattle.sts_token.specs.Meter.{Accepts, credit_of}
@@ -24,13 +27,16 @@ use Rattle.program_laws.specs.runs.EachRun.{KeepsEachRun}
 use Rattle.program_laws.specs.runs.Files.{FindsImage, MayHold}
 use Rattle.program_laws.specs.runs.Here.{Here, ProgramRun, use_of}
 use Rattle.program_laws.specs.runs.Promise.{ComesAfter, KeepsPromise}
-use Rattle.program_laws.specs.runs.Steps.{AreSoldFor, Asks, FailsToSell, IsOf, IsUnlessFailed}
+use Rattle.vend_ports.specs.print.Told.{Outputs}
+use Rattle.vend_ports.specs.declared.command_end.CommandEnd.{CommandEnd}
+use Rattle.program_laws.specs.runs.Steps.{AreSoldFor, Asks, FailsToPrint, IsOf, IsUnlessFailed, Tells}
+use Rattle.program_laws.specs.runs.Steps.TellsNoRequest.{no_room}
 use Rattle.program_laws.specs.runs.Words.{WordsRequest}
 use Rattle.program_laws.specs.runs.Uses.{RunQuestion, RunUse, connected, unconnected, unseen}
 use Rattle.program_laws.proofs.DeskLemmas.{handed_more}
 use Rattle.program_laws.proofs.LeadLemmas.{LeadingLaws}
 use Rattle.program_laws.proofs.OrderLemmas.{SellingLaws, sold_handed, sold_in_lives}
-use Rattle.program_laws.proofs.WordLemmas.{same_order}
+use Rattle.program_laws.proofs.WordLemmas.OrderLemmas.{same_order}
 
 -- what the laws of lives say of the sales of an office, of its reports and of a meter
 pub record HistoryLaws : Type 0 where
@@ -68,6 +74,11 @@ one_order leading selling start lives o order a b office led sold_a sold_b =
     leading.one_ref start lives o a b office led (sold_handed order a lives sold_a) (sold_handed order b lives sold_b) (its_a.operator ∙ sym its_b.operator)
     (its_a.order_ref ∙ sym its_b.order_ref)
 
+-- a reply that failed is told so
+fails_to_print : (r : Result Answer Refusal) (o : Outputs) (end : CommandEnd) → (r ≡ Err Memory) ⊎ (r ≡ Err Store) → TellsReply r o end → FailsToPrint o end
+fails_to_print r o end (inl memory) told = inr (no_room (subst (λ x. TellsReply x o end) memory told))
+fails_to_print r o end (inr store) told = inl (subst (λ x. TellsReply x o end) store told)
+
 -- ---- a run, and one after it
 
 module _ {P D R W Q E S T : Type 0} (here : Here P D R W) (there : Here Q E S T) (each : KeepsEachRun here) (each_there : KeepsEachRun there) where
@@ -83,7 +94,7 @@ module _ {P D R W Q E S T : Type 0} (here : Here P D R W) (there : Here Q E S T)
   -- so the same words print the same receipt
   same_sell : (start : Office) (first : ProgramRun here) (again : ProgramRun there) (order : Order) (s : Sale) (p : RunQuestion)
       → ComesAfter here there start first again → first.words ≡ again.words → Asks here first p → p.request ≡ Sell order → p.reply ≡ Ok (Sold s)
-      → PrintsSale s again.o again.end ⊎ FailsToSell again.o again.end
+      → PrintsSale s again.o again.end ⊎ FailsToPrint again.o again.end
   same_sell start first again order s p comes same asks request sold =
       let said = subst (WordsRequest first.words) request (each.asks first p asks) in
       elim (each_there.sells again order (subst (λ words. WordsRequest words (Sell order)) same said)) [
@@ -92,10 +103,23 @@ module _ {P D R W Q E S T : Type 0} (here : Here P D R W) (there : Here Q E S T)
             let told = each_there.told again q asks_again in
             elim (sold_again start first again order s p q comes asks request sold asks_again request_again) [
               | inl granted ↦ inl (each_there.prints again q s asks_again (inl granted))
-              | inr (inl memory) ↦ inr (inr (inl (subst (λ r. TellsReply r again.o again.end) memory told)))
-              | inr (inr store) ↦ inr (inl (subst (λ r. TellsReply r again.o again.end) store told))
+              | inr fails ↦ inr (fails_to_print q.reply again.o again.end fails told)
             ]
       ]
+
+  -- a receipt that is asked for prints what was told, or why not
+  same_receipt : (start : Office) (first : ProgramRun here) (again : ProgramRun there) (s : Sale) (comes : ComesAfter here there start first again)
+      → Tells here first comes.before comes.own comes.went.lived s → WordsRequest again.words (Reprint s.number)
+      → PrintsSale s again.o again.end ⊎ FailsToPrint again.o again.end
+  same_receipt start first again s comes told wanted = elim (each_there.reprints again s.number wanted) [
+    | inr untold ↦ inr (inr untold)
+    | inl (q, asks, request) ↦
+        let there = handed_more (comes.before ++ comes.own) comes.between s (comes.went.handed s told) in
+        elim (comes.goes.printed q s asks request there) [
+          | inl granted ↦ inl (each_there.prints again q s asks (inr granted))
+          | inr fails ↦ inr (fails_to_print q.reply again.o again.end fails (each_there.told again q asks))
+        ]
+  ]
 
   module _ (leading : LeadingLaws) (selling : SellingLaws) (history : HistoryLaws) where
     -- all of it
@@ -110,8 +134,10 @@ module _ {P D R W Q E S T : Type 0} (here : Here P D R W) (there : Here Q E S T)
       one_ref = leading.one_ref;
       one_order = one_order leading selling;
       sold_again = sold_again;
+      order_again = λ start again lives more order s q goes there asks request. goes.again q order s asks request (sold_more lives more order s there);
       one_said = same_order;
       same_sell = same_sell;
+      same_receipt = same_receipt;
       printed_again = λ start first again s q comes told asks request.
           comes.goes.printed q s asks request (handed_more (comes.before ++ comes.own) comes.between s (comes.went.handed s told));
       cash = λ start lives o forward ats. history.cash start lives forward o ats;

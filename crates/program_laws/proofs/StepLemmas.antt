@@ -9,6 +9,7 @@ use Rattle.sqlite_wal.proofs.LogLemmas.{SeenMayStay}
 use Rattle.vend_core.specs.Law.Life.{LeadTo, Life}
 use Rattle.office_rules.specs.Office.{IsOffice, Office, empty_office}
 use Rattle.office_rules.specs.declared.decision.answer.Answer.TheVariants.{Reprinted, Sold}
+use Rattle.office_rules.specs.declared.decision.request.Request.TheVariants.{Reprint, Sell}
 use Rattle.office_rules.specs.declared.office.sale.Sale.{Sale}
 use Rattle.books.specs.Found.{FindsOffice}
 use Rattle.books.specs.Keeps.{StoreStandsFor}
@@ -29,7 +30,9 @@ use Rattle.program_laws.proofs.OrderLemmas.{SellingLaws}
 use Rattle.program_laws.proofs.RunsLemmas.KeptLemmas.{Laws}
 use Rattle.program_laws.proofs.RunsLemmas.MadeLemmas.{IsMade}
 use Rattle.program_laws.proofs.RunsLemmas.WalkLemmas.{run_made}
-use Rattle.program_laws.proofs.WordLemmas.{run_answers}
+use Rattle.program_laws.proofs.WordLemmas.AnswerLemmas.{run_answers}
+use Rattle.program_laws.proofs.WordLemmas.OrderLemmas.{sells_again}
+use Rattle.program_laws.proofs.WordLemmas.ReceiptLemmas.{reprints_again}
 use Rattle.program_laws.proofs.ToldLemmas.{got_handed, order_again, printed_again, sold_for_it}
 
 -- what a sale's reply tells is its receipt
@@ -100,8 +103,10 @@ module _ {P D R W : Type 0} (here : Here P D R W) (laws : (start : Office) → L
       finds = λ start lives run holds. (made_of start lives run).finds holds;
       clean = λ run all. (made_of empty_office [] run).clean all;
       asks = λ run q asks. (asks_wanted run q asks).0;
-      sells = λ run order wanted. run_answers here.disk here.salts here.of (here.office run.ports) run.back (here.rest run.ports run.back) order run.words
-          run.o run.end wanted run.ran;
+      sells = λ run order wanted. run_answers here.disk here.salts here.of (here.office run.ports) run.back (here.rest run.ports run.back) (Sell order)
+          (λ rows is. let no : ⊥ = cc in no) run.words run.o run.end wanted.0 wanted.1 (sells_again run.words order wanted) run.ran;
+      reprints = λ run number wanted. run_answers here.disk here.salts here.of (here.office run.ports) run.back (here.rest run.ports run.back) (Reprint number)
+          (λ rows is. let no : ⊥ = cc in no) run.words run.o run.end wanted.0 wanted.1 (reprints_again run.words number wanted) run.ran;
       told = λ run q asks. (asks_wanted run q asks).1;
       prints = λ run q s asks sold. tells_sale q s run.o run.end sold (asks_wanted run q asks).1;
     }

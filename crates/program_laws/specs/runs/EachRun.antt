@@ -1,19 +1,19 @@
 -- What holds of each run on a machine, whatever lives were before it.
-use Rattle.std.specs.Prelude.{◌≡◌, ◌⊎◌, List, [], Ok}
+use Rattle.std.specs.Prelude.{◌≡◌, ◌⊎◌, ℕ, List, [], Ok}
 use Rattle.sqlite.specs.Files.{IsNothing}
 use Rattle.sqlite_wal.specs.Recovery.{Image}
 use Rattle.vend_core.specs.Law.Life.{LeadTo, Life}
 use Rattle.office_rules.specs.Office.{IsOffice, Office, empty_office}
 use Rattle.office_rules.specs.declared.decision.answer.Answer.TheVariants.{Reprinted, Sold}
 use Rattle.office_rules.specs.declared.decision.request.Order.{Order}
-use Rattle.office_rules.specs.declared.decision.request.Request.TheVariants.{Sell}
+use Rattle.office_rules.specs.declared.decision.request.Request.TheVariants.{Reprint, Sell}
 use Rattle.office_rules.specs.declared.office.sale.Sale.{Sale}
 use Rattle.books.specs.Path.{StandsIn}
 use Rattle.office_commands.specs.office.Served.{TellsReply}
 use Rattle.program_laws.specs.Selling.{PrintsSale}
 use Rattle.program_laws.specs.runs.Files.{FindsImage, IsClean}
 use Rattle.program_laws.specs.runs.Here.{Here, HoldsSo, IsAlwaysClean, ProgramRun, use_of}
-use Rattle.program_laws.specs.runs.Steps.{Asks, AsksOrder, Goes, IsOf}
+use Rattle.program_laws.specs.runs.Steps.{Asks, AsksOrTells, Goes, IsOf}
 use Rattle.program_laws.specs.runs.Uses.{RunQuestion}
 use Rattle.program_laws.specs.runs.Words.{WordsRequest}
 
@@ -34,11 +34,14 @@ pub record KeepsEachRun {P D R W : Type 0} (here : Here P D R W) : Type 0 where
       → HoldsSo here.disk here.of (here.office run.ports) (IsOf start lives)
       → FindsImage (use_of here run) (IsOf start lives)
   pub clean : (run : ProgramRun here) → IsAlwaysClean here.disk → IsClean (use_of here run)
-  -- It asks of the office what its words ask, and asks an order that they say, or tells why not.
+  -- It asks of the office what its words ask. If they ask to sell an order or to print the receipt
+  -- of a sale, it asks that, or tells why not.
   pub asks : (run : ProgramRun here) (q : RunQuestion) → Asks here run q
       → WordsRequest run.words q.request
   pub sells : (run : ProgramRun here) (order : Order) → WordsRequest run.words (Sell order)
-      → AsksOrder here run order
+      → AsksOrTells here run (Sell order)
+  pub reprints : (run : ProgramRun here) (number : ℕ) → WordsRequest run.words (Reprint number)
+      → AsksOrTells here run (Reprint number)
   -- It tells the reply that it got, and nothing else: of a sale and of a reprint the receipt.
   pub told : (run : ProgramRun here) (q : RunQuestion) → Asks here run q
       → TellsReply q.reply run.o run.end

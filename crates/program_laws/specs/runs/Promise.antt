@@ -19,7 +19,7 @@ use Rattle.books.specs.Path.{StandsIn}
 use Rattle.program_laws.specs.Selling.{PrintsSale}
 use Rattle.program_laws.specs.runs.Files.{FindsImage, MayHold}
 use Rattle.program_laws.specs.runs.Here.{Here, ProgramRun, use_of}
-use Rattle.program_laws.specs.runs.Steps.{AreSoldFor, Asks, FailsToSell, Goes, IsOf}
+use Rattle.program_laws.specs.runs.Steps.{AreSoldFor, Asks, FailsToPrint, Goes, IsOf}
 use Rattle.program_laws.specs.runs.Steps.{IsUnlessFailed, Tells}
 use Rattle.program_laws.specs.runs.Uses.{RunQuestion}
 use Rattle.program_laws.specs.runs.Words.{WordsRequest}
@@ -66,6 +66,11 @@ pub record KeepsPromise {P D R W Q E S T : Type 0} (here : Here P D R W) (there 
       (order : Order) (s : Sale) (p q : RunQuestion) → ComesAfter here there start first again
       → Asks here first p → p.request ≡ Sell order → p.reply ≡ Ok (Sold s)
       → Asks there again q → q.request ≡ Sell order → IsUnlessFailed q.reply (Sold s)
+  -- it does so where a desk had sold it too
+  pub order_again : (start : Office) (again : ProgramRun there) (lives more : List Life)
+      (order : Order) (s : Sale) (q : RunQuestion) → Goes there start again lives more
+      → AreSoldFor lives order s → Asks there again q → q.request ≡ Sell order
+      → IsUnlessFailed q.reply (Sold s)
   -- some words say one order; so the same words print the receipt of that sale, or tell that there
   -- was no memory, that the store failed, that there is no moment, or why no office was opened
   pub one_said : (words : List Text) (a b : Order) → WordsRequest words (Sell a)
@@ -74,12 +79,18 @@ pub record KeepsPromise {P D R W Q E S T : Type 0} (here : Here P D R W) (there 
       (order : Order) (s : Sale) (p : RunQuestion) → ComesAfter here there start first again
       → first.words ≡ again.words → Asks here first p → p.request ≡ Sell order
       → p.reply ≡ Ok (Sold s)
-      → PrintsSale s again.o again.end ⊎ FailsToSell again.o again.end
+      → PrintsSale s again.o again.end ⊎ FailsToPrint again.o again.end
   -- a report of the receipt of a sale that was told before gets that sale
   pub printed_again : (start : Office) (first : ProgramRun here) (again : ProgramRun there)
       (s : Sale) (q : RunQuestion) (comes : ComesAfter here there start first again)
       → Tells here first comes.before comes.own comes.went.lived s
       → Asks there again q → q.request ≡ Reprint s.number → IsUnlessFailed q.reply (Reprinted s)
+  -- so words that ask for it print its receipt, or why not
+  pub same_receipt : (start : Office) (first : ProgramRun here) (again : ProgramRun there)
+      (s : Sale) (comes : ComesAfter here there start first again)
+      → Tells here first comes.before comes.own comes.went.lived s
+      → WordsRequest again.words (Reprint s.number)
+      → PrintsSale s again.o again.end ⊎ FailsToPrint again.o again.end
   -- the reports of all shifts hold the money of all sales
   pub cash : (start : Office) (lives : List Life) (o : Office) (forward : BlockFunction)
       (ats : ℕ → Stamped) → IsOffice start → LeadTo start lives o → AskForReports ats

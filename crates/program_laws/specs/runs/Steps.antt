@@ -12,13 +12,14 @@ use Rattle.office_rules.specs.declared.decision.answer.Answer.TheVariants.{Repri
 use Rattle.office_rules.specs.declared.decision.refusal.Refusal.{Refusal}
 use Rattle.office_rules.specs.declared.decision.refusal.Refusal.TheVariants.{Memory, Store}
 use Rattle.office_rules.specs.declared.decision.request.Order.{Order}
+use Rattle.office_rules.specs.declared.decision.request.Request.{Request}
 use Rattle.office_rules.specs.declared.decision.request.Request.TheVariants.{Reprint, Sell}
 use Rattle.office_rules.specs.declared.decision.request.Stamped.{Stamped}
 use Rattle.office_rules.specs.declared.office.sale.Sale.{Sale}
 use Rattle.book_opening.specs.declared.fault.OpenFault.{OpenFault}
 use Rattle.books.specs.Path.{StandsIn}
 use Rattle.office_commands.specs.print.Opening.{opening_line}
-use Rattle.vend_ports.specs.print.Printed.{clock_line, refusal_line}
+use Rattle.vend_ports.specs.print.Printed.{clock_line, file_line, refusal_line}
 use Rattle.vend_ports.specs.print.Told.{IsTold, Outputs}
 use Rattle.vend_ports.specs.declared.command_end.CommandEnd.{CommandEnd}
 use Rattle.vend_ports.specs.declared.command_end.CommandEnd.TheVariants as how
@@ -59,15 +60,17 @@ module _ {M : Type 0} {g : disk.Ghosts M} where
   TellsIn (connected image living last) before lives is s = TellsSo living before lives is s
 
 -- why a command asks nothing of an office that would ask it a request: there was no room for the
--- words, or no moment, or no office was opened; that is told, and nothing else
-abbrev pub TellsNoRequest : Outputs → CommandEnd → Type 0
-TellsNoRequest o end = IsTold o [] (refusal_line Memory) how.Refused end
-    ⊎ (IsTold o [] clock_line how.Refused end
-    ⊎ ((fault : OpenFault) × IsTold o [] (opening_line fault) how.Refused end))
+-- words, or no moment, or no file, or no office was opened; that is told, and nothing else
+pub data TellsNoRequest (o : Outputs) (end : CommandEnd) : Type 0 where
+  no_room : IsTold o [] (refusal_line Memory) how.Refused end → TellsNoRequest o end
+  no_moment : IsTold o [] clock_line how.Refused end → TellsNoRequest o end
+  no_file : IsTold o [] file_line how.Refused end → TellsNoRequest o end
+  no_office : (fault : OpenFault) → IsTold o [] (opening_line fault) how.Refused end
+      → TellsNoRequest o end
 
--- why it does not sell an order that was sold before: for that, or the store failed
-abbrev pub FailsToSell : Outputs → CommandEnd → Type 0
-FailsToSell o end = IsTold o [] (refusal_line Store) how.Refused end ⊎ TellsNoRequest o end
+-- why it does not print a sale that was made before: for that, or the store failed
+abbrev pub FailsToPrint : Outputs → CommandEnd → Type 0
+FailsToPrint o end = IsTold o [] (refusal_line Store) how.Refused end ⊎ TellsNoRequest o end
 
 module _ {P D R W : Type 0} (here : Here P D R W) where
   -- the run asked this of the office
@@ -79,9 +82,9 @@ module _ {P D R W : Type 0} (here : Here P D R W) where
   abbrev pub Gets : ProgramRun here → Sale → Type 0
   Gets run sale = (q : RunQuestion) × Asks run q × Contains (sales_of q.reply) sale
 
-  -- the run asked this order of an office in a file; or it told why it asked nothing
-  abbrev pub AsksOrder : ProgramRun here → Order → Type 0
-  AsksOrder run order = ((q : RunQuestion) × Asks run q × (q.request ≡ Sell order))
+  -- the run asked this request of the office; or it told why it asked nothing
+  abbrev pub AsksOrTells : ProgramRun here → Request → Type 0
+  AsksOrTells run r = ((q : RunQuestion) × Asks run q × (q.request ≡ r))
       ⊎ TellsNoRequest run.o run.end
 
   -- The run told this sale along these lives: it got it, or read it, or its desk told a connection.

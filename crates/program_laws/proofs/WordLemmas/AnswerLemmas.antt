@@ -1,0 +1,94 @@
+-- A request that the words of a run ask for is asked of its office, or why not is told.
+use Rattle.std.proofs.Common.{◌≡◌, ◌⊎◌, ℕ, List, Option, Some, None, inl, inr, refl, sym, subst}
+use Rattle.clap.specs.Kinds.{IsAmong}
+use Rattle.sqlite.specs.Files.{over_files}
+use Rattle.sqlite_disk.specs.declared.Disk as disk
+use Rattle.sts_fields.specs.Moment.{first_moment}
+use Rattle.sts_fields.specs.Text.{Text}
+use Rattle.office_rules.specs.declared.decision.request.Request.{Request}
+use Rattle.office_rules.specs.declared.decision.request.Request.TheVariants as requests
+use Rattle.office_rules.specs.declared.office.row.Row.{Row}
+use Rattle.books.specs.Keeps.{Seen}
+use Rattle.command_line.specs.Asked.{AskFor}
+use Rattle.command_line.specs.declared.asked.Asked.{Asked}
+use Rattle.command_line.specs.declared.asked.Asked.TheVariants as asks
+use Rattle.command_line.specs.declared.commands.report.Paper.{Paper}
+use Rattle.command_line.specs.declared.commands.report.Paper.TheVariants.{Receipt, Sales, Shift, Totals}
+use Rattle.command_line.specs.declared.commands.report.ReportWords.{ReportWords}
+use Rattle.command_line.specs.declared.request_words.RequestWords.{RequestWords}
+use Rattle.command_line.specs.declared.transform.Shipped.{Shipped}
+use Rattle.command_line.specs.declared.transform.Shipped.TheVariants.{Plain}
+use Rattle.vend_commands.specs.Run.{IsCarriedOut, IsProgramRun}
+use Rattle.vend_commands.specs.Run.IsProgramRun.{answered, bad_word, explained, no_room as room_lacks}
+use Rattle.vend_commands.specs.port.Machines.{Machine}
+use Rattle.office_commands.specs.commands.Asked.{IsAskedAt}
+use Rattle.office_commands.specs.commands.Reported.{IsReported, PrintsPaper}
+use Rattle.office_commands.specs.commands.Reported.IsReported.{absent as report_absent, present as report_present}
+use Rattle.office_commands.specs.office.Visited.{seen_in}
+use Rattle.office_commands.specs.office.Visited.IsVisited.{unopened as visit_unopened, visited as visit_opened}
+use Rattle.office_commands.specs.declared.port.ports.OfficeFile as file
+use Rattle.office_commands.specs.declared.port.ports.SaltSource as source
+use Rattle.vend_ports.specs.commands.Timed.{IsDoneAt}
+use Rattle.vend_ports.specs.print.Told.{Outputs}
+use Rattle.vend_ports.specs.declared.command_end.CommandEnd.{CommandEnd}
+use Rattle.program_laws.specs.runs.Steps.{AsksIn, AsksSo, TellsNoRequest}
+use Rattle.program_laws.specs.runs.Steps.TellsNoRequest.{no_file, no_moment, no_office, no_room}
+use Rattle.program_laws.specs.runs.Uses.{RunQuestion, RunUse, lives_printing, use_asked, use_carried, use_reported, use_run, use_timed, with_file}
+use Rattle.program_laws.specs.runs.Words.{Reports, Requests}
+
+module _ {M S H D R W : Type 0} (disk : disk.Ghosts M) (salts : source.Ghosts S) (of : file.Ghosts H M S) (office : H) (back : Option (M × M))
+    (m : Machine D R W) (r : Request) where
+  abbrev here : Machine D R W
+  here = with_file disk salts of office back m
+
+  -- it was asked, or why not was told
+  abbrev Answers : RunUse disk → Outputs → CommandEnd → Type 0
+  Answers made o end = ((q : RunQuestion) × AsksIn made q × (q.request ≡ r)) ⊎ TellsNoRequest o end
+
+  asking_answers : (transform : Shipped) (path : Text) (wait moment : ℕ) (request : Request) (o : Outputs) (end : CommandEnd)
+      → r ≡ request → (asks : IsAskedAt (over_files {g = disk}) here.at transform path wait moment request o end)
+      → Answers (use_asked disk salts of office back m transform path wait moment request o end asks) o end
+  asking_answers transform path wait moment request o end is (visit_unopened fault fails told) = inr (no_office fault told)
+  asking_answers transform path wait moment request o end is (visit_opened old new begins finds does closes) =
+      inl (record { transform = transform; moment = moment; request = request; reply = does.reply }, refl, sym is)
+
+  timed_answers : (words : RequestWords) (o : Outputs) (end : CommandEnd) → r ≡ words.request → (moment : Option ℕ)
+      (done : IsDoneAt here.untouched (λ at. IsAskedAt (over_files {g = disk}) here.at words.transform words.file.now words.wait at words.request o end) o end moment)
+      → Answers (use_timed here.untouched _ o end (λ at it. use_asked disk salts of office back m words.transform words.file.now words.wait at words.request o end it)
+      moment done) o end
+  timed_answers words o end is (Some moment) done = asking_answers words.transform words.file.now words.wait moment words.request o end is done
+  timed_answers words o end is None idle = inr (no_moment idle.1)
+
+  -- a paper that asks it did
+  printed_asks : (paper : Paper) (o : Outputs) (end : CommandEnd) (old new : Seen) → Reports paper r → (does : PrintsPaper paper old new o end)
+      → (q : RunQuestion) × AsksSo (lives_printing paper o end old new does) q × (q.request ≡ r)
+  printed_asks (Shift number) o end old new is does =
+      (record { transform = Plain; moment = first_moment; request = requests.ShiftReport number; reply = does.reply }, refl, sym is)
+  printed_asks (Receipt number) o end old new is does =
+      (record { transform = Plain; moment = first_moment; request = requests.Reprint number; reply = does.reply }, refl, sym is)
+  printed_asks (Totals number) o end old new is does = absurd is
+  printed_asks Sales o end old new is does = absurd is
+
+  reporting_answers : (words : ReportWords) (o : Outputs) (end : CommandEnd) → Reports words.paper r
+      → (reported : IsReported (over_files {g = disk}) here.at words o end) → Answers (use_reported disk salts of office back m words o end reported) o end
+  reporting_answers words o end is (report_absent misses told) = inr (no_file told)
+  reporting_answers words o end is (report_present (visit_unopened fault fails told)) = inr (no_office fault told)
+  reporting_answers words o end is (report_present (visit_opened old new begins finds does closes)) =
+      inl (printed_asks words.paper o end (seen_in old) (seen_in new) is does)
+
+  module _ (no_import : (rows : List Row) → ¬ (r ≡ requests.Import rows)) where
+    carried_answers : (asked : Asked) (o : Outputs) (end : CommandEnd) → Requests asked r
+        → (done : IsCarriedOut (over_files {g = disk}) here asked o end) → Answers (use_carried disk salts of office back m asked o end done) o end
+    carried_answers (asks.Request words) o end is (shut, (moment, taken, done)) = timed_answers words o end is moment done
+    carried_answers (asks.Report words) o end is (shut, done) = reporting_answers words o end is done
+    carried_answers (asks.Import words) o end (rows, is) done = absurd (no_import rows is)
+    carried_answers asked o end is done = absurd is
+
+    -- what words ask for, and nothing else, is asked each time, or why not is told
+    pub run_answers : (words : List Text) (o : Outputs) (end : CommandEnd) (some : Asked) → AskFor words some
+        → ((asked : Asked) → AskFor words asked → Requests asked r) → (it : IsProgramRun (over_files {g = disk}) here words o end)
+        → Answers (use_run disk salts of office back m words o end it) o end
+    run_answers words o end some asked_for same (answered asked for done) = carried_answers asked o end (same asked for) done
+    run_answers words o end some asked_for same (bad_word idle none asks_none told) = absurd (asks_none some asked_for)
+    run_answers words o end some asked_for same (explained idle kind text among some_text says) = absurd (subst (IsAmong kind) asked_for.no_fault among)
+    run_answers words o end some asked_for same (room_lacks idle told) = inr (no_room told)
