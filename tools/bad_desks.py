@@ -25,6 +25,12 @@ SELL = ("sell", "--operator", "ann", "--ref", "A-1", "--meter", METER, "--tender
 MOST_BODY = 2**26  # bytes of a body, at most
 MOST_MEMORY = 2**28  # bytes of memory that a command takes for it, at most
 PATIENCE = 10  # seconds
+LAST_NUMBER = 10**9  # of a shift or a sale
+# The refusals that an office has for each kind of command, by their numbers, and those that it may have for any.
+REFUSED = {"import": {14}, "base": {4, 7, 18}, "shift": {3, 11}, "sell": {1, 2, 4, 7, 8, 9, 10, 11}, "show sale": {12},
+           "receipt": {12}, "totals": {13}, "show meter": {4}, "quote": {4, 7, 8, 9, 10, 11}, "list": set()}
+UNABLE = {15, 16, 17}
+OF_A_SALE = {"sell", "show sale", "receipt"}
 
 
 class Pretender:
@@ -73,14 +79,14 @@ def granted():
     meter = {"base": 2014, "meter": METER, "sale": None, "tariff": "flat", "tenths": 0}
     quote = {"change": 5, "meter": METER, "price": 10, "tariff": "flat", "tender": 15, "tenths": 1}
     page = {"meters": [{"base": 2014, "meter": METER, "tariff": "flat"}]}
-    json_type, text = "application/json", "text/plain"
+    json_type = "application/json"
     return {
         "import": (("import", "tariffs", TARIFFS), b'{"added":1}', json_type, b"added 1\n"),
         "base": (("base", "--meter", METER, "--base", "2014"), b'{"done":true}', json_type, b"done\n"),
         "shift": (("shift", "--operator", "ann", "open"), b'{"shift":1}', json_type, b"shift 1\n"),
         "sell": (SELL, in_json(SALE), json_type, RECEIPT),
         "show sale": (("show", "sale", "--operator", "ann", "--ref", "A-1"), in_json(SALE), json_type, ROW),
-        "receipt": (("report", "--kind", "receipt"), RECEIPT, text, RECEIPT),
+        "receipt": (("report", "--kind", "receipt"), in_json(SALE), json_type, RECEIPT),
         "totals": (("report", "--kind", "totals"), in_json(totals), json_type, b"shift 1 sales 1 tenths 1 cash 10\n"),
         "show meter": (("show", "meter", "--meter", METER), in_json(meter), json_type,
                        b"meter\tbase\ttariff\ttenths\tsale\n12345678903\t2014\tflat\t0\t-\n"),
@@ -101,22 +107,25 @@ def statuses_of():
             yield status_of[int(number)], refusal(int(number), name), f"refused {number} {name}\n"
     for cause in causes:
         cause = cause.replace("Field k", "Field 2")
-        yield status_of[14], row_refusal(10000, cause), f"refused 14 ImportRow 10000 {cause}\n"
+        row = {"Header": 0, "TooManyRows": 10001}.get(cause, 10000)
+        yield status_of[14], row_refusal(row, cause), f"refused 14 ImportRow {row} {cause}\n"
 
 
 def check_told():
-    """What a desk grants and refuses is printed, each refusal under its status alone; and one command's reply is no
-    other's."""
+    """What a desk grants and refuses is printed, each refusal under its status alone, and only of a command that it is had
+    for; and one command's reply is no other's, but that all that tell a sale tell the same one."""
     kinds, count = granted(), 0
     for name, (words, _, _, printed) in kinds.items():
         for other, (_, body, media, _) in kinds.items():
-            alike = {name, other} == {"sell", "show sale"} or name == other
+            alike = {name, other} <= OF_A_SALE or name == other
             same(asked_of(reply(200, body, media), *words), Ran(0, printed, b"") if alike else NET,
                  f"the reply to {other} after {name}")
     refusals = [*statuses_of(), (503, fault("Clock"), "refused clock\n")]
     for status, body, line in refusals:
+        number = numbers(line)[:1]
         for name, (words, *_) in kinds.items():
-            same(asked_of(reply(status, body), *words), Ran(1, b"", line.encode()), f"{name}: {line}")
+            had = not number or number[0] in REFUSED[name] | UNABLE
+            same(asked_of(reply(status, body), *words), Ran(1, b"", line.encode()) if had else NET, f"{name}: {line}")
         for other in (200, 404, 409, 422, 503):
             if other != status:
                 same(asked_of(reply(other, body), *SELL), NET, f"{line} under {other}")
@@ -126,11 +135,12 @@ def check_told():
 
 def spoilt_sales():
     """Sales that no office has made, one value after another."""
+    counts = (-1, 0, LAST_NUMBER + 1, 2**32, 1.5)
     values = {
         "base": (2015, "2014", None), "change": (1, -1, 0.0, 4294967296), "meter": (METER[:-1] + "4", int(METER), ""),
-        "moment": (725846399, 4102444800, "1388534430"), "number": (-1, 2**32, 1.5), "operator": ("a" * 17, "a b", ""),
-        "price": (9, 11, 2**32), "ref": ("r" * 33, "A_1", ""), "shift": (-1, 2**32), "tender": (0, 100000001, 9, 11),
-        "tenths": (16385, 18201625), "tid": (-1, 2**32), "token": ("0" * 19, "0" * 21, "0" * 19 + "x"),
+        "moment": (725846399, 4102444800, "1388534430"), "number": counts, "operator": ("a" * 17, "a b", ""),
+        "price": (9, 11, 2**32), "ref": ("r" * 33, "A_1", ""), "shift": counts, "tender": (0, 100000001, 9, 11),
+        "tenths": (16385, 18201625), "tid": (-1, 2**24, 2**32), "token": ("0" * 19, "0" * 21, "0" * 19 + "x"),
     }
     for name, others in values.items():
         for value in others:
@@ -141,6 +151,51 @@ def spoilt_sales():
     yield from (text.replace(b",", b", "), text.replace(b'"number":1,', b'"number":01,'), json.dumps(SALE).encode())
     yield json.dumps(dict(reversed(SALE.items())), separators=(",", ":")).encode()
     yield in_json({**SALE, "more": 1})
+
+
+def other_answers():
+    """Replies that a desk sends, to other commands: of each the words of the command that gets it."""
+    kinds = granted()
+    words = lambda name: kinds[name][0]
+    other = meter_of("0000000001")
+    for name, value in (("operator", "bob"), ("ref", "A-2"), ("meter", other)):
+        yield words("sell"), in_json({**SALE, name: value})
+    yield words("sell"), in_json({**SALE, "tender": 11, "change": 1})
+    yield words("show sale"), in_json({**SALE, "operator": "bob"})
+    yield words("show sale"), in_json({**SALE, "ref": "A-2"})
+    yield words("receipt"), in_json({**SALE, "number": 2})
+    yield from ((words("shift"), b'{"shift":%d}' % number) for number in (0, LAST_NUMBER + 1, 2**32 - 1))
+    yield from ((words("import"), b'{"added":%d}' % count) for count in (10001, 2**32 - 1))
+    totals = {"cash": 10, "sales": 1, "shift": 1, "tenths": 1}
+    for spoilt in ({"shift": 2}, {"shift": 0}, {"sales": 0}, {"sales": LAST_NUMBER + 1}, {"cash": 100000001},
+                   {"tenths": 18201625}):
+        yield words("totals"), in_json({**totals, **spoilt})
+    meter = json.loads(kinds["show meter"][1])
+    for spoilt in ({"meter": other}, {"sale": 0}, {"sale": LAST_NUMBER + 1}, {"tenths": 10**17 + 1}):
+        yield words("show meter"), in_json({**meter, **spoilt})
+    quote = json.loads(kinds["quote"][1])
+    yield words("quote"), in_json({**quote, "meter": other})
+    yield words("quote"), in_json({**quote, "tender": 16, "change": 6})
+    page = json.loads(kinds["list"][1])["meters"]
+    for members in (page + page, [{**page[0], "meter": other}], page[::-1] + [{**page[0], "meter": other}]):
+        yield ("list", f"--after={METER}", "meters"), in_json({"meters": members})
+    shift = {"cash": 0, "closed": None, "number": 2, "opened": 1388534430, "operator": "ann", "sales": 0, "tenths": 0}
+    for numbers_of in ((2,), (4, 3), (3, 3)):
+        yield ("list", "--after=2", "shifts"), in_json({"shifts": [{**shift, "number": number} for number in numbers_of]})
+    for numbers_of in ((1,), (2, 1), (3, 3)):
+        yield ("list", "--after=1", "sales"), in_json({"sales": [{**SALE, "number": number} for number in numbers_of]})
+    for names in (("flat",), ("home", "flat"), ("home", "home")):
+        tariffs = [{"later": [], "name": name, "steps": ":100"} for name in names]
+        yield ("list", "--after=flat", "tariffs"), in_json({"tariffs": tariffs})
+
+
+def check_other_answers():
+    """Another order's sale, another number's receipt, another meter, another shift, or a page before what was asked for:
+    nothing is printed but that no reply came."""
+    pairs = [*other_answers()]
+    for words, body in pairs:
+        same(asked_of(reply(200, body), *words), NET, f"{words} got {body}")
+    return len(pairs)
 
 
 def spoilt_heads():
@@ -170,7 +225,8 @@ def spoilt_refusals():
                  refusal(1, "RefReused") + b" ", b'{"refusal":1,"error":"RefReused"}'):
         yield reply(409, body)
     for row, cause in ((1, "Other"), (1, "Field"), (1, "Field 0256"), (1, "Field 256"), (1, "Field x"), (-1, "Header"),
-                       (2**32, "Header"), ("01", "Header")):
+                       (2**32, "Header"), ("01", "Header"), (1, "Header"), (0, "Columns"), (10001, "Differs"),
+                       (10000, "TooManyRows"), (1, "Field 5"), (1, "Field 0")):
         yield reply(422, row_refusal(row, cause))
 
 
@@ -210,14 +266,14 @@ def measured(address, words):
 def check_endless():
     """What never ends is not read for ever, nor kept whole."""
     head = lambda length, media="application/json": reply(200, b"", media).replace(b"Length: 0", b"Length: %d" % length)
-    receipt = ("report", "--kind", "receipt")
+    report = ("report", "--kind", "shift")
     rows = (
         (b"", b"x" * 65536, SELL, (1, 0, b"net\n")),
         (b"HTTP/1.1 200 OK\r\nX: ", b"x" * 65536, SELL, (1, 0, b"net\n")),
         (head(2**63 - 1), b"x" * 65536, SELL, (1, 0, b"net\n")),
-        (head(MOST_BODY + 1, "text/plain"), b"x" * 65536, receipt, (1, 0, b"net\n")),
+        (head(MOST_BODY + 1, "text/plain"), b"x" * 65536, report, (1, 0, b"net\n")),
         (head(MOST_BODY), b"x" * 65536, SELL, (1, 0, b"net\n")),
-        (head(MOST_BODY, "text/plain"), b"x" * 65536, receipt, (0, MOST_BODY, b"")))
+        (head(MOST_BODY, "text/plain"), b"x" * 65536, report, (0, MOST_BODY, b"")))
     for front, piece, words, wanted in rows:
         with Pretender(endless(front, piece)) as it:
             *found, memory = measured(it.address, words)
@@ -241,10 +297,12 @@ def check_pages_of_rubbish():
     few, _ = meters_page(0, 3)
     spoilt = (b"", b"rubbish", few[:-1], few.replace(b"2014", b"2015", 1), few.replace(b'"flat"', b'"fl at"', 1),
               few.replace(b"meters", b"shifts"), few.replace(b"}]", b"},]"), few.replace(b"},{", b"} {"),
-              meters_page(0, 101)[0], reply(503, refusal(1, "RefReused")))
+              meters_page(0, 101)[0], reply(503, refusal(1, "RefReused")), reply(404, refusal(4, "NoMeter")),
+              reply(200, in_json({"meters": json.loads(few.partition(b"\r\n\r\n")[2])["meters"][::-1]})))
     rows = [(pages, end, b"net\n") for pages in (0, 1, 2) for end in spoilt]
     rows += [(200, b"rubbish", b"net\n"), (1, reply(503, refusal(17, "Stopped")), b"refused 17 Stopped\n"),
              (2, reply(503, fault("Clock")), b"refused clock\n")]
+    rows += [(pages, whole[pages - 1][0], b"net\n") for pages in (1, 2)]  # the same page for ever
     for pages, end, err in rows:
         def answer(it, client):
             for text in [text for text, _ in whole[:pages]] + [end]:
@@ -265,7 +323,8 @@ def check_bad_desks():
         nobody = f"127.0.0.1:{server.getsockname()[1]}"
     for words, *_ in granted().values():
         same(run([words[0], "--desk", nobody, *words[1:]]), NET, "nobody listens")
-    kinds, refusals, others = check_told()
-    rubbish, ends, pages = check_rubbish(), check_endless(), check_pages_of_rubbish()
-    print(f"replies: of {kinds} kinds each is printed, {refusals} refusals too, each under its status alone; {rubbish} of "
-          f"another form, {ends} without an end and {pages} lists that break end with `net`")
+    kinds, refusals, _ = check_told()
+    others, rubbish, ends, pages = check_other_answers(), check_rubbish(), check_endless(), check_pages_of_rubbish()
+    print(f"replies: of {kinds} kinds each is printed, {refusals} refusals too, each under its status alone and of a command "
+          f"that has it; {others} to other commands, {rubbish} of another form, {ends} without an end and {pages} lists that "
+          "break end with `net`")

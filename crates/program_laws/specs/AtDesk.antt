@@ -15,12 +15,11 @@ use Rattle.books.specs.Looking.{IsFoundAt}
 use Rattle.conversation.specs.Exchanges.{MessageExchange, Timed, timed}
 use Rattle.conversation.specs.message.Messages.{BeginsMessage}
 use Rattle.desk.specs.Answering.{LifeReplies, answers_by, life_serves}
+use Rattle.desk_client.specs.Answers.{IsReplyTo}
 use Rattle.desk_client.specs.Asks.{Asked, asked_by, imported, looked_up, requested}
 use Rattle.desk_client.specs.declared.question.Question.{Question}
 use Rattle.desk_client.specs.declared.question.Question.TheVariants as questions
-use Rattle.desk_client.specs.Reply.{IsReply}
 use Rattle.desk_client.specs.declared.told.Told.TheVariants as tells
-use Rattle.desk_client.specs.declared.told.Wanted.TheVariants as wanted
 use Rattle.papers.specs.File.{AreFileRecords, Fields}
 use Rattle.papers.specs.Import.{IsReading}
 use Rattle.papers.specs.declared.file_kind.FileKind.{FileKind}
@@ -36,7 +35,7 @@ use Rattle.office_rules.specs.declared.decision.request.Request.TheVariants as r
 use Rattle.office_rules.specs.declared.office.row.Row.{Row}
 use Rattle.command_line.specs.declared.commands.list.Listed.{Listed}
 use Rattle.office_commands.specs.commands.Imported.{refusal_of_rows}
-use Rattle.desk_commands.specs.ListedAtDesk.{IsPageReply}
+use Rattle.desk_commands.specs.ListedAtDesk.{IsPageReply, page_question}
 use Rattle.office_commands.specs.commands.LookedUp.{TellsFound}
 use Rattle.office_commands.specs.office.Served.{TellsReply}
 use Rattle.desk_commands.specs.Exchanged.{Round}
@@ -182,4 +181,4 @@ pub record PrintsList (day : ℕ) (list : Listed) (told : List Found) (left : Op
 abbrev pub IsPageOrRefusal : Listed → (came : Text) → Type 0
 IsPageOrRefusal list came =
     ((page : Found) × IsPageReply list came page)
-    ⊎ ((refusal : Refusal) × IsReply wanted.Page came (tells.Refused refusal))
+    ⊎ ((refusal : Refusal) × IsReplyTo (page_question list) came (tells.Refused refusal))

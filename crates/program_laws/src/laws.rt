@@ -68,6 +68,7 @@ ghost use Rattle.conversation.specs.Exchanges.{Timed, timed};
 ghost use Rattle.conversation.specs.message.Messages.{Ending, ended};
 ghost use Rattle.desk.specs.Answering.{LifeReplies, answers_by, life_serves, message_refusal_of};
 ghost use Rattle.vend_core.specs.Law.LifeLaws.{IsReadingRequest};
+ghost use Rattle.desk_client.specs.Answers.{IsReplyTo};
 ghost use Rattle.desk_client.specs.Asks.{IsAskable, IsNoMoment};
 ghost use Rattle.desk_client.specs.Question.{question_text, wanted_by};
 ghost use Rattle.desk_client.specs.Reply.{IsReply, longest_reply_body};
@@ -297,7 +298,7 @@ pub fn at_desk_law()
         → IsAskable question → IsMoment moment → IsOffice old.0.opening → IsLife new.0
         → IsAnsweredAt (pos moment) old (question_text question) came new
         → length came ≤ longest_reply_body
-        → (told : Told) × IsReply (wanted_by question) came told }
+        → (told : Told) × IsReplyTo question came told }
     ensures page_read { (list : Listed) (moment : ℕ) (old new : Timed Life) (came : Text)
         → IsAskable (page_question list) → IsMoment moment
         → IsOffice old.0.opening → IsLife old.0

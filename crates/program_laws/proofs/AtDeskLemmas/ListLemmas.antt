@@ -19,14 +19,16 @@ use Rattle.desk_messages.specs.declared.reply.outcome.Outcome.{Outcome}
 use Rattle.desk_messages.specs.declared.reply.outcome.Outcome.TheVariants as outcomes
 use Rattle.desk_messages.specs.reply.Text.{reply_bytes_of}
 use Rattle.desk_client.specs.Alike.{TellAlike}
+use Rattle.desk_client.specs.Answers.{Answers, IsReplyTo}
 use Rattle.desk_client.specs.Asks.{IsAskable, question_message}
 use Rattle.desk_client.specs.Page.{AreAlike, IsToldPage}
 use Rattle.desk_client.specs.Page as pages
-use Rattle.desk_client.specs.Question.{question_text}
+use Rattle.desk_client.specs.Question.{question_text, wanted_by}
 use Rattle.desk_client.specs.Reply.{IsReply, longest_reply_body}
 use Rattle.desk_client.specs.Tells.{Tells}
 use Rattle.desk_client.specs.Told.{IsTellable}
 use Rattle.desk_client.specs.declared.page.PageKind.{PageKind}
+use Rattle.desk_client.specs.declared.question.Question.TheVariants as questions
 use Rattle.desk_client.specs.declared.told.Granted.TheVariants as granted
 use Rattle.desk_client.specs.declared.told.Told.{Told}
 use Rattle.desk_client.specs.declared.told.Told.TheVariants as told
@@ -42,7 +44,9 @@ use Rattle.office_commands.proofs.ListingLemmas.{page_found}
 use Rattle.program_laws.proofs.AtDeskLemmas.MeaningLemmas.{looked}
 use Rattle.program_laws.proofs.AtDeskLemmas.OneLemmas.{DeskLaws, came_of, same_told}
 use Rattle.program_laws.proofs.AtDeskLemmas.PageLemmas.{CanAsk, IsSamePage, behind_askable, page_as_told, page_told, same_page, told_text}
-use Rattle.program_laws.proofs.AtDeskLemmas.ReadLemmas.{Reads, whole_reply}
+use Rattle.program_laws.proofs.AtDeskLemmas.AnswerLemmas.{IsShown, shows_meters, shows_sales, shows_shifts, shows_tariffs}
+use Rattle.program_laws.proofs.AtDeskLemmas.OrderLemmas.{page_after}
+use Rattle.program_laws.proofs.AtDeskLemmas.ReadLemmas.{Reads, shown_at, whole_reply}
 use Rattle.program_laws.proofs.AtDeskLemmas.RuleLemmas.{present_is}
 use Rattle.program_laws.proofs.AtDeskLemmas.TellableLemmas.{look_tells, no_count, tellable_look, told_found, told_look}
 
@@ -79,6 +83,17 @@ as_page (found.Meters items) h = (record { ref_ptr = (0, 0); now = pages.page_as
 as_page (found.Shifts items) h = (record { ref_ptr = (0, 0); now = pages.page_as_read (found.Shifts items) }, refl, refl)
 as_page (found.Sales items) h = (record { ref_ptr = (0, 0); now = pages.page_as_read (found.Sales items) }, refl, refl)
 
+-- a page is what the question for it wants
+page_wanted : (list : Listed) → wanted_by (page_question list) ≡ wants.Page
+page_wanted (listed.Tariffs after) = refl
+page_wanted (listed.Meters after) = refl
+page_wanted (listed.Shifts after) = refl
+page_wanted (listed.Sales after) = refl
+
+-- so a reply for a page, which answers the question, is one to it
+to_page : (list : Listed) (came : List ℕ) (t : Told) → IsReply wants.Page came t → Answers (page_question list) t → IsReplyTo (page_question list) came t
+to_page list came t is answers = record { reply = subst (λ w. IsReply w came t) (sym (page_wanted list)) is; answers = answers }
+
 -- a page is the same at each moment of a day
 any_moment : (o : Office) (moment other : ℕ) (list : Listed) (r : Result Found Refusal) → day_at moment ≡ day_at other → Finds o moment (page_lookup list) r
     → Finds o other (page_lookup list) r
@@ -101,6 +116,14 @@ module _ (laws : DeskLaws) where
   page_tellable life office moment (listed.Meters after) r found = tellable_look laws.ranges life office moment (page_lookup (listed.Meters after)) r tt found
   page_tellable life office moment (listed.Shifts after) r found = tellable_look laws.ranges life office moment (page_lookup (listed.Shifts after)) r tt found
   page_tellable life office moment (listed.Sales after) r found = tellable_look laws.ranges life office moment (page_lookup (listed.Sales after)) r tt found
+
+  page_shown : (life : Life) (moment : ℕ) (list : Listed) (r : Result Found Refusal) → IsFoundAt life moment (page_lookup list) r
+      → IsShown (page_question list) forms.Json r
+  page_shown life moment (listed.Tariffs after) r found =
+      shown_at (questions.Tariffs after) forms.Json (page_lookup (listed.Tariffs after)) life moment (shows_tariffs (present life) (day_at moment) after) r found
+  page_shown life moment (listed.Meters after) r found = shown_at (questions.Meters after) forms.Json (page_lookup (listed.Meters after)) life moment (shows_meters (present life) after) r found
+  page_shown life moment (listed.Shifts after) r found = shown_at (questions.Shifts after) forms.Json (page_lookup (listed.Shifts after)) life moment (shows_shifts (present life) after) r found
+  page_shown life moment (listed.Sales after) r found = shown_at (questions.Sales after) forms.Json (page_lookup (listed.Sales after)) life moment (shows_sales (present life) after) r found
 
   -- what a desk looked up for a list
   pub record LooksUp (moment : ℕ) (old new : Life) (list : Listed) (came : List ℕ) : Type 0 where
@@ -141,12 +164,14 @@ module _ (laws : DeskLaws) where
         page_as_told it,
         record {
           body = page.0;
-          reply = subst (λ (t : Told). IsReply wants.Page came t) page.1 is;
+          reply = to_page list came _ (subst (λ (t : Told). IsReply wants.Page came t) page.1 is) tt;
           told = page_told laws.ranges (present old) office moment list it finds;
+          order = page_after (present old) office moment list it finds;
           text = page.2 ∙ sym (told_text it);
         },
       )
-  came_page moment old list came office (Err refusal) found keeps is = inr (refusal, is)
+  came_page moment old list came office (Err refusal) found keeps is =
+      inr (refusal, to_page list came _ is (page_shown old moment list (Err refusal) found))
 
   -- what comes back for such a question is read as a page that keeps the rules, or a refusal
   pub page_read : (list : Listed) (moment : ℕ) (old new : Timed Life) (came : List ℕ) → IsAskable (page_question list) → IsMoment moment
@@ -173,7 +198,8 @@ module _ (laws : DeskLaws) where
         → (it : Found) × Finds (present old) moment (page_lookup list) (Ok it) × (pages.page_as_read page ≡ pages.page_as_read it)
     told_page moment old new list came page office l tells =
         let text : IsReply wants.Page (reply_bytes_of (outcomes.Found forms.Json l.result) false) (told.Granted (granted.Page tells.body)) =
-        subst (λ (x : List ℕ). IsReply wants.Page x (told.Granted (granted.Page tells.body))) l.text tells.reply in
+        subst (λ (x : List ℕ). IsReply wants.Page x (told.Granted (granted.Page tells.body))) l.text
+        (subst (λ w. IsReply w came (told.Granted (granted.Page tells.body))) (page_wanted list) tells.reply.reply) in
         let alike =
         same_told laws wants.Page (outcomes.Found forms.Json l.result) (told.Granted (granted.Page tells.body))
         (told_look forms.Json l.result) text l.tellable l.tells in

@@ -82,7 +82,7 @@ use Rattle.vend_ports.specs.print.Told.{IsTold, Outputs}
 use Rattle.program_laws.proofs.AtDeskLemmas.MeaningLemmas.{ComesOfRows, IsRead, came_rows, idled, looked, replied}
 use Rattle.program_laws.proofs.AtDeskLemmas.PrintedLemmas.{prints_last, prints_meter, prints_quote, prints_reply, prints_sale_of_ref, prints_totals, tell_alike}
 use Rattle.program_laws.proofs.AtDeskLemmas.RuleLemmas.{MayReply, by_rules, may_reply, present_before, present_is}
-use Rattle.program_laws.proofs.AtDeskLemmas.TellableLemmas.{AreToldSales, MayAsk, MayLook, RangeLaws, form_for, look_tells, no_count, reply_tells, sale_told, tellable_look, tellable_reply, told_look, told_reply, wanted_for, wanted_look}
+use Rattle.program_laws.proofs.AtDeskLemmas.TellableLemmas.{AreToldSales, MayAsk, MayLook, RangeLaws, look_tells, no_count, reply_tells, sale_told, tellable_look, tellable_reply, told_look, told_reply, wanted_for, wanted_look}
 
 -- what the laws of the crates below say
 pub record DeskLaws : Type 0 where
@@ -229,7 +229,7 @@ module _ (laws : DeskLaws) where
   few_rows kind body rows read = read.reading.2.few
 
   -- nor a form of files more fields than these
-  few_fields : (kind : FileKind) (records : List Fields) (row k : ℕ) (none : IsNoRow kind records row (causes.Field k)) → length (header_of none.0) ≤ 4
+  pub few_fields : (kind : FileKind) (records : List Fields) (row k : ℕ) (none : IsNoRow kind records row (causes.Field k)) → length (header_of none.0) ≤ 4
   few_fields kind records row k none = grind arith
 
   -- a fault that was found in a row of a file can be told
@@ -249,24 +249,24 @@ module _ (laws : DeskLaws) where
       (life : IsLife new.0)
       (t : Told) (o : Outputs) (end : CommandEnd) where
     -- what came of a request is printed as its reply is
-    request_prints : (q : Question) (request : Request) → MessageAsks (question_message q) (Some (pos moment)) (form_for request) moment request
+    request_prints : (q : Question) (request : Request) → MessageAsks (question_message q) (Some (pos moment)) forms.Json moment request
         → MayAsk request
         → wanted_by q ≡ wanted_for request → ((s : Sale) → told_sale_text json q s ≡ receipt_of s) → ((s : Sale) → SaleNeedsRoom json q s → ⊥)
         → Came q (pos moment) old new came → IsReply (wanted_by q) came t → TellsTold json q t o end → PrintsReply moment request old.0 new.0 o end
     request_prints q request asks ask wanted sold small c is told =
         let m = question_message q in
         let now = Some (pos moment) in
-        let r = replied m now (laws.meaning m now) (form_for request) moment request asks c.outcome old.0 new.0 c.comes in
+        let r = replied m now (laws.meaning m now) forms.Json moment request asks c.outcome old.0 new.0 c.comes in
         let may = may_be old.0 new.0 moment request r.0 life opening r.2 in
-        let u = told_reply (form_for request) r.0 in
+        let u = told_reply forms.Json r.0 in
         let tellable : IsTellable (wanted_by q) u = subst (λ (w : Wanted). IsTellable w u) (sym wanted) (tellable_reply request r.0 ask may.1 may.0) in
-        let text : IsReply (wanted_by q) (reply_bytes_of (outcomes.Replied (form_for request) r.0) false) t =
+        let text : IsReply (wanted_by q) (reply_bytes_of (outcomes.Replied forms.Json r.0) false) t =
         subst (λ (x : List ℕ). IsReply (wanted_by q) x t) (c.text ∙ ap (λ (x : Outcome). reply_bytes_of x false) r.1) is in
-        let alike = same_told (wanted_by q) (outcomes.Replied (form_for request) r.0) t u text tellable (reply_tells (form_for request) r.0) in
+        let alike = same_told (wanted_by q) (outcomes.Replied forms.Json r.0) t u text tellable (reply_tells forms.Json r.0) in
         record {
           reply = r.0;
           replied = r.2;
-          told = prints_reply json q sold small o end (form_for request) r.0 (tell_alike json q o end t u alike told);
+          told = prints_reply json q sold small o end forms.Json r.0 (tell_alike json q o end t u alike told);
         }
 
     -- what came of a look-up is what was found, and this is what is told of it
@@ -383,7 +383,7 @@ module _ (laws : DeskLaws) where
         request_prints q (requests.Reprint number) (laws.means q moment askable is_moment) tt refl (λ s. refl) (λ s none. none) c is told
     prints (questions.ShiftTotals number) one askable c is told =
         let q = questions.ShiftTotals number in
-        whole_totals number (look_prints q (lookups.ShiftTotals number) (laws.means q moment askable is_moment) (omega (arith, askable.most)) refl
+        whole_totals number (look_prints q (lookups.ShiftTotals number) (laws.means q moment askable is_moment) askable refl
         (λ e. absurd cc) c is told)
     prints (questions.Meter number) one askable c is told =
         let q = questions.Meter number in

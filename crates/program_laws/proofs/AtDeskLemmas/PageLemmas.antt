@@ -39,7 +39,7 @@ use Rattle.tariff.specs.StepsText.{steps_text}
 use Rattle.vend_ports.specs.print.Printed.{table_row_of}
 use Rattle.desk_commands.specs.print.ListTexts.{later_line, meter_line, meter_names, page_text, shift_rows_text, table_text, tariff_names}
 use Rattle.desk_commands.specs.print.Pages.{last_of_full, list_behind, page_lookup}
-use Rattle.program_laws.proofs.AtDeskLemmas.RangeLemmas.{cash_within, count_within, or_keeps, sale_number, shift_number, shift_row, tariff_named, tenths_within, there_is}
+use Rattle.program_laws.proofs.AtDeskLemmas.RangeLemmas.{or_keeps, sale_numbered, shift_numbered, shift_row, tariff_named, there_is, totals_within}
 use Rattle.program_laws.proofs.AtDeskLemmas.TellableLemmas.{RangeLaws, sale_told}
 
 -- ---- members
@@ -90,13 +90,11 @@ shift_told : RangeLaws → (o : Office) (s : Shift) → IsOffice o → Contains 
 shift_told laws o s office there =
     let row = shift_row o s office there in
     record {
-      number = omega (arith, shift_number o s office there);
+      number = shift_numbered o s office there;
       operator = row.operator;
       opened = row.opened;
       closed = ended s.closed row.closed;
-      sales = omega (arith, count_within o s.number office);
-      tenths = omega (arith, tenths_within laws.greatest o s.number office);
-      cash = omega (arith, cash_within o s.number office);
+      totals = totals_within laws.greatest o s.number office;
     }
   where
     ended : (closed : Option ℕ) → ((secs : ℕ) → closed ≡ Some secs → IsMoment secs) → IsToldEnd closed
@@ -207,7 +205,7 @@ abbrev SmallShift : ListedShift → Type 0
 SmallShift l = l.shift.number ≤ 1000000000
 
 small_shifts : (o : Office) → IsOffice o → (after : ℕ) → All SmallShift (map (listed_shift o) (take page_size (filter (λ s. nat_lt after s.number) o.shifts)))
-small_shifts o office after = told_each SmallShift (listed_shift o) o.shifts (λ s. nat_lt after s.number) (λ s there. shift_number o s office there)
+small_shifts o office after = told_each SmallShift (listed_shift o) o.shifts (λ s. nat_lt after s.number) (λ s there. (shift_numbered o s office there).most)
 
 -- the question for the list behind it can be asked
 pub behind_askable : (o : Office) → IsOffice o → (moment : ℕ) (list : Listed) (page : Found) → Finds o moment (page_lookup list) (Ok page)
@@ -224,8 +222,8 @@ behind_askable o office moment (listed.Shifts after) (found.Shifts page) is =
 behind_askable o office moment (listed.Sales after) (found.Sales page) is =
     mapped_some (Contains page.items) CanAsk (λ (s : Sale). listed.Sales s.number) (last_of_full page.items) (last_there page.items)
     (λ s there. record {
-      most = sale_number o s office
-          (All-contains (Contains o.sales) page.items s (subst (All (Contains o.sales)) (sym is) (each_of _ o.sales)) there);
+      most = (sale_numbered o s office
+          (All-contains (Contains o.sales) page.items s (subst (All (Contains o.sales)) (sym is) (each_of _ o.sales)) there)).most;
     })
 behind_askable o office moment list page is = absurd is
 

@@ -6,12 +6,14 @@ use Rattle.std.proofs.lemmas.List.Elements.{All-contains, All-filter, All-weaker
 use Rattle.std.proofs.lemmas.List.Filters.{length-filter_both}
 use Rattle.std.proofs.lemmas.List.Sums.{sum_by-le}
 use Rattle.sts_fields.specs.Amount.{IsRepresentable, greatest_amount}
-use Rattle.office_rules.specs.Law.Cash.{cash_of}
 use Rattle.office_rules.specs.Name.{IsMeterNo, IsName}
 use Rattle.office_rules.specs.Office.{IsOffice, IsSaleRow, IsShiftRow, Office}
 use Rattle.office_rules.specs.Office.Lookup.{sales_of_shift}
 use Rattle.office_rules.specs.declared.office.sale.Sale.{Sale}
 use Rattle.office_rules.specs.declared.office.shift.Shift.{Shift}
+use Rattle.book_tables.specs.Stands.{all_totals}
+use Rattle.desk_messages.specs.route.Route.{IsTargetNumber}
+use Rattle.desk_client.specs.Totals.{AreTotals}
 use Rattle.office_rules.proofs.OfficeLemmas.RowLemmas.{found, number_within}
 
 -- what is there
@@ -25,17 +27,17 @@ there_is None some = cc
 pub sale_row : (o : Office) (s : Sale) → IsOffice o → Contains o.sales s → IsSaleRow o s
 sale_row o s office there = All-contains (IsSaleRow o) o.sales s office.sales there
 
--- the number of a sale is at most a thousand million
-pub sale_number : (o : Office) (s : Sale) → IsOffice o → Contains o.sales s → s.number ≤ 10 ^ 9
-sale_number o s office there =
+-- the number of a sale is from 1 to a thousand million
+pub sale_numbered : (o : Office) (s : Sale) → IsOffice o → Contains o.sales s → IsTargetNumber s.number
+sale_numbered o s office there =
     let within = number_within (λ (s : Sale). s.number) o.sales s office.sale_numbers there in
-    omega (arith, within.1, office.sale_count)
+    record { from_one = within.0; most = omega (arith, within.1, office.sale_count) }
 
 -- so is the number of the shift in which it was sold
-pub sale_shift : (o : Office) (s : Sale) → IsOffice o → Contains o.sales s → s.shift ≤ 10 ^ 9
+pub sale_shift : (o : Office) (s : Sale) → IsOffice o → Contains o.sales s → IsTargetNumber s.shift
 sale_shift o s office there =
     let row = sale_row o s office there in
-    omega (arith, row.shift.1, office.shift_count)
+    record { from_one = row.shift.0; most = omega (arith, row.shift.1, office.shift_count) }
 
 -- a meter of an office has a meter's number
 pub meter_row : (o : Office) (number : List ℕ) → IsOffice o → IsSome (o.meters number) → IsMeterNo number
@@ -55,11 +57,11 @@ tariff_named o name office some =
 pub shift_row : (o : Office) (s : Shift) → IsOffice o → Contains o.shifts s → IsShiftRow s
 shift_row o s office there = All-contains IsShiftRow o.shifts s office.shifts there
 
--- the number of a shift is at most a thousand million
-pub shift_number : (o : Office) (s : Shift) → IsOffice o → Contains o.shifts s → s.number ≤ 10 ^ 9
-shift_number o s office there =
+-- the number of a shift is from 1 to a thousand million
+pub shift_numbered : (o : Office) (s : Shift) → IsOffice o → Contains o.shifts s → IsTargetNumber s.number
+shift_numbered o s office there =
     let within = number_within (λ (s : Shift). s.number) o.shifts s office.shift_numbers there in
-    omega (arith, within.1, office.shift_count)
+    record { from_one = within.0; most = omega (arith, within.1, office.shift_count) }
 
 -- ---- totals
 
@@ -71,29 +73,24 @@ abbrev of_shift : ℕ → Sale → Bool
 of_shift n s = s.shift == n
 
 -- a shift has at most a thousand million sales
-pub count_within : (o : Office) (number : ℕ) → IsOffice o → length (sales_of_shift o number) ≤ 10 ^ 9
+count_within : (o : Office) (number : ℕ) → IsOffice o → length (sales_of_shift o number) ≤ 10 ^ 9
 count_within o number office = omega (arith, fewer (of_shift number) o.sales, office.sale_count)
 
--- the tenths of a shift's sales together are at most `10 ^ 17`
-pub tenths_within : ((t : ℕ) → IsRepresentable t → t ≤ greatest_amount) → (o : Office) (number : ℕ) → IsOffice o
-    → sum_by (λ s. s.tenths) (sales_of_shift o number) ≤ 10 ^ 17
-tenths_within greatest o number office =
-    let each : All (λ (s : Sale). s.tenths ≤ 18201624) (sales_of_shift o number) =
+-- the totals of a shift's sales are within what so many sales may have
+pub totals_within : ((t : ℕ) → IsRepresentable t → t ≤ greatest_amount) → (o : Office) (number : ℕ) → IsOffice o
+    → AreTotals (all_totals (sales_of_shift o number))
+totals_within greatest o number office =
+    let tenths : All (λ (s : Sale). s.tenths ≤ 18201624) (sales_of_shift o number) =
     All-filter (of_shift number) (λ (s : Sale). s.tenths ≤ 18201624) o.sales
     (All-weaker (IsSaleRow o) (λ s. s.tenths ≤ 18201624) (λ s row. greatest s.tenths row.tenths) o.sales office.sales) in
-    let sum = sum_by-le (λ (s : Sale). s.tenths) 18201624 (sales_of_shift o number) each in
-    let count = count_within o number office in
-    omega (arith, sum, count)
-
--- the cash of a shift is at most `10 ^ 17`, too
-pub cash_within : (o : Office) (number : ℕ) → IsOffice o → cash_of (sales_of_shift o number) ≤ 10 ^ 17
-cash_within o number office =
-    let each : All (λ (s : Sale). s.price ≤ 100000000) (sales_of_shift o number) =
+    let cash : All (λ (s : Sale). s.price ≤ 100000000) (sales_of_shift o number) =
     All-filter (of_shift number) (λ (s : Sale). s.price ≤ 100000000) o.sales
     (All-weaker (IsSaleRow o) (λ s. s.price ≤ 100000000) (λ s row. omega (arith, row.price, row.tender.1)) o.sales office.sales) in
-    let sum = sum_by-le (λ (s : Sale). s.price) 100000000 (sales_of_shift o number) each in
-    let count = count_within o number office in
-    omega (arith, sum, count)
+    record {
+      sales = omega (arith, count_within o number office);
+      tenths = omega (arith, sum_by-le (λ (s : Sale). s.tenths) 18201624 (sales_of_shift o number) tenths);
+      cash = omega (arith, sum_by-le (λ (s : Sale). s.price) 100000000 (sales_of_shift o number) cash);
+    }
 
 -- ---- what is found
 

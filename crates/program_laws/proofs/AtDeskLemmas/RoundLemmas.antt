@@ -170,7 +170,7 @@ module _ (laws : DeskLaws) (one : OnePage) (day : ℕ) where
       let words : x.reply ≡ reply_text u = looked.text ∙ says laws.texts wants.Page (outcomes.Found forms.Json looked.result) u looked.tellable looked.tells in
       let behind : List ℕ = replies_of xs ++ last_words message_refusal_of ending in
       let both : reply_text t ++ came_in rounds ≡ reply_text u ++ behind =
-      ap (λ (bytes : List ℕ). bytes ++ came_in rounds) (sym tell.reply.is_text) ∙ text ∙ append_assoc x.reply (replies_of xs)
+      ap (λ (bytes : List ℕ). bytes ++ came_in rounds) (sym tell.reply.reply.is_text) ∙ text ∙ append_assoc x.reply (replies_of xs)
       (last_words message_refusal_of ending)
       ∙ ap (λ (bytes : List ℕ). bytes ++ behind) words in
       let total : length (reply_text u ++ behind) < 2 ^ 64 =
@@ -181,10 +181,10 @@ module _ (laws : DeskLaws) (one : OnePage) (day : ℕ) where
         length-append round.came (came_in rounds),
         length-append (reply_text t)
             (came_in rounds),
-        ap length tell.reply.is_text,
+        ap length tell.reply.reply.is_text,
       ) in
-      let cut = cut_reply t u (came_in rounds) behind tell.reply.short total both in
-      let came : round.came ≡ x.reply = tell.reply.is_text ∙ cut.0 ∙ sym words in
+      let cut = cut_reply t u (came_in rounds) behind tell.reply.reply.short total both in
+      let came : round.came ≡ x.reply = tell.reply.reply.is_text ∙ cut.0 ∙ sym words in
       let answered : IsAnsweredAt (pos at.0) old (question_text q) round.came mid =
       came_so (pos at.0) old mid (question_text q) round.came x.reply came mine in
       let here = one_page laws one at.0 old mid list round.came page at.1 office askable answered tell in

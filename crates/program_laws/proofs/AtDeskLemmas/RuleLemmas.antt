@@ -1,8 +1,9 @@
 -- What an office answers to each request, by its rules alone.
 use Rattle.std.proofs.Common.{◌≡◌, ◌∙◌, ℕ, ◌+◌, ◌<◌, ◌≤◌, Bool, true, false, cond, List, [], ◌∷◌, ◌++◌, length, Option, None, Some, Result, Ok, Err, refl, sym, ap, subst, arith}
-use Rattle.std.specs.Prelude.{⊤, All, Contains, IfErr, IfSome, filter, map, nat_lt, is_some, if◌then◌else◌, bytes_eq}
+use Rattle.std.specs.Prelude.{◌&&◌, ◌==◌, ⊤, All, Contains, IfErr, IfSome, filter, map, nat_lt, is_some, if◌then◌else◌, bytes_eq}
 use Rattle.std.specs.Option.{ok_or}
-use Rattle.std.proofs.lemmas.Bool.Decides.{nat_tests}
+use Rattle.std.proofs.lemmas.Bool.Decides.{Decides-eqb, nat_tests}
+use Rattle.std.proofs.lemmas.Slice.Eq.{bytes_eq-Decides}
 use Rattle.std.proofs.lemmas.List.Elements.{All-contains, All-contains_itself, All-filter, All-map, All-weaker, Contains-append_left}
 use Rattle.sts_fields.specs.Base.{base_eq, base_date}
 use Rattle.sts_fields.specs.Day.{day_at}
@@ -37,7 +38,11 @@ use Rattle.office_rules.specs.declared.office.row.Row.{Row}
 use Rattle.office_rules.specs.declared.office.row.Row.TheVariants as kinds
 use Rattle.office_rules.specs.declared.office.sale.Sale.{Sale}
 use Rattle.office_rules.specs.declared.office.shift.Shift.{Shift}
-use Rattle.office_rules.proofs.OfficeLemmas.RowLemmas.{found, number_within}
+use Rattle.desk_messages.specs.route.Route.{IsTargetNumber}
+use Rattle.desk_client.specs.Answers.{IsSaleFor, MayRefuse}
+use Rattle.desk_client.specs.declared.question.Question.{Question}
+use Rattle.desk_client.specs.declared.question.Question.TheVariants as questions
+use Rattle.office_rules.proofs.OfficeLemmas.RowLemmas.{found, number_within, parts_true}
 
 -- ---- a life's reply
 
@@ -127,46 +132,64 @@ IsOfficeCause causes.Differs = ⊤
 IsOfficeCause causes.NoTariff = ⊤
 IsOfficeCause causes.DayPast = ⊤
 
--- the row that a refusal tells, and why
-abbrev pub row_told : Refusal → Option (ℕ × RowCause)
-row_told (refusals.ImportRow row cause) = Some (row, cause)
-row_told refusal = None
-
 -- a row of some rows, of which the first has this number
-abbrev pub IsRowFrom : (number most : ℕ) → ℕ × RowCause → Type 0
-IsRowFrom number most (row, cause) = (number ≤ row) × (row < number + most) × IsOfficeCause cause
+abbrev pub IsRowFrom : (number most : ℕ) → ℕ → RowCause → Type 0
+IsRowFrom number most row cause = (number ≤ row) × (row < number + most) × IsOfficeCause cause
 
--- a refusal of some rows: of one of them, or of no row
-abbrev pub RefusesOf : (most : ℕ) → Refusal → Type 0
-RefusesOf most refusal = IfSome (row_told refusal) (IsRowFrom 1 most)
+-- the refusal of one of some rows, of which the first has this number
+abbrev pub RefusesFrom : (number most : ℕ) → Refusal → Type 0
+RefusesFrom number most (refusals.ImportRow row cause) = IsRowFrom number most row cause
+RefusesFrom number most refusal = ⊥
 
--- what an office with its rules may answer to a request
+-- the refusal of one of some rows; or the office is unable to answer
+abbrev pub RefusesRows : (most : ℕ) → Refusal → Type 0
+RefusesRows most (refusals.ImportRow row cause) = IsRowFrom 1 most row cause
+RefusesRows most refusals.Memory = ⊤
+RefusesRows most refusals.Store = ⊤
+RefusesRows most refusals.Stopped = ⊤
+RefusesRows most refusal = ⊥
+
+-- what an office with its rules may answer to a request that a command asks of a desk
 abbrev pub MayAnswer : Request → Answer → Type 0
-MayAnswer (requests.AddTariff name steps) answer = ⊤
-MayAnswer (requests.AddSteps name day steps) answer = ⊤
-MayAnswer (requests.AddMeter number m) answer = ⊤
-MayAnswer (requests.SetTariff number name) answer = ⊤
 MayAnswer (requests.Import rows) (answers.Imported count) = count ≤ length rows
 MayAnswer (requests.MoveBase number base) answers.Done = ⊤
-MayAnswer (requests.OpenShift operator) (answers.Opened number) = number ≤ greatest_count
-MayAnswer (requests.CloseShift operator) (answers.Closed number) = number ≤ greatest_count
-MayAnswer (requests.Sell order) (answers.Sold sale) = ⊤
-MayAnswer (requests.Reprint number) (answers.Reprinted sale) = ⊤
+MayAnswer (requests.OpenShift operator) (answers.Opened number) = IsTargetNumber number
+MayAnswer (requests.CloseShift operator) (answers.Closed number) = IsTargetNumber number
+MayAnswer (requests.Sell order) (answers.Sold sale) = IsSaleFor order sale
+MayAnswer (requests.Reprint number) (answers.Reprinted sale) = sale.number ≡ number
 MayAnswer (requests.ShiftReport number) (answers.Report shift sales) = ⊤
 MayAnswer request answer = ⊥
 
--- how many rows it has
-abbrev pub rows_in : Request → ℕ
-rows_in (requests.Import rows) = length rows
-rows_in request = 0
+-- what an office with its rules may refuse such a request for
+abbrev pub MayRefuseSo : Request → Refusal → Type 0
+MayRefuseSo (requests.Import rows) refusal = RefusesRows (length rows) refusal
+MayRefuseSo (requests.MoveBase number base) refusal = MayRefuse refusal (questions.MoveBase number base)
+MayRefuseSo (requests.OpenShift operator) refusal = MayRefuse refusal (questions.OpenShift operator)
+MayRefuseSo (requests.CloseShift operator) refusal = MayRefuse refusal (questions.CloseShift operator)
+MayRefuseSo (requests.Sell order) refusal = MayRefuse refusal (questions.Sell order)
+MayRefuseSo (requests.Reprint number) refusal = MayRefuse refusal (questions.Receipt number)
+MayRefuseSo (requests.ShiftReport number) refusal = MayRefuse refusal (questions.ShiftReport number)
+MayRefuseSo request refusal = ⊤
 
--- what an office with its rules may reply: such an answer, or a refusal of such rows
+-- a command asks it of a desk
+abbrev pub IsOfDesk : Request → Type 0
+IsOfDesk (requests.AddTariff name steps) = ⊥
+IsOfDesk (requests.AddSteps name day steps) = ⊥
+IsOfDesk (requests.AddMeter number m) = ⊥
+IsOfDesk (requests.SetTariff number name) = ⊥
+IsOfDesk request = ⊤
+
+-- what an office with its rules may reply to it
+abbrev pub MayReplyTo : Request → Result Answer Refusal → Type 0
+MayReplyTo request (Ok answer) = MayAnswer request answer
+MayReplyTo request (Err refusal) = MayRefuseSo request refusal
+
+-- so of a request that a desk can be sent
 abbrev pub MayReply : Request → Result Answer Refusal → Type 0
-MayReply request (Ok answer) = MayAnswer request answer
-MayReply request (Err refusal) = RefusesOf (rows_in request) refusal
+MayReply request r = IsOfDesk request → MayReplyTo request r
 
 abbrev MayDecide : Request → Result Change Refusal → Type 0
-MayDecide request r = MayReply request (reply_of r)
+MayDecide request r = MayReplyTo request (reply_of r)
 
 -- a test that refuses no row
 there_plain : {A : Type 0} (request : Request) (there : Option A) (why : Refusal) (f : A → Result Change Refusal) → MayDecide request (Err why)
@@ -174,18 +197,19 @@ there_plain : {A : Type 0} (request : Request) (there : Option A) (why : Refusal
 there_plain request None why f refused rest = refused
 there_plain request (Some x) why f refused rest = rest x refl
 
-minute_plain : {A : Type 0} (request : Request) (r : Result A TidFault) (f : A → Result Change Refusal) → ((x : A) → MayDecide request (f x))
-    → MayDecide request (or_refusal r >>= f)
-minute_plain request (Ok x) f rest = rest x
-minute_plain request (Err tids.BeforeBase) f rest = tt
-minute_plain request (Err tids.PastEnd) f rest = tt
-minute_plain request (Err tids.IdentifiersSpent) f rest = tt
-minute_plain request (Err tids.IdentifierAhead) f rest = tt
+minute_plain : {A : Type 0} (order : Order) (r : Result A TidFault) (f : A → Result Change Refusal) → ((x : A) → MayDecide (requests.Sell order) (f x))
+    → MayDecide (requests.Sell order) (or_refusal r >>= f)
+minute_plain order (Ok x) f rest = rest x
+minute_plain order (Err tids.BeforeBase) f rest = tt
+minute_plain order (Err tids.PastEnd) f rest = tt
+minute_plain order (Err tids.IdentifiersSpent) f rest = tt
+minute_plain order (Err tids.IdentifierAhead) f rest = tt
 
-room_plain : (request : Request) (count : ℕ) (b : Bool) (f : ℕ → Result Change Refusal) → b ≡ nat_lt count greatest_count
+room_plain : (request : Request) (count : ℕ) (b : Bool) (f : ℕ → Result Change Refusal) → MayDecide request (Err refusals.OfficeFull)
+    → b ≡ nat_lt count greatest_count
     → (count < greatest_count → MayDecide request (f (count + 1))) → MayDecide request ((if b then Ok (count + 1) else Err refusals.OfficeFull) >>= f)
-room_plain request count true f is rest = rest (grind (arith, nat_tests))
-room_plain request count false f is rest = tt
+room_plain request count true f full is rest = rest (grind (arith, nat_tests))
+room_plain request count false f full is rest = full
 
 may_move : (number : List ℕ) (base : Base) (same earlier before : Bool)
     → MayDecide (requests.MoveBase number base)
@@ -203,43 +227,65 @@ may_base number base moment (Some m) = may_move number base (base_eq m.base base
 may_open : (moment : ℕ) (operator : List ℕ) (there : Option Shift) (count : ℕ)
     → MayDecide (requests.OpenShift operator) (open_a_shift moment operator there count)
 may_open moment operator (Some there) count = tt
-may_open moment operator None count = room_plain (requests.OpenShift operator) count (nat_lt count greatest_count) _ refl (λ room. omega (arith, room))
+may_open moment operator None count =
+    room_plain (requests.OpenShift operator) count (nat_lt count greatest_count) _ tt refl (λ room. record { from_one = omega arith; most = omega (arith, room) })
 
 may_close : (o : Office) → IsOffice o → (moment : ℕ) (operator : List ℕ) → MayDecide (requests.CloseShift operator) (close_shift moment (open_shift o operator))
 may_close o office moment operator =
     there_plain (requests.CloseShift operator) (open_shift o operator) refusals.NoShift _ tt (λ s is.
     let there = found _ o.shifts s is in
     let within = number_within (λ (s : Shift). s.number) o.shifts s office.shift_numbers there.0 in
-    omega (arith, within.1, office.shift_count))
+    record { from_one = within.0; most = omega (arith, within.1, office.shift_count) })
 
-may_again : (order : Order) (first : Sale) (b : Bool) → MayDecide (requests.Sell order) (if b then unchanged (answers.Sold first) else Err refusals.RefReused)
-may_again order first true = tt
-may_again order first false = tt
+-- a sale under the operator and the ref of an order
+abbrev IsUnder : Order → Sale → Type 0
+IsUnder order s = (s.operator ≡ order.operator) × (s.order_ref ≡ order.order_ref)
 
-may_sell : (forward : BlockFunction) (moment nibble : ℕ) (order : Order) (first : Option Sale) (shift : Option Shift) (meter : Option MeterAccount) (count : ℕ)
+under_ref : (o : Office) (order : Order) (there : Option Sale) → sale_of_ref o order.operator order.order_ref ≡ there → IfSome there (IsUnder order)
+under_ref o order None is = tt
+under_ref o order (Some s) is =
+    let p = parts_true _ _ (found _ o.sales s is).1 in
+    ((bytes_eq-Decides _ _).0 p.0, (bytes_eq-Decides _ _).0 p.1)
+
+may_again : (order : Order) (first : Sale) → IsUnder order first → (b : Bool) → (bytes_eq first.meter order.meter && (first.tender == order.tender)) ≡ b
+    → MayDecide (requests.Sell order) (if b then unchanged (answers.Sold first) else Err refusals.RefReused)
+may_again order first under true is =
+    let p = parts_true _ _ is in
+    record { operator = under.0; order_ref = under.1; meter = (bytes_eq-Decides _ _).0 p.0; tender = (Decides-eqb first.tender order.tender).0 p.1 }
+may_again order first under false is = tt
+
+may_sell : (forward : BlockFunction) (moment nibble : ℕ) (order : Order) (first : Option Sale) → IfSome first (IsUnder order)
+    → (shift : Option Shift) (meter : Option MeterAccount) (count : ℕ)
     → MayDecide (requests.Sell order) (sell_once forward moment nibble order first shift meter count)
-may_sell forward moment nibble order (Some first) shift meter count = may_again order first _
-may_sell forward moment nibble order None shift meter count =
+may_sell forward moment nibble order (Some first) under shift meter count = may_again order first under _ refl
+may_sell forward moment nibble order None under shift meter count =
     let q = requests.Sell order in
     there_plain q shift refusals.NoShift _ tt (λ s is_s. there_plain q meter refusals.NoMeter _ tt (λ m is_m.
-    minute_plain q (minute_of m.meter.base moment) _ (λ now. minute_plain q (fresh_after now m.last) _ (λ tid.
+    minute_plain order (minute_of m.meter.base moment) _ (λ now. minute_plain order (fresh_after now m.last) _ (λ tid.
     there_plain q (purchase_of m.steps m.prior order.tender) refusals.TooLittle _ tt
-    (λ buy is_buy. room_plain q count (nat_lt count greatest_count) _ refl (λ room. tt))))))
+    (λ buy is_buy. room_plain q count (nat_lt count greatest_count) _ tt refl
+    (λ room. record { operator = refl; order_ref = refl; meter = refl; tender = refl }))))))
 
 -- ---- an import
 
--- a row alone is refused as no row is
+-- why a row alone is refused
+abbrev IsOfRow : Refusal → Type 0
+IsOfRow refusals.Differs = ⊤
+IsOfRow refusals.NoTariff = ⊤
+IsOfRow refusals.DayPast = ⊤
+IsOfRow refusal = ⊥
+
 abbrev IsPlainDecision : Result Change Refusal → Type 0
-IsPlainDecision r = IfErr r (λ refusal. row_told refusal ≡ None)
+IsPlainDecision r = IfErr r IsOfRow
 
 plain_if : (b : Bool) (answer : Answer) → IsPlainDecision (if b then unchanged answer else Err refusals.Differs)
 plain_if true answer = tt
-plain_if false answer = refl
+plain_if false answer = tt
 
 plain_day : (name : List ℕ) (day : ℕ) (steps : List Step) (b : Bool)
     → IsPlainDecision (if b then changed (edits.AddSteps name day steps) answers.Done else Err refusals.DayPast)
 plain_day name day steps true = tt
-plain_day name day steps false = refl
+plain_day name day steps false = tt
 
 plain_tariff : (name : List ℕ) (steps : List Step) (there : Option (List Step)) → IsPlainDecision (add_tariff name steps there)
 plain_tariff name steps None = tt
@@ -247,35 +293,31 @@ plain_tariff name steps (Some there) = plain_if (steps_eq there steps) answers.D
 
 plain_steps : (name : List ℕ) (day today : ℕ) (steps : List Step) (has : Bool) (there : Option (List Step))
     → IsPlainDecision (add_steps name day steps today has there)
-plain_steps name day today steps false there = refl
+plain_steps name day today steps false there = tt
 plain_steps name day today steps true (Some there) = plain_if (steps_eq there steps) answers.Done
 plain_steps name day today steps true None = plain_day name day steps (nat_lt today day)
 
 plain_meter : (number : List ℕ) (m : Meter) (there : Option Meter) (has : Bool) → IsPlainDecision (add_meter number m there has)
 plain_meter number m (Some there) has = plain_if (meter_eq there m) answers.Done
 plain_meter number m None true = tt
-plain_meter number m None false = refl
+plain_meter number m None false = tt
 
 plain_row : (o : Office) (today : ℕ) (row : Row) → IsPlainDecision (row_decision o today row)
 plain_row o today (kinds.Tariff name steps) = plain_tariff name steps (o.tariffs name)
 plain_row o today (kinds.Steps name day steps) = plain_steps name day today steps (is_some (o.tariffs name)) (o.dated_steps name day)
 plain_row o today (kinds.Meter number m) = plain_meter number m (o.meters number) (is_some (o.tariffs m.tariff))
 
--- what is refused of rows of which the first has this number is one of them, or no row
-abbrev RefusesFrom : {A : Type 0} → (number most : ℕ) → Result A Refusal → Type 0
-RefusesFrom number most r = IfErr r (λ refusal. IfSome (row_told refusal) (IsRowFrom number most))
-
-refuses_row : (number most : ℕ) (r : Result Change Refusal) → IsPlainDecision r → RefusesFrom number (most + 1) (at_row number r)
+refuses_row : (number most : ℕ) (r : Result Change Refusal) → IsPlainDecision r → IfErr (at_row number r) (RefusesFrom number (most + 1))
 refuses_row number most (Ok change) plain = tt
 refuses_row number most (Err refusals.Differs) plain = (omega arith, omega arith, tt)
 refuses_row number most (Err refusals.NoTariff) plain = (omega arith, omega arith, tt)
 refuses_row number most (Err refusals.DayPast) plain = (omega arith, omega arith, tt)
-refuses_row number most (Err refusal) plain = subst (λ (o : Option (ℕ × RowCause)). IfSome o (IsRowFrom number (most + 1))) (sym plain) tt
+refuses_row number most (Err refusal) plain = absurd plain
 
 -- a refusal of the rows behind the first is one of them all
-refuses_behind : (number most : ℕ) (o : Option (ℕ × RowCause)) → IfSome o (IsRowFrom (number + 1) most) → IfSome o (IsRowFrom number (most + 1))
-refuses_behind number most None h = tt
-refuses_behind number most (Some (row, cause)) h = (omega (arith, h.0), omega (arith, h.1), h.2)
+refuses_behind : (number most : ℕ) (refusal : Refusal) → RefusesFrom (number + 1) most refusal → RefusesFrom number (most + 1) refusal
+refuses_behind number most (refusals.ImportRow row cause) h = (omega (arith, h.0), omega (arith, h.1), h.2)
+refuses_behind number most refusal h = absurd h
 
 new_more : (row : Row) (more : List Row) (most : ℕ) (b : Bool) → length more ≤ most → length (if b then row ∷ more else more) ≤ most + 1
 new_more row more most true few = omega (arith, few)
@@ -284,14 +326,14 @@ new_more row more most false few = omega (arith, few)
 -- the new ones of some rows are no more than these, or a row among them is refused
 abbrev NewRowsOf : (number most : ℕ) → Result (List Row) Refusal → Type 0
 NewRowsOf number most (Ok new) = length new ≤ most
-NewRowsOf number most (Err refusal) = IfSome (row_told refusal) (IsRowFrom number most)
+NewRowsOf number most (Err refusal) = RefusesFrom number most refusal
 
 then_more : (row : Row) (change : Change) (number most : ℕ) (rest : Result (List Row) Refusal) → NewRowsOf (number + 1) most rest
     → NewRowsOf number (most + 1) (rest >>= (λ new. Ok (if is_some change.edit then row ∷ new else new)))
 then_more row change number most (Ok new) few = new_more row new most (is_some change.edit) few
-then_more row change number most (Err refusal) h = refuses_behind number most (row_told refusal) h
+then_more row change number most (Err refusal) h = refuses_behind number most refusal h
 
-then_rows : {B : Type 0} (number most : ℕ) (r : Result B Refusal) (f : B → Result (List Row) Refusal) → RefusesFrom number most r
+then_rows : {B : Type 0} (number most : ℕ) (r : Result B Refusal) (f : B → Result (List Row) Refusal) → IfErr r (RefusesFrom number most)
     → ((x : B) → NewRowsOf number most (f x)) → NewRowsOf number most (r >>= f)
 then_rows number most (Ok x) f h rest = rest x
 then_rows number most (Err refusal) f h rest = h
@@ -309,58 +351,62 @@ added : (rows new : List Row) → length new ≤ length rows → MayDecide (requ
 added rows [] few = omega arith
 added rows (row ∷ rest) few = few
 
+rows_refused : (most : ℕ) (refusal : Refusal) → RefusesFrom 1 most refusal → RefusesRows most refusal
+rows_refused most (refusals.ImportRow row cause) h = h
+rows_refused most refusal h = absurd h
+
 may_import : (o : Office) (today : ℕ) (rows : List Row) → MayDecide (requests.Import rows) (import o today rows)
 may_import o today rows = by_new (new_rows o today 1 rows) (new_rows_of o today 1 rows)
   where
     by_new : (r : Result (List Row) Refusal) → NewRowsOf 1 (length rows) r → MayDecide (requests.Import rows) (r >>= add_rows)
     by_new (Ok new) few = added rows new few
-    by_new (Err refusal) h = h
+    by_new (Err refusal) h = rows_refused (length rows) refusal h
 
 -- ---- all requests
 
-may_tariff : (q : Request) (r : Result Change Refusal) → ((answer : Answer) → MayAnswer q answer) → IsPlainDecision r → MayDecide q r
-may_tariff q (Ok change) any plain = any change.answer
-may_tariff q (Err refusal) any plain = subst (λ (o : Option (ℕ × RowCause)). IfSome o (IsRowFrom 1 (rows_in q))) (sym plain) tt
+-- the office is unable to answer, whatever it is asked
+unable : (why : Refusal) → ((q : Question) → MayRefuse why q) → ((most : ℕ) → RefusesRows most why) → (q : Request) → MayRefuseSo q why
+unable why any rows_any (requests.AddTariff name steps) = tt
+unable why any rows_any (requests.AddSteps name day steps) = tt
+unable why any rows_any (requests.AddMeter number m) = tt
+unable why any rows_any (requests.SetTariff number name) = tt
+unable why any rows_any (requests.Import rows) = rows_any (length rows)
+unable why any rows_any (requests.MoveBase number base) = any (questions.MoveBase number base)
+unable why any rows_any (requests.OpenShift operator) = any (questions.OpenShift operator)
+unable why any rows_any (requests.CloseShift operator) = any (questions.CloseShift operator)
+unable why any rows_any (requests.Sell order) = any (questions.Sell order)
+unable why any rows_any (requests.Reprint number) = any (questions.Receipt number)
+unable why any rows_any (requests.ShiftReport number) = any (questions.ShiftReport number)
 
-plain_setting : (number name : List ℕ) (b : Bool) → IsPlainDecision (if b then unchanged answers.Done else changed (edits.SetTariff number name) answers.Done)
-plain_setting number name true = tt
-plain_setting number name false = tt
-
-plain_set : (number name : List ℕ) (there : Option Meter) (has : Bool) → IsPlainDecision (set_tariff number name there has)
-plain_set number name None has = refl
-plain_set number name (Some m) false = refl
-plain_set number name (Some m) true = plain_setting number name (bytes_eq m.tariff name)
-
-may_decide : (forward : BlockFunction) (o : Office) → IsOffice o → (moment nibble : ℕ) (q : Request) → MayDecide q (decision_of forward o moment nibble q)
-may_decide forward o office moment nibble (requests.AddTariff name steps) =
-    may_tariff (requests.AddTariff name steps) _ (λ answer. tt) (plain_tariff name steps (o.tariffs name))
-may_decide forward o office moment nibble (requests.AddSteps name day steps) =
-    may_tariff (requests.AddSteps name day steps) _ (λ answer. tt)
-    (plain_steps name day (day_at moment) steps (is_some (o.tariffs name)) (o.dated_steps name day))
-may_decide forward o office moment nibble (requests.AddMeter number m) =
-    may_tariff (requests.AddMeter number m) _ (λ answer. tt) (plain_meter number m (o.meters number) (is_some (o.tariffs m.tariff)))
-may_decide forward o office moment nibble (requests.Import rows) = may_import o (day_at moment) rows
-may_decide forward o office moment nibble (requests.SetTariff number name) =
-    may_tariff (requests.SetTariff number name) _ (λ answer. tt) (plain_set number name (o.meters number) (is_some (o.tariffs name)))
-may_decide forward o office moment nibble (requests.MoveBase number base) = may_base number base moment (o.meters number)
-may_decide forward o office moment nibble (requests.OpenShift operator) = may_open moment operator (open_shift o operator) (length o.shifts)
-may_decide forward o office moment nibble (requests.CloseShift operator) = may_close o office moment operator
-may_decide forward o office moment nibble (requests.Sell order) =
-    may_sell forward moment nibble order (sale_of_ref o order.operator order.order_ref) (open_shift o order.operator) (account_of o order.meter moment)
-    (length o.sales)
-may_decide forward o office moment nibble (requests.Reprint number) =
-    there_plain (requests.Reprint number) (sale_numbered o number) refusals.NoSale _ tt (λ s is. tt)
-may_decide forward o office moment nibble (requests.ShiftReport number) =
+may_decide : (forward : BlockFunction) (o : Office) → IsOffice o → (moment nibble : ℕ) (q : Request) → IsOfDesk q
+    → MayDecide q (decision_of forward o moment nibble q)
+may_decide forward o office moment nibble (requests.AddTariff name steps) of_desk = absurd of_desk
+may_decide forward o office moment nibble (requests.AddSteps name day steps) of_desk = absurd of_desk
+may_decide forward o office moment nibble (requests.AddMeter number m) of_desk = absurd of_desk
+may_decide forward o office moment nibble (requests.SetTariff number name) of_desk = absurd of_desk
+may_decide forward o office moment nibble (requests.Import rows) of_desk = may_import o (day_at moment) rows
+may_decide forward o office moment nibble (requests.MoveBase number base) of_desk = may_base number base moment (o.meters number)
+may_decide forward o office moment nibble (requests.OpenShift operator) of_desk = may_open moment operator (open_shift o operator) (length o.shifts)
+may_decide forward o office moment nibble (requests.CloseShift operator) of_desk = may_close o office moment operator
+may_decide forward o office moment nibble (requests.Sell order) of_desk =
+    may_sell forward moment nibble order (sale_of_ref o order.operator order.order_ref) (under_ref o order _ refl) (open_shift o order.operator)
+    (account_of o order.meter moment) (length o.sales)
+may_decide forward o office moment nibble (requests.Reprint number) of_desk =
+    there_plain (requests.Reprint number) (sale_numbered o number) refusals.NoSale _ tt (λ s is.
+    (Decides-eqb s.number number).0 (found _ o.sales s is).1)
+may_decide forward o office moment nibble (requests.ShiftReport number) of_desk =
     there_plain (requests.ShiftReport number) (shift_numbered o number) refusals.NoSuchShift _ tt (λ s is. tt)
 
 -- a reply of a life, whatever it is, is one that an office may give
 pub may_reply : (o : Office) (forward : BlockFunction) (at : Stamped) (r : Reply) → IsOffice o → (acknowledges r ≡ true → r ≡ reply forward o at)
     → MayReply at.request r
-may_reply o forward at (Ok answer) office rules = subst (MayReply at.request) (sym (rules refl)) (may_decide forward o office at.moment at.nibble at.request)
-may_reply o forward at (Err refusals.Memory) office rules = tt
-may_reply o forward at (Err refusals.Store) office rules = tt
-may_reply o forward at (Err refusals.Stopped) office rules = tt
-may_reply o forward at (Err refusal) office rules = subst (MayReply at.request) (sym (rules refl)) (may_decide forward o office at.moment at.nibble at.request)
+may_reply o forward at (Ok answer) office rules =
+    λ of_desk. subst (MayReplyTo at.request) (sym (rules refl)) (may_decide forward o office at.moment at.nibble at.request of_desk)
+may_reply o forward at (Err refusals.Memory) office rules = λ of_desk. unable refusals.Memory (λ q. tt) (λ most. tt) at.request
+may_reply o forward at (Err refusals.Store) office rules = λ of_desk. unable refusals.Store (λ q. tt) (λ most. tt) at.request
+may_reply o forward at (Err refusals.Stopped) office rules = λ of_desk. unable refusals.Stopped (λ q. tt) (λ most. tt) at.request
+may_reply o forward at (Err refusal) office rules =
+    λ of_desk. subst (MayReplyTo at.request) (sym (rules refl)) (may_decide forward o office at.moment at.nibble at.request of_desk)
 
 -- ---- a reprint and a report
 

@@ -47,19 +47,23 @@ use Rattle.desk_messages.specs.Meaning.{lookup_form}
 use Rattle.desk_messages.specs.declared.reply.form.Form.{Form}
 use Rattle.desk_messages.specs.declared.reply.form.Form.TheVariants as forms
 use Rattle.desk_messages.specs.declared.reply.outcome.Outcome.TheVariants as outcomes
+use Rattle.desk_messages.specs.route.Route.{IsTargetNumber}
+use Rattle.desk_client.specs.Answers.{MayRefuse}
 use Rattle.desk_client.specs.Meter.{IsLastSaleNumber}
 use Rattle.desk_client.specs.Page.{page_as_read}
 use Rattle.desk_client.specs.Sale.{IsSaleTold}
 use Rattle.desk_client.specs.Tells.{Tells, as_told}
 use Rattle.desk_client.specs.Told.{IsTellable, IsTellableRefusal}
+use Rattle.desk_client.specs.declared.question.Question.{Question}
+use Rattle.desk_client.specs.declared.question.Question.TheVariants as questions
 use Rattle.desk_client.specs.declared.told.Granted.TheVariants as granted
 use Rattle.desk_client.specs.declared.told.Told.{Told}
 use Rattle.desk_client.specs.declared.told.Told.TheVariants as told
 use Rattle.desk_client.specs.declared.told.Wanted.{Wanted}
 use Rattle.desk_client.specs.declared.told.Wanted.TheVariants as wanted
 use Rattle.office_rules.proofs.OfficeLemmas.RowLemmas.{option_map_some}
-use Rattle.program_laws.proofs.AtDeskLemmas.RangeLemmas.{cash_within, count_within, found_stands, meter_row, or_keeps, sale_number, sale_row, sale_shift, tariff_named, tenths_within}
-use Rattle.program_laws.proofs.AtDeskLemmas.RuleLemmas.{IsRowFrom, MayReply, RefusesOf}
+use Rattle.program_laws.proofs.AtDeskLemmas.RangeLemmas.{found_stands, meter_row, or_keeps, sale_numbered, sale_row, sale_shift, tariff_named, totals_within}
+use Rattle.program_laws.proofs.AtDeskLemmas.RuleLemmas.{IsRowFrom, MayReply, MayReplyTo, RefusesRows}
 
 -- ---- what is told of a reply, and of what was looked up
 
@@ -161,13 +165,13 @@ pub sale_told : (o : Office) (s : Sale) → IsOffice o → Contains o.sales s �
 sale_told o s office there =
     let row = sale_row o s office there in
     record {
-      number = omega (arith, sale_number o s office there);
+      number = sale_numbered o s office there;
       moment = row.moment;
-      shift = omega (arith, sale_shift o s office there);
+      shift = sale_shift o s office there;
       operator = row.operator;
       order_ref = row.order_ref;
       meter = meter_row o s.meter office row.meter;
-      tid = omega (arith, row.tid);
+      tid = row.tid;
       nibble = refl;
       tenths = row.tenths;
       price = row.price;
@@ -175,7 +179,7 @@ sale_told o s office there =
       digits = row.digits;
     }
 
-tellable_row : (most row : ℕ) (cause : RowCause) → most < 4294967295 → IsRowFrom 1 most (row, cause) → IsTellableRefusal (refusals.ImportRow row cause)
+tellable_row : (most row : ℕ) (cause : RowCause) → most < 4294967295 → IsRowFrom 1 most row cause → IsTellableRefusal (refusals.ImportRow row cause)
 tellable_row most row causes.Header few h = absurd h.2
 tellable_row most row causes.Columns few h = absurd h.2
 tellable_row most row (causes.Field number) few h = absurd h.2
@@ -185,68 +189,70 @@ tellable_row most row causes.NoTariff few h = (omega (arith, h.1, few), tt)
 tellable_row most row causes.DayPast few h = (omega (arith, h.1, few), tt)
 
 -- a refusal of some rows can be told, where they are fewer than 32 bits count
-pub tellable_refusal : (most : ℕ) (refusal : Refusal) → most < 4294967295 → RefusesOf most refusal → IsTellableRefusal refusal
-tellable_refusal most (refusals.ImportRow row cause) few h = tellable_row most row cause few h
-tellable_refusal most refusal few h = tt
+tellable_rows : (most : ℕ) (refusal : Refusal) → most < 4294967295 → RefusesRows most refusal → IsTellableRefusal refusal
+tellable_rows most (refusals.ImportRow row cause) few h = tellable_row most row cause few h
+tellable_rows most refusal few h = tt
+
+-- so can a refusal that a question may have, but for that of a row
+tellable_refusal : (q : Question) (refusal : Refusal) → ((row : ℕ) (cause : RowCause) → ¬ MayRefuse (refusals.ImportRow row cause) q) → MayRefuse refusal q
+    → IsTellableRefusal refusal
+tellable_refusal q (refusals.ImportRow row cause) none h = absurd (none row cause h)
+tellable_refusal q refusal none h = tt
 
 -- ---- replies
 
-tellable_base : (number : List ℕ) (base : Base) (r : Result Answer Refusal) → MayReply (requests.MoveBase number base) r
+tellable_base : (number : List ℕ) (base : Base) (r : Result Answer Refusal) → MayReplyTo (requests.MoveBase number base) r
     → IsTellable wanted.Done (told_reply forms.Json r)
 tellable_base number base (Ok answers.Done) h = (tt, refl)
 tellable_base number base (Ok answer) h = absurd h
-tellable_base number base (Err refusal) h = tellable_refusal 0 refusal (omega arith) h
+tellable_base number base (Err refusal) h = tellable_refusal (questions.MoveBase number base) refusal (λ row cause no. no) h
 
-tellable_open : (operator : List ℕ) (r : Result Answer Refusal) → MayReply (requests.OpenShift operator) r → IsTellable wanted.Shift (told_reply forms.Json r)
-tellable_open operator (Ok (answers.Opened n)) h = (omega (arith, h), refl)
+tellable_open : (operator : List ℕ) (r : Result Answer Refusal) → MayReplyTo (requests.OpenShift operator) r → IsTellable wanted.Shift (told_reply forms.Json r)
+tellable_open operator (Ok (answers.Opened n)) h = (h, refl)
 tellable_open operator (Ok answer) h = absurd h
-tellable_open operator (Err refusal) h = tellable_refusal 0 refusal (omega arith) h
+tellable_open operator (Err refusal) h = tellable_refusal (questions.OpenShift operator) refusal (λ row cause no. no) h
 
-tellable_close : (operator : List ℕ) (r : Result Answer Refusal) → MayReply (requests.CloseShift operator) r → IsTellable wanted.Shift (told_reply forms.Json r)
-tellable_close operator (Ok (answers.Closed n)) h = (omega (arith, h), refl)
+tellable_close : (operator : List ℕ) (r : Result Answer Refusal) → MayReplyTo (requests.CloseShift operator) r → IsTellable wanted.Shift (told_reply forms.Json r)
+tellable_close operator (Ok (answers.Closed n)) h = (h, refl)
 tellable_close operator (Ok answer) h = absurd h
-tellable_close operator (Err refusal) h = tellable_refusal 0 refusal (omega arith) h
+tellable_close operator (Err refusal) h = tellable_refusal (questions.CloseShift operator) refusal (λ row cause no. no) h
 
 -- the sales of a reply keep the rules
 abbrev pub AreToldSales : Result Answer Refusal → Type 0
 AreToldSales r = All (λ s. IsSaleTold (as_told s)) (sales_of r)
 
-tellable_sell : (order : Order) (r : Result Answer Refusal) → AreToldSales r → MayReply (requests.Sell order) r
+tellable_sell : (order : Order) (r : Result Answer Refusal) → AreToldSales r → MayReplyTo (requests.Sell order) r
     → IsTellable wanted.Sale (told_reply forms.Json r)
 tellable_sell order (Ok (answers.Sold s)) sales h = (All-head (λ s. IsSaleTold (as_told s)) s [] sales, refl)
 tellable_sell order (Ok answer) sales h = absurd h
-tellable_sell order (Err refusal) sales h = tellable_refusal 0 refusal (omega arith) h
+tellable_sell order (Err refusal) sales h = tellable_refusal (questions.Sell order) refusal (λ row cause no. no) h
 
-tellable_reprint : (number : ℕ) (r : Result Answer Refusal) → MayReply (requests.Reprint number) r → IsTellable wanted.Paper (told_reply forms.Paper r)
-tellable_reprint number (Ok (answers.Reprinted s)) h = (tt, refl)
-tellable_reprint number (Ok answer) h = absurd h
-tellable_reprint number (Err refusal) h = tellable_refusal 0 refusal (omega arith) h
+tellable_reprint : (number : ℕ) (r : Result Answer Refusal) → AreToldSales r → MayReplyTo (requests.Reprint number) r
+    → IsTellable wanted.Sale (told_reply forms.Json r)
+tellable_reprint number (Ok (answers.Reprinted s)) sales h = (All-head (λ s. IsSaleTold (as_told s)) s [] sales, refl)
+tellable_reprint number (Ok answer) sales h = absurd h
+tellable_reprint number (Err refusal) sales h = tellable_refusal (questions.Receipt number) refusal (λ row cause no. no) h
 
-tellable_report : (number : ℕ) (r : Result Answer Refusal) → MayReply (requests.ShiftReport number) r → IsTellable wanted.Paper (told_reply forms.Json r)
+tellable_report : (number : ℕ) (r : Result Answer Refusal) → MayReplyTo (requests.ShiftReport number) r → IsTellable wanted.Paper (told_reply forms.Json r)
 tellable_report number (Ok (answers.Report shift sales)) h = (tt, refl)
 tellable_report number (Ok answer) h = absurd h
-tellable_report number (Err refusal) h = tellable_refusal 0 refusal (omega arith) h
+tellable_report number (Err refusal) h = tellable_refusal (questions.ShiftReport number) refusal (λ row cause no. no) h
 
-tellable_import : (rows : List Row) (r : Result Answer Refusal) → length rows ≤ 10000 → MayReply (requests.Import rows) r
+tellable_import : (rows : List Row) (r : Result Answer Refusal) → length rows ≤ 10000 → MayReplyTo (requests.Import rows) r
     → IsTellable wanted.Imported (told_reply forms.Json r)
 tellable_import rows (Ok (answers.Imported n)) few h = (omega (arith, h, few), refl)
 tellable_import rows (Ok answer) few h = absurd h
-tellable_import rows (Err refusal) few h = tellable_refusal (length rows) refusal (omega (arith, few)) h
+tellable_import rows (Err refusal) few h = tellable_rows (length rows) refusal (omega (arith, few)) h
 
--- what is wanted of the reply to a request, and the form in which it is told
+-- what is wanted of the reply to a request
 abbrev pub wanted_for : Request → Wanted
 wanted_for (requests.OpenShift operator) = wanted.Shift
 wanted_for (requests.CloseShift operator) = wanted.Shift
 wanted_for (requests.Sell order) = wanted.Sale
-wanted_for (requests.Reprint number) = wanted.Paper
+wanted_for (requests.Reprint number) = wanted.Sale
 wanted_for (requests.ShiftReport number) = wanted.Paper
 wanted_for (requests.Import rows) = wanted.Imported
 wanted_for request = wanted.Done
-
--- a reprint is told on paper, and all else in JSON
-abbrev pub form_for : Request → Form
-form_for (requests.Reprint number) = forms.Paper
-form_for request = forms.Json
 
 -- a command asks it of a desk; rows are no more than a file has
 abbrev pub MayAsk : Request → Type 0
@@ -259,18 +265,18 @@ MayAsk request = ⊤
 
 -- the reply to a request that a command may ask of a desk can be told as what is wanted
 pub tellable_reply : (q : Request) (r : Result Answer Refusal) → MayAsk q → AreToldSales r → MayReply q r
-    → IsTellable (wanted_for q) (told_reply (form_for q) r)
+    → IsTellable (wanted_for q) (told_reply forms.Json r)
 tellable_reply (requests.AddTariff name steps) r ask sales h = absurd ask
 tellable_reply (requests.AddSteps name day steps) r ask sales h = absurd ask
 tellable_reply (requests.AddMeter number m) r ask sales h = absurd ask
 tellable_reply (requests.SetTariff number name) r ask sales h = absurd ask
-tellable_reply (requests.Import rows) r ask sales h = tellable_import rows r ask h
-tellable_reply (requests.MoveBase number base) r ask sales h = tellable_base number base r h
-tellable_reply (requests.OpenShift operator) r ask sales h = tellable_open operator r h
-tellable_reply (requests.CloseShift operator) r ask sales h = tellable_close operator r h
-tellable_reply (requests.Sell order) r ask sales h = tellable_sell order r sales h
-tellable_reply (requests.Reprint number) r ask sales h = tellable_reprint number r h
-tellable_reply (requests.ShiftReport number) r ask sales h = tellable_report number r h
+tellable_reply (requests.Import rows) r ask sales h = tellable_import rows r ask (h tt)
+tellable_reply (requests.MoveBase number base) r ask sales h = tellable_base number base r (h tt)
+tellable_reply (requests.OpenShift operator) r ask sales h = tellable_open operator r (h tt)
+tellable_reply (requests.CloseShift operator) r ask sales h = tellable_close operator r (h tt)
+tellable_reply (requests.Sell order) r ask sales h = tellable_sell order r sales (h tt)
+tellable_reply (requests.Reprint number) r ask sales h = tellable_reprint number r sales (h tt)
+tellable_reply (requests.ShiftReport number) r ask sales h = tellable_report number r (h tt)
 
 -- ---- look-ups
 
@@ -294,7 +300,7 @@ last_stands o number =
 
 last_number : (o : Office) → IsOffice o → (last : Option Sale) → IfSome last (Contains o.sales) → IsLastSaleNumber (option_map (λ s. s.number) last)
 last_number o office None h = tt
-last_number o office (Some s) h = omega (arith, sale_number o s office h)
+last_number o office (Some s) h = sale_numbered o s office h
 
 sale_or_none : (o : Office) → IsOffice o → (there : Option Sale) → IfSome there (Contains o.sales)
     → IsTellable wanted.Sale (told_look forms.Json (sale_found there))
@@ -320,15 +326,13 @@ meter_or_none laws o office number moment (Some m) is =
       refl,
     )
 
-totals_or_none : RangeLaws → (o : Office) → IsOffice o → (number : ℕ) → number < 2 ^ 32 → (there : Option Shift)
+totals_or_none : RangeLaws → (o : Office) → IsOffice o → (number : ℕ) → IsTargetNumber number → (there : Option Shift)
     → IsTellable wanted.Totals (told_look forms.Json (totals_found number (option_map (λ shift. all_totals (sales_of_shift o number)) there)))
 totals_or_none laws o office number small None = tt
 totals_or_none laws o office number small (Some shift) = (
   record {
     shift = small;
-    sales = omega (arith, count_within o number office);
-    tenths = omega (arith, tenths_within laws.greatest o number office);
-    cash = omega (arith, cash_within o number office);
+    are = totals_within laws.greatest o number office;
   },
   refl,
 )
@@ -396,7 +400,7 @@ wanted_look (lookups.Sales after) = wanted.Page
 abbrev pub MayLook : Lookup → Type 0
 MayLook lookups.SaleCount = ⊥
 MayLook (lookups.Quote number tender) = IsMeterNo number × IsTender tender
-MayLook (lookups.ShiftTotals number) = number < 2 ^ 32
+MayLook (lookups.ShiftTotals number) = IsTargetNumber number
 MayLook lookup = ⊤
 
 tellable_tariffs : (o : Office) (day : ℕ) (after : Option (List ℕ)) (r : Result Found Refusal) → FindsTariffs o day after r
