@@ -3,7 +3,7 @@
 #![tactic(auto)]
 
 use command_line::BadWords;
-use sqlite::Unknown;
+use sqlite::Wary;
 use std::process::ExitCode;
 use std::rt::Env;
 use std::{env, io};
@@ -37,7 +37,9 @@ fn unreadable(error: io::Error) -> BadWords {
 fn run_given(rt: &HostRuntime, given: &[String]) -> u8 {
     let words: Result<Vec<&str>, _> = given.iter().map(|word| word.as_str()).collect(rt.alloc());
     match words {
-        Ok(words) => run(rt, rt, Unknown, &words, &mut rt.stdout(), &mut rt.stderr()),
+        // Wary: of what was written and not synced a crash may leave any bytes. So the promise needs
+        // no disk that finishes each sector it begins; for that a commit syncs twice.
+        Ok(words) => run(rt, rt, Wary, &words, &mut rt.stdout(), &mut rt.stderr()),
         Err(_) => refuse_words(rt, BadWords::Memory),
     }
 }
