@@ -3,7 +3,7 @@
 #![tactic(auto)]
 
 use command_line::BadWords;
-use sqlite::Unknown;
+use sqlite::Wary;
 use std::process::ExitCode;
 use std::rt::Env;
 use std::{env, io};
@@ -38,7 +38,9 @@ fn run_given(rt: &HostRuntime, given: &[String]) -> u8 {
     let words: Result<Vec<&str>, _> = given.iter().map(|word| word.as_str()).collect(rt.alloc());
     match words {
         Ok(words) => {
-            let ports = Computer::ports(rt, rt, Unknown);
+            // Wary: of what was written and not synced a crash may leave any bytes. So the promise
+            // needs no disk that finishes each sector it begins; for that a commit syncs twice.
+            let ports = Computer::ports(rt, rt, Wary);
             run(
                 rt.alloc(),
                 ports,
