@@ -2,11 +2,16 @@
 waits after it, also on a second system, and that a copy that is none changes nothing. It is no script of its own."""
 import time
 
+from program import METER
 from shared import same, wrong
 from shop import BACKUPS, CASHIER, NAME, OFFICE
 
 WAIT_FILE = f"{OFFICE}.wait"
 DAY = 1440  # minutes that an identifier is ahead of the clock at the most
+WAITS = "vend.service sells nothing before; if you know that no sale is missing: vend-restore --start --now"
+# What the desk's log says besides of a wait.
+WHY = ["the office was restored, and tokens that were sold after the copy could be sold again before that",
+       "if no sale is missing, run vend-restore --start --now"]
 
 
 def stamp(seconds):
@@ -22,9 +27,6 @@ def safe_line(moment):
     return f"safe to sell from {stamp(moment)} on, {DAY} minutes after the last sale that may be missing"
 
 
-WAITS = "vend.service sells nothing before; if you know that no sale is missing: vend-restore --start --now"
-
-
 def moment_of(shop):
     """Until when the office waits, or nothing."""
     ran = shop.machine.run("head", "-n", "1", WAIT_FILE)
@@ -36,8 +38,7 @@ def check_waiting(shop, moment):
     same((moment_of(shop), shop.is_active()), (moment, True), "a desk that waits")
     same(shop.web("/api/sales/1", CASHIER)[0], 502, "a till at a desk that waits")
     says = f"nothing is sold before {stamp(moment)}, when the desk begins by itself"
-    same(shop.log()[-3:], [says, "the office was restored, and tokens that were sold after the copy could be sold again "
-         "before that", "if no sale is missing, run vend-restore --start --now"], "the log of a desk that waits")
+    same(shop.log()[-3:], [says, *WHY], "the log of a desk that waits")
     same(says in shop.ask("systemctl", "status", "--no-pager", "--full", "vend"), True, "systemctl status")
     same(shop.status_lines()["desk"], ("warning", f"vend.service is active, and sells nothing before {stamp(moment)}, "
          "after a restore"), "vend-status")
@@ -58,12 +59,13 @@ def after_restore(shop):
     check_restored(shop, newest)
     check_put_back(shop)
     check_transform(shop, newest)
+    check_clock_ahead(shop)
     check_old_restore(shop)
     same(shop.ask("find", "/var/lib/vend", BACKUPS, "-type", "f", "-perm", "/077", "-not", "-name", "*.wait"), "",
          "files that others can read")
     print("restores: the newest copy, into an empty folder, over a stale log, of an older format, after a forged "
-          "sale, of another transform and of what is no office; owner, rights, last sale and the moment of safe "
-          "selling", flush=True)
+          "sale, of another transform, of a clock that was ahead and of what is no office; owner, rights, last sale "
+          "and the moment of safe selling", flush=True)
 
 
 def check_restored(shop, newest):
@@ -102,8 +104,8 @@ def check_restored(shop, newest):
     shop.shell(f"cp {OFFICE}-wal /srv/others/log; systemctl stop vend")
     shop.shell(f"rm {OFFICE}; install -m 600 -o vend -g vend /srv/others/log {OFFICE}-wal")
     lines = shop.ask("vend-restore", "--start", "--now", newest).splitlines()
-    same((lines[-2:], moment_of(shop)), (["vend.service does not wait for it, as --now says", "vend.service is started"],
-         None), "vend-restore --now")
+    same((lines[-2:], moment_of(shop)),
+         (["vend.service does not wait for it, as --now says", "vend.service is started"], None), "vend-restore --now")
     same((shop.rows(), shop.audit().split()[0]), (shop.rows(newest), "sound"), "a restore over a stale log")
     shop.ask("vend-restore", "--now", status=1)
 
@@ -146,7 +148,8 @@ def check_put_back(shop):
         same(out.startswith(said), True, f"vend-restore of {file}.db: {out}")
         same((shop.rows(), shop.rights(OFFICE), moment_of(shop)), (before, ["vend:vend 600"], None),
              f"the office after {file}.db")
-    for words, status in ((["/srv/others/none.db"], 1), ([OFFICE], 1), ([], 2), (["--start"], 2), (["--other", "x"], 2)):
+    for words, status in ((["/srv/others/none.db"], 1), ([OFFICE], 1), ([], 2), (["--start"], 2),
+                          (["--other", "x"], 2)):
         shop.ask("vend-restore", *words, status=status)
     same((shop.rows(), shop.is_active()), (before, True), "the office after all that")
     same([it for it in shop.files("/var/lib/vend") if it.startswith(".")], [], "what is left of restores")
@@ -165,6 +168,18 @@ def check_transform(shop, newest):
          f"a copy while the transform is another one: {ran.stderr}")
     shop.shell(f"rm {copy}; sed -i 's/^VEND_TRANSFORM=demo/VEND_TRANSFORM=plain/' /etc/default/vend; "
                "systemctl restart vend")
+
+
+def check_clock_ahead(shop):
+    """A copy of an office whose clock was ahead waits for a day after its own last sale."""
+    at = int(time.time()) + 2 * DAY * 60
+    shop.shell(f"""vend import --file /srv/others/ahead.db tariffs examples/tariffs.csv
+        vend import --file /srv/others/ahead.db meters examples/meters.csv
+        vend shift --file /srv/others/ahead.db --at {at} --operator ann open
+        vend sell --file /srv/others/ahead.db --at {at} --operator ann --ref A-1 --meter {METER} --tender 10""")
+    lines = shop.ask("vend-restore", "/srv/others/ahead.db").splitlines()
+    same((lines[-3], moment_of(shop)), (safe_line(safe_after(at)), safe_after(at)), "a copy of a clock that was ahead")
+    shop.ask("vend-restore", "--now")
 
 
 def check_old_restore(shop):
