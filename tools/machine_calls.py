@@ -31,8 +31,7 @@ TOKEN = "00072057602627981690"
 # More than the pieces after which the desk pauses for a client that sends little at a time.
 MANY = 600
 APART = 0.0005  # seconds between two bytes
-# How often a sale at a desk is synced, and how many sales are watched.
-SYNCS_OF_A_SALE, SYNCED = 2, 6
+SYNCED = 6  # sales of which the syncs are counted
 # How often a command that waits for its file pauses, in a second that it may wait.
 PAUSES = 100
 # The bytes of a database file that SQLite locks: where they begin, and how many.
@@ -350,22 +349,24 @@ def check_opened_again(folder, watcher):
 
 
 def check_syncs(folder, watcher):
-    """Each sale at a desk is synced twice before its reply, once its log has been begun; a reprint is not."""
-    file = folder / "syncs.db"
-    prepare(file)
-    with Served(watcher, file, 1) as served:
-        client = served.client()
-        asked(client, "POST", "/sales", order("S-0"))
-        for number in range(1, SYNCED):
-            before = watcher.syncs()
-            sold = asked(client, "POST", "/sales", order(f"S-{number}"))[0]
-            between = watcher.syncs()
-            printed = asked(client, "GET", f"/sales/{number}")[0]
-            found = sold, between - before, printed, watcher.syncs() - between
-            if found != (200, SYNCS_OF_A_SALE, 200, 0):
-                raise SystemExit(f"wrong: a sale and a reprint at a desk, each with its syncs: {found}")
-        client.close()
-        served.finish()
+    """Each sale at a desk is synced twice before its reply, or once where this is asked for, after the first
+    one, which begins a log; a reprint is not."""
+    for way, each in (("", 2), ("twice", 2), ("full", 1)):
+        file = folder / f"syncs{way}.db"
+        prepare(file)
+        with Served(watcher, file, 1, more=["--sync", way] if way else []) as served:
+            client = served.client()
+            asked(client, "POST", "/sales", order("S-0"))
+            for number in range(1, SYNCED):
+                before = watcher.syncs()
+                sold = asked(client, "POST", "/sales", order(f"S-{number}"))[0]
+                between = watcher.syncs()
+                printed = asked(client, "GET", f"/sales/{number}")[0]
+                found = sold, between - before, printed, watcher.syncs() - between
+                if found != (200, each, 200, 0):
+                    raise SystemExit(f"wrong: a sale and a reprint at a desk, each with its syncs: {found}")
+            client.close()
+            served.finish()
 
 
 def check_machine_calls(folder):
@@ -381,4 +382,4 @@ def check_machine_calls(folder):
     check_syncs(folder, watcher)
     print("calls of the system: no file, socket, address or salt but those of the words, each file opened "
           "once and none removed or renamed, a pause for single bytes, and for a file that is in use, alone, "
-          "and two syncs of each sale at a desk")
+          "and two syncs of each sale at a desk, or the one that was asked for")
