@@ -140,7 +140,8 @@ def spoilt_sales():
         "base": (2015, "2014", None), "change": (1, -1, 0.0, 4294967296), "meter": (METER[:-1] + "4", int(METER), ""),
         "moment": (725846399, 4102444800, "1388534430"), "number": counts, "operator": ("a" * 17, "a b", ""),
         "price": (9, 11, 2**32), "ref": ("r" * 33, "A_1", ""), "shift": counts, "tender": (0, 100000001, 9, 11),
-        "tenths": (16385, 18201625), "tid": (-1, 2**24, 2**32), "token": ("0" * 19, "0" * 21, "0" * 19 + "x"),
+        "tenths": (16385, 18201625), "tid": (-1, 2**24, 2**32),
+        "token": ("0" * 19, "0" * 21, "0" * 19 + "x", f"{2**66:020}", "9" * 20, f"{2**27:020}"),
     }
     for name, others in values.items():
         for value in others:
@@ -195,7 +196,9 @@ def check_other_answers():
     pairs = [*other_answers()]
     for words, body in pairs:
         same(asked_of(reply(200, body), *words), NET, f"{words} got {body}")
-    return len(pairs)
+    for paper in (b"SHIFT 2 ann\n", b"SHIFT 10 ann\n", RECEIPT, b""):
+        same(asked_of(reply(200, paper, "text/plain"), "report", "--kind", "shift"), NET, f"a report got {paper}")
+    return len(pairs) + 4
 
 
 def spoilt_heads():
@@ -273,7 +276,7 @@ def check_endless():
         (head(2**63 - 1), b"x" * 65536, SELL, (1, 0, b"net\n")),
         (head(MOST_BODY + 1, "text/plain"), b"x" * 65536, report, (1, 0, b"net\n")),
         (head(MOST_BODY), b"x" * 65536, SELL, (1, 0, b"net\n")),
-        (head(MOST_BODY, "text/plain"), b"x" * 65536, report, (0, MOST_BODY, b"")))
+        (head(MOST_BODY, "text/plain") + b"SHIFT 1 ", b"x" * 65536, report, (0, MOST_BODY, b"")))
     for front, piece, words, wanted in rows:
         with Pretender(endless(front, piece)) as it:
             *found, memory = measured(it.address, words)

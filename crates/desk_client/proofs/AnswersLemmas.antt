@@ -1,13 +1,20 @@
 -- What tells the same answers the same questions.
-use Rattle.std.proofs.Common.{subst}
+use Rattle.std.proofs.Common.{◌≡◌, ℕ, List, subst}
+use Rattle.std.specs.Borrow.{Bor}
 use Rattle.desk_client.specs.Alike.{GrantAlike, TellAlike}
-use Rattle.desk_client.specs.Answers.{Answers, GrantsWhat, MayRefuse}
+use Rattle.desk_client.specs.Answers.{Answers, GrantsWhat, IsReportOf, MayRefuse}
 use Rattle.desk_client.specs.declared.question.Question.{Question}
+use Rattle.desk_client.specs.declared.question.Question.TheVariants as questions
 use Rattle.desk_client.specs.declared.told.Granted.{Granted}
 use Rattle.desk_client.specs.declared.told.Granted.TheVariants as granted
 use Rattle.desk_client.specs.declared.told.Told.{Told}
 use Rattle.desk_client.specs.declared.told.Told.TheVariants as told
 use Rattle.office_rules.specs.declared.decision.refusal.Refusal.{Refusal}
+
+-- of a paper nothing is looked at but its text
+alike_papers : (q : Question) (text other : Bor (List ℕ)) → text.now ≡ other.now → GrantsWhat (granted.Paper text) q → GrantsWhat (granted.Paper other) q
+alike_papers (questions.ShiftReport number) text other same is = subst (IsReportOf number) same is
+alike_papers q text other same is = tt
 
 alike_grants : (q : Question) (g h : Granted) → GrantAlike g h → GrantsWhat g q → GrantsWhat h q
 alike_grants q granted.Done granted.Done alike is = tt
@@ -18,7 +25,7 @@ alike_grants q (granted.Meter m) (granted.Meter n) alike is = subst (λ m. Grant
 alike_grants q (granted.Quote p) (granted.Quote r) alike is = subst (λ p. GrantsWhat (granted.Quote p) q) alike is
 alike_grants q (granted.Totals m t) (granted.Totals n u) alike is =
     subst (λ t. GrantsWhat (granted.Totals n t) q) alike.1 (subst (λ m. GrantsWhat (granted.Totals m t) q) alike.0 is)
-alike_grants q (granted.Paper text) (granted.Paper other) alike is = tt
+alike_grants q (granted.Paper text) (granted.Paper other) alike is = alike_papers q text other alike is
 alike_grants q (granted.Page text) (granted.Page other) alike is = tt
 alike_grants q g h alike is = absurd alike
 

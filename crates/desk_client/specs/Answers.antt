@@ -1,5 +1,7 @@
 -- Which replies answer a question: those that tell what it asks for, or why an office refuses it.
-use Rattle.std.specs.Prelude.{◌≡◌, ⊤, ℕ, ◌+◌, ◌≤◌, List}
+use Rattle.std.specs.Prelude.{◌≡◌, ⊤, ℕ, ◌+◌, ◌≤◌, List, ◌∷◌, ◌++◌, codes, decimal}
+use Rattle.papers.specs.Text.{space}
+use Rattle.sts_token.specs.Reading.{IsOfClassZero}
 use Rattle.office_rules.specs.Office.Rows.{greatest_rows}
 use Rattle.office_rules.specs.declared.decision.refusal.Refusal.{Refusal}
 use Rattle.office_rules.specs.declared.decision.refusal.Refusal.TheVariants as refusals
@@ -25,15 +27,25 @@ pub record IsSaleFor (order : Order) (s : Sale) : Type 0 where
   pub meter : s.meter ≡ order.meter
   pub tender : s.tender ≡ order.tender
 
--- what is granted is what the question names: of an order its sale, of a receipt the sale of this
--- number, of an operator's ref the sale under it, of a shift its totals, of a meter the meter, and
--- of a quote one for this meter and tender
-abbrev pub GrantsWhat : Granted → Question → Type 0
-GrantsWhat (grants.Sale s) (questions.Sell order) = IsSaleFor order s
-GrantsWhat (grants.Sale s) (questions.Receipt number) = s.number ≡ number
-GrantsWhat (grants.Sale s) (questions.SaleOfRef operator order_ref) =
+-- a sale is the one that the question names: that of an order, of a number, or of an operator's ref
+abbrev pub IsNamedSale : Sale → Question → Type 0
+IsNamedSale s (questions.Sell order) = IsSaleFor order s
+IsNamedSale s (questions.Receipt number) = s.number ≡ number
+IsNamedSale s (questions.SaleOfRef operator order_ref) =
     (s.operator ≡ operator) × (s.order_ref ≡ order_ref)
+IsNamedSale s question = ⊤
+
+-- the paper of a report begins with the number of its shift
+abbrev pub IsReportOf : ℕ → List ℕ → Type 0
+IsReportOf number text =
+    (rest : List ℕ) × (text ≡ codes "SHIFT " ++ (decimal number ++ space ∷ rest))
+
+-- What is granted is what the question names: the sale, whose digits can be a token's; the totals
+-- or the report of the shift; the meter; or a quote for the meter and the tender.
+abbrev pub GrantsWhat : Granted → Question → Type 0
+GrantsWhat (grants.Sale s) question = IsOfClassZero s.digits × IsNamedSale s question
 GrantsWhat (grants.Totals shift totals) (questions.ShiftTotals number) = shift ≡ number
+GrantsWhat (grants.Paper text) (questions.ShiftReport number) = IsReportOf number text.now
 GrantsWhat (grants.Meter m) (questions.Meter meter) = m.number ≡ meter
 GrantsWhat (grants.Quote q) (questions.Quote meter tender) =
     (q.meter ≡ meter) × (q.tender ≡ tender)

@@ -1,15 +1,18 @@
 //! Which replies answer a question.
 
-ghost use Rattle.std.specs.Prelude.{◌↔◌, IsTrue, MatchOption};
+ghost use Rattle.std.specs.Prelude.{◌≡◌, ◌≢◌, ◌↔◌, ◌++◌, ℕ, List, IsTrue, MatchOption};
 ghost use Rattle.desk_client.specs.Answers.{Answers, GrantsWhat, IsReplyTo, IsRowRefused};
-ghost use Rattle.desk_client.specs.Answers.{IsSaleFor, MayRefuse};
+ghost use Rattle.desk_client.specs.Answers.{IsNamedSale, IsReportOf, IsSaleFor, MayRefuse};
+ghost use Rattle.sts_token.specs.Reading.{IsOfClassZero};
 ghost use Rattle.desk_client.specs.declared.told.Told.{Told as WhatIsTold};
 
 use crate::law::told_law;
 use crate::question::Question;
 use crate::reply::{Reading, reply_in};
 use crate::told::{Granted, Told};
+use itoa::Buffer;
 use office_rules::{Order, Refusal, RowCause, Rows, Sale};
+use sts_token::{Plain, TokenFault, read};
 
 // The number of the last row that a file may have.
 const LAST_ROW: u32 = Rows::MAX as u32;
@@ -46,19 +49,30 @@ impl Question<'_> {
     fn is_granted(&self, granted: &Granted<'_>) -> bool
         ensures { IsTrue result ↔ GrantsWhat granted.now self.now }
     {
-        match (self, granted) {
-            (Question::Sell(order), Granted::Sale(sale)) => is_sale_for(order, sale),
-            (Question::Receipt(number), Granted::Sale(sale)) => sale.number == *number,
-            (Question::SaleOfRef(operator, order_ref), Granted::Sale(sale)) => {
-                sale.operator.as_bytes() == operator.as_bytes()
-                    && sale.order_ref.as_bytes() == order_ref.as_bytes()
-            }
-            (Question::ShiftTotals(number), Granted::Totals(shift, _)) => shift == number,
-            (Question::Meter(meter), Granted::Meter(summary)) => {
+        match (granted, self) {
+            (Granted::Sale(sale), _) => is_of_class_zero(&sale.digits) && self.names_sale(sale),
+            (Granted::Totals(shift, _), Question::ShiftTotals(number)) => shift == number,
+            (Granted::Paper(text), Question::ShiftReport(number)) => is_report_of(*number, text),
+            (Granted::Meter(summary), Question::Meter(meter)) => {
                 summary.number.as_bytes() == meter.as_bytes()
             }
-            (Question::Quote(meter, tender), Granted::Quote(quote)) => {
+            (Granted::Quote(quote), Question::Quote(meter, tender)) => {
                 quote.meter.as_bytes() == meter.as_bytes() && quote.tender.cents() == tender.cents()
+            }
+            _ => true,
+        }
+    }
+
+    // Whether a sale is the one that the question names.
+    fn names_sale(&self, sale: &Sale) -> bool
+        ensures { IsTrue result ↔ IsNamedSale sale.now self.now }
+    {
+        match self {
+            Question::Sell(order) => is_sale_for(order, sale),
+            Question::Receipt(number) => sale.number == *number,
+            Question::SaleOfRef(operator, order_ref) => {
+                sale.operator.as_bytes() == operator.as_bytes()
+                    && sale.order_ref.as_bytes() == order_ref.as_bytes()
             }
             _ => true,
         }
@@ -120,6 +134,50 @@ fn is_sale_for(order: &Order, sale: &Sale) -> bool
         && sale.order_ref.as_bytes() == order.order_ref.as_bytes()
         && sale.meter.as_bytes() == order.meter.as_bytes()
         && sale.tender.cents() == order.tender.cents()
+}
+
+// Whether some digits can be those of a token of credit: of 66 bits and class 0.
+fn is_of_class_zero(digits: &[u8]) -> bool
+    ensures { IsTrue result ↔ IsOfClassZero digits.now }
+{
+    match read(&Plain, 0, digits) {
+        Ok(_) => true,
+        Err(fault) => match fault {
+            TokenFault::NotTwentyDigits => false,
+            TokenFault::TooLarge => false,
+            TokenFault::WrongClass => false,
+            TokenFault::BadCheck => true,
+            TokenFault::WrongSubclass => true,
+        },
+    }
+}
+
+// Whether a paper begins as the report of a shift does.
+fn is_report_of(number: u32, text: &[u8]) -> bool
+    ensures { IsTrue result ↔ IsReportOf number text.now }
+{
+    let mut digits = Buffer::new();
+    let Some(behind_word) = behind(text, b"SHIFT ") else {
+        return false;
+    };
+    let Some(behind_number) = behind(behind_word, digits.format(number).as_bytes()) else {
+        return false;
+    };
+    match behind(behind_number, b" ") {
+        Some(_) => true,
+        None => false,
+    }
+}
+
+// What follows a front in a text that begins with it.
+fn behind<'t>(text: &'t [u8], front: &[u8]) -> Option<&'t [u8]>
+    ensures { MatchOption result ((rest : List ℕ) → text.now ≢ front.now ++ rest)
+        (λ rest. text.now ≡ front.now ++ rest.now) }
+{
+    match text.strip_prefix(front) {
+        Some(rest) => Some(rest),
+        None => None,
+    }
 }
 
 // Whether this row of a file may be refused for this cause.

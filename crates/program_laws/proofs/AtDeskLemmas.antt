@@ -3,6 +3,7 @@ pub mod AnswerLemmas
 pub mod MeaningLemmas
 pub mod OneLemmas
 pub mod FileLemmas
+pub mod HandedLemmas
 pub mod LineLemmas
 pub mod ListLemmas
 pub mod OrderLemmas
@@ -14,3 +15,4 @@ pub mod RoundLemmas
 pub mod RuleLemmas
 pub mod SaidLemmas
 pub mod TellableLemmas
+pub mod TokenLemmas

@@ -4,7 +4,7 @@
 -- The office is a life, since a desk's conversation is one: it goes on by the requests that
 -- messages ask and the replies that they get.
 use Rattle.std.specs.Prelude.{◌≡◌, ◌⊎◌, ⊤, ℕ, ℤ, pos, Bool, false, List, [], ◌∷◌, Option, Some}
-use Rattle.std.specs.Prelude.{Result, Ok, Err}
+use Rattle.std.specs.Prelude.{Contains, Result, Ok, Err}
 use Rattle.std.specs.List.{flat_map}
 use Rattle.book_states.specs.declared.lookup.Found.{Found}
 use Rattle.book_states.specs.declared.lookup.Found.TheVariants as found
@@ -29,10 +29,14 @@ use Rattle.sts_fields.specs.Moment.{IsMoment}
 use Rattle.sts_fields.specs.Text.{Text}
 use Rattle.vend_core.specs.Law.Life.{Life, present}
 use Rattle.office_rules.specs.declared.decision.answer.Answer.{Answer}
+use Rattle.office_rules.specs.declared.decision.answer.Answer.TheVariants as answers
 use Rattle.office_rules.specs.declared.decision.refusal.Refusal.{Refusal}
+use Rattle.office_rules.specs.declared.decision.request.Order.{Order}
 use Rattle.office_rules.specs.declared.decision.request.Request.{Request}
 use Rattle.office_rules.specs.declared.decision.request.Request.TheVariants as requests
+use Rattle.office_rules.specs.declared.decision.request.Stamped.{Stamped}
 use Rattle.office_rules.specs.declared.office.row.Row.{Row}
+use Rattle.office_rules.specs.declared.office.sale.Sale.{Sale}
 use Rattle.command_line.specs.declared.commands.list.Listed.{Listed}
 use Rattle.office_commands.specs.commands.Imported.{refusal_of_rows}
 use Rattle.desk_commands.specs.ListedAtDesk.{IsPageReply, page_question}
@@ -127,6 +131,11 @@ PrintsImport moment kind bytes old new o end =
     (records : List Fields) × (rows : Result (List Row) RowFault)
     × AreFileRecords bytes records × IsReading kind records rows
     × PrintsAdded moment rows old new o end
+
+-- the life answered this order with this sale
+abbrev pub IsSoldIn : Life → Order → Sale → Type 0
+IsSoldIn life order s = (at : Stamped) × (at.request ≡ requests.Sell order)
+    × Contains life.exchanges (record { request = at; reply = Ok (answers.Sold s) })
 
 -- ---- by the question
 

@@ -35,7 +35,7 @@ ghost use Rattle.office_commands.specs.office.Audits.{AuditsIn};
 ghost use Rattle.office_commands.specs.office.Closed.{IsClosed};
 ghost use Rattle.vend_commands.specs.serving.Connections.{AreHeld, Service, service};
 ghost use Rattle.program_laws.specs.Courses.{Course, KeepsLast, LiveOn};
-ghost use Rattle.vend_core.specs.Law.Life.{AreLives, Life, IsLife, acknowledges};
+ghost use Rattle.vend_core.specs.Law.Life.{AreLives, HandsOut, Life, IsLife, acknowledges};
 ghost use Rattle.office_rules.specs.Office.{IsOffice, Office};
 ghost use Rattle.office_rules.specs.declared.decision.answer.Answer.TheVariants.{Sold};
 ghost use Rattle.office_rules.specs.declared.decision.request.Order.{Order};
@@ -68,14 +68,20 @@ ghost use Rattle.conversation.specs.Exchanges.{Timed, timed};
 ghost use Rattle.conversation.specs.message.Messages.{Ending, ended};
 ghost use Rattle.desk.specs.Answering.{LifeReplies, answers_by, life_serves, message_refusal_of};
 ghost use Rattle.vend_core.specs.Law.LifeLaws.{IsReadingRequest};
+ghost use Rattle.vend_core.specs.Law.Reached.{IsPlausible};
 ghost use Rattle.desk_client.specs.Answers.{IsReplyTo};
 ghost use Rattle.desk_client.specs.Asks.{IsAskable, IsNoMoment};
 ghost use Rattle.desk_client.specs.Question.{question_text, wanted_by};
 ghost use Rattle.desk_client.specs.Reply.{IsReply, longest_reply_body};
 ghost use Rattle.desk_client.specs.declared.question.Question.{Question as WhatIsAsked};
+ghost use Rattle.desk_client.specs.declared.question.Question.TheVariants.{Sell as AsksSale};
+ghost use Rattle.desk_client.specs.Tells.{as_told};
+ghost use Rattle.desk_client.specs.declared.told.Granted.TheVariants.{Sale as TellsSale};
 ghost use Rattle.desk_client.specs.declared.told.Told.{Told};
+ghost use Rattle.desk_client.specs.declared.told.Told.TheVariants.{Granted as Grants};
 ghost use Rattle.program_laws.specs.AtDesk.{AreAnsweredOn, IsAnsweredAt, IsAskedByOne, IsGivenOn};
-ghost use Rattle.program_laws.specs.AtDesk.{IsOneLookup, IsPageOrRefusal, PrintsAsOnFile};
+ghost use Rattle.program_laws.specs.AtDesk.{IsOneLookup, IsPageOrRefusal, IsSoldIn};
+ghost use Rattle.program_laws.specs.AtDesk.{PrintsAsOnFile};
 ghost use Rattle.program_laws.specs.AtDesk.{PrintsList, came_in, sent_in};
 ghost use Rattle.std.specs.Borrow.{Bor};
 ghost use Rattle.clap.specs.Walk.{Row};
@@ -293,9 +299,11 @@ pub fn at_desk_law()
         → AreAnsweredOn day old rounds new → TellPages (Some list) rounds pages left
         → PrintsList day list pages left old.0 new.0 }
 
-    // The command takes each of these answers for what it is, up to the longest body.
+    // The command takes each of these answers for what it is, up to the longest body, of an office
+    // that requests may have led to.
     ensures read { (question : WhatIsAsked) (moment : ℕ) (old new : Timed Life) (came : Text)
-        → IsAskable question → IsMoment moment → IsOffice old.0.opening → IsLife new.0
+        → IsAskable question → IsMoment moment
+        → IsOffice old.0.opening → IsPlausible old.0.opening → IsLife new.0
         → IsAnsweredAt (pos moment) old (question_text question) came new
         → length came ≤ longest_reply_body
         → (told : Told) × IsReplyTo question came told }
@@ -304,6 +312,21 @@ pub fn at_desk_law()
         → IsOffice old.0.opening → IsLife old.0
         → IsAnsweredAt (pos moment) old (question_text (page_question list)) came new
         → length came ≤ longest_reply_body → IsPageOrRefusal list came }
+
+    // A sale that is told, but for the nibble that no reply tells, was handed out by the desk's
+    // life; that of an order was sold for it.
+    ensures handed { (question : WhatIsAsked) (moment : ℕ) (old new : Timed Life) (came : Text)
+        (s : Sale)
+        → IsAskable question → IsMoment moment → IsOffice old.0.opening → IsLife new.0
+        → IsAnsweredAt (pos moment) old (question_text question) came new
+        → IsReply (wanted_by question) came (Grants (TellsSale s))
+        → (t : Sale) × (as_told t ≡ s) × HandsOut new.0 t }
+    ensures sold { (order : Order) (moment : ℕ) (old new : Timed Life) (came : Text) (s : Sale)
+        → IsAskable (AsksSale order) → IsMoment moment
+        → IsOffice old.0.opening → IsLife new.0
+        → IsAnsweredAt (pos moment) old (question_text (AsksSale order)) came new
+        → IsReply (wanted_by (AsksSale order)) came (Grants (TellsSale s))
+        → (t : Sale) × (as_told t ≡ s) × IsSoldIn new.0 order t }
 
     // What the words of a command say is such a question: it can be asked, and but for a list it is
     // asked by one message.
@@ -361,6 +384,8 @@ pub fn at_desk_law()
     amount_law();
     purchase_law();
     office_law();
+    life_law();
+    reached_law();
     store_law();
     route_law();
     conversation_law();

@@ -1,6 +1,9 @@
 -- What a desk tells of its office answers the question that was asked.
 use Rattle.std.proofs.Common.{◌≡◌, ℕ, ◌+◌, ◌≤◌, ◌<◌, Bool, true, false, List, length, Option, None, Some, Result, Ok, Err, inl, inr, refl, sym, subst, arith}
-use Rattle.std.specs.Prelude.{IfErr, find, if◌then◌else◌, nat_lt, bytes_eq, ◌&&◌, option_map}
+use Rattle.std.proofs.Common.{append_assoc, ap, ◌∙◌, [], ◌∷◌, ◌++◌}
+use Rattle.std.specs.Prelude.{codes, decimal}
+use Rattle.std.proofs.lemmas.List.Elements.{All-head}
+use Rattle.std.specs.Prelude.{All, IfErr, find, if◌then◌else◌, nat_lt, bytes_eq, ◌&&◌, option_map}
 use Rattle.std.specs.Option.{ok_or}
 use Rattle.std.proofs.lemmas.Slice.Eq.{bytes_eq-Decides}
 use Rattle.sts_fields.specs.Tid.{fresh_after, minute_of}
@@ -10,6 +13,9 @@ use Rattle.sts_fields.specs.declared.fault.TidFault.TheVariants as tids
 use Rattle.tariff.specs.Purchase.{purchase_of}
 use Rattle.papers.specs.declared.file_kind.FileKind.{FileKind}
 use Rattle.office_rules.specs.Decision.{◌>>=◌, MeterAccount, account_of, next_number, or_refusal}
+use Rattle.papers.specs.Report.{report_of, shift_head}
+use Rattle.papers.specs.Text.{line}
+use Rattle.office_rules.specs.Law.Handed.{sales_of}
 use Rattle.office_rules.specs.Office.{Office, greatest_count}
 use Rattle.office_rules.specs.Office.Lookup.{sale_of_ref}
 use Rattle.office_rules.specs.declared.decision.answer.Answer.{Answer}
@@ -23,6 +29,8 @@ use Rattle.office_rules.specs.declared.decision.row_cause.RowCause.TheVariants a
 use Rattle.office_rules.specs.declared.office.meter.Meter.{Meter}
 use Rattle.office_rules.specs.declared.office.row.Row.{Row}
 use Rattle.office_rules.specs.declared.office.sale.Sale.{Sale}
+use Rattle.office_rules.specs.declared.office.shift.Shift.{Shift}
+use Rattle.vend_core.specs.Law.Reached.{IsPlausible}
 use Rattle.book_tables.specs.declared.row.totals.Totals.{Totals}
 use Rattle.book_facts.specs.Lookups.{Finds, FindsMeters, FindsSales, FindsShifts, FindsTariffs, last_found, meter_found, quote_for, sale_found, totals_found}
 use Rattle.book_states.specs.declared.lookup.Found.{Found}
@@ -30,7 +38,7 @@ use Rattle.book_states.specs.declared.lookup.Found.TheVariants as found
 use Rattle.book_states.specs.declared.lookup.Lookup.TheVariants as lookups
 use Rattle.desk_messages.specs.declared.reply.form.Form.{Form}
 use Rattle.desk_messages.specs.declared.reply.form.Form.TheVariants as forms
-use Rattle.desk_client.specs.Answers.{Answers, MayRefuse}
+use Rattle.desk_client.specs.Answers.{Answers, IsReportOf, MayRefuse}
 use Rattle.desk_client.specs.declared.question.Question.{Question}
 use Rattle.desk_client.specs.declared.question.Question.TheVariants as questions
 use Rattle.desk_client.specs.Tells.{as_told}
@@ -38,6 +46,7 @@ use Rattle.office_rules.proofs.OfficeLemmas.RowLemmas.{parts_true}
 use Rattle.office_rules.proofs.OfficeLemmas.RowLemmas as rows_of
 use Rattle.program_laws.proofs.AtDeskLemmas.RuleLemmas.{MayReplyTo, RefusesRows}
 use Rattle.program_laws.proofs.AtDeskLemmas.TellableLemmas.{told_look, told_reply}
+use Rattle.program_laws.proofs.AtDeskLemmas.TokenLemmas.{HasToken, token_there}
 use Rattle.std.specs.Borrow.{Bor}
 
 -- ---- replies
@@ -66,20 +75,40 @@ answers_close operator (Ok answer) h = absurd h
 answers_close operator (Err refusal) h = h
 
 -- of an order
-pub answers_sell : (order : Order) (r : Result Answer Refusal) → MayReplyTo (requests.Sell order) r → IsAnswered (questions.Sell order) r
-answers_sell order (Ok (answers.Sold s)) h = record { operator = h.operator; order_ref = h.order_ref; meter = h.meter; tender = h.tender }
-answers_sell order (Ok answer) h = absurd h
-answers_sell order (Err refusal) h = h
+pub answers_sell : (order : Order) (r : Result Answer Refusal) → All HasToken (sales_of r) → MayReplyTo (requests.Sell order) r
+    → IsAnswered (questions.Sell order) r
+answers_sell order (Ok (answers.Sold s)) tokens h =
+    (All-head HasToken s [] tokens, record { operator = h.operator; order_ref = h.order_ref; meter = h.meter; tender = h.tender })
+answers_sell order (Ok answer) tokens h = absurd h
+answers_sell order (Err refusal) tokens h = h
 
 -- of a receipt
-pub answers_reprint : (number : ℕ) (r : Result Answer Refusal) → MayReplyTo (requests.Reprint number) r → IsAnswered (questions.Receipt number) r
-answers_reprint number (Ok (answers.Reprinted s)) h = h
-answers_reprint number (Ok answer) h = absurd h
-answers_reprint number (Err refusal) h = h
+pub answers_reprint : (number : ℕ) (r : Result Answer Refusal) → All HasToken (sales_of r) → MayReplyTo (requests.Reprint number) r
+    → IsAnswered (questions.Receipt number) r
+answers_reprint number (Ok (answers.Reprinted s)) tokens h = (All-head HasToken s [] tokens, h)
+answers_reprint number (Ok answer) tokens h = absurd h
+answers_reprint number (Err refusal) tokens h = h
+
+goes_on : (number : ℕ) (text more : List ℕ) → IsReportOf number text → IsReportOf number (text ++ more)
+goes_on number text more is = (
+  is.0 ++ more,
+  ap (λ (l : List ℕ). l ++ more) is.1 ∙ ap (λ (l : List ℕ). codes "SHIFT " ++ l) (append_assoc (decimal number) (32 ∷ is.0) more),
+)
+
+first_line : (number : ℕ) (name : List ℕ) → IsReportOf number (line (codes "SHIFT") (decimal number ++ 32 ∷ name))
+unfolding line
+first_line number name = (name ++ 10 ∷ [], ap (λ (l : List ℕ). codes "SHIFT " ++ l) (append_assoc (decimal number) (32 ∷ name) (10 ∷ [])))
+
+-- a report begins with the number of its shift
+begins_so : (shift : Shift) (sales : List Sale) → IsReportOf shift.number (report_of shift sales)
+unfolding report_of shift_head
+begins_so shift sales =
+    let n = shift.number in
+    goes_on n _ _ (goes_on n _ _ (goes_on n _ _ (goes_on n _ _ (first_line n shift.operator))))
 
 -- of a report
 pub answers_report : (number : ℕ) (r : Result Answer Refusal) → MayReplyTo (requests.ShiftReport number) r → IsAnswered (questions.ShiftReport number) r
-answers_report number (Ok (answers.Report shift sales)) h = tt
+answers_report number (Ok (answers.Report shift sales)) h = subst (λ n. IsReportOf n (report_of shift sales)) h (begins_so shift sales)
 answers_report number (Ok answer) h = absurd h
 answers_report number (Err refusal) h = h
 
@@ -142,12 +171,13 @@ shows_last number (Some m) None = tt
 shows_last number (Some m) (Some s) = tt
 
 -- the sale of a ref
-pub shows_sale : (o : Office) (operator order_ref : List ℕ) (sale : Option Sale) → sale_of_ref o operator order_ref ≡ sale
+pub shows_sale : (o : Office) → IsPlausible o → (operator order_ref : List ℕ) (sale : Option Sale) → sale_of_ref o operator order_ref ≡ sale
     → IsShown (questions.SaleOfRef operator order_ref) forms.Json (sale_found sale)
-shows_sale o operator order_ref None is = tt
-shows_sale o operator order_ref (Some s) is =
-    let p = parts_true _ _ (rows_of.found _ o.sales s is).1 in
-    ((bytes_eq-Decides _ _).0 p.0, (bytes_eq-Decides _ _).0 p.1)
+shows_sale o plausible operator order_ref None is = tt
+shows_sale o plausible operator order_ref (Some s) is =
+    let there = rows_of.found _ o.sales s is in
+    let p = parts_true _ _ there.1 in
+    (token_there o s plausible there.0, ((bytes_eq-Decides _ _).0 p.0, (bytes_eq-Decides _ _).0 p.1))
 
 -- a quote
 module _ (number : List ℕ) (tender : ℕ) where

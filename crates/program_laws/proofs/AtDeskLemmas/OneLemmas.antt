@@ -18,6 +18,7 @@ use Rattle.office_rules.specs.Decision.Requests.{IsStamped}
 use Rattle.office_rules.specs.Law.Handed.{sales_of}
 use Rattle.vend_core.specs.Law.Life.{Exchange, IsLife, Life, acknowledges, present}
 use Rattle.vend_core.specs.Law.LifeLaws.{extended_by}
+use Rattle.vend_core.specs.Law.Reached.{IsPlausible}
 use Rattle.office_rules.specs.Office.{IsOffice, Office}
 use Rattle.office_rules.specs.declared.decision.answer.Answer.{Answer}
 use Rattle.office_rules.specs.Decision.Refusals.{refusal_category}
@@ -89,6 +90,8 @@ pub record DeskLaws : Type 0 where
   -- of an office
   pub along : (forward : BlockFunction) (o : Office) (ats : List Stamped) → IsOffice o → All IsStamped ats → KeepsRange forward → IsOffice (after forward o ats)
   pub one_step : (forward : BlockFunction) (o : Office) (at : Stamped) → IsOffice o → IsStamped at → KeepsRange forward → IsOffice (step forward o at)
+  pub plausible : (forward : BlockFunction) (o : Office) (at : Stamped) → IsOffice o → IsStamped at → KeepsRange forward → IsPlausible o
+      → IsPlausible (step forward o at)
   pub stand : (forward : BlockFunction) (o : Office) (at : Stamped) → All (Contains (step forward o at).sales) (sales_of (reply forward o at))
   pub ranges : RangeLaws
   -- of a desk

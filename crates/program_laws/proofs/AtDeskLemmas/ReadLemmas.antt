@@ -45,6 +45,10 @@ use Rattle.program_laws.specs.AtDesk.{IsAnsweredAt}
 use Rattle.program_laws.proofs.AtDeskLemmas.OneLemmas.{Came, DeskLaws, came_of, few_fields, few_rows, import_for, may_be, reply_length, row_tellable}
 use Rattle.program_laws.proofs.AtDeskLemmas.MeaningLemmas.{ComesOfRows, IsRead, came_rows, looked, replied}
 use Rattle.program_laws.proofs.AtDeskLemmas.AnswerLemmas.{IsAnswered, IsShown, answers_base, answers_close, answers_import, answers_open, answers_report, answers_reprint, answers_sell, shows_last, shows_meter, shows_meters, shows_none, shows_quote, shows_sale, shows_sales, shows_shifts, shows_tariffs, shows_totals}
+use Rattle.vend_core.specs.Law.Reached.{IsPlausible}
+use Rattle.office_rules.specs.Law.Handed.{sales_of}
+use Rattle.std.specs.Prelude.{All}
+use Rattle.program_laws.proofs.AtDeskLemmas.TokenLemmas.{HasToken, plausible_present, reply_tokens}
 use Rattle.program_laws.proofs.AtDeskLemmas.RuleLemmas.{IsOfDesk, MayReplyTo, present_is}
 use Rattle.program_laws.proofs.AtDeskLemmas.TellableLemmas.{MayAsk, MayLook, look_tells, no_count, reply_tells, tellable_look, tellable_reply, told_look, told_reply, wanted_for, wanted_look}
 
@@ -69,9 +73,9 @@ shown_at q form lookup life moment shows r (inr (inr (inl is))) = shows_none q f
 shown_at q form lookup life moment shows r (inr (inr (inr is))) = shows_none q form refusals.Stopped tt r is
 
 module _ (laws : DeskLaws) (moment : ℕ) (is_moment : IsMoment moment) (old new : Timed Life) (came : List ℕ) (opening : IsOffice old.0.opening)
-    (life : IsLife new.0) where
+    (plausible : IsPlausible old.0.opening) (life : IsLife new.0) where
   request_reads : (q : Question) (request : Request) → MessageAsks (question_message q) (Some (pos moment)) forms.Json moment request → MayAsk request
-      → IsOfDesk request → wanted_by q ≡ wanted_for request → ((r : Result Answer Refusal) → MayReplyTo request r → IsAnswered q r)
+      → IsOfDesk request → wanted_by q ≡ wanted_for request → ((r : Result Answer Refusal) → All HasToken (sales_of r) → MayReplyTo request r → IsAnswered q r)
       → (c : Came laws q (pos moment) old new came) → ReadsTo q c.outcome
   request_reads q request asks ask of_desk wanted answers c =
       let m = question_message q in
@@ -85,12 +89,12 @@ module _ (laws : DeskLaws) (moment : ℕ) (is_moment : IsMoment moment) (old new
           tellable = subst (λ (w : Wanted). IsTellable w u) (sym wanted) (tellable_reply request r.0 ask may.1 may.0);
           tells = subst (λ (x : Outcome). Tells x u) (sym r.1) (reply_tells forms.Json r.0);
         };
-        answers = answers r.0 (may.0 of_desk);
+        answers = answers r.0 (reply_tokens laws.one_step laws.plausible laws.along laws.stand old.0 new.0 moment request r.0 life opening plausible r.2) (may.0 of_desk);
       }
 
   look_reads : (q : Question) (lookup : Lookup) → MessageLooks (question_message q) (Some (pos moment)) (lookup_form lookup) moment lookup → MayLook lookup
       → wanted_by q ≡ wanted_look lookup → wanted_look lookup ≢ wants.Done
-      → ((r : Result Found Refusal) → Finds (present old.0) moment lookup r → IsShown q (lookup_form lookup) r)
+      → (IsPlausible (present old.0) → (r : Result Found Refusal) → Finds (present old.0) moment lookup r → IsShown q (lookup_form lookup) r)
       → (c : Came laws q (pos moment) old new came) → ReadsTo q c.outcome
   look_reads q lookup looks may wanted some shows c =
       let m = question_message q in
@@ -107,7 +111,9 @@ module _ (laws : DeskLaws) (moment : ℕ) (is_moment : IsMoment moment) (old new
               subst (λ (x : Outcome). Tells x u) (sym r.1)
               (look_tells (lookup_form lookup) r.0 (no_count (lookup_form lookup) (wanted_look lookup) r.0 some keeps));
         };
-        answers = shown_at q (lookup_form lookup) lookup old.0 moment shows r.0 r.2;
+        answers =
+            shown_at q (lookup_form lookup) lookup old.0 moment
+            (shows (plausible_present laws.one_step laws.plausible old.0 (subst IsLife r.3 life) opening plausible)) r.0 r.2;
       }
 
   json_reads : (kind : FileKind) (csv : Bor (List ℕ)) (r : Result Answer Refusal) (outcome : Outcome) → outcome ≡ outcomes.Replied forms.Json r
@@ -163,49 +169,49 @@ module _ (laws : DeskLaws) (moment : ℕ) (is_moment : IsMoment moment) (old new
   question_reads (questions.Import kind csv) askable c = import_reads kind csv c
   question_reads (questions.MoveBase meter base) askable c =
       request_reads (questions.MoveBase meter base) (requests.MoveBase meter base)
-      (laws.means (questions.MoveBase meter base) moment askable is_moment) tt tt refl (answers_base meter base) c
+      (laws.means (questions.MoveBase meter base) moment askable is_moment) tt tt refl (λ r tokens. answers_base meter base r) c
   question_reads (questions.OpenShift operator) askable c =
-      request_reads (questions.OpenShift operator) (requests.OpenShift operator) (laws.means (questions.OpenShift operator) moment askable is_moment) tt tt refl (answers_open operator) c
+      request_reads (questions.OpenShift operator) (requests.OpenShift operator) (laws.means (questions.OpenShift operator) moment askable is_moment) tt tt refl (λ r tokens. answers_open operator r) c
   question_reads (questions.CloseShift operator) askable c =
       request_reads (questions.CloseShift operator) (requests.CloseShift operator)
-      (laws.means (questions.CloseShift operator) moment askable is_moment) tt tt refl (answers_close operator) c
+      (laws.means (questions.CloseShift operator) moment askable is_moment) tt tt refl (λ r tokens. answers_close operator r) c
   question_reads (questions.Sell order) askable c =
       request_reads (questions.Sell order) (requests.Sell order) (laws.means (questions.Sell order) moment askable is_moment) tt tt refl (answers_sell order) c
   question_reads (questions.ShiftReport number) askable c =
-      request_reads (questions.ShiftReport number) (requests.ShiftReport number) (laws.means (questions.ShiftReport number) moment askable is_moment) tt tt refl (answers_report number) c
+      request_reads (questions.ShiftReport number) (requests.ShiftReport number) (laws.means (questions.ShiftReport number) moment askable is_moment) tt tt refl (λ r tokens. answers_report number r) c
   question_reads (questions.Receipt number) askable c =
       request_reads (questions.Receipt number) (requests.Reprint number) (laws.means (questions.Receipt number) moment askable is_moment) tt tt refl (answers_reprint number) c
   question_reads (questions.ShiftTotals number) askable c =
       look_reads (questions.ShiftTotals number) (lookups.ShiftTotals number) (laws.means (questions.ShiftTotals number) moment askable is_moment)
       askable refl (λ e. absurd cc)
-      (λ r finds. subst (IsShown (questions.ShiftTotals number) forms.Json) (sym finds) (shows_totals number _)) c
+      (λ there r finds. subst (IsShown (questions.ShiftTotals number) forms.Json) (sym finds) (shows_totals number _)) c
   question_reads (questions.Meter number) askable c =
       look_reads (questions.Meter number) (lookups.Meter number) (laws.means (questions.Meter number) moment askable is_moment) tt refl (λ e. absurd cc)
-      (λ r finds. subst (IsShown (questions.Meter number) forms.Json) (sym finds) (shows_meter number _ _ _)) c
+      (λ there r finds. subst (IsShown (questions.Meter number) forms.Json) (sym finds) (shows_meter number _ _ _)) c
   question_reads (questions.LastSale number) askable c =
       look_reads (questions.LastSale number) (lookups.LastSale number) (laws.means (questions.LastSale number) moment askable is_moment) tt refl
       (λ e. absurd cc)
-      (λ r finds. subst (IsShown (questions.LastSale number) forms.Paper) (sym finds) (shows_last number _ _)) c
+      (λ there r finds. subst (IsShown (questions.LastSale number) forms.Paper) (sym finds) (shows_last number _ _)) c
   question_reads (questions.SaleOfRef operator order_ref) askable c =
       look_reads (questions.SaleOfRef operator order_ref) (lookups.SaleOfRef operator order_ref)
       (laws.means (questions.SaleOfRef operator order_ref) moment askable is_moment) tt refl (λ e. absurd cc)
-      (λ r finds. subst (IsShown (questions.SaleOfRef operator order_ref) forms.Json) (sym finds) (shows_sale (present old.0) operator order_ref _ refl)) c
+      (λ there r finds. subst (IsShown (questions.SaleOfRef operator order_ref) forms.Json) (sym finds) (shows_sale (present old.0) there operator order_ref _ refl)) c
   question_reads (questions.Quote number tender) askable c =
       look_reads (questions.Quote number tender) (lookups.Quote number tender)
       (laws.means (questions.Quote number tender) moment askable is_moment) askable refl (λ e. absurd cc)
-      (λ r finds. subst (IsShown (questions.Quote number tender) forms.Json) (sym finds) (shows_quote number tender moment _ _)) c
+      (λ there r finds. subst (IsShown (questions.Quote number tender) forms.Json) (sym finds) (shows_quote number tender moment _ _)) c
   question_reads (questions.Tariffs after) askable c =
       look_reads (questions.Tariffs after) (lookups.Tariffs after) (laws.means (questions.Tariffs after) moment askable is_moment) tt refl (λ e. absurd cc)
-      (shows_tariffs (present old.0) (day_at moment) after) c
+      (λ there. shows_tariffs (present old.0) (day_at moment) after) c
   question_reads (questions.Meters after) askable c =
       look_reads (questions.Meters after) (lookups.Meters after) (laws.means (questions.Meters after) moment askable is_moment) tt refl (λ e. absurd cc)
-      (shows_meters (present old.0) after) c
+      (λ there. shows_meters (present old.0) after) c
   question_reads (questions.Shifts after) askable c =
       look_reads (questions.Shifts after) (lookups.Shifts after) (laws.means (questions.Shifts after) moment askable is_moment) tt refl (λ e. absurd cc)
-      (shows_shifts (present old.0) after) c
+      (λ there. shows_shifts (present old.0) after) c
   question_reads (questions.Sales after) askable c =
       look_reads (questions.Sales after) (lookups.Sales after) (laws.means (questions.Sales after) moment askable is_moment) tt refl (λ e. absurd cc)
-      (shows_sales (present old.0) after) c
+      (λ there. shows_sales (present old.0) after) c
 
 -- a reply that is not too long tells it
 pub whole_reply : (laws : DeskLaws) (w : Wanted) (outcome : Outcome) (came : List ℕ) → came ≡ reply_bytes_of outcome false → length came ≤ longest_reply_body
@@ -216,9 +222,9 @@ whole_reply laws w outcome came is few reads =
 
 -- what a desk answers to a question is read whole
 pub question_read : (laws : DeskLaws) (q : Question) (moment : ℕ) (old new : Timed Life) (came : List ℕ) → IsAskable q → IsMoment moment
-    → IsOffice old.0.opening → IsLife new.0
+    → IsOffice old.0.opening → IsPlausible old.0.opening → IsLife new.0
     → IsAnsweredAt (pos moment) old (question_text q) came new → length came ≤ longest_reply_body → (t : Told) × IsReplyTo q came t
-question_read laws q moment old new came askable is_moment opening life at few =
+question_read laws q moment old new came askable is_moment opening plausible life at few =
     let c = came_of laws q (pos moment) old new came askable at in
-    let reads = question_reads laws moment is_moment old new came opening life q askable c in
+    let reads = question_reads laws moment is_moment old new came opening plausible life q askable c in
     (reads.reads.told, record { reply = whole_reply laws (wanted_by q) c.outcome came c.text few reads.reads; answers = reads.answers })

@@ -107,7 +107,8 @@ present_is along life is opening =
     along life.forward life.opening (acknowledged life) opening
     (All-map IsStamped (λ (e : Exchange). e.request) _ (All-filter _ (λ (e : Exchange). IsStamped e.request) life.exchanges is.stamped)) is.range
 
-front_keeps : {A : Type 0} (P : A → Type 0) (xs ys : List A) → All P (xs ++ ys) → All P xs
+-- what holds of a list holds of its front
+pub front_keeps : {A : Type 0} (P : A → Type 0) (xs ys : List A) → All P (xs ++ ys) → All P xs
 front_keeps P xs ys h = All-weaker (Contains xs) P (λ x there. All-contains P (xs ++ ys) x h (Contains-append_left xs ys x there)) xs (All-contains_itself xs)
 
 -- before the last request of a life its office was one, too
@@ -157,7 +158,7 @@ MayAnswer (requests.OpenShift operator) (answers.Opened number) = IsTargetNumber
 MayAnswer (requests.CloseShift operator) (answers.Closed number) = IsTargetNumber number
 MayAnswer (requests.Sell order) (answers.Sold sale) = IsSaleFor order sale
 MayAnswer (requests.Reprint number) (answers.Reprinted sale) = sale.number ≡ number
-MayAnswer (requests.ShiftReport number) (answers.Report shift sales) = ⊤
+MayAnswer (requests.ShiftReport number) (answers.Report shift sales) = shift.number ≡ number
 MayAnswer request answer = ⊥
 
 -- what an office with its rules may refuse such a request for
@@ -395,7 +396,8 @@ may_decide forward o office moment nibble (requests.Reprint number) of_desk =
     there_plain (requests.Reprint number) (sale_numbered o number) refusals.NoSale _ tt (λ s is.
     (Decides-eqb s.number number).0 (found _ o.sales s is).1)
 may_decide forward o office moment nibble (requests.ShiftReport number) of_desk =
-    there_plain (requests.ShiftReport number) (shift_numbered o number) refusals.NoSuchShift _ tt (λ s is. tt)
+    there_plain (requests.ShiftReport number) (shift_numbered o number) refusals.NoSuchShift _ tt (λ s is.
+    (Decides-eqb s.number number).0 (found _ o.shifts s is).1)
 
 -- a reply of a life, whatever it is, is one that an office may give
 pub may_reply : (o : Office) (forward : BlockFunction) (at : Stamped) (r : Reply) → IsOffice o → (acknowledges r ≡ true → r ≡ reply forward o at)
