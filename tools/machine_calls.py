@@ -1,6 +1,6 @@
 """What the program asks of the system: which files it opens and how often, that it removes and renames none,
-when it has to do with sockets and at which addresses, when it pauses, and which salt it gives the log of a
-file: a part of tools/check_program. It is no script of its own. tools/watch_calls.c
+when it has to do with sockets and at which addresses, when it pauses, how often it syncs, and which salt it
+gives the log of a file: a part of tools/check_program. It is no script of its own. tools/watch_calls.c
 watches; cc builds it."""
 import fcntl
 import http.client
@@ -31,6 +31,7 @@ TOKEN = "00072057602627981690"
 # More than the pieces after which the desk pauses for a client that sends little at a time.
 MANY = 600
 APART = 0.0005  # seconds between two bytes
+SYNCED = 6  # sales of which the syncs are counted
 # How often a command that waits for its file pauses, in a second that it may wait.
 PAUSES = 100
 # The bytes of a database file that SQLite locks: where they begin, and how many.
@@ -61,8 +62,13 @@ class Watcher:
         lines = self.told.read_text().splitlines()
         opened = Counter(os.path.realpath(self.folder / line.removeprefix("open ")) for line in lines
                          if line.startswith("open "))
-        others = [line for line in lines if not line.startswith("open ")]
+        others = [line for line in lines if line != "sync" and not line.startswith("open ")]
         return opened, others.count("draw"), [line for line in others if line != "draw"]
+
+
+    def syncs(self):
+        """How often it has synced a file by now."""
+        return self.told.read_text().splitlines().count("sync")
 
 
 def files_of(file):
@@ -342,8 +348,29 @@ def check_opened_again(folder, watcher):
     expect_salt(file, FIRST_SALT + 1, "a file that was opened again")
 
 
+def check_syncs(folder, watcher):
+    """Each sale at a desk is synced twice before its reply, or once where this is asked for, after the first
+    one, which begins a log; a reprint is not."""
+    for way, each in (("", 2), ("twice", 2), ("full", 1)):
+        file = folder / f"syncs{way}.db"
+        prepare(file)
+        with Served(watcher, file, 1, more=["--sync", way] if way else []) as served:
+            client = served.client()
+            asked(client, "POST", "/sales", order("S-0"))
+            for number in range(1, SYNCED):
+                before = watcher.syncs()
+                sold = asked(client, "POST", "/sales", order(f"S-{number}"))[0]
+                between = watcher.syncs()
+                printed = asked(client, "GET", f"/sales/{number}")[0]
+                found = sold, between - before, printed, watcher.syncs() - between
+                if found != (200, each, 200, 0):
+                    raise SystemExit(f"wrong: a sale and a reprint at a desk, each with its syncs: {found}")
+            client.close()
+            served.finish()
+
+
 def check_machine_calls(folder):
-    """Files, sockets, pauses and salts."""
+    """Files, sockets, pauses, salts and syncs."""
     folder = folder / "machine"
     folder.mkdir()
     watcher = Watcher(folder)
@@ -352,5 +379,7 @@ def check_machine_calls(folder):
     check_pauses(folder, watcher)
     check_waits(folder, watcher)
     check_opened_again(folder, watcher)
+    check_syncs(folder, watcher)
     print("calls of the system: no file, socket, address or salt but those of the words, each file opened "
-          "once and none removed or renamed, and a pause for single bytes, and for a file that is in use, alone")
+          "once and none removed or renamed, a pause for single bytes, and for a file that is in use, alone, "
+          "and two syncs of each sale at a desk, or the one that was asked for")

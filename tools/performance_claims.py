@@ -50,12 +50,15 @@ def claims():
     longer = cells(audit, "times as long")
     most = all_tables[older][-1]
     instructions = [number(row["Instructions"]) for row in all_tables["Instructions of a sale at the desk"]]
-    syncs = [number(row["Syncs"]) for row in all_tables["Syncs"]]
+    syncs = [number(row["vend"]) for row in all_tables["Syncs"]]
+    slow = {row["Longer by"]: row for row in all_tables["Sales a second at the desk, where a sync takes longer"]}
     page = "docs/PERFORMANCE.md"
     yield page, r"one message at a time \| (\S+) to (\S+) \| (\S+) to (\S+) \|", \
         [min(sold), max(sold), min(beside_c), max(beside_c)]
     yield page, r"Of a sale's (\d+),000 instructions at the desk (\d+),000 are", \
         [count / 1000 for count in instructions]
+    yield page, r"at 3 ms a sync (\d+) sales a second, at 10 ms (\d+), where one in C makes (\d+) and (\d+)", \
+        [number(slow[takes][side]) for side in ("vend", "C") for takes in ("3 ms", "10 ms")]
     yield page, r"A command syncs (\d+) to (\d+) times", [min(syncs[2:]), max(syncs[2:])]
     yield page, r"reprints at the desk \| (\S+) to (\S+) \|", [min(reprinted), max(reprinted)]
     looked_up = cells(lookups, "vend to Python")

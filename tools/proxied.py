@@ -9,7 +9,7 @@ import ssl
 import subprocess
 import sys
 
-from program import METER, TOP, VEND
+from program import METER, TOP
 from servers import CASHIER, MANAGER, WAIT, until
 from shared import same, wrong
 
@@ -45,7 +45,7 @@ def check_unit(folder):
     unit = folder / "vend.service"
     text = (TOP / "deploy" / "vend.service").read_text()
     nft = shutil.which("nft") or shutil.which("true")
-    for old, new in (("/usr(?:/local)?/bin/vend ", VEND), ("/usr/sbin/nft ", nft)):
+    for old, new in (("/usr/lib/vend/vend-desk ", TOP / "deploy" / "vend-desk"), ("/usr/sbin/nft ", nft)):
         text, many = re.subn(old, f"{new} ", text)
         if not many:
             wrong(f"deploy/vend.service has no {old}")

@@ -173,7 +173,8 @@ class Proxy:
         """The file as it is installed, but for its ports and folders, within what Debian's nginx.conf says."""
         text = (TOP / "deploy" / "nginx.conf").read_text()
         for old, new in (("listen 443 ", f"listen 127.0.0.1:{self.port} "), ("/etc/vend/", f"{self.folder}/"),
-                         (r"127\.0\.0\.1:8080/", f"127.0.0.1:{desk_port}/"), (r"root \S+;", f"root {TOP}/page;")):
+                         (r"127\.0\.0\.1:8080/", f"127.0.0.1:{desk_port}/"), (r"root \S+;", f"root {TOP}/page;"),
+                         ("listen 80;", f"listen 127.0.0.1:{free_port()};")):
             text, many = re.subn(rf"(?m)^(?! *#)(.*?){old}", rf"\g<1>{new}", text)
             if not many:
                 wrong(f"deploy/nginx.conf has no {old}")

@@ -2,8 +2,8 @@
    (LD_PRELOAD). It is for tools/machine_calls.py, which builds it.
 
    The file CALLS_TOLD gets a line for each call in turn: `open` with the path, `remove` and `rename`
-   with the path that is removed or gets another name, `draw` where random bytes are drawn, `sleep` for
-   a pause, and the name of each call that has to do with a socket, `bind` and `connect` with the
+   with the path that is removed or gets another name, `draw` where random bytes are drawn, `sync` where
+   a file is synced, `sleep` for a pause, and the name of each call that has to do with a socket, `bind` and `connect` with the
    address. The bytes that are drawn are those that CALLS_DRAWN has as hexadecimal digits, with the
    first one raised by 1 at each draw after the first. */
 #define _GNU_SOURCE
@@ -128,6 +128,18 @@ int renameat2(int folder, const char *path, int other_folder, const char *other,
     int (*call)(int, const char *, int, const char *, unsigned) = own("renameat2");
     tell("rename", path);
     return call(folder, path, other_folder, other, flags);
+}
+
+int fsync(int file) {
+    int (*call)(int) = own("fsync");
+    tell("sync", NULL);
+    return call(file);
+}
+
+int fdatasync(int file) {
+    int (*call)(int) = own("fdatasync");
+    tell("sync", NULL);
+    return call(file);
 }
 
 int getentropy(void *buffer, size_t length) {

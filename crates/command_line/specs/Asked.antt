@@ -12,6 +12,8 @@ use Rattle.command_line.specs.declared.asked.Asked.TheVariants.{Trial, Import, R
 use Rattle.command_line.specs.declared.asked.Asked.TheVariants.{Show, Meter, Quote, Offer, Serve}
 use Rattle.command_line.specs.declared.asked.Asked.TheVariants.{Selfcheck, Audit}
 use Rattle.command_line.specs.declared.asked.Asked.TheVariants as variants
+use Rattle.command_line.specs.declared.syncs.Syncs.{Syncs}
+use Rattle.command_line.specs.declared.syncs.Syncs.TheVariants.{Twice}
 
 -- the command of this name asks for this, as its rows say
 abbrev pub ArgumentsSay : (name : Text) → List Row → Asked → Type 0
@@ -38,3 +40,8 @@ CommandAsks (Some (name, rows)) asked = ArgumentsSay name rows asked
 pub record AskFor (words : List Text) (asked : Asked) : Type 0 where
   pub no_fault : faults_in words ≡ []
   pub asks : CommandAsks (command_in words) asked
+
+-- how often a change is synced: twice, where `serve` is not asked for less
+abbrev pub syncs_of : Asked → Syncs
+syncs_of (Serve words) = words.syncs
+syncs_of asked = Twice

@@ -10,7 +10,8 @@ use Rattle.command_line.specs.Said.{parsed_argument}
 use Rattle.command_line.specs.Values.{SayEach, SaysAfter, SaysAmount, SaysBase, SaysConnections}
 use Rattle.command_line.specs.Values.{SaysFlag, SaysItem, SaysKey, SaysMeterNo, SaysMoment}
 use Rattle.command_line.specs.Values.{SaysOperator, SaysPrior, SaysRef, SaysSteps, SaysTariff}
-use Rattle.command_line.specs.Values.{SaysTender, SaysText, SaysTransform, SaysWait}
+use Rattle.command_line.specs.Values.{SaysSyncs, SaysTender, SaysText, SaysTransform}
+use Rattle.command_line.specs.Values.{SaysWait}
 use Rattle.command_line.specs.declared.commands.at_desk.DeskQuestion.{DeskQuestion}
 use Rattle.command_line.specs.declared.commands.at_desk.DeskQuestion.TheVariants as desk
 use Rattle.command_line.specs.declared.commands.at_desk.DeskWords.{DeskWords}
@@ -191,6 +192,7 @@ pub record SaysServe (rows : List Row) (words : ServeWords) : Type 0 where
       (parsed_argument (codes "transform") rows) words.transform
   pub file : IsArgument SaysText (parsed_argument (codes "file") rows) words.file
   pub wait : IsArgument SaysWait (parsed_argument (codes "wait") rows) words.wait
+  pub syncs : IsArgument SaysSyncs (parsed_argument (codes "sync") rows) words.syncs
   pub listen : IsArgument SaysAddress (parsed_argument (codes "listen") rows) words.listen
   pub connections : IsArgument SaysConnections
       (parsed_argument (codes "connections") rows) words.connections

@@ -55,6 +55,10 @@ at_option = option_named (codes "at")
 abbrev pub wait_option : Rule
 wait_option = with_default (codes "wait") (codes "5")
 
+-- where it is left out a change is synced twice
+abbrev pub sync_option : Rule
+sync_option = with_default (codes "sync") (codes "twice")
+
 abbrev pub json_option : Rule
 json_option = flag_named (codes "json")
 
@@ -111,7 +115,7 @@ quote_command = command_named (codes "quote") (transform_option ∷ word_named (
 
 unfoldable pub serve_command : Shape
 serve_command = command_named (codes "serve") (transform_option ∷ needed (codes "file")
-    ∷ wait_option ∷ needed (codes "listen") ∷ needed (codes "connections") ∷ [])
+    ∷ wait_option ∷ sync_option ∷ needed (codes "listen") ∷ needed (codes "connections") ∷ [])
 
 unfoldable pub selfcheck_command : Shape
 selfcheck_command = command_named (codes "selfcheck") (transform_option ∷ [])

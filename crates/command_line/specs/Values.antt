@@ -14,6 +14,8 @@ use Rattle.tariff.specs.StepsText.{IsStepsText}
 use Rattle.tariff.specs.Tender.{IsTender}
 use Rattle.tariff.specs.declared.step.Step.{Step}
 use Rattle.office_rules.specs.Name.{IsMeterNo, IsName, IsOperator}
+use Rattle.command_line.specs.declared.syncs.Syncs.{Syncs}
+use Rattle.command_line.specs.declared.syncs.Syncs.TheVariants.{Once, Twice}
 use Rattle.command_line.specs.declared.transform.Shipped.{Shipped}
 use Rattle.command_line.specs.declared.transform.Shipped.TheVariants.{Plain, Demo}
 
@@ -107,6 +109,14 @@ transform_name Demo = codes "demo"
 
 abbrev pub SaysTransform : Text → Shipped → Type 0
 SaysTransform text transform = text ≡ transform_name transform
+
+-- how often a change is synced, by its name
+abbrev pub sync_name : Syncs → Text
+sync_name Once = codes "full"
+sync_name Twice = codes "twice"
+
+abbrev pub SaysSyncs : Text → Syncs → Type 0
+SaysSyncs text syncs = text ≡ sync_name syncs
 
 -- what is read of a text: a value that it says, and nothing exactly where it says none
 abbrev pub ReadsBy : {V : Type 0} → (Text → V → Type 0) → Text → Option V → Type 0

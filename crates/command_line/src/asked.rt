@@ -1,5 +1,6 @@
+ghost use Rattle.std.specs.Prelude.{◌≡◌};
 ghost use Rattle.clap.specs.Simple.{subcommand_rows_of};
-ghost use Rattle.command_line.specs.Asked.{CommandAsks};
+ghost use Rattle.command_line.specs.Asked.{CommandAsks, syncs_of};
 ghost use Rattle.command_line.specs.Said.{ReadsOrFull};
 
 use crate::commands::at_desk::DeskWords;
@@ -16,6 +17,7 @@ use crate::commands::show::ShowWords;
 use crate::commands::trial::TrialWords;
 use crate::request_words::RequestWords;
 use crate::said;
+use crate::syncs::Syncs;
 use crate::words::BadWords;
 use clap::ArgMatches;
 use std::alloc::Global;
@@ -91,6 +93,16 @@ impl<'m, 'a> Asked<'m, 'a> {
             },
             // The line has no words without a command.
             None => Err(BadWords::Value),
+        }
+    }
+
+    /// How often a change is synced, which only `serve` leaves open.
+    pub(crate) fn syncs(&self) -> Syncs
+        ensures { result ≡ syncs_of self.now }
+    {
+        match self {
+            Asked::Serve(words) => words.syncs,
+            _ => Syncs::Twice,
         }
     }
 }

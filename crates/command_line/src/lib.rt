@@ -20,6 +20,7 @@ pub use commands::show::{ShowWords, Shown};
 pub use commands::trial::TrialWords;
 pub use line::{meant, parse};
 pub use request_words::RequestWords;
+pub use syncs::{Syncs, syncs_asked};
 pub use transform::Shipped;
 pub use words::BadWords;
 
@@ -32,6 +33,7 @@ mod line;
 mod options;
 mod request_words;
 mod said;
+mod syncs;
 mod transform;
 mod values;
 mod words;

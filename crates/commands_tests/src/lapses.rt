@@ -95,7 +95,7 @@ fn served_all(
         taken: Vec::new(rt.alloc()),
         room: errors_room,
     };
-    let end = run_over(
+    let ran = run_over(
         rt.alloc(),
         ports,
         &words_of(rt, line.as_str())?,
@@ -106,7 +106,7 @@ fn served_all(
         return Err(Fail::new("an output"));
     }
     Ok(Outcome {
-        end,
+        end: ran.end,
         errors: String::from_utf8(err.taken)?,
         replies: fs::read_to_string(rt, "replies")?,
     })

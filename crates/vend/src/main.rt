@@ -2,8 +2,8 @@
 //! prints. What each does is in `vend_commands`.
 #![tactic(auto)]
 
-use command_line::BadWords;
-use sqlite::Unknown;
+use command_line::{BadWords, Syncs, syncs_asked};
+use sqlite::{Unknown, Wary};
 use std::process::ExitCode;
 use std::rt::Env;
 use std::{env, io};
@@ -36,18 +36,28 @@ fn unreadable(error: io::Error) -> BadWords {
 
 fn run_given(rt: &HostRuntime, given: &[String]) -> u8 {
     let words: Result<Vec<&str>, _> = given.iter().map(|word| word.as_str()).collect(rt.alloc());
-    match words {
-        Ok(words) => {
-            let ports = Computer::ports(rt, rt, Unknown);
-            run(
-                rt.alloc(),
-                ports,
-                &words,
-                &mut rt.stdout(),
-                &mut rt.stderr(),
-            )
-        }
-        Err(_) => refuse_words(rt, BadWords::Memory),
+    let Ok(words) = words else {
+        return refuse_words(rt, BadWords::Memory);
+    };
+    let (mut out, mut err) = (rt.stdout(), rt.stderr());
+    match syncs_asked(rt.alloc(), &words) {
+        // Of what was written and not synced a stop may leave any bytes. So the promise needs no
+        // disk that finishes each sector it begins; for that a commit syncs twice.
+        Syncs::Twice => run(
+            rt.alloc(),
+            Computer::ports(rt, rt, Wary),
+            &words,
+            &mut out,
+            &mut err,
+        ),
+        // It leaves each byte as it was before or as it was written.
+        Syncs::Once => run(
+            rt.alloc(),
+            Computer::ports(rt, rt, Unknown),
+            &words,
+            &mut out,
+            &mut err,
+        ),
     }
 }
 

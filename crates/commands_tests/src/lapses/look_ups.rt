@@ -103,7 +103,7 @@ fn ran(
     };
     let mut out = Vec::new(rt.alloc());
     let mut err = Vec::new(rt.alloc());
-    let end = run_over(
+    let ran = run_over(
         rt.alloc(),
         ports,
         &words_of(rt, line)?,
@@ -114,7 +114,7 @@ fn ran(
         out: String::from_utf8(out)?,
         err: String::from_utf8(err)?,
     };
-    Ok((end, left))
+    Ok((ran.end, left))
 }
 
 #[test]

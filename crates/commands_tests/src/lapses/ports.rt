@@ -1,5 +1,5 @@
 //! A machine in memory: an office's file that lapses, and connections that are texts.
-ghost use Rattle.std.specs.Prelude.{⊤, []};
+ghost use Rattle.std.specs.Prelude.{◌≡◌, ⊤, [], IfSome};
 
 use crate::lapses::lapse::{Faults, Lapse, NO_FAULTS};
 use books::OpenFault;
@@ -11,7 +11,7 @@ use std::fs::OpenOptions;
 use std::io::{self, Read, Write};
 use std::marker::PhantomData;
 use vend_commands::{
-    Door, FileFault, Follows, Machine, OfficeFile, Part, Progress, SaltSource, TextFiles,
+    Back, Door, FileFault, Follows, Machine, OfficeFile, Part, Progress, SaltSource, TextFiles,
 };
 
 /// A machine with an office's file of this type, and whose clock is a script. Nothing of it is the
@@ -112,11 +112,10 @@ impl OfficeFile for LapsingOffice {
         }
     }
 
-    fn let_go<D: Drop>(log: D, db: D)
-        ensures { ⊤ }
+    fn let_go<D: Drop>(log: D, db: D) -> Back<D>
+        ensures { IfSome result (λ it. it ≡ (log, db)) }
     {
-        drop(log);
-        drop(db);
+        Some((log, db))
     }
 
     fn leave<T: Drop>(it: T)

@@ -1,0 +1,152 @@
+"""What shuts an office and what opens it again, row by row as docs/COMMANDS.md says: a part of tools/check_program. It
+is no script of its own."""
+import contextlib
+import os
+import shutil
+import sqlite3
+import subprocess
+import sys
+
+from program import change, expect, prepare, sell_words, vend
+from shared import quoted, rows_of_page, same, wrong
+
+COLUMNS = ("Line", "What is in the way", "What opens it again")
+# What brings each row about, by what the page says of it. `name` stands for a name, here and there.
+STATEMENTS = {
+    "`auto_vacuum`": ("PRAGMA auto_vacuum=1; VACUUM;", "PRAGMA auto_vacuum=2; VACUUM;"),
+    "a trigger on a table of the office": ("CREATE TRIGGER name AFTER INSERT ON sales BEGIN SELECT 1; END;",),
+    "a virtual table, as of FTS or R-tree": tuple(
+        f"CREATE VIRTUAL TABLE name USING {it};" for it in ("fts4(word)", "fts5(word)", "rtree(id, low, high)")),
+    "an index with `WHERE` on a table of the office": ("CREATE INDEX name ON sales (meter) WHERE tender > 5;",),
+    "another index on a table of the office": ("CREATE INDEX name ON sales (meter);",
+                                               "CREATE UNIQUE INDEX name ON meters (meter, tariff);"),
+    "a column more": ("ALTER TABLE sales ADD COLUMN name TEXT;",),
+    "a table of the office has another name": ("ALTER TABLE sales RENAME TO name;",),
+    "a table of yours with a foreign key to one of the office's": (
+        "CREATE TABLE name (sale INTEGER REFERENCES sales (number));", "CREATE TABLE name (of REFERENCES tariffs);"),
+}
+LEAVE_OPEN = (
+    "VACUUM;", "ANALYZE;", "REINDEX;", "PRAGMA journal_mode=DELETE; PRAGMA page_size=8192; VACUUM;",
+    "CREATE VIEW name AS SELECT * FROM sales;", "CREATE TABLE name (word TEXT); CREATE INDEX other ON name (word);",
+    "CREATE TABLE name (word TEXT); CREATE TRIGGER other AFTER INSERT ON name BEGIN SELECT 1; END;",
+)
+COPIES = (".backup {}", ".clone {}", "VACUUM INTO '{}';")
+# A transaction that is larger than its cache, and is killed.
+KILLED = """import os, sqlite3, sys
+base = sqlite3.connect(sys.argv[1], isolation_level=None)
+base.executescript("PRAGMA journal_mode=DELETE; PRAGMA cache_size=1; BEGIN IMMEDIATE; CREATE TABLE name (word BLOB);")
+for _ in range(1000):
+    base.execute("INSERT INTO name VALUES (zeroblob(1000))")
+os._exit(0)"""
+
+
+class Trial:
+    """An office to which things are done, and what its audit says then."""
+
+    def __init__(self, folder):
+        self.whole, self.file, self.other = folder / "whole.db", folder / "office.db", folder / "other.db"
+        prepare(self.whole)
+        for ref in ("A-1", "A-2"):
+            expect(vend(*sell_words(self.whole, ref)), 0)
+        change(self.whole, "PRAGMA wal_checkpoint(TRUNCATE);")
+        self.sound = self.audit(self.whole).stdout
+        self.count = 0
+
+    @staticmethod
+    def audit(file):
+        return vend("audit", "--wait", "0", "--file", str(file))
+
+    def renew(self):
+        for end in ("-wal", "-shm", "-journal"):
+            self.file.with_name(self.file.name + end).unlink(missing_ok=True)
+        shutil.copy(self.whole, self.file)
+
+    def is_shut(self, line):
+        expect(self.audit(self.file), 1, b"", f"{line}\n".encode())
+        self.count += 1
+
+    def is_open(self, what, file=None):
+        same(self.audit(file or self.file).stdout, self.sound, f"an office after {what}")
+
+    def made_of(self, dump):
+        """A new file that is made of a dump."""
+        self.other.unlink(missing_ok=True)
+        subprocess.run(["sqlite3", self.other], input=dump, text=True, check=True)
+        return self.other
+
+
+def try_use(trial, line):
+    with contextlib.closing(sqlite3.connect(trial.file, isolation_level=None)) as base:
+        for text in ("BEGIN; SELECT * FROM sales;", "BEGIN IMMEDIATE;"):
+            base.executescript("PRAGMA journal_mode=WAL;")
+            begun = [base.execute(it) for it in text.split(";") if it]
+            trial.is_shut(line)
+            del begun
+            base.execute("ROLLBACK")
+    trial.is_open("it was in use")
+
+
+def try_link(trial, line):
+    os.link(trial.file, trial.other)
+    trial.is_shut(line)
+    trial.other.unlink()
+    trial.is_open("a second link")
+
+
+def try_journal(trial, line, cure):
+    subprocess.run([sys.executable, "-c", KILLED, trial.file], check=True)
+    trial.is_shut(line)
+    change(trial.file, cure)
+    trial.is_open("a journal")
+
+
+def try_dump(trial, line):
+    dump = subprocess.run(["sqlite3", trial.file, ".dump"], capture_output=True, text=True, check=True).stdout
+    trial.is_open("a dump", trial.made_of(dump))
+    shutil.copy(trial.made_of(dump.replace(") STRICT;", ");")), trial.file)
+    trial.is_shut(line)
+    dump = subprocess.run(["sqlite3", trial.file, ".dump"], capture_output=True, text=True, check=True).stdout
+    lines = [it.removesuffix(";") + " STRICT;" if it.startswith("CREATE TABLE ") else it for it in dump.splitlines()]
+    trial.is_open("a dump with STRICT again", trial.made_of("\n".join(lines)))
+
+
+def check_shut(folder):
+    """Each row of the page: the line that it names, and then, after what it names, the office as it was."""
+    folder = folder / "shut"
+    folder.mkdir()
+    trial = Trial(folder)
+    ways = {
+        "a desk, a command, or `sqlite3` in a transaction has the file": try_use,
+        "the file has a second hard link": try_link,
+        "`office.db-journal`, which a killed `sqlite3` left": try_journal,
+        "the file was made of a dump without `STRICT`": try_dump,
+    }
+    for line, what, cure in rows_of_page("COMMANDS.md", *COLUMNS):
+        line = quoted(line)[0]
+        if what in STATEMENTS:
+            for text in STATEMENTS[what]:
+                trial.renew()
+                change(trial.file, text)
+                trial.is_shut(line)
+                change(trial.file, " ".join(quoted(cure)))
+                trial.is_open(text)
+        elif what in ways:
+            trial.renew()
+            ways[what](trial, line, *([quoted(cure)[0]] if ways[what] is try_journal else []))
+        elif what == "a table of the office is gone":
+            trial.renew()
+            change(trial.file, "DROP TABLE last_ids;")
+            trial.is_shut(line)
+        elif what != "the user cannot write the file or its folder":  # root always can
+            wrong(f"docs/COMMANDS.md has a row that is not tried: {what}")
+    for text in LEAVE_OPEN:
+        trial.renew()
+        change(trial.file, text)
+        trial.is_open(text)
+    for text in COPIES:
+        trial.renew()
+        trial.other.unlink(missing_ok=True)
+        subprocess.run(["sqlite3", trial.file, text.format(trial.other)], check=True, capture_output=True)
+        trial.is_open(text, trial.other)
+    print(f"shut offices: {trial.count} ways, each with the line and the way back of the page; "
+          f"{len(LEAVE_OPEN) + len(COPIES)} things leave an office open")
