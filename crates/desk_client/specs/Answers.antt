@@ -57,8 +57,8 @@ GrantsWhat granted question = ⊤
 abbrev pub IsFileRow : ℕ → Type 0
 IsFileRow row = (1 ≤ row) × (row ≤ greatest_rows)
 
--- a row of a file that may be refused for this cause: the header is at 0, behind the last row that a
--- file may have there is one too many, and no row has more than four fields
+-- a row of a file that may be refused for this cause: the header is at 0, behind the last row that
+-- a file may have there is one too many, and no row has more than four fields
 abbrev pub IsRowRefused : ℕ → RowCause → Type 0
 IsRowRefused row causes.Header = row ≡ 0
 IsRowRefused row causes.Columns = IsFileRow row

@@ -77,8 +77,8 @@ pub data Asked : Type 0 where
   looked_up : Lookup → Asked
   imported : FileKind → List ℕ → Asked
 
--- What each question asks. A receipt is asked as a reprint that is told in JSON: so its sale is read,
--- and the receipt is made of it.
+-- What each question asks. A receipt is asked as a reprint that is told in JSON: so its sale is
+-- read, and the receipt is made of it.
 abbrev pub asked_by : Question → Asked
 asked_by (Import kind csv) = imported kind csv.now
 asked_by (MoveBase meter base) = requested Json (requests.MoveBase meter base)

@@ -137,9 +137,9 @@ rows_fault_line TooLong = file_line
 
 -- ---- one question
 
--- The question is asked by one message, and what the reply to it tells is printed. Whatever else came
--- of the message, it is told that no reply did. Where there was no room for the message, no desk was
--- called.
+-- The question is asked by one message, and what the reply to it tells is printed. Whatever else
+-- came of the message, it is told that no reply did. Where there was no room for the message, no
+-- desk was called.
 pub data IsAsked (calls : Calls) (uncalled : Type 0) (desk : Address) (json : Bool)
     (question : Question) (o : Outputs) (end : CommandEnd) : Type 0 where
   replied : (came : Text) → calls.exchanges desk (one_round (question_text question) came)

@@ -111,8 +111,8 @@ IsPageIn list came (Err fault) = IsNoPage list came fault
 -- ---- one page
 
 -- A message that asks for the first page of a list was sent on a stream, and what came tells this
--- page, or it does not; or the message was cut off, or there was no room for what came; or there was
--- none for the message, and the stream is as it was.
+-- page, or it does not; or the message was cut off, or there was no room for what came; or there
+-- was none for the message, and the stream is as it was.
 abbrev pub IsPageAsked : {S : Type 0} → (remaining contents : S → Held) → Listed
     → (fresh last : S) → Result Found PageFault → Type 0
 IsPageAsked remaining contents list fresh last (Err faults.NoMessage) = last ≡ fresh
@@ -139,8 +139,8 @@ abbrev pub and_next : List Round → Listed → (came : Text) → List Round
 and_next rounds list came =
     rounds ++ record { message = question_text (page_question list); came = came } ∷ []
 
--- A page is not printed, for this fault: there was no room for the message for it, no connection, no
--- room for what came, or what came is no page.
+-- A page is not printed, for this fault: there was no room for the message for it, no connection,
+-- no room for what came, or what came is no page.
 abbrev pub IsPageStop : Calls → Address → List Round → (left : Option Listed) → PageFault → Type 0
 IsPageStop calls desk rounds left faults.NoMessage = calls.exchanges desk rounds
 IsPageStop calls desk rounds left faults.Unsent = (list : Listed) × (left ≡ Some list)

@@ -12,8 +12,8 @@ abbrev pub Rise : {Key : Type 0} → (Before : Key → Key → Type 0) → (afte
 Rise Before after [] = ⊤
 Rise Before after (key ∷ keys) = Before after key × Rise Before key keys
 
--- The members of a page come after what the list begins after, and rise: names and numbers of meters
--- in the order of their bytes. The empty text comes before all others.
+-- The members of a page come after what the list begins after, and rise: names and numbers of
+-- meters in the order of their bytes. The empty text comes before all others.
 abbrev pub ComesAfter : Listed → Found → Type 0
 ComesAfter (listed.Tariffs after) (found.Tariffs page) =
     Rise ComesBefore (unwrap_or after []) (map (λ t. t.name) page.items)

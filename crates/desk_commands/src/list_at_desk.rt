@@ -3,7 +3,8 @@
 ghost use Rattle.std.specs.Prelude.{◌≡◌, IfOk, MatchResult};
 ghost use Rattle.desk_client.specs.Page.{IsToldPage, page_as_read};
 ghost use Rattle.desk_client.specs.Question.{question_text};
-ghost use Rattle.desk_commands.specs.ListedAtDesk.{IsListedAtDesk, IsNoPageText, IsPageAsked, IsPageIn};
+ghost use Rattle.desk_commands.specs.ListedAtDesk.{IsListedAtDesk, IsNoPageText, IsPageAsked};
+ghost use Rattle.desk_commands.specs.ListedAtDesk.{IsPageIn};
 ghost use Rattle.desk_commands.specs.ListedAtDesk.{IsPagePrinted, page_fault_line, page_kind};
 ghost use Rattle.desk_commands.specs.ListedAtDesk.{page_question};
 ghost use Rattle.desk_commands.specs.Exchanged.{calls_of};
