@@ -10,6 +10,7 @@ use Rattle.std.proofs.lemmas.Fmt.{decimal_is_IsNumeral, decimal_nonempty, length
 use Rattle.std.proofs.lemmas.List.Elements.{All-cons, All-nil, All-head, All-from_get_or, All-from_recursion}
 use Rattle.std.proofs.lemmas.List.Sums.{list_all-from_AllPass}
 use Rattle.std.proofs.lemmas.Str.Parse.{digit_at}
+use Rattle.http1.specs.Text.{eq_ignore_case}
 use Rattle.httparse.specs.Grammar.{AllPass, Field, IsField, IsRequestHead, RequestHead, crlf, is_ows, is_token_byte, is_uri_byte, is_value_byte, print_request, skip_ows, trim_ows}
 use Rattle.httparse.proofs.GrammarLemmas.{cons-append, print_request-append}
 use Rattle.httparse.proofs.TrimLemmas.{AllPass-reverse, trim_ows_space}
@@ -193,13 +194,13 @@ post_short target body h k =
 -- ---- their framing
 
 get_framed : (target : List ℕ) → framing_of (get_head target) ≡ Ok (record { method = Get; body = 0; closes = false })
-unfolding framing trim_ows host_field
+unfolding framing trim_ows host_field eq_ignore_case
 get_framed target = refl
 
 -- by the value of the field that tells the length
 framed : (v : List ℕ) (n : ℕ) → length_of v ≡ Ok n
     → framing (codes "POST") 1 ((codes "Host", codes "desk") ∷ (codes "Content-Length", v) ∷ []) ≡ Ok (record { method = Post; body = n; closes = false })
-unfolding framing
+unfolding framing eq_ignore_case
 framed v n e = ap (λ (r : Result ℕ MessageFault). r >>= (λ body. Ok (record { method = Post; body = body; closes = false }))) e
 
 post_framed : (target : List ℕ) (n : ℕ) → n ≤ longest_body → framing_of (post_head target n) ≡ Ok (record { method = Post; body = n; closes = false })
