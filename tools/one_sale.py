@@ -138,7 +138,7 @@ def check_lost(counter):
     # A page whose address has the password in it, as a kiosk opens it, sells as any other.
     browser.open_with_password(CASHIER)
     browser.sell("10")
-    one_sale("an address with a password", 1)
+    one_sale("an address with a password")
     # What never left the browser is not in doubt, and nothing was sold.
     browser.run("window.RealRequest = Request; window.Request = function () { throw new TypeError('no'); };")
     browser.sell("10")
