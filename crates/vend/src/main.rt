@@ -3,7 +3,7 @@
 #![tactic(auto)]
 
 use command_line::{BadWords, Syncs, syncs_asked};
-use sqlite::{Unknown, Wary};
+use sqlite::{Start, Unknown, Wary};
 use std::process::ExitCode;
 use std::rt::Env;
 use std::{env, io};
@@ -39,26 +39,19 @@ fn run_given(rt: &HostRuntime, given: &[String]) -> u8 {
     let Ok(words) = words else {
         return refuse_words(rt, BadWords::Memory);
     };
-    let (mut out, mut err) = (rt.stdout(), rt.stderr());
     match syncs_asked(rt.alloc(), &words) {
         // Of what was written and not synced a stop may leave any bytes. So the promise needs no
         // disk that finishes each sector it begins; for that a commit syncs twice.
-        Syncs::Twice => run(
-            rt.alloc(),
-            Computer::ports(rt, rt, Wary),
-            &words,
-            &mut out,
-            &mut err,
-        ),
+        Syncs::Twice => run_from(rt, Wary, &words),
         // It leaves each byte as it was before or as it was written.
-        Syncs::Once => run(
-            rt.alloc(),
-            Computer::ports(rt, rt, Unknown),
-            &words,
-            &mut out,
-            &mut err,
-        ),
+        Syncs::Once => run_from(rt, Unknown, &words),
     }
+}
+
+// Runs on this computer. `start` stands for what the office's file holds.
+fn run_from<B: Start>(rt: &HostRuntime, start: B, words: &[&str]) -> u8 {
+    let ports = Computer::ports(rt, rt, start);
+    run(rt.alloc(), ports, words, &mut rt.stdout(), &mut rt.stderr())
 }
 
 fn refuse_words(rt: &HostRuntime, fault: BadWords) -> u8 {
