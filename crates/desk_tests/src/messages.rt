@@ -78,7 +78,7 @@ fn what_each_message_says(rt: HostRuntime) -> Result<(), Fail> {
         let found = named(rt.alloc(), next_of(&text))?;
         assert_eq!(rt; found.as_str(), wanted, "{line}");
     }
-    assert_eq!(rt; messages().lines().count(), 39);
+    assert_eq!(rt; messages().lines().count(), 42);
     Ok(())
 }
 
