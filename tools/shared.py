@@ -72,6 +72,29 @@ def rows_of_page(page, *columns):
     return found or wrong(f"docs/{page} has no table {columns}")
 
 
+def blocks_of(page):
+    """The blocks of commands of a page, each with the heading that it stands under."""
+    heading, block, found = "", None, []
+    for line in page.read_text().splitlines():
+        if block is None and line.startswith("#"):
+            heading = line.lstrip("# ")
+        elif block is None and line.strip() == "```sh":
+            indent, block = len(line) - len(line.lstrip()), []
+        elif block is not None and line.strip() == "```":
+            found.append((heading, "\n".join(block)))
+            block = None
+        elif block is not None:
+            block.append(line[indent:])
+    return found
+
+
+def luhn(number):
+    """A meter's number: ten digits and their check."""
+    digits = [int(it) for it in f"{number:010}"]
+    total = sum(sum(divmod(2 * it, 10)) if at % 2 else it for at, it in enumerate(digits))
+    return f"{number:010}{-total % 10}"
+
+
 def quoted(cell):
     return re.findall(r"`([^`]*)`", cell)
 
