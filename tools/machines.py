@@ -119,12 +119,12 @@ class Member(own_machine.Machine):
         self.network = network
         self.archives = archives
         room.mkdir()
-        image = room / "disk.img"
-        with open(image, "wb") as file:
-            file.truncate(DISK)
-        # Attributes of a file beside it: GlusterFS keeps its own there.
-        subprocess.run(["mkfs.ext4", "-q", "-I", "512", "-E", "lazy_itable_init=0", image], check=True)
-        super().__init__(room, stage, name=f"check-machines-{number}", image=image)
+        self.disks = [room / "disk.img", room / "office.img"]
+        for image in self.disks:
+            with open(image, "wb") as file:
+                file.truncate(DISK)
+            subprocess.run(["mkfs.ext4", "-q", "-E", "lazy_itable_init=0", image], check=True)
+        super().__init__(room, stage, name=f"check-machines-{number}", image=self.disks[0])
 
     def fetch(self, *_):
         """What is installed was fetched once, for all machines."""
@@ -135,7 +135,7 @@ class Member(own_machine.Machine):
             os.link(cache, self.room / cache.name)
 
     def start(self):
-        wait_until(self.is_free, f"the disk of machine {self.number}")
+        wait_until(self.is_free, f"the disks of machine {self.number}")
         super().start()
         self.network.join(self.number, self.first)
         self.ask("ip", "address", "add", f"{self.address}/24", "dev", "eth0")
@@ -146,8 +146,10 @@ class Member(own_machine.Machine):
         self.ask("systemctl", "start", "--no-block", "multi-user.target")
 
     def is_free(self):
-        """Whether nobody has the disk mounted."""
-        return not subprocess.run(["losetup", "--associated", self.image], capture_output=True, text=True).stdout
+        """Whether nobody has the disks mounted."""
+        used = subprocess.run(["losetup", "--list", "--noheadings", "--output", "BACK-FILE"], capture_output=True,
+                              text=True).stdout.split()
+        return not {*map(str, self.disks)} & {*used}
 
     def is_on(self):
         return self.process is not None and self.process.poll() is None
@@ -170,8 +172,8 @@ class Member(own_machine.Machine):
     def mend(self):
         self.network.ip(f"link set link{self.number} up")
 
-    def disk(self):
-        return os.open(f"/proc/{self.first}/root/srv/office", os.O_RDONLY)
+    def open_disks(self):
+        return [os.open(f"/proc/{self.first}/root/srv/{name}", os.O_RDONLY) for name in ("office", "disk")]
 
     def ask(self, *words, status=0, **options):
         """The standard output of a command that has to end with this status."""
@@ -198,12 +200,14 @@ class Member(own_machine.Machine):
             LIBC.setfsuid(0)
 
 
-def power_cut(members):
-    """The power of all these fails at once: what was not synced is gone."""
-    disks = [it.disk() for it in members]
-    for disk in disks:
-        fcntl.ioctl(disk, SHUTDOWN, NO_FLUSH)
-    for disk in disks:
+def power_cut(members, pause=0):
+    """The power of all these fails, one a pause after the other: what was not synced is gone."""
+    disks = [it.open_disks() for it in members]
+    for at, group in enumerate(disks):
+        time.sleep(pause if at else 0)
+        for disk in group:
+            fcntl.ioctl(disk, SHUTDOWN, NO_FLUSH)
+    for disk in (disk for group in disks for disk in group):
         os.close(disk)
     for it in members:
         it.off()

@@ -55,10 +55,13 @@ After=basic.target systemd-journald.service
 AllowIsolate=yes
 END
 fi
-# A folder of the disk itself, beside the overlay.
+# The disk itself, beside what is seen of it through the overlay, and a second one, with the options of its fstab.
 if [ "$image" ]; then
-    mkdir -p "$room/disk/srv" "$root/srv/office"
-    mount --bind "$room/disk/srv" "$root/srv/office"
+    mkdir -p "$root/srv/disk" "$root/srv/office"
+    mount --bind "$room/disk" "$root/srv/disk"
+    [ -e "$root/etc/fstab" ] || echo '/dev/vdb /srv/office ext4 defaults 0 2' >"$root/etc/fstab"
+    options=$(awk '$2 == "/srv/office" { print $4 }' "$root/etc/fstab")
+    mount -o "loop,$options" "$room/office.img" "$root/srv/office"
 fi
 
 # What the kernel shows, of which nothing can be changed from in there.
@@ -113,7 +116,8 @@ def die_with_parent():
 
 class Machine:
     """The system. `stage` is a folder that it gets as /srv/stage; `packages` names what it has to be able to
-    install without a network. With the image of a disk, ext4, it can be started again after a stop."""
+    install without a network. With the image of a disk, ext4, it can be started again after a stop; office.img in its
+    room is a second disk, at /srv/office."""
 
     def __init__(self, room, stage, *packages, name="check-install", image=""):
         self.room = Path(room)

@@ -9,6 +9,8 @@ from machines import wait_until
 from shared import same, wrong
 from tills import PAUSE, AtDesk
 
+PAUSES = (0, 0.005, 0.02, 0.05)  # seconds between the power of one machine and of the next
+
 
 class Takeover:
     """One takeover, and what it showed."""
@@ -74,14 +76,15 @@ class Takeover:
         self.since = time.time()
 
     def fail_by_power(self):
-        machines.power_cut(self.shop.members)
+        machines.power_cut(random.sample(self.shop.members, 3), random.choice(PAUSES))
         self.since = time.time()
         for it in self.shop.members:
             it.start()
         self.a, self.at_a = None, None
 
     def fail_by_majority(self):
-        machines.power_cut([self.b, self.shop.three])
+        # A sale may be on the disk of one of them, and not yet on that of the other.
+        machines.power_cut([self.b, self.shop.three], random.choice(PAUSES))
         self.failed = time.time()
         time.sleep(1 + 8 * random.random())
         machines.power_cut([self.a])
