@@ -1,6 +1,7 @@
-"""A Debian system of its own for tools/check_install, in which nothing of this computer is changed. Its files are
-this computer's, seen through an overlay that memory holds; it has processes, a network without a way out, and a
-systemd of its own. It is gone when the script ends. It is no script of its own."""
+"""A Debian system of its own for tools/check_install and tools/check_machines, in which nothing of this computer is
+changed. Its files are this computer's, seen through an overlay that memory or a disk of its own holds; it has
+processes, a network without a way out, and a systemd of its own. It is gone when the script ends. It is no script of
+its own."""
 import contextlib
 import ctypes
 import os
@@ -20,12 +21,20 @@ OWN = ("--mount", "--pid", "--net", "--uts", "--ipc", "--cgroup")
 BOOT = r"""
 set -eu
 room=$1
+image=$2
 mount --make-rprivate /
-mount -t tmpfs -o mode=755 tmpfs "$room/disk"
-mkdir "$room/disk/upper" "$room/disk/work" "$room/disk/root"
+if [ "$image" ]; then
+    mount -o loop "$image" "$room/disk"
+else
+    mount -t tmpfs -o mode=755 tmpfs "$room/disk"
+fi
+is_new=
+[ -d "$room/disk/upper" ] || is_new=yes
+mkdir -p "$room/disk/upper" "$room/disk/work" "$room/disk/root"
 root=$room/disk/root
 mount -t overlay -o "lowerdir=/,upperdir=$room/disk/upper,workdir=$room/disk/work" overlay "$root"
 
+if [ "$is_new" ]; then
 # As a Debian that was just installed: it starts what it installs, and keeps manual pages.
 rm -f "$root/usr/sbin/policy-rc.d" "$root/etc/fstab" "$root"/etc/dpkg/dpkg.cfg.d/* "$root"/etc/apt/apt.conf.d/docker-*
 # An index of all manual pages would take longer than all else, and man does without.
@@ -45,6 +54,15 @@ Wants=systemd-journald.socket systemd-journald-dev-log.socket
 After=basic.target systemd-journald.service
 AllowIsolate=yes
 END
+fi
+# The disk itself, beside what is seen of it through the overlay, and a second one, with the options of its fstab.
+if [ "$image" ]; then
+    mkdir -p "$root/srv/disk" "$root/srv/office"
+    mount --bind "$room/disk" "$root/srv/disk"
+    [ -e "$root/etc/fstab" ] || echo '/dev/vdb /srv/office ext4 defaults 0 2' >"$root/etc/fstab"
+    options=$(awk '$2 == "/srv/office" { print $4 }' "$root/etc/fstab")
+    mount -o "loop,$options" "$room/office.img" "$root/srv/office"
+fi
 
 # What the kernel shows, of which nothing can be changed from in there.
 mount -t proc proc "$root/proc"
@@ -54,7 +72,7 @@ mount -t sysfs -o ro sysfs "$root/sys"
 mount -t cgroup2 cgroup2 "$root/sys/fs/cgroup"
 mount -t tmpfs -o mode=755 tmpfs "$root/run"
 mount -t tmpfs -o mode=755 tmpfs "$root/dev"
-for it in 'null 1 3' 'zero 1 5' 'full 1 7' 'random 1 8' 'urandom 1 9' 'tty 5 0'; do
+for it in 'null 1 3' 'zero 1 5' 'full 1 7' 'random 1 8' 'urandom 1 9' 'tty 5 0' 'fuse 10 229'; do
     set -- $it
     mknod -m 666 "$root/dev/$1" c "$2" "$3"
 done
@@ -97,25 +115,28 @@ def die_with_parent():
 
 
 class Machine:
-    """The system. `stage` is a folder that it gets as /srv/stage; `package` names what it has to be able to
-    install without a network."""
+    """The system. `stage` is a folder that it gets as /srv/stage; `packages` names what it has to be able to
+    install without a network. With the image of a disk, ext4, it can be started again after a stop; office.img in its
+    room is a second disk, at /srv/office."""
 
-    def __init__(self, room, stage, package):
+    def __init__(self, room, stage, *packages, name="check-install", image=""):
         self.room = Path(room)
         self.stage = Path(stage)
+        self.name = name
+        self.image = image
         self.group = None
         self.process = None
         self.first = None
-        self.fetch(package)
+        self.fetch(*packages)
 
-    def fetch(self, package):
-        """Fetches what the package depends on, if this computer has not installed it, and installs nothing."""
+    def fetch(self, *packages):
+        """Fetches what the packages depend on, if this computer has not installed it, and installs nothing."""
         archives = self.room / "archives"
         (archives / "partial").mkdir(parents=True)
         options = ["-o", f"Dir::Cache={self.room}", "-o", f"Dir::Cache::archives={archives}",
                    "-o", "Dir::Cache::pkgcache=pkgcache.bin", "-o", "Dir::Cache::srcpkgcache=srcpkgcache.bin",
                    "-o", "Debug::NoLocking=true", "-o", "APT::Sandbox::User=root", "-o", "Acquire::Retries=2"]
-        fetch = ["--download-only", "--yes", "install", str(package)]
+        fetch = ["--download-only", "--yes", "install", *map(str, packages)]
         ran = self.apt(options, fetch)
         if ran.returncode != 0:
             # The lists of this computer may be old, or may not be there.
@@ -134,17 +155,19 @@ class Machine:
                               env={**os.environ, "DEBIAN_FRONTEND": "noninteractive"})
 
     def start(self):
-        (self.room / "disk").mkdir()
-        shutil.move(self.stage, self.room / "stage")
-        self.group = group_of_this() / f"check-install-{os.getpid()}"
-        self.group.mkdir()
+        (self.room / "disk").mkdir(exist_ok=True)
+        if not (self.room / "stage").exists():
+            shutil.move(self.stage, self.room / "stage")
+        self.group = group_of_this() / f"{self.name}-{os.getpid()}"
+        self.group.mkdir(exist_ok=True)
 
         def prepare():
             die_with_parent()
             (self.group / "cgroup.procs").write_text(str(os.getpid()))
 
         log = open(self.room / "boot.log", "wb")
-        words = ["unshare", *OWN, "--fork", "--kill-child", "bash", "-c", BOOT, "boot", str(self.room)]
+        words = ["unshare", *OWN, "--fork", "--kill-child", "bash", "-c", BOOT, "boot", str(self.room),
+                 str(self.image)]
         self.process = subprocess.Popen(words, stdin=subprocess.DEVNULL, stdout=log, stderr=log,
                                         preexec_fn=prepare)
         until = time.monotonic() + WAIT
@@ -178,10 +201,10 @@ class Machine:
         return ["nsenter", "--target", self.first, "--mount", "--pid", "--net", "--uts", "--ipc", "--cgroup",
                 "--", "env", "--chdir=/srv/stage", *map(str, words)]
 
-    def run(self, *words, text=True, **options):
+    def run(self, *words, text=True, wait=WAIT, **options):
         """Runs a command in there, for so long at the most: status 124 tells that it had not ended."""
         options = options if "input" in options else {"stdin": subprocess.DEVNULL}
-        words = self.words("timeout", "--kill-after=5", str(WAIT), *words)
+        words = self.words("timeout", "--kill-after=5", str(wait), *words)
         return subprocess.run(words, capture_output=True, text=text, env=ENVIRONMENT, **options)
 
     def begin(self, *words, **options):
