@@ -1,0 +1,6 @@
+mod FileLemmas
+mod OfficeLemmas
+mod QuoteLemmas
+mod ReadingLemmas
+mod TalkLemmas
+mod ToldLemmas

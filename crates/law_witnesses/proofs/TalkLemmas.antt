@@ -1,0 +1,77 @@
+-- A conversation over a life, and the requests that its messages asked.
+use Rattle.std.proofs.Common.{◌≡◌, ◌∙◌, ◌⊎◌, ◌++◌, ℕ, ℤ, List, [], Option, Some, Result, inl, inr, subst, sym, refl}
+use Rattle.sqlite.specs.State.{HasCleanDisk}
+use Rattle.book_states.specs.declared.lookup.Found.{Found}
+use Rattle.books.specs.Keeps.{Represents, Seen}
+use Rattle.conversation.proofs.WiderLemmas.{run_wider, unclocked}
+use Rattle.conversation.specs.Exchanges.{Exchanged, MessageExchange, Timed, clocked, timed}
+use Rattle.conversation.specs.Run.{IsRun, IsSaid}
+use Rattle.conversation.specs.Uses.{Use}
+use Rattle.conversation.specs.declared.end.End.{End}
+use Rattle.conversation.specs.declared.end.End.TheVariants.{Closed}
+use Rattle.conversation.specs.message.Messages.{Ending, closing, ended, finished}
+use Rattle.desk.specs.Along.{AreAsked}
+use Rattle.desk.specs.Answering.{answers_by, life_serves, message_refusal_of}
+use Rattle.desk.specs.Converses.{Converses}
+use Rattle.desk.specs.OneConversation.{conversation_text}
+use Rattle.office_rules.specs.Office.{empty_office}
+use Rattle.office_rules.specs.declared.decision.answer.Answer.{Answer}
+use Rattle.office_rules.specs.declared.decision.refusal.Refusal.{Refusal}
+use Rattle.office_rules.specs.declared.decision.request.Stamped.{Stamped}
+use Rattle.sts_token.specs.Token.{BlockFunction}
+use Rattle.vend_core.specs.Law.Life.{Life}
+use Rattle.vend_core.specs.Law.LifeLaws.{extended_along, opened}
+use Rattle.law_witnesses.specs.Talks.{IsTalk}
+
+-- a life goes on along a conversation by the requests of its messages
+abbrev pub GoesAlong : Type 0
+GoesAlong = (old new : Timed Life) (xs : List MessageExchange) → Exchanged (timed (answers_by life_serves)) old xs new
+    → (ats : List Stamped) × (replies : List (Result Answer Refusal)) × (finds : List (Result Found Refusal))
+    × AreAsked xs ats replies finds × (new.0 ≡ extended_along old.0 ats replies)
+
+module _ (law : GoesAlong) (forward : BlockFunction) (answers : Option (List ℤ)) (new : Timed Life) (books : Seen) (clean : HasCleanDisk books.state)
+    (kept : Represents new.0 books) (text input : List ℕ) where
+  said : (ending : Ending) → IsSaid (answers_by life_serves) message_refusal_of (opened forward empty_office, answers) new (Some []) (Some text) ended input ending
+      → (talk : IsTalk input books) × (text ≡ conversation_text talk.exchanges talk.ending)
+  said ending s =
+      let xs = s.conversation.exchanges in
+      let along = law (opened forward empty_office, answers) new xs s.conversation.served in
+      let Keeps : Life → Type 0 = λ life. Represents life books in (
+        record {
+          exchanges = xs;
+          ending = ending;
+          messages = s.conversation.messages;
+          ats = along.0;
+          replies = along.1;
+          finds = along.2;
+          asked = along.3;
+          forward = forward;
+          keeps = record { led = refl; kept = subst Keeps along.4 kept; clean = clean };
+        },
+        s.written ∙ s.conversation.text_is,
+      )
+
+-- a conversation over a new office that ended with its input is one with all of it
+pub talk_of : GoesAlong → {B : Type 0} {see : B → Seen} {gives : ℤ → Type 0} {old new : Timed B} {unread left held holds : Option (List ℕ)}
+    {uses : List Use} {end : End} → Converses see gives old new unread left held holds uses end → end ≡ Closed
+    → (forward : BlockFunction) → Represents (opened forward empty_office) (see old.0) → HasCleanDisk (see new.0).state
+    → (text input : List ℕ) → unread ≡ Some input → held ≡ Some [] → holds ≡ Some text
+    → (talk : IsTalk input (see new.0)) × (text ≡ conversation_text talk.exchanges talk.ending)
+talk_of law {B} {see} {gives} {old} {new} {unread} {left} {held} {holds} {uses} {end} converses is forward kept clean text input all empty written =
+    let lives = converses.lives clean (opened forward empty_office) kept in
+    let after : Timed Life = (lives.0, new.1) in
+    let ran = run_wider (clocked gives (answers_by life_serves)) (answers_by life_serves) (unclocked (answers_by life_serves) gives)
+    message_refusal_of (opened forward empty_office, old.1) after unread left held holds end lives.1 in
+    let Runs : End → Option (List ℕ) → Option (List ℕ) → Option (List ℕ) → Type 0 =
+    λ e u h w. IsRun (answers_by life_serves) message_refusal_of (opened forward empty_office, old.1) after u left h w e in
+    let AtEnd : End → Type 0 = λ e. Runs e unread held holds in
+    let OfAll : Option (List ℕ) → Type 0 = λ u. Runs Closed u held holds in
+    let Held : Option (List ℕ) → Type 0 = λ h. Runs Closed (Some input) h holds in
+    let Written : Option (List ℕ) → Type 0 = λ w. Runs Closed (Some input) (Some []) w in
+    let closed : Written (Some text) = subst Written written (subst Held empty (subst OfAll all (subst AtEnd is ran))) in
+    let Goal : List ℕ → Type 0 = λ i. (talk : IsTalk i (see new.0)) × (text ≡ conversation_text talk.exchanges talk.ending) in
+    subst Goal (sym closed.1)
+    (elim closed.2 [
+      | inl s ↦ said law forward old.1 after (see new.0) clean lives.2 text closed.0 finished s
+      | inr s ↦ said law forward old.1 after (see new.0) clean lives.2 text closed.0 closing s
+    ])

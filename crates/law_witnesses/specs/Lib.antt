@@ -1,0 +1,5 @@
+-- What the witnesses conclude, and what they make values of.
+pub mod Offices
+pub mod Readings
+pub mod Sold
+pub mod Talks

@@ -1,0 +1,16 @@
+-- What two readings of one input have in common.
+use Rattle.std.specs.Prelude.{◌≡◌, ℕ, List}
+use Rattle.std.specs.List.{flat_map}
+use Rattle.conversation.specs.Exchanges.{MessageExchange}
+use Rattle.conversation.specs.message.Messages.{Ending, Message, Messages, ended}
+
+-- the text is the targets of the input's messages, one after another
+pub record IsEchoed (input text : List ℕ) : Type 0 where
+  pub messages : List Message
+  pub ending : Ending
+  pub are : Messages ended input messages ending
+  pub text_is : text ≡ flat_map (λ m. m.target) messages
+
+-- a message is replied to by its target, over no office
+abbrev pub Echoes : {O : Type 0} → O → MessageExchange → O → Type 0
+Echoes old exchange new = exchange.reply ≡ exchange.message.target

@@ -1,0 +1,100 @@
+//! The laws of a desk's conversations.
+ghost use Rattle.std.specs.Prelude.{◌≡◌, IfSome};
+ghost use Rattle.books.specs.Keeps.{seen};
+ghost use Rattle.desk.specs.OneConversation.{conversation_text};
+ghost use Rattle.desk_client.specs.Asks.{IsAskableOrder};
+ghost use Rattle.office_rules.specs.declared.decision.request.Request.{Request};
+ghost use Rattle.law_witnesses.specs.Talks.{IsTalk};
+
+use books::Books;
+use conversation::{End, Next, Script, next_of};
+use desk::{Desk, conversation_law, desk_law};
+use desk_client::{Question, question_law};
+use desk_messages::{Meaning, Routes};
+use office_lines::values::{FIRST_DAY, METER, moment, order};
+use office_rules::{Moment, Order, Request};
+use sqlite::MemStore;
+use std::alloc::Global;
+use std::test::Fail;
+use sts_token::Plain;
+
+// Says that the values of an order keep their rules, as its types see to.
+fn keeps_rules(order: &Order)
+    ensures { IsAskableOrder order.now }
+{
+    let _meter = order.meter.as_bytes();
+    let _operator = order.operator.as_bytes();
+    let _ref = order.order_ref.as_bytes();
+    let _tender = order.tender.cents();
+}
+
+// What a desk takes the message of an order for, at this moment.
+fn read_at_desk(alloc: Global, routes: &Routes, order: &Order, moment: Moment) -> Option<Request>
+    ensures { IfSome result (λ request. request ≡ Request.Sell order.now) }
+{
+    question_law();
+    conversation_law();
+    keeps_rules(order);
+    let Ok(text) = Question::Sell(*order).message(alloc) else {
+        return None;
+    };
+    let Next::Whole(received) = next_of(&text) else {
+        return None;
+    };
+    let mut clock = Script::new(moment.secs(), &[]);
+    match routes.meaning_of(alloc, &mut clock, &received) {
+        Meaning::Asks(_, _, request) => Some(request),
+        _ => None,
+    }
+}
+
+// A conversation of a new office in memory with all that this input says, and what was written.
+fn talked(alloc: Global, input: &[u8], second: i64) -> Option<(Books<MemStore, Plain>, Vec<u8>)>
+    ensures { IfSome result (λ both. (talk : IsTalk input.now (seen both.0))
+        × (both.1.items ≡ conversation_text talk.exchanges talk.ending)) }
+{
+    desk_law();
+    let Ok(desk) = Desk::new(alloc) else {
+        return None;
+    };
+    let Ok(mut books) = Books::in_memory(alloc, Plain) else {
+        return None;
+    };
+    let mut reader = input;
+    let mut text = Vec::new(alloc);
+    let mut clock = Script::new(second, &[]);
+    match desk.run(alloc, &mut reader, &mut text, &mut books, &mut clock) {
+        End::Closed => Some((books, text)),
+        _ => None,
+    }
+}
+
+#[test]
+fn a_message_has_one_meaning(rt: HostRuntime) -> Result<(), Fail> {
+    let routes = Routes::new(rt.alloc())?;
+    let Request::Sell(asked) = order(b"A-1", METER, 10)? else {
+        return Err("no order".into());
+    };
+    let read = read_at_desk(rt.alloc(), &routes, &asked, moment(FIRST_DAY)?).ok_or("no request")?;
+    match &read {
+        Request::Sell(read) => assert_eq!(rt; *read, asked),
+        _ => return Err("another request".into()),
+    }
+    Ok(())
+}
+
+const MESSAGES: &[u8] = b"POST /tariffs HTTP/1.1\r\nHost: d\r\nContent-Length: 30\r\n\r\n\
+    {\"name\":\"flat\",\"steps\":\":100\"}\
+    GET /health HTTP/1.1\r\nHost: d\r\n\r\n";
+
+const REPLIES: &[u8] = b"HTTP/1.1 200 OK\r\nContent-Type: application/json\r\n\
+    Content-Length: 13\r\n\r\n{\"done\":true}\
+    HTTP/1.1 200 OK\r\nContent-Type: application/json\r\nContent-Length: 22\r\n\r\n\
+    {\"format\":4,\"sales\":0}";
+
+#[test]
+fn a_desk_writes_its_conversation(rt: HostRuntime) -> Result<(), Fail> {
+    let (_books, text) = talked(rt.alloc(), MESSAGES, FIRST_DAY).ok_or("no conversation")?;
+    assert_eq!(rt; text.as_slice(), REPLIES);
+    Ok(())
+}

@@ -1,0 +1,16 @@
+//! Proved tests that make values which meet the premises of laws, by running the program's code,
+//! and conclude an equation from each law. There is no code here.
+#![tactic(auto)]
+
+#[cfg(test)]
+mod desks;
+#[cfg(test)]
+mod files;
+#[cfg(test)]
+mod messages;
+#[cfg(test)]
+mod offices;
+#[cfg(test)]
+mod questions;
+#[cfg(test)]
+mod routes;
