@@ -258,7 +258,8 @@ def check_waits(folder):
     sides = [
         Side(frozen_desk, folder), Side(full_queue), Side(reads_nothing, folder),
         *(Side(given_up_behind, sale[:cut], SELL) for cut in (0, 1, 40, len(sale) - 1)),
-        Side(given_up_behind, paper[:-1], receipt), Side(given_up_behind, page, listed, head + lines),
+        Side(given_up_behind, sale[:-1], receipt), Side(given_up_behind, paper[:-1], ["show", "last", "--meter", METER]),
+        Side(given_up_behind, page, listed, head + lines),
         Side(given_up_behind, page + page[:99], listed, head + lines), Side(given_up_behind, b"", listed),
         Side(taken_slowly, [sale[:third], sale[third:-1], sale[-1:]], PATIENCE - 3, SELL, RECEIPT),
         Side(taken_slowly, [bytes([it]) for it in sale], 0.03, SELL, RECEIPT)]
