@@ -59,11 +59,12 @@ timely_apart s t early late same apart =
     minutes_later (base_date s.base) s.moment t.moment (begins_minute s.base) a.0 apart in
     omega (arith, more, a.1, b.1, early.lead, late.not_past)
 
--- a sale that lives made is timely, and so is one of a plausible office
+-- a sale that lives made is timely
 pub have_made_timely : LowerLaws → (lives : List Life) (s : Sale) → HaveMade lives s → IsTimely s
 have_made_timely laws lives s have =
     made_timely laws have.start lives have.office s have.begins have.lead have.made
 
+-- a sale of a plausible office is timely
 pub plausible_timely : (o : Office) (s : Sale) → IsPlausible o → Contains o.sales s → IsTimely s
 plausible_timely o s plausible there =
     let at = slice_get-get_or o.sales there.0 s there.1 ∙ ap Some there.2 in

@@ -64,14 +64,16 @@ module _ (laws : LowerLaws) (start : Office) (lives : List Life) (o : Office) (b
   made_one : (s : Sale) → Contains sales s → WasMadeSince start o s
   made_one s in_sales = All-contains (WasMadeSince start o) sales s made in_sales
 
-  -- they stand, their identifiers are from 1 on, and rise
+  -- sales that lives made stand in what they lead to
   pub stand_made : All (Contains o.sales) sales
   stand_made = All-weaker (WasMadeSince start o) (Contains o.sales) (λ s one. one.stands) sales made
 
+  -- their identifiers are from 1 on
   pub from_one_made : All (λ (s : Sale). 1 ≤ s.tid) sales
   from_one_made = All-weaker (WasMadeSince start o) (λ (s : Sale). 1 ≤ s.tid) (λ s one.
       let least = made_tid laws start lives o s begins lead one in omega (arith, least.0)) sales made
 
+  -- in the order of sale the identifiers of a meter under a base rise
   pub rising_made : (a b : Sale) → Contains sales a → Contains sales b → a.number < b.number → Rises a b
   rising_made a b in_a in_b less = led_rises laws start lives o a b begins lead (made_one a in_a).stands (made_one b in_b) less
 

@@ -90,7 +90,7 @@ module _ (laws : LowerLaws) where
       subst (StepKeepsBy (HasTokensSince start forward)) (sym same)
       (λ o at office is range holds. step_writes_since start forward o at office is range holds)
 
-  -- each sale that lives under one transform made has the token of its fields
+  -- what was written stays so over lives under one transform, and what they write is so too
   led_write_since : (forward : ℕ → ℕ → ℕ) (start earlier : Office) (lives : List Life) (o : Office)
       → IsOffice earlier → LeadTo earlier lives o
       → All (λ (life : Life). life.forward ≡ forward) lives → HasTokensSince start forward earlier
@@ -102,6 +102,7 @@ module _ (laws : LowerLaws) where
       (λ life same. writes_by start forward life.forward same) lives one)
       office lead have
 
+  -- each sale that lives under one transform made has the token of its fields
   pub made_writes : (forward : ℕ → ℕ → ℕ) (start : Office) (lives : List Life) (o : Office)
       (s : Sale) → IsOffice start → LeadTo start lives o
       → All (λ (life : Life). life.forward ≡ forward) lives → WasMadeSince start o s
@@ -155,6 +156,7 @@ module _ (laws : LowerLaws) where
       subst (λ key. IsToken m.forward key (fields_of s) s.digits)
       (ap (λ (k : Meter). k.key) one ∙ are.key_is) was.token
 
+  -- so they are sales of which the laws of a meter hold
   pub made_for_are_sold : (start : Office) (lives : List Life) (o : Office) (m : SimMeter)
       (sales : List Sale) → AreMadeFor start lives o m sales → SoldTo o m sales
   made_for_are_sold start lives o m sales are =
