@@ -110,6 +110,7 @@ heads_alike (x ∷ []) rest s e alone t (i, within, at) =
     sym at ∙ ap (λ k. get_or (x ∷ []) k t) first ∙ ap (λ ys. get_or ys 0 x) e
 heads_alike (x ∷ y ∷ xs) rest s e alone t there = absurd (omega (arith, alone))
 
+-- in an office that grew out of one with a single sale, and has one still, it is that sale
 pub still_alone : (o p : Office) (s t : Sale) → HasGrown o p → o.sales ≡ s ∷ [] → length p.sales ≡ 1 → Contains p.sales t → t ≡ s
 still_alone o p s t grown one alone there =
     heads_alike p.sales grown.sales.0 s (grown.sales.1 ∙ ap (λ xs. xs ++ grown.sales.0) one) alone t there
