@@ -1,4 +1,4 @@
-//! Tests of the rules, which have no code of their own.
+//! Tests of the rules, which have no code of their own, and witnesses of the laws above them.
 //!
 //! Amounts, identifiers and the calendar, tokens, the simulated meter, tariffs, the office in plain
 //! vectors, and the texts that it prints and reads. What is expected was worked out by hand or by
@@ -7,6 +7,8 @@
 
 #[cfg(test)]
 mod faults;
+#[cfg(test)]
+mod laws;
 #[cfg(test)]
 mod meter;
 #[cfg(test)]

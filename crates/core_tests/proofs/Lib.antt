@@ -1,0 +1,4 @@
+mod EntryLemmas
+mod LivedLemmas
+mod SoldLemmas
+mod TransformLemmas

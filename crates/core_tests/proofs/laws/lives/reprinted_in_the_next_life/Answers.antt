@@ -1,0 +1,29 @@
+use Rattle.std.proofs.Common.{[], ◌∷◌, ap, subst}
+use Rattle.office_rules.specs.Office.{Office, empty_office}
+use Rattle.office_rules.specs.declared.office.sale.Sale.{Sale}
+use Rattle.office_rules.proofs.OfficeLemmas.RowLemmas.{contains_first, contains_further}
+use Rattle.vend_core.specs.Lists.{office_of, transform_of}
+use Rattle.core_tests.specs.Lived.{IsLived}
+use Rattle.core_tests.proofs.SoldLemmas.{there, two_lives}
+use Rattle.core_tests.proofs.laws.lives.reprinted_in_the_next_life.Goals as goal
+
+pub returns-then-again-first : goal.returns-then-again-first
+returns-then-again-first g c =
+    let forward = g.T.BlockTransform.forwards c.args.transform in
+    let found = c.in_ok-sold.sold in
+    let sold = c.in_ok-sold.ensures.sold in
+    let o = office_of found.lists in
+    let begun = subst (λ (start : Office). IsLived start (g.U.BlockTransform.forwards (transform_of c.with_transform-lists.result)) (office_of c.with_transform-lists.result))
+    c.with_transform-lists.ensures.office c.opens.ensures in
+    let handed = c.in_ok-again.ensures.handed o begun in
+    let p = office_of c.reprinted.new.lists in
+    let next = g.U.BlockTransform.forwards (transform_of c.reprinted.new.lists) in
+    let again = c.in_ok-again.again in
+    let one = sold.lived.life in
+    let other = handed.lived.life in
+    let here = there forward c.args.number c.args.meter.key c.args.meter.base o found.sale sold in
+    ap (λ (s : Sale). s.digits) (c.history_law.ensures.one_number (one ∷ other ∷ []) p again found.sale
+    (two_lives empty_office o p forward next sold.lived handed.lived)
+    (other, contains_further one other (other ∷ []) (contains_first other []), handed.hands again (contains_first again []))
+    (one, contains_first one (other ∷ []), c.life_law.ensures.listed one o found.sale sold.lived.running here)
+    c.if-again-first.true)

@@ -1,0 +1,2 @@
+-- What the witnesses of the laws conclude.
+pub mod Lived
