@@ -1,5 +1,6 @@
 mod FileLemmas
 mod OfficeLemmas
+mod PrintLemmas
 mod QuoteLemmas
 mod ReadingLemmas
 mod TalkLemmas

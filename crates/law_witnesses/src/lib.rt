@@ -11,6 +11,8 @@ mod messages;
 #[cfg(test)]
 mod offices;
 #[cfg(test)]
+mod programs;
+#[cfg(test)]
 mod questions;
 #[cfg(test)]
 mod routes;

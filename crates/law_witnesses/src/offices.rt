@@ -24,7 +24,7 @@ use sts_token::Plain;
 
 // Books in memory that served these requests from the empty office on, with the replies, and that
 // go on at this moment.
-fn served(
+pub(crate) fn served(
     alloc: Global,
     ats: &[Stamped],
     moment: Moment,
@@ -88,7 +88,7 @@ fn sold_and_reprinted(alloc: Global, ats: &[Stamped], moment: Moment) -> Option<
 }
 
 // The sale that was found, and the quote.
-fn sale_of(found: &Found) -> Option<Sale>
+pub(crate) fn sale_of(found: &Found) -> Option<Sale>
     ensures { IfSome result (λ sale. found.now ≡ Found.Sale sale) }
 {
     match found {
@@ -97,7 +97,7 @@ fn sale_of(found: &Found) -> Option<Sale>
     }
 }
 
-fn quote_of(found: &Found) -> Option<Quote>
+pub(crate) fn quote_of(found: &Found) -> Option<Quote>
     ensures { IfSome result (λ quote. found.now ≡ Found.Quote quote) }
 {
     match found {
