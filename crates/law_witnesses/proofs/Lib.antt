@@ -1,3 +1,4 @@
+mod AuditLemmas
 mod FileLemmas
 mod OfficeLemmas
 mod PrintLemmas

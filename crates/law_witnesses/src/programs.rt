@@ -1,31 +1,45 @@
 //! The laws of what the program prints.
-ghost use Rattle.std.specs.Prelude.{◌≡◌, false, true, filter, nat_lt, Contains, IfSome, None, Some};
+ghost use Rattle.std.specs.Prelude.{◌≡◌, false, true, filter, nat_lt, Contains, IfSome, IsTrue};
+ghost use Rattle.std.specs.Prelude.{None, Some, option_map};
+ghost use Rattle.audit.specs.declared.audited.Audited.{Audited};
 ghost use Rattle.book_tables.specs.row.Rows.{present_format};
+ghost use Rattle.command_line.specs.Transform.{forward_of};
 ghost use Rattle.desk_commands.specs.print.FoundTexts.{purchase_in};
 ghost use Rattle.desk_commands.specs.print.ListTexts.{page_text};
 ghost use Rattle.desk_commands.specs.print.Pages.{list_behind};
 ghost use Rattle.office_rules.specs.Decision.{MeterAccount};
 ghost use Rattle.office_rules.specs.Office.{IsOffice};
+ghost use Rattle.office_commands.specs.print.AuditLines.{sound_line};
 ghost use Rattle.papers.specs.Export.{export_of};
+ghost use Rattle.sqlite_disk.specs.Memory.{memory_is_usable};
 ghost use Rattle.sts_token.specs.Token.{BlockFunction};
 ghost use Rattle.tariff.specs.Purchase.{purchase_of};
 ghost use Rattle.vend_core.specs.Law.Life.{present};
 ghost use Rattle.vend_core.specs.Lists.{office_of};
 ghost use Rattle.law_witnesses.specs.Offices.{life_of};
+ghost use Rattle.law_witnesses.specs.Printed.{IsCounted};
 
+use crate::files::closed;
+use crate::kept::{KeptFile, Nothing};
 use crate::offices::{day, quote_of, sale_of, served};
 use book_states::{Found, Lookup, Quote};
 use book_tables::PRESENT_FORMAT;
+use books::Books;
+use command_line::AuditWords;
 use desk_commands::put_page;
+use office_commands::OfficeFile;
+use office_commands::commands::file_audit::run as run_audit;
 use office_lines::values::{FIRST_DAY, METER, meter_no, moment};
 use office_rules::{MeterNo, Moment, Reply, Sale, Stamped, Tender};
 use papers::receipt;
-use program_laws::{at_desk_law, format_law, list_law, offer_law, receipt_once};
+use program_laws::{at_desk_law, format_law, list_law, offer_law, receipt_once, sound_law};
+use sqlite::{Files, Options};
+use sqlite_disk::Memory;
 use std::alloc::Global;
 use std::test::Fail;
 use sts_token::Plain;
 use vend_core::{Lists, life_law, office_law};
-use vend_ports::Watched;
+use vend_ports::{CommandEnd, Watched};
 
 // The format of a file, as it is told.
 fn format_told() -> u32
@@ -159,7 +173,7 @@ fn sales_printed(
     }
 }
 
-// The last sale to a meter, looked up in books that serve a desk, and in books on its file.
+// The last sale to a meter in one life, looked up as for a desk and once more as on its file.
 fn found_twice(
     alloc: Global,
     ats: &[Stamped],
@@ -183,6 +197,60 @@ fn found_twice(
     };
     match sale_of(&again) {
         Some(second) => Some((first, second)),
+        None => None,
+    }
+}
+
+// What an audit of a file prints where it ends as done: the counts of the office that is there.
+fn audit_printed<H: OfficeFile>(alloc: Global, office: H, words: &AuditWords) -> Option<Vec<u8>>
+    requires { (it : H.Medium) → IsTrue (H.Medium.Disk.is_clean it) }
+    ensures { IfSome result (λ text. (audited : Audited)
+        × IsCounted (H.image office words.now.file.now) (option_map forward_of words.now.transform)
+        audited × (text.items ≡ sound_line audited)) }
+{
+    sound_law::<H>();
+    let mut out = Vec::new(alloc);
+    let mut err = Vec::new(alloc);
+    let mut watched = Watched::new(&mut out);
+    let mut errors = Watched::new(&mut err);
+    let mut progress = Nothing;
+    let ended = run_audit(
+        words,
+        alloc,
+        office,
+        &mut progress,
+        &mut watched,
+        &mut errors,
+    );
+    let failed = watched.has_failed();
+    watched.into_inner();
+    errors.into_inner();
+    if failed {
+        return None;
+    }
+    match ended.end {
+        CommandEnd::Done => Some(out),
+        _ => None,
+    }
+}
+
+// Files in memory on which books served these requests, as they were closed.
+fn files_left(alloc: Global, ats: &[Stamped]) -> Option<Files<Memory>>
+    ensures log { IfSome result (λ files. IsTrue (memory_is_usable files.log)) }
+    ensures db { IfSome result (λ files. IsTrue (memory_is_usable files.db)) }
+{
+    let files = Files {
+        log: Memory::new(alloc),
+        db: Memory::new(alloc),
+    };
+    let Ok(mut books) = Books::open_files(alloc, files, Options::new(7), Plain) else {
+        return None;
+    };
+    let Ok(_replies) = books.serve_all(ats) else {
+        return None;
+    };
+    match closed(books.into_connection()) {
+        Some(left) => Some(left),
         None => None,
     }
 }
@@ -236,5 +304,21 @@ fn a_desk_finds_what_its_file_has(rt: HostRuntime) -> Result<(), Fail> {
     )?;
     assert_eq!(rt; first.number, 1);
     assert_eq!(rt; second, first);
+    Ok(())
+}
+
+const SOUND: &[u8] = b"sound format 4 tariffs 1 meters 1 shifts 1 sales 1\n";
+
+#[test]
+fn an_audit_prints_what_it_counts(rt: HostRuntime) -> Result<(), Fail> {
+    let ats = day(rt.alloc(), &[])?;
+    let files = files_left(rt.alloc(), &ats).ok_or("no files")?;
+    let words = AuditWords {
+        file: "office.db",
+        wait: 0,
+        transform: None,
+    };
+    let text = audit_printed(rt.alloc(), KeptFile::<()>::new(files), &words).ok_or("no audit")?;
+    assert_eq!(rt; text.as_slice(), SOUND);
     Ok(())
 }
