@@ -1,6 +1,8 @@
 mod FileLemmas
+mod KeptLemmas
 mod OfficeLemmas
 mod QuoteLemmas
 mod ReadingLemmas
+mod RunLemmas
 mod TalkLemmas
 mod ToldLemmas

@@ -7,6 +7,8 @@ mod desks;
 #[cfg(test)]
 mod files;
 #[cfg(test)]
+mod kept;
+#[cfg(test)]
 mod messages;
 #[cfg(test)]
 mod offices;
@@ -14,3 +16,5 @@ mod offices;
 mod questions;
 #[cfg(test)]
 mod routes;
+#[cfg(test)]
+mod runs;
