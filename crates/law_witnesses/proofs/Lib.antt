@@ -1,8 +1,10 @@
 mod AuditLemmas
 mod FileLemmas
+mod KeptLemmas
 mod OfficeLemmas
 mod PrintLemmas
 mod QuoteLemmas
 mod ReadingLemmas
+mod RunLemmas
 mod TalkLemmas
 mod ToldLemmas

@@ -2,5 +2,6 @@
 pub mod Offices
 pub mod Printed
 pub mod Readings
+pub mod Runs
 pub mod Sold
 pub mod Talks

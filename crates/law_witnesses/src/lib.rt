@@ -18,3 +18,5 @@ mod programs;
 mod questions;
 #[cfg(test)]
 mod routes;
+#[cfg(test)]
+mod runs;
