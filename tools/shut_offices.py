@@ -1,4 +1,4 @@
-"""What shuts an office and what opens it again, row by row as docs/COMMANDS.md says: a part of tools/check_program. It
+"""What shuts an office and what opens it again, row by row as docs/COMMANDS.md says: a part of tools/check_pages. It
 is no script of its own."""
 import contextlib
 import os

@@ -1,0 +1,125 @@
+"""Whether the names on the pages of what is proved are those of the crates, by name and kind: a part of
+tools/check_pages. It is no script of its own.
+
+A small name in square brackets is a clause; behind the name of a law it is a clause of that law, or a field of a
+record that the law's contract names. A capitalised name is a definition or a type of this repository, a module of
+definitions or lemmas, or one of the toolchain, and then the page says so. A pair `CRATE/EDIT` is an edit, and so is
+each name under 'Wrong bodies' on a crate's page."""
+import re
+from collections import defaultdict
+
+from functions import FUNCTION, TEXT, blank, end_of_function, indent_of
+from program import TOP
+from shared import quoted, rows_of_page
+
+PAGES = ("docs/PROMISE.md", "docs/PROVED.md", "docs/DESIGN.md", "docs/OFFICE.md")
+# The names of the toolchain that the pages use, and of this repository's file that lists its handles.
+TOOLCHAIN = {"HasCleanDisk", "Wary", "Unknown"}
+OTHERS = {"HANDLES"}
+FENCE = re.compile(r"^```.*?^```[ ]*$", re.DOTALL | re.MULTILINE)
+DEFINED = re.compile(r"^ *(?:pub )?(?:abbrev|record|data) (?:pub )?(\w+)", re.MULTILINE)
+ENSURED = re.compile(r"\bensures (\w+)")
+FIELD = re.compile(r"^ +(?:pub )?(\w+) :", re.MULTILINE)
+LAW = r"(\w+_law|receipt_once)"
+
+
+def texts_of(pattern):
+    return [file.read_text(encoding="utf-8") for file in sorted(TOP.glob(f"crates/*/{pattern}"))]
+
+
+class Sources:
+    """The names that the crates have: clauses by the function that has them, definitions with their texts."""
+
+    def __init__(self):
+        self.contracts, self.definitions, self.types, self.fields = defaultdict(str), defaultdict(str), set(), set()
+        for text in texts_of("src/**/*.rt"):
+            self.read_source(TEXT.sub(blank, text))
+        for text in texts_of("specs/**/*.antt") + texts_of("proofs/**/*.antt"):
+            places = [*DEFINED.finditer(text)]
+            for found, after in zip(places, [*places[1:], None]):
+                self.definitions[found[1]] += text[found.start():after.start() if after else len(text)]
+            self.fields |= {*FIELD.findall(text)}
+        self.modules = {file.stem for kind in ("specs", "proofs") for file in TOP.glob(f"crates/*/{kind}/**/*.antt")}
+        self.crates = {path.name for path in (TOP / "crates").iterdir()}
+        self.edits = {file.stem if with_crate is None else f"{file.parts[-3]}/{file.stem}"
+                      for file in TOP.glob("crates/*/*/*.edit") for with_crate in (None, True)}
+
+    def read_source(self, text):
+        self.types |= {*re.findall(r"\b(?:struct|enum|trait|type|const) ([A-Z]\w*)", text)}
+        self.types |= {*re.findall(r"(?m)^ +([A-Z]\w*) *[({,]", text)}
+        lines, at = text.split("\n"), 0
+        while at < len(lines):
+            found = FUNCTION.match(lines[at])
+            if found:
+                own = lines[at:end_of_function(lines, at)]
+                body = next((place for place, line in enumerate(own)
+                             if line.startswith("{", indent_of(lines[at]))), len(own))
+                self.contracts[found[2]] += "\n".join(own[:body]) + "\n"
+            at += 1
+
+    def is_name(self, word):
+        return word in self.definitions or word in self.types or word in self.modules
+
+    def clauses_of(self, law):
+        """The clauses of a law, and the fields of the records that its contract names, or that they name."""
+        found, words = {*ENSURED.findall(self.contracts[law])}, {*re.findall(r"\b[A-Z]\w*", self.contracts[law])}
+        seen = set()
+        for _ in range(4):
+            words -= seen
+            seen |= words
+            texts = [self.definitions[word] for word in words if word in self.definitions]
+            found |= {name for text in texts for name in FIELD.findall(text)}
+            words = {word for text in texts for word in re.findall(r"\b[A-Z]\w*", text)}
+        return found
+
+    def all_clauses(self):
+        return {name for text in self.contracts.values() for name in ENSURED.findall(text)} | self.fields
+
+
+def wrong_names(texts):
+    """A line for each name that is none of the crates', or not of the kind that the page says."""
+    sources, count = Sources(), 0
+    every = sources.all_clauses()
+    for page, whole in texts.items():
+        if page not in PAGES and not re.fullmatch(r"crates/\w+/README\.md", page):
+            continue
+        text = re.sub(r"\]\([^)]*\)", "]()", FENCE.sub("", whole))
+        for law in re.findall(rf"`{LAW}`", text):
+            count += 1
+            if law not in sources.contracts:
+                yield f"{page}: {law} is no function of the crates"
+        for before, inside in re.findall(r"([^\[\n]{0,60})\[(`[^\]]*)\](?!\()", text):
+            own = re.search(rf"`{LAW}`\)?[ ,]*$", before)
+            allowed = sources.clauses_of(own[1]) if own else every
+            for clause in re.findall(r"`([a-z_]+)`", inside):
+                count += 1
+                if clause not in allowed and clause not in sources.crates:
+                    yield f"{page}: [{clause}] is no clause" + (f" of {own[1]}" if own else "")
+        for word in {*re.findall(r"`([A-Z]\w*)`", text)}:
+            count += 1
+            if word in TOOLCHAIN:
+                if "toolchain's" not in text:
+                    yield f"{page}: it does not say that {word} is the toolchain's"
+            elif word not in OTHERS and not sources.is_name(word):
+                yield f"{page}: {word} is nothing that the crates have"
+        for names in re.findall(r"\[Wrong bodies\]\([^)]*\): ([^\n]*?)\.(?: |$)", whole, ):
+            for edit in quoted(names):
+                count += 1
+                if edit not in sources.edits:
+                    yield f"{page}: {edit} is no edit"
+        for edit in re.findall(r"`(\w+/\w+-\w+)`", whole):
+            count += 1
+            if edit not in sources.edits:
+                yield f"{page}: {edit} is no edit"
+    yield from wrong_witnesses()
+    print(f"pages: {count} names of laws, clauses, definitions and edits")
+
+
+def wrong_witnesses():
+    """The witnesses in the table of promises are those of PROVED.md."""
+    known = {quoted(witness)[0] for _, witness in rows_of_page("PROVED.md", "Law", "Witness") if quoted(witness)}
+    for promise, *_, witness, _ in rows_of_page("PROMISE.md", "The promise", "Law [clauses], in", "Witness",
+                                                "A wrong program that is refused"):
+        for name in quoted(witness):
+            if name not in known:
+                yield f"docs/PROMISE.md: {name} is no witness in PROVED.md: {promise}"

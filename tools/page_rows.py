@@ -1,0 +1,471 @@
+"""Each row of the tables of docs/COMMANDS.md, and the bounds of docs/OFFICE.md, beside the program: a part of
+tools/check_pages. It is no script of its own.
+
+Most rows are run here. A row that takes more than a run names the script that runs it (`ELSEWHERE`), in which the
+named text has to stand. A row that is neither is wrong."""
+import itertools
+import re
+import shutil
+import subprocess
+import time
+
+import audited_offices
+from help_texts import helps_of
+from program import AT, KEY, METER, NO_METER, RECEIPT, SPENT, TOP, VEND, begin_desk, change, expect, prepare, vend
+from shared import quoted, rows_of_page, same, wrong
+from shut_offices import check_shut
+
+PAGE = "COMMANDS.md"
+FAR = "20000000008"
+# Half a year after the last identifier under the base date 1993.
+SPENT_AT = "1750000000"
+EXPORT = "number,moment,shift,operator,ref,meter,base,tid,tenths,price,tender,change,token"
+
+
+def sell(file, ref, meter=METER, tender="10", at=AT, operator="ann"):
+    return ["sell", "--file", file, "--operator", operator, "--ref", ref, "--meter", meter, "--tender", tender,
+            "--at", at]
+
+
+class Offices:
+    """Files to which a row's commands are given: each a copy of one office, or new."""
+
+    def __init__(self, folder):
+        self.folder, self.whole, self.count = folder, folder / "whole.db", 0
+        prepare(self.whole)
+        more = folder / "more.csv"
+        more.write_text(f"meter,base,tariff,key\n{FAR},2035,flat,{KEY}\n{SPENT},1993,flat,{KEY}\n")
+        expect(vend("import", "--file", str(self.whole), "--at", AT, "meters", str(more)), 0, b"added 2\n")
+        expect(vend(*sell(str(self.whole), "A-1")), 0, RECEIPT)
+        change(self.whole, "PRAGMA wal_checkpoint(TRUNCATE);")
+
+    def new(self):
+        self.count += 1
+        return self.folder / f"{self.count}.db"
+
+    def copy(self, statements=""):
+        file = self.new()
+        shutil.copy(self.whole, file)
+        if statements:
+            change(file, f"PRAGMA foreign_keys=0; {statements} PRAGMA wal_checkpoint(TRUNCATE);")
+        return str(file)
+
+    def text(self, text):
+        self.count += 1
+        file = self.folder / f"{self.count}.csv"
+        file.write_text(text)
+        return str(file)
+
+
+def check_commands(offices):
+    """Each command has a row, which says what it prints, and what it does where its file does not exist."""
+    meters = str(TOP / "examples" / "meters.csv")
+    words = {
+        "import": ["import", "--at", AT, "tariffs", str(TOP / "examples" / "tariffs.csv")],
+        "shift": ["shift", "--operator", "ann", "--at", AT, "close"],
+        "sell": sell("", "A-1")[:1] + sell("", "A-1")[3:],
+        "report": ["report", "--kind", "totals"],
+        "show": ["show", "--at", AT, "meter", "--meter", METER],
+        "list": ["list", "--at", AT, "tariffs"],
+        "offer": ["offer", "--at", AT, "--meter", METER, "15"],
+        "base": ["base", "--at", AT, "--meter", METER, "--base", "2014"],
+        "audit": ["audit"],
+        "serve": ["serve", "--listen", "127.0.0.1:0", "--connections", "1"],
+        "quote": ["quote", ":100", "0", "15"],
+        "meter": ["meter", "--key", KEY, "00072057602627981690"],
+        "trial": ["trial", "--base", "2014", "--key", KEY, "--at", AT, "1"],
+        "selfcheck": ["selfcheck"],
+    }
+    rows = rows_of_page(PAGE, "Command", "Standard output", "If the file does not exist", "With `--desk`")
+    helps = helps_of(VEND)[1]
+    same([quoted(name)[0] for name, *_ in rows], [*helps], f"docs/{PAGE}: the commands, beside the help")
+    for cell, prints, missing, desk in rows:
+        name = quoted(cell)[0]
+        if name not in words:
+            wrong(f"tools/page_rows.py runs no command {name}: add it there")
+        files = [said for option, said in helps[name].lists["Options"] if option.startswith("--file ")]
+        same("--desk" in "".join(files), desk.startswith("yes"), f"docs/{PAGE}: {name} with --desk")
+        same(not files, missing == "needs none", f"docs/{PAGE}: the file of {name}")
+        given = lambda file: [words[name][0], *(["--file", str(file)] if files else []), *words[name][1:]]
+        if name == "serve":
+            ends_by_signal(given(offices.copy()), quoted(prints)[0])
+        elif name == "import":
+            file = offices.new()
+            expect(vend(*given(file)), 0, b"added 1\n")
+            expect(vend("import", "--file", str(file), "--at", AT, "meters", meters), 0,
+                   f"{quoted(prints)[0]}\n".encode())
+        else:
+            check_printed(name, prints, vend(*given(offices.copy())))
+        if files:
+            file = offices.new()
+            ran = ends_by_signal(given(file), None) if name == "serve" else vend(*given(file))
+            same(file.exists(), missing == "is created", f"docs/{PAGE}: {name} makes its file")
+            if missing == "`file`":
+                expect(ran, 1, b"", b"file\n")
+    for kind, first in (("shift", "SHIFT 1 ann"), ("receipt", "SALE 1"), ("sales", EXPORT)):
+        ran = vend("report", "--file", offices.copy(), "--kind", kind)
+        same(ran.stdout.decode().partition("\n")[0], first, f"report --kind {kind}")
+    expect(vend("quote", *words["offer"][1:3], "--file", offices.copy(), *words["offer"][3:]), 2)
+    expect(vend("quote", "--file", offices.copy(), *words["offer"][1:]), 0, b"1 10 5\n")
+    expect(vend("sell", "--base", "2014", *words["trial"][3:]), 0, b"00072057602627981690\n")
+    return len(rows)
+
+
+def ends_by_signal(words, said):
+    """Has a desk run, and ends it; what it prints is nothing, and where it listens, of some shape."""
+    process = subprocess.Popen([VEND, *words], stdout=subprocess.PIPE, stderr=subprocess.PIPE)
+    line = process.stderr.readline().decode().rstrip("\n")
+    process.kill()
+    out = process.communicate()[0]
+    if said is not None:
+        same((re.sub(r":\d+$", "", line), out), (re.sub(r":\d+$", "", said), b""), "what serve prints")
+
+
+def check_printed(name, prints, ran):
+    """What a command prints is what stands first, or last, in its row, or of the kind that the row links."""
+    lines, shown = ran.stdout.decode().splitlines(), quoted(prints)
+    if name == "sell":
+        expect(ran, 0, RECEIPT, b"")
+    elif name in ("show", "list", "audit"):
+        first = {"show": "meter", "list": "tariff", "audit": "sound format 4"}[name]
+        same((ran.returncode, lines[0][:len(first)]), (0, first), f"docs/{PAGE}: {name}")
+    else:
+        wanted = shown if name == "meter" else shown[-1:] if name == "report" else shown[:1]
+        same((ran.returncode, lines), (0, wanted), f"docs/{PAGE}: what {name} prints")
+
+
+def check_columns(offices):
+    rows = rows_of_page(PAGE, "Command", "Columns")
+    file = offices.copy()
+    for cell, columns in rows:
+        command, what = quoted(cell)[0].split()
+        named = [] if command == "list" else ["--meter", METER]
+        head = vend(command, "--file", file, "--at", AT, what, *named).stdout.decode().partition("\n")[0].split("\t")
+        said = quoted(columns)
+        same((said[:len(head)], {*said} - {*head} <= {"-"}), (head, True), f"docs/{PAGE}: the columns of {command} {what}")
+    expect(vend("list", "--file", file, "--after", METER, "meters"), 0, None, b"")
+    expect(vend("list", "--file", file, "--after", METER[:-1] + "4", "meters"), 2, b"", b"bad word\n")
+    return len(rows)
+
+
+def check_statuses(offices):
+    """The statuses, by the words of the column `When`."""
+    file = offices.copy()
+    broken = offices.copy("UPDATE sales SET month = 9;")
+    runs = {
+        "done; help; `meter`, even if it refuses a token": (
+            [["audit", "--file", file], ["sell", "--help"], ["meter", "--key", KEY, "00000000000000000000"]], b""),
+        "refused; or a file, the clock or a connection failed": (
+            [["report", "--file", file, "--kind", "receipt", "--number", "7"], ["audit", "--file", "none.db"]], None),
+        "`audit` found a row that breaks a rule; or standard output failed": ([["audit", "--file", broken]], b""),
+        "an argument is missing or unknown": ([["sell"], ["audit", "--file", file, "--more"]], None),
+        "a value is outside its rule, or any argument is not UTF-8": (
+            [["quote", ":0", "0", "1"], ["quote", ":100", "0", b"\xff"], [b"\xff"], ["audit", "--file", b"\xff.db"]],
+            b"bad word\n"),
+    }
+    rows = rows_of_page(PAGE, "Status", "When", "Standard error")
+    same([when for _, when, _ in rows], [*runs], f"docs/{PAGE}: when there is which status")
+    for status, when, _ in rows:
+        given, err = runs[when]
+        for words in given:
+            ran = vend(*words)
+            expect(ran, int(status), None, err)
+            if err is None and not ran.stderr:
+                wrong(f"docs/{PAGE}: {words} says nothing on standard error")
+    with open("/dev/full", "w", encoding="utf-8") as full:
+        ran = subprocess.run([VEND, "audit", "--file", file], stdout=full, stderr=subprocess.PIPE, check=False)
+        same((ran.returncode, ran.stderr), (1, b""), "an audit whose output fails")
+    return len(rows)
+
+
+# Where a refusal takes more than a command on a file: the script that brings it about, and its text there.
+ELSEWHERE = {
+    "refused 5 NoTariff": ("tools/check_desk", 'refusal(5, "NoTariff")'),
+    "refused 6 Differs": ("tools/check_desk", 'refusal(6, "Differs")'),
+    "refused 11 OfficeFull": ("tools/check_at_desk", "refused 11 OfficeFull"),
+    "refused 15 Memory": ("tools/check_memory", "refused 15 Memory"),
+    "open 4 Memory": ("tools/check_memory", "open 4 Memory"),
+    "refused 17 Stopped": ("tools/bad_desks.py", "refused 17 Stopped"),
+    "refused 19 DayPast": ("tools/check_desk", 'refusal(19, "DayPast")'),
+    "refused clock": ("tools/check_at_desk", "refused clock"),
+}
+
+
+def check_refusals(offices):
+    """Each line of the refusals comes from what the page says of it."""
+    late, header = str(int(AT) + 90000), "meter,base,tariff,key\n"
+    base = lambda file, year: ["base", "--file", file, "--meter", METER, "--base", year, "--at", "2100000000"]
+    runs = {
+        "refused 1 RefReused": lambda file: [sell(file, "A-1", tender="20")],
+        "refused 2 NoShift": lambda file: [sell(file, "B-1", operator="bob")],
+        "refused 3 ShiftOpen": lambda file: [["shift", "--file", file, "--operator", "ann", "--at", AT, "open"]],
+        "refused 4 NoMeter": lambda file: [sell(file, "A-2", meter=NO_METER)],
+        "refused 7 BeforeBase": lambda file: [sell(file, "A-2", meter=FAR)],
+        "refused 8 IdentifiersSpent": lambda file: [sell(file, "A-2", meter=SPENT, at=SPENT_AT)],
+        "refused 9 IdentifierAhead": lambda file: [sell(file, "A-2", at=late), sell(file, "A-3")],
+        "refused 10 TooLittle": lambda file: [sell(file, "A-2", tender="9")],
+        "refused 12 NoSale": lambda file: [["report", "--file", file, "--kind", "receipt", "--number", "2"]],
+        "refused 13 NoSuchShift": lambda file: [["report", "--file", file, "--kind", "shift", "--number", "2"]],
+        "refused 14 ImportRow row cause": lambda file: [
+            ["import", "--file", file, "--at", AT, "meters", offices.text(f"{header}{NO_METER},2014,none,{KEY}\n")]],
+        "refused 16 Store": lambda file: [
+            sell(offices.copy(f"UPDATE meters SET secret = 'x' WHERE meter = '{METER}';"), "A-2")],
+        "refused 18 NotLater": lambda file: [base(file, "2035"), base(file, "2014")],
+        "refused amount": lambda file: [["trial", "--base", "2014", "--key", KEY, "--at", AT, "16385"]],
+        "file": lambda file: [["import", "--file", file, "tariffs", "none.csv"]],
+        "net": lambda file: [["list", "--desk", "127.0.0.1:1", "tariffs"]],
+        "open 1 NotAnOffice": lambda file: [["audit", "--file", offices.copy("ALTER TABLE sales ADD COLUMN more TEXT;")]],
+        "open 3 Store": lambda file: [["audit", "--file", offices.text("This is no database.\n" * 50)]],
+    }
+    lines = [line for cell, *_ in rows_of_page(PAGE, "Line", "Why", "What to do") for line in quoted(cell)]
+    same({*lines}, {*runs, *ELSEWHERE}, f"docs/{PAGE}: the lines of refusals that are run")
+    for line in lines:
+        if line in ELSEWHERE:
+            script, text = ELSEWHERE[line]
+            if text not in (TOP / script).read_text(encoding="utf-8"):
+                wrong(f"docs/{PAGE}: {script} does not run {line}")
+            continue
+        *before, last = runs[line](offices.copy())
+        for words in before:
+            expect(vend(*words), 0)
+        said = line.replace("row cause", "1 NoTariff")
+        expect(vend(*last), 1, b"", f"{said}\n".encode())
+    return len(lines)
+
+
+def check_causes(offices):
+    """The causes of 14, each by a file of rows."""
+    dated, meters = "name,steps,from\n", "meter,base,tariff,key\n"
+    runs = {
+        "Header": ("tariffs", meters, "0 Header"),
+        "Columns": ("tariffs", "name,steps\nday\n", "1 Columns"),
+        "Field k": ("tariffs", "name,steps\nday,:0\n", "1 Field 2"),
+        "TooManyRows": ("tariffs", "name,steps\n" + "flat,:100\n" * 10001, "10001 TooManyRows"),
+        "Differs": ("tariffs", "name,steps\nflat,:7\n", "1 Differs"),
+        "NoTariff": ("tariffs", f"{dated}night,:7,2099-01-01\n", "1 NoTariff"),
+        "DayPast": ("tariffs", f"{dated}flat,:7,2014-01-01\n", "1 DayPast"),
+    }
+    causes = [quoted(cell)[0] for cell, _ in rows_of_page(PAGE, "Cause", "Why")]
+    same(causes, [*runs], f"docs/{PAGE}: the causes of 14 that are run")
+    for kind, text, said in runs.values():
+        ran = vend("import", "--file", offices.copy(), "--at", AT, kind, offices.text(text))
+        expect(ran, 1, b"", f"refused 14 ImportRow {said}\n".encode())
+    return len(causes)
+
+
+def order_of_page():
+    """The places of the page's order: sets of a table and a rule that are looked at together."""
+    text = (TOP / "docs" / PAGE).read_text(encoding="utf-8")
+    steps = dict(re.findall(r"^(\d)\. (.*)$", text.partition("## What an audit prints")[2], re.MULTILINE))
+    alone = [{(table, "value"), (table, "month")} for table in quoted(steps["1"])[2:]]
+    together = []
+    for part in steps["2"].split(";"):
+        table, *rules = quoted(part)
+        together += [{(table, rule)} for rule in rules]
+    words = quoted(steps["3"])
+    totals = [{(table, rule)} for table in words[:3] for rule in words[3:]]
+    words = quoted(steps["4"])
+    requests = [{(words[0], words[1])}, {("sales", rule) for rule in words[2:]}]
+    return alone + together + totals + requests + [{tuple(quoted(steps["5"])[1:])}, {tuple(quoted(steps["6"])[:2])}]
+
+
+def check_audits(offices):
+    """The order of the page is that in which tools/check_program finds breaks; and each rule is broken once."""
+    places, at = order_of_page(), 0
+    for found in audited_offices.IN_ORDER:
+        table, *_, rule = found.split()
+        if (table, rule) not in places[at]:
+            later = [place for place in range(at, len(places)) if (table, rule) in places[place]]
+            at = later[0] if later else wrong(f"docs/{PAGE}: an audit finds {found} later than the page says")
+    rules = [quoted(cell)[0] for cell, _ in rows_of_page(PAGE, "Rule", "What is wrong with the row")]
+    ways = {}
+    for text, found in audited_offices.SPOILT + audited_offices.FORGED:
+        ways.setdefault(found.split()[-1], (text, found))
+    same({*rules}, {*ways, "twice"}, f"docs/{PAGE}: the rules that are broken")
+    whole = offices.folder / "full.db"
+    audited_offices.full_office(whole, offices.folder)
+    for rule in rules:
+        file = offices.new()
+        if rule == "twice":
+            text = offices.text("name,steps\nfare1,:100\nfare2,:100\n")
+            expect(vend("import", "--file", str(file), "tariffs", text), 0, b"added 2\n")
+            file.write_bytes(file.read_bytes().replace(b"fare2", b"fare1"))
+            expect(vend("audit", "--file", str(file)), 1, b"", b"open 3 Store\n")
+        else:
+            audited_offices.spoil(whole, file, ways[rule][0])
+            expect(vend("audit", "--file", str(file)), 1, f"broken {ways[rule][1]}\n".encode())
+    missing = offices.copy("UPDATE meters SET tariff = 'night';")
+    expect(vend("audit", "--file", missing), 1, b"", b"open 3 Store\n")
+    check_first_of_two(offices)
+    return len(rules)
+
+
+def check_first_of_two(offices):
+    """Of tables without numbers the page says which row is read first."""
+    tariffs = offices.text("name,steps\nzone,:100\narea,:100\n")
+    meters = offices.text(f"meter,base,tariff,key\n{METER},2014,zone,{KEY}\n10000000009,2014,zone,{KEY}\n")
+    for spoilt, found in (("DELETE FROM tariff_steps;", "tariffs area steps"),
+                          ("INSERT INTO meter_bases SELECT meter, 2035 FROM meters;", "meter_bases 10000000009 2035 base"),
+                          ("UPDATE tariff_steps SET price = 0;", "tariff_steps zone value"),
+                          ("UPDATE meters SET secret = 'x';", f"meters {METER} value")):
+        file = str(offices.new())
+        expect(vend("import", "--file", file, "--at", AT, "tariffs", tariffs), 0)
+        expect(vend("import", "--file", file, "--at", AT, "meters", meters), 0)
+        change(file, spoilt)
+        expect(vend("audit", "--file", file), 1, f"broken {found}\n".encode())
+
+
+# Which columns a row of the bounds speaks of, by its first cell without its links.
+COLUMNS = {
+    "`number`, `shift`": [("shifts", "number"), ("sales", "number"), ("shift_totals", "shift")],
+    "`opened`, `closed`, `moment`": [("shifts", "opened"), ("shifts", "closed"), ("sales", "moment")],
+    "`tid`": [("sales", "tid"), ("last_ids", "tid")],
+    "`rnd`": [("sales", "rnd")],
+    "`tenths` of a sale, an amount": [("sales", "tenths")],
+    "`tender`": [("sales", "tender")],
+    "`price` of a sale": [("sales", "price")],
+    "`price` of a step": [("tariff_steps", "price"), ("dated_steps", "price")],
+    "`place`, `ends`, `month` of `month_tenths`": [
+        ("tariff_steps", "place"), ("tariff_steps", "ends"), ("dated_steps", "place"), ("dated_steps", "ends"),
+        ("month_tenths", "month")],
+    "`day`": [("dated_steps", "day")],
+    "`sales`, `tenths`, `cash` of totals": [
+        ("shift_totals", "sales"), ("shift_totals", "tenths"), ("shift_totals", "cash"), ("month_tenths", "tenths")],
+}
+# Texts at the ends of their rules, and one beyond.
+TEXTS = {
+    "`name`, `tariff`, `ref`": ([("sales", "ref")], ["a", "-" * 32, "aZ-9"], ["", "a" * 33, "a_b", "a b", "é"]),
+    "`operator`": ([("sales", "operator"), ("shifts", "operator")], ["a", "Z" * 16], ["", "a" * 17, "a-b"]),
+    "`meter`": ([("last_ids", "meter")], ["00000000000", METER], [METER[:-1] + "4", METER[1:], "x" * 11]),
+    "`secret`": ([("meters", "secret")], ["0" * 16, "f" * 16], ["0" * 15, "F" * 16, "g" * 16]),
+    "`digits`": ([("sales", "digits")], ["0" * 20, "9" * 20], ["0" * 19, "0" * 21, "x" * 20]),
+}
+
+
+def check_bounds(offices):
+    """A value at a bound keeps the rule `value`, and one beyond it breaks it."""
+    whole, count = offices.folder / "full.db", 0
+
+    def breaks(table, column, value):
+        """Whether this value in the first row of a table that has it alone breaks the rule."""
+        file, free = offices.new(), ", price = 0" if column == "tender" else ""  # no price is above its tender
+        shutil.copy(whole, file)
+        change(file, f"PRAGMA foreign_keys=0; DELETE FROM sales WHERE '{table}' <> 'sales' OR number > 1;"
+               "DELETE FROM shift_totals WHERE shift > 1; DELETE FROM shifts WHERE"
+               f" '{table}.{column}' = 'shifts.number' AND number > 1; UPDATE {table} SET {column} = {value}{free} WHERE rowid ="
+               f" (SELECT min(rowid) FROM {table}); {LOOSE}")
+        ran = vend("audit", "--file", str(file))
+        said = ran.stdout.decode()
+        if ran.stderr or not said.startswith(("broken ", "sound ")):
+            wrong(f"{table} {column} = {value}: {ran}")
+        if said.endswith((" value\n", " month\n")) and not said.startswith(f"broken {table} "):
+            wrong(f"{table} {column} = {value}: {said}")
+        return said.endswith(" value\n")
+
+    cells = {re.sub(r"\[([^\]]*)\]\([^)]*\)", r"\1", cell): (least, most)
+             for cell, least, most in rows_of_page("OFFICE.md", "Column", "Least", "Greatest")}
+    same([*cells], [*COLUMNS], "docs/OFFICE.md: the bounds that are tried")
+    for cell, (least, most) in cells.items():
+        for table, column in COLUMNS[cell]:
+            greatest = 10 if most == "its tender" else int(most)
+            for value, is_beyond in ((int(least) - 1, True), (int(least), False), (greatest, False), (greatest + 1, True)):
+                same(breaks(table, column, value), is_beyond, f"docs/OFFICE.md: {table} {column} = {value}")
+                count += 1
+    texts = [cell for cell, _ in rows_of_page("OFFICE.md", "Column", "Text")]
+    same(texts, [*TEXTS], "docs/OFFICE.md: the texts that are tried")
+    for columns, inside, beyond in TEXTS.values():
+        for (table, column), (value, is_beyond) in itertools.product(
+                columns, [*((it, False) for it in inside), *((it, True) for it in beyond)]):
+            same(breaks(table, column, f"'{value}'"), is_beyond, f"docs/OFFICE.md: {table} {column} = '{value}'")
+            count += 1
+    for year, is_beyond in ((1993, False), (2014, False), (2035, False), (2013, True), (0, True)):
+        same(breaks("meter_bases", "base", year), is_beyond, f"docs/OFFICE.md: a base of {year}")
+    return count
+
+
+# What else a row refers to is let go, so that the opening reads a file that keeps its references.
+LOOSE = ("DELETE FROM meter_bases WHERE meter NOT IN (SELECT meter FROM meters);"
+         "PRAGMA wal_checkpoint(TRUNCATE);")
+
+
+def check_limits(offices):
+    """The limits, each at its end and beyond it; of the log, that it is no longer than the page says."""
+    limits = dict(rows_of_page(PAGE, "What", "Limit"))
+    steps = lambda count: ";".join([*(f"{place + 1}:9" for place in range(count - 1)), ":9"])
+    brings = lambda text, file: vend("import", "--file", file, "--at", AT, "tariffs", offices.text(text))
+    same(limits.pop("steps of a tariff"), "1 to 8", "the steps of a tariff")
+    expect(brings(f"name,steps\nmany,{steps(8)}\n", offices.copy()), 0, b"added 1\n")
+    expect(brings(f"name,steps\nmany,{steps(9)}\n", offices.copy()), 1, b"", b"refused 14 ImportRow 1 Field 2\n")
+    same(limits.pop("rows of an import"), "10000", "the rows of an import")
+    expect(brings("name,steps\n" + "flat,:100\n" * 10000, offices.copy()), 0, b"added 0\n")
+    most = limits.pop("amount of one sale").split()[2]
+    tenths = int(most.replace(".", ""))
+    trial = lambda amount: vend("trial", "--base", "2014", "--key", KEY, "--at", AT, str(amount))
+    expect(trial(tenths), 0)
+    expect(trial(tenths + 1), 1, b"", b"refused amount\n")
+    length = int(limits.pop("name of the file, without its folders").split()[0])
+    for more, status in ((0, 0), (1, 1)):
+        file = offices.folder / ("n" * (length + more))
+        expect(vend("shift", "--file", str(file), "--operator", "ann", "--at", AT, "open"), status)
+    same(limits.pop("shifts, and sales, in one file"), "10^9", "the shifts and sales of a file")  # as 11, above
+    megabytes = lambda what: float(limits.pop(f"log beside the file: {what}").split()[0]) * 1e6
+    file = str(offices.new())
+    is_at_most(megabytes("a command"), watched(file, "import", "--file", file, "tariffs",
+                                               str(TOP / "examples" / "tariffs.csv")), "a command")
+    rows = "".join(f"{audited_offices.meter_of(f'{number:010}')},2014,flat,{KEY}\n" for number in range(10000))
+    file = offices.copy()
+    is_at_most(megabytes("an import of 10,000 meters"), watched(file, "import", "--file", file, "--at", AT, "meters",
+                                                               offices.text(f"meter,base,tariff,key\n{rows}")), "an import")
+    is_at_most(megabytes("a desk"), log_of_desk(offices.copy()), "a desk")
+    same(limits, {}, f"docs/{PAGE}: the limits that are not tried")
+    return len(rows_of_page(PAGE, "What", "Limit"))
+
+
+def is_at_most(said, found, what):
+    if found > said:
+        wrong(f"docs/{PAGE}: the log of {what} has {found} bytes, more than {said:.0f}")
+
+
+def size_of(file):
+    try:
+        return (TOP / f"{file}-wal").stat().st_size
+    except FileNotFoundError:
+        return 0
+
+
+def watched(file, *words):
+    """How long the log was seen while a command ran."""
+    process, most = subprocess.Popen([VEND, *words], stdout=subprocess.DEVNULL), 0
+    while process.poll() is None:
+        most = max(most, size_of(file))
+        time.sleep(0.0005)
+    same(process.returncode, 0, f"the status of {words}")
+    return most
+
+
+def log_of_desk(file):
+    """How long the log is after 500 sales at a desk, by when it has begun again from its front."""
+    import http.client
+    import json
+    process, port = begin_desk(file, 1)
+    try:
+        line, most = http.client.HTTPConnection("127.0.0.1", port, timeout=20), 0
+        for number in range(500):
+            line.request("POST", "/sales", json.dumps({"meter": METER, "operator": "ann", "ref": f"L-{number}", "tender": 10}))
+            reply = line.getresponse()
+            same((reply.status, reply.read() != b""), (200, True), "a sale at a desk")
+            most = max(most, size_of(file))
+        return most
+    finally:
+        process.kill()
+        process.communicate()
+
+
+def check_page_rows(folder):
+    """All of them: how many rows there were."""
+    offices = Offices(folder)
+    count = sum(check(offices) for check in (check_commands, check_columns, check_statuses, check_refusals, check_causes,
+                                             check_audits, check_limits))
+    values = check_bounds(offices)
+    print(f"docs/{PAGE}: {count} rows of its tables run; docs/OFFICE.md: {values} values at its bounds and beyond")
+    check_shut(folder)
