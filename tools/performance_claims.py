@@ -11,7 +11,7 @@ def tables():
     """The tables of the page, by their titles: each a list of rows by the words of its head."""
     found, text = {}, (DOCS / "performance.txt").read_text(encoding="utf-8")
     for title, body in re.findall(r"^### (.*)\n\n((?:\|.*\n)+)", text, re.MULTILINE):
-        head, _, *rows = [[cell.strip() for cell in line.strip("|\n ").split("|")]
+        head, _, *rows = [[cell.strip() for cell in line.split("|")[1:-1]]
                           for line in body.splitlines()]
         found[title] = [dict(zip(head, row)) for row in rows]
     return found
@@ -55,15 +55,23 @@ def claims():
     page = "docs/PERFORMANCE.md"
     yield page, r"one message at a time \| (\S+) to (\S+) \| (\S+) to (\S+) \|", \
         [min(sold), max(sold), min(beside_c), max(beside_c)]
-    yield page, r"Of a sale's (\d+),000 instructions at the desk (\d+),000 are", \
+    yield page, r"at the desk takes (\d+),000 instructions\. This repository's functions take (\d+),000 of them", \
         [count / 1000 for count in instructions]
-    yield page, r"at 3 ms a sync (\d+) sales a second, at 10 ms (\d+), where one in C makes (\d+) and (\d+)", \
-        [number(slow[takes][side]) for side in ("vend", "C") for takes in ("3 ms", "10 ms")]
+    for takes, written in (("0 ms", "no time, in memory"), ("3 ms", "3 ms"), ("10 ms", "10 ms")):
+        yield page, rf"\|{written}\|(\d+)\|(\d+)\|(\d+)\|", [number(slow[takes][side]) for side in ("vend", "C", "Python")]
+    opened = [number(row["format 4, ms"]) * 1000 / number(row["Sales in the file"]) for row in all_tables[older]]
+    yield page, r"foreign key, in (\d+) to (\d+) µs a sale", [min(opened[1:]), max(opened[1:])]
+    waits = all_tables["How long a reply takes, in ms: median, 99 of 100, slowest"]
+    waits = next(row["vend"].split(", ") for row in waits if (row["Message"], row["At once"]) == ("sale", "1"))
+    yield page, r"a sale's reply takes (\S+) ms, and 99 of 100 take at most (\S+) ms", [float(it) for it in waits[:2]]
+    held = {row[""]: row for row in all_tables["What serve holds in memory, in MiB: now, at most"]}
+    yield page, r"holds (\S+) MiB after 20,000 messages, Python's (\S+) MiB", \
+        [float(held[side]["after 10000 reprints more"].split(", ")[1]) for side in ("vend", "Python")]
     yield page, r"A command syncs (\d+) to (\d+) times", [min(syncs[2:]), max(syncs[2:])]
     yield page, r"reprints at the desk \| (\S+) to (\S+) \|", [min(reprinted), max(reprinted)]
     looked_up = cells(lookups, "vend to Python")
     yield page, r"look-ups at the desk \| (\S+) to (\S+) \|", [min(looked_up), max(looked_up)]
-    yield page, r"each look-up, with 100,000 sales and 10,000 meters, at most (\S+) ms", [max(cells(lookups, "vend, ms"))]
+    yield page, r"with 100,000 sales and 10,000 meters, takes at most (\S+) ms", [max(cells(lookups, "vend, ms"))]
     for count, written in (("100", "100 sales in the file"), ("1000", "1,000 sales"),
                            ("10000", "10,000 sales")):
         yield page, rf"`sell`, {written} \| (\S+) \|", [number(sells[count]["vend to Python"])]
@@ -78,7 +86,7 @@ def claims():
         cells(commands, "vend to Python", Command="an import of 10000 meters (`import`)")
     yield page, r"opening takes (\S+) to (\S+) times as long as later ones", \
         [min(migrations), max(migrations)]
-    yield page, r"it holds (\d+) MiB where they hold (\d+)", \
+    yield page, r"sales it takes (\d+) MiB of memory, later ones (\d+)", \
         [number(most["format 1, MiB at most"]), number(most["format 4, MiB at most"])]
     per_sale = [ms * 1000 / count for count, ms in audits if count >= 10000]
     yield page, r"An audit\*\* takes (\S+) to (\S+) times as long as an opening, (\d+) to (\d+) µs a sale", \
@@ -87,21 +95,42 @@ def claims():
         [number(all_tables[audit][-1]["audit, MiB at most"])]
     yield "docs/FAQ.md", r"a `sell` takes (\S+) s\. .*`sell --desk` takes (\S+) ms", \
         [number(sells["100000"]["vend"]) / 1000, max(at_desk[0])]
+    yield "docs/FAQ.md", r"and (\d+) times at 100,000", [1 / number(sells["100000"]["vend to Python"])]
+    yield "README.md", r"`sell` with 100,000 sales in the file \| (\S+) s \| (\S+) s in Python", \
+        [number(sells["100000"][side]) / 1000 for side in ("vend", "Python")]
+    yield "README.md", r"on a disk that syncs in 3 ms \| (\d+) a second \| (\d+) in Python, (\d+) in C", \
+        [number(slow["3 ms"][side]) for side in ("vend", "Python", "C")]
+    yield "README.md", r"at a desk, in memory \| (\d+) a second \| (\d+) in Python, (\d+) in C", \
+        [number(slow["0 ms"][side]) for side in ("vend", "Python", "C")]
     yield "CHANGELOG.md", r"takes (\S+) to (\S+) times as long as a later one", \
         [min(migrations), max(migrations)]
 
 
+# Numbers of PERFORMANCE.md that say what was measured, and are no result.
+OF_WHAT = re.compile(r"\b(100|1,000|10,000|100,000) (sales|meters)|100 to 100,000 sales|20,000 messages|99 of 100|above 1 "
+                     r"|^  \|(3|10) ms\|", re.MULTILINE)
+
+
 def wrong_claims(texts):
-    """A line for each claim that a page does not make, or that is another number."""
-    count = 0
+    """A line for each claim that a page does not make, or that is another number; and for each number of
+    docs/PERFORMANCE.md that is no claim."""
+    count, page_claimed, claimed = 0, "docs/PERFORMANCE.md", set()
     for page, pattern, numbers in claims():
         found = re.search(pattern, texts[page])
         if not found:
             yield f"{page} has nothing like {pattern}"
             continue
+        if page == page_claimed:
+            claimed |= {place for group in range(1, found.re.groups + 1) for place in range(*found.span(group))}
         for written, real in zip(found.groups(), numbers):
             count += 1
             digits = len(written.partition(".")[2])
             if abs(float(written) - real) > 0.5 * 10 ** -digits + 1e-9:
                 yield f"{page}: {written}, where docs/performance.txt has {real:.4g}"
+    text = texts[page_claimed]
+    for found in OF_WHAT.finditer(text):
+        claimed |= {*range(*found.span())}
+    for found in re.finditer(r"(?<![\w.-])\d[\d,.]*", re.sub(r"\]\([^)]*\)|`[^`]*`", lambda it: "_" * len(it[0]), text)):
+        if found.start() not in claimed:
+            yield f"{page_claimed}: no script made {found[0]}: {text[max(0, found.start() - 30):found.end() + 30]!r}"
     print(f"pages: {count} numbers of docs/performance.txt")
