@@ -112,7 +112,24 @@ def wrong_names(texts):
             if edit not in sources.edits:
                 yield f"{page}: {edit} is no edit"
     yield from wrong_witnesses()
+    yield from missing_files()
     print(f"pages: {count} names of laws, clauses, definitions and edits")
+
+
+def missing_files():
+    """Each file that docs/DEVELOPING.md names for a change is in its crate, and each crate is one."""
+    own = re.compile(r"[\w/]+")
+    crates = []
+    for cells in rows_of_page("DEVELOPING.md", "Crate", "Files"):
+        crates = quoted(cells[0]) or crates
+        for crate in crates:
+            folder = TOP / "crates" / crate
+            found = {file.relative_to(folder).with_suffix("").as_posix()
+                     for kind in ("src", "specs", "proofs") for file in folder.glob(f"{kind}/**/*")}
+            words = "\n".join(file.read_text(encoding="utf-8") for file in folder.glob("src/**/*.rt"))
+            for name in filter(own.fullmatch, quoted(cells[1])):
+                if not any(path.endswith(f"/{name}") for path in found) and name not in words:
+                    yield f"docs/DEVELOPING.md: {crate} has no {name}"
 
 
 def wrong_witnesses():
