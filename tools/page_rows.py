@@ -84,7 +84,9 @@ def check_commands(offices):
         if name not in words:
             wrong(f"tools/page_rows.py runs no command {name}: add it there")
         files = [said for option, said in helps[name].lists["Options"] if option.startswith("--file ")]
-        same("--desk" in "".join(files), desk.startswith("yes"), f"docs/{PAGE}: {name} with --desk")
+        same("--desk" in "".join(files), desk == "yes", f"docs/{PAGE}: {name} with --desk")
+        asked = [name, "--desk", "127.0.0.1:1", *(it for it in words[name][1:] if it not in ("--at", AT))]
+        expect(vend(*asked), *((1, b"", b"net\n") if desk == "yes" else (2, b"")))
         same(not files, missing == "needs none", f"docs/{PAGE}: the file of {name}")
         given = lambda file: [words[name][0], *(["--file", str(file)] if files else []), *words[name][1:]]
         if name == "serve":
