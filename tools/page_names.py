@@ -2,9 +2,10 @@
 tools/check_pages. It is no script of its own.
 
 A small name in square brackets is a clause; behind the name of a law it is a clause of that law, or a field of a
-record that the law's contract names. A capitalised name is a definition or a type of this repository, a module of
-definitions or lemmas, or one of the toolchain, and then the page says so. A pair `CRATE/EDIT` is an edit, and so is
-each name under 'Wrong bodies' on a crate's page."""
+record that the law's contract names. A small name in round brackets is a definition, a function, a field, a lemma or
+a crate. A capitalised name is a definition or a type of this repository, a module of definitions or lemmas, or one of
+the toolchain, and then the page says so. A pair `CRATE/EDIT` is an edit, and so is each name under 'Wrong bodies' on
+a crate's page."""
 import re
 from collections import defaultdict
 
@@ -13,11 +14,11 @@ from program import TOP
 from shared import quoted, rows_of_page
 
 PAGES = ("docs/PROMISE.md", "docs/PROVED.md", "docs/DESIGN.md", "docs/OFFICE.md")
-# The names of the toolchain that the pages use, and of this repository's file that lists its handles.
+# The names of the toolchain that the pages use, and others: its crates, the file that lists the program's handles.
 TOOLCHAIN = {"HasCleanDisk", "Wary", "Unknown"}
-OTHERS = {"HANDLES"}
+OTHERS = {"HANDLES", "sqlite_disk", "sqlite_std_file", "sqlite_wal"}
 FENCE = re.compile(r"^```.*?^```[ ]*$", re.DOTALL | re.MULTILINE)
-DEFINED = re.compile(r"^ *(?:pub )?(?:abbrev|record|data) (?:pub )?(\w+)", re.MULTILINE)
+DEFINED = re.compile(r"^ *(?:pub )?(?:abbrev|record|data|unfoldable) (?:pub )?(\w+)", re.MULTILINE)
 ENSURED = re.compile(r"\bensures (\w+)")
 FIELD = re.compile(r"^ +(?:pub )?(\w+) :", re.MULTILINE)
 LAW = r"(\w+_law|receipt_once)"
@@ -39,6 +40,7 @@ class Sources:
             for found, after in zip(places, [*places[1:], None]):
                 self.definitions[found[1]] += text[found.start():after.start() if after else len(text)]
             self.fields |= {*FIELD.findall(text)}
+        self.lemmas = {name for text in texts_of("proofs/**/*.antt") for name in re.findall(r"(?m)^ *(?:pub )?(\w+) :", text)}
         self.modules = {file.stem for kind in ("specs", "proofs") for file in TOP.glob(f"crates/*/{kind}/**/*.antt")}
         self.crates = {path.name for path in (TOP / "crates").iterdir()}
         self.edits = {file.stem if with_crate is None else f"{file.parts[-3]}/{file.stem}"
@@ -102,6 +104,11 @@ def wrong_names(texts):
                     yield f"{page}: it does not say that {word} is the toolchain's"
             elif word not in OTHERS and not sources.is_name(word):
                 yield f"{page}: {word} is nothing that the crates have"
+        for word in (it for inside in re.findall(r"\(([^()]*)\)", text) for it in re.findall(r"`([a-z]\w*)`", inside)):
+            count += 1
+            if not (word in OTHERS or word in sources.crates or word in sources.fields or sources.is_name(word)
+                    or word in sources.contracts or word in sources.lemmas):
+                yield f"{page}: ({word}) is nothing that the crates have"
         for names in re.findall(r"\[Wrong bodies\]\([^)]*\): ([^\n]*?)\.(?: |$)", whole, ):
             for edit in quoted(names):
                 count += 1
