@@ -3,8 +3,11 @@ tools/check_pages. It is no script of its own.
 
 Most rows are run here. A row that takes more than a run names the script that runs it (`ELSEWHERE`), in which the
 named text has to stand. A row that is neither is wrong."""
+import http.client
 import itertools
+import json
 import re
+import shlex
 import shutil
 import subprocess
 import time
@@ -423,6 +426,32 @@ def check_limits(offices):
     return len(rows_of_page(PAGE, "What", "Limit"))
 
 
+def check_examples(offices):
+    """The sale and the message of README.md, and the sale at a desk of docs/COMMANDS.md, as they are written: what is
+    sold at once is sold at the moment of the example."""
+    readme = (TOP / "README.md").read_text(encoding="utf-8")
+    (sold, printed), (sent, replied) = re.findall(r"^```console\n\$ (.*)\n((?:.*\n)+?)```$", readme, re.MULTILINE)
+    file = offices.copy("DELETE FROM sales; DELETE FROM last_ids; DELETE FROM month_tenths; DELETE FROM shift_totals;")
+    words = shlex.split(sold)[1:]
+    words[words.index("office.db")] = file
+    expect(vend(*words, "--at", AT), 0, printed.encode())
+    process, port = begin_desk(file, 2)
+    try:
+        line = http.client.HTTPConnection("127.0.0.1", port, timeout=20)
+        line.request("POST", "/sales", shlex.split(sent)[-1])
+        reply = line.getresponse().read().decode()
+        line.close()
+        before, _, after = replied.strip().partition(" .. ")
+        same((reply.startswith(before), reply.endswith(after)), (True, True), f"README.md: the desk replied {reply}")
+        page = (TOP / "docs" / PAGE).read_text(encoding="utf-8")
+        command = re.search(r"^\./vend (sell --desk .*)$", page, re.MULTILINE)[1]
+        expect(vend(*shlex.split(command.replace("127.0.0.1:8080", f"127.0.0.1:{port}"))), 0, None, b"")
+    finally:
+        process.kill()
+        process.communicate()
+    return 3
+
+
 def is_at_most(said, found, what):
     if found > said:
         wrong(f"docs/{PAGE}: the log of {what} has {found} bytes, more than {said:.0f}")
@@ -447,8 +476,6 @@ def watched(file, *words):
 
 def log_of_desk(file):
     """How long the log is after 500 sales at a desk, by when it has begun again from its front."""
-    import http.client
-    import json
     process, port = begin_desk(file, 1)
     try:
         line, most = http.client.HTTPConnection("127.0.0.1", port, timeout=20), 0
@@ -467,7 +494,7 @@ def check_page_rows(folder):
     """All of them: how many rows there were."""
     offices = Offices(folder)
     count = sum(check(offices) for check in (check_commands, check_columns, check_statuses, check_refusals, check_causes,
-                                             check_audits, check_limits))
+                                             check_audits, check_limits, check_examples))
     values = check_bounds(offices)
-    print(f"docs/{PAGE}: {count} rows of its tables run; docs/OFFICE.md: {values} values at its bounds and beyond")
+    print(f"docs/{PAGE}: {count} rows of its tables and examples run; docs/OFFICE.md: {values} values at its bounds and beyond")
     check_shut(folder)
