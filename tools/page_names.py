@@ -40,7 +40,8 @@ class Sources:
             for found, after in zip(places, [*places[1:], None]):
                 self.definitions[found[1]] += text[found.start():after.start() if after else len(text)]
             self.fields |= {*FIELD.findall(text)}
-        self.lemmas = {name for text in texts_of("proofs/**/*.antt") for name in re.findall(r"(?m)^ *(?:pub )?(\w+) :", text)}
+        self.lemmas = {name for text in texts_of("proofs/**/*.antt")
+                       for name in re.findall(r"(?m)^ *(?:pub )?(\w+) :", text)}
         self.modules = {file.stem for kind in ("specs", "proofs") for file in TOP.glob(f"crates/*/{kind}/**/*.antt")}
         self.crates = {path.name for path in (TOP / "crates").iterdir()}
         self.edits = {file.stem if with_crate is None else f"{file.parts[-3]}/{file.stem}"

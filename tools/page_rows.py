@@ -4,7 +4,6 @@ tools/check_pages. It is no script of its own.
 Most rows are run here. A row that takes more than a run names the script that runs it (`ELSEWHERE`), in which the
 named text has to stand. A row that is neither is wrong."""
 import http.client
-import itertools
 import json
 import re
 import shlex
@@ -14,6 +13,7 @@ import time
 
 import audited_offices
 from help_texts import helps_of
+from page_bounds import check_bounds
 from program import AT, KEY, METER, NO_METER, RECEIPT, SPENT, TOP, VEND, begin_desk, change, expect, prepare, vend
 from shared import quoted, rows_of_page, same, wrong
 from shut_offices import check_shut
@@ -147,7 +147,7 @@ def check_columns(offices):
         named = [] if command == "list" else ["--meter", METER]
         head = vend(command, "--file", file, "--at", AT, what, *named).stdout.decode().partition("\n")[0].split("\t")
         said = quoted(columns)
-        same((said[:len(head)], {*said} - {*head} <= {"-"}), (head, True), f"docs/{PAGE}: the columns of {command} {what}")
+        same((said[:len(head)], {*said} - {*head} <= {"-"}), (head, True), f"docs/{PAGE}: the columns of {cell}")
     expect(vend("list", "--file", file, "--after", METER, "meters"), 0, None, b"")
     expect(vend("list", "--file", file, "--after", METER[:-1] + "4", "meters"), 2, b"", b"bad word\n")
     return len(rows)
@@ -219,7 +219,8 @@ def check_refusals(offices):
         "refused amount": lambda file: [["trial", "--base", "2014", "--key", KEY, "--at", AT, "16385"]],
         "file": lambda file: [["import", "--file", file, "tariffs", "none.csv"]],
         "net": lambda file: [["list", "--desk", "127.0.0.1:1", "tariffs"]],
-        "open 1 NotAnOffice": lambda file: [["audit", "--file", offices.copy("ALTER TABLE sales ADD COLUMN more TEXT;")]],
+        "open 1 NotAnOffice": lambda file: [
+            ["audit", "--file", offices.copy("ALTER TABLE sales ADD COLUMN more TEXT;")]],
         "open 3 Store": lambda file: [["audit", "--file", offices.text("This is no database.\n" * 50)]],
     }
     lines = [line for cell, *_ in rows_of_page(PAGE, "Line", "Why", "What to do") for line in quoted(cell)]
@@ -256,6 +257,31 @@ def check_causes(offices):
         ran = vend("import", "--file", offices.copy(), "--at", AT, kind, offices.text(text))
         expect(ran, 1, b"", f"refused 14 ImportRow {said}\n".encode())
     return len(causes)
+
+
+def check_spreadsheets(offices):
+    """What an import says of files as spreadsheets write them, row by row of docs/TEXTS.md."""
+    head, row = "meter,base,tariff,key", f"{NO_METER},2014,flat,{KEY}"
+    whole = f"{head}\n{row}\n"
+    runs = {
+        "`ImportRow 0 Header`": [whole.replace(",", ";"), whole.replace(",", "\t"), whole.encode("utf-16"),
+                                 f"sep=,\n{whole}", whole.replace(",", ", "), whole.replace("\n", ",\n")],
+        "`Field 1` of that row": [f"{whole},,,\n"],
+        "`Field 4` of its row": [f"{head}\n{row[:-16]}1200000\n", f"{head}\n{row[:-16]}00000000000012E5\n"],
+        "`Field 1` of its row": [f"{head}\n1.2E+10{row[11:]}\n"],
+    }
+    rows = rows_of_page("TEXTS.md", "What it wrote", "What `import` says")
+    same([said for _, said in rows], [*runs], "docs/TEXTS.md: what an import says")
+    for (_, said), texts in zip(rows, runs.values()):
+        for text in texts:
+            file = offices.folder / "sheet.csv"
+            file.write_bytes(text if isinstance(text, bytes) else text.encode())
+            wanted = quoted(said)[0]
+            if wanted.startswith("Field"):
+                wanted = f"ImportRow {2 if 'that' in said else 1} {wanted}"
+            expect(vend("import", "--file", offices.copy(), "--at", AT, "meters", str(file)), 1, b"",
+                   f"refused 14 {wanted}\n".encode())
+    return len(rows)
 
 
 def order_of_page():
@@ -310,7 +336,8 @@ def check_first_of_two(offices):
     tariffs = offices.text("name,steps\nzone,:100\narea,:100\n")
     meters = offices.text(f"meter,base,tariff,key\n{METER},2014,zone,{KEY}\n10000000009,2014,zone,{KEY}\n")
     for spoilt, found in (("DELETE FROM tariff_steps;", "tariffs area steps"),
-                          ("INSERT INTO meter_bases SELECT meter, 2035 FROM meters;", "meter_bases 10000000009 2035 base"),
+                          ("INSERT INTO meter_bases SELECT meter, 2035 FROM meters;",
+                           "meter_bases 10000000009 2035 base"),
                           ("UPDATE tariff_steps SET price = 0;", "tariff_steps zone value"),
                           ("UPDATE meters SET secret = 'x';", f"meters {METER} value")):
         file = str(offices.new())
@@ -318,79 +345,6 @@ def check_first_of_two(offices):
         expect(vend("import", "--file", file, "--at", AT, "meters", meters), 0)
         change(file, spoilt)
         expect(vend("audit", "--file", file), 1, f"broken {found}\n".encode())
-
-
-# Which columns a row of the bounds speaks of, by its first cell without its links.
-COLUMNS = {
-    "`number`, `shift`": [("shifts", "number"), ("sales", "number"), ("shift_totals", "shift")],
-    "`opened`, `closed`, `moment`": [("shifts", "opened"), ("shifts", "closed"), ("sales", "moment")],
-    "`tid`": [("sales", "tid"), ("last_ids", "tid")],
-    "`rnd`": [("sales", "rnd")],
-    "`tenths` of a sale, an amount": [("sales", "tenths")],
-    "`tender`": [("sales", "tender")],
-    "`price` of a sale": [("sales", "price")],
-    "`price` of a step": [("tariff_steps", "price"), ("dated_steps", "price")],
-    "`place`, `ends`, `month` of `month_tenths`": [
-        ("tariff_steps", "place"), ("tariff_steps", "ends"), ("dated_steps", "place"), ("dated_steps", "ends"),
-        ("month_tenths", "month")],
-    "`day`": [("dated_steps", "day")],
-    "`sales`, `tenths`, `cash` of totals": [
-        ("shift_totals", "sales"), ("shift_totals", "tenths"), ("shift_totals", "cash"), ("month_tenths", "tenths")],
-}
-# Texts at the ends of their rules, and one beyond.
-TEXTS = {
-    "`name`, `tariff`, `ref`": ([("sales", "ref")], ["a", "-" * 32, "aZ-9"], ["", "a" * 33, "a_b", "a b", "é"]),
-    "`operator`": ([("sales", "operator"), ("shifts", "operator")], ["a", "Z" * 16], ["", "a" * 17, "a-b"]),
-    "`meter`": ([("last_ids", "meter")], ["00000000000", METER], [METER[:-1] + "4", METER[1:], "x" * 11]),
-    "`secret`": ([("meters", "secret")], ["0" * 16, "f" * 16], ["0" * 15, "F" * 16, "g" * 16]),
-    "`digits`": ([("sales", "digits")], ["0" * 20, "9" * 20], ["0" * 19, "0" * 21, "x" * 20]),
-}
-
-
-def check_bounds(offices):
-    """A value at a bound keeps the rule `value`, and one beyond it breaks it."""
-    whole, count = offices.folder / "full.db", 0
-
-    def breaks(table, column, value):
-        """Whether this value in the first row of a table that has it alone breaks the rule."""
-        file, free = offices.new(), ", price = 0" if column == "tender" else ""  # no price is above its tender
-        shutil.copy(whole, file)
-        change(file, f"PRAGMA foreign_keys=0; DELETE FROM sales WHERE '{table}' <> 'sales' OR number > 1;"
-               "DELETE FROM shift_totals WHERE shift > 1; DELETE FROM shifts WHERE"
-               f" '{table}.{column}' = 'shifts.number' AND number > 1; UPDATE {table} SET {column} = {value}{free} WHERE rowid ="
-               f" (SELECT min(rowid) FROM {table}); {LOOSE}")
-        ran = vend("audit", "--file", str(file))
-        said = ran.stdout.decode()
-        if ran.stderr or not said.startswith(("broken ", "sound ")):
-            wrong(f"{table} {column} = {value}: {ran}")
-        if said.endswith((" value\n", " month\n")) and not said.startswith(f"broken {table} "):
-            wrong(f"{table} {column} = {value}: {said}")
-        return said.endswith(" value\n")
-
-    cells = {re.sub(r"\[([^\]]*)\]\([^)]*\)", r"\1", cell): (least, most)
-             for cell, least, most in rows_of_page("OFFICE.md", "Column", "Least", "Greatest")}
-    same([*cells], [*COLUMNS], "docs/OFFICE.md: the bounds that are tried")
-    for cell, (least, most) in cells.items():
-        for table, column in COLUMNS[cell]:
-            greatest = 10 if most == "its tender" else int(most)
-            for value, is_beyond in ((int(least) - 1, True), (int(least), False), (greatest, False), (greatest + 1, True)):
-                same(breaks(table, column, value), is_beyond, f"docs/OFFICE.md: {table} {column} = {value}")
-                count += 1
-    texts = [cell for cell, _ in rows_of_page("OFFICE.md", "Column", "Text")]
-    same(texts, [*TEXTS], "docs/OFFICE.md: the texts that are tried")
-    for columns, inside, beyond in TEXTS.values():
-        for (table, column), (value, is_beyond) in itertools.product(
-                columns, [*((it, False) for it in inside), *((it, True) for it in beyond)]):
-            same(breaks(table, column, f"'{value}'"), is_beyond, f"docs/OFFICE.md: {table} {column} = '{value}'")
-            count += 1
-    for year, is_beyond in ((1993, False), (2014, False), (2035, False), (2013, True), (0, True)):
-        same(breaks("meter_bases", "base", year), is_beyond, f"docs/OFFICE.md: a base of {year}")
-    return count
-
-
-# What else a row refers to is let go, so that the opening reads a file that keeps its references.
-LOOSE = ("DELETE FROM meter_bases WHERE meter NOT IN (SELECT meter FROM meters);"
-         "PRAGMA wal_checkpoint(TRUNCATE);")
 
 
 def check_limits(offices):
@@ -418,9 +372,9 @@ def check_limits(offices):
     is_at_most(megabytes("a command"), watched(file, "import", "--file", file, "tariffs",
                                                str(TOP / "examples" / "tariffs.csv")), "a command")
     rows = "".join(f"{audited_offices.meter_of(f'{number:010}')},2014,flat,{KEY}\n" for number in range(10000))
-    file = offices.copy()
-    is_at_most(megabytes("an import of 10,000 meters"), watched(file, "import", "--file", file, "--at", AT, "meters",
-                                                               offices.text(f"meter,base,tariff,key\n{rows}")), "an import")
+    file, meters = offices.copy(), offices.text(f"meter,base,tariff,key\n{rows}")
+    is_at_most(megabytes("an import of 10,000 meters"),
+               watched(file, "import", "--file", file, "--at", AT, "meters", meters), "an import")
     is_at_most(megabytes("a desk"), log_of_desk(offices.copy()), "a desk")
     same(limits, {}, f"docs/{PAGE}: the limits that are not tried")
     return len(rows_of_page(PAGE, "What", "Limit"))
@@ -480,7 +434,8 @@ def log_of_desk(file):
     try:
         line, most = http.client.HTTPConnection("127.0.0.1", port, timeout=20), 0
         for number in range(500):
-            line.request("POST", "/sales", json.dumps({"meter": METER, "operator": "ann", "ref": f"L-{number}", "tender": 10}))
+            order = {"meter": METER, "operator": "ann", "ref": f"L-{number}", "tender": 10}
+            line.request("POST", "/sales", json.dumps(order))
             reply = line.getresponse()
             same((reply.status, reply.read() != b""), (200, True), "a sale at a desk")
             most = max(most, size_of(file))
@@ -490,11 +445,15 @@ def log_of_desk(file):
         process.communicate()
 
 
+PARTS = (check_commands, check_columns, check_statuses, check_refusals, check_causes, check_audits, check_limits,
+         check_examples, check_spreadsheets)
+
+
 def check_page_rows(folder):
-    """All of them: how many rows there were."""
+    """All of them."""
     offices = Offices(folder)
-    count = sum(check(offices) for check in (check_commands, check_columns, check_statuses, check_refusals, check_causes,
-                                             check_audits, check_limits, check_examples))
+    count = sum(check(offices) for check in PARTS)
     values = check_bounds(offices)
-    print(f"docs/{PAGE}: {count} rows of its tables and examples run; docs/OFFICE.md: {values} values at its bounds and beyond")
+    print(f"docs/{PAGE}, TEXTS.md: {count} rows of tables and examples run; "
+          f"docs/OFFICE.md: {values} values at its bounds and beyond")
     check_shut(folder)

@@ -58,7 +58,8 @@ def claims():
     yield page, r"at the desk takes (\d+),000 instructions\. This repository's functions take (\d+),000 of them", \
         [count / 1000 for count in instructions]
     for takes, written in (("0 ms", "no time, in memory"), ("3 ms", "3 ms"), ("10 ms", "10 ms")):
-        yield page, rf"\|{written}\|(\d+)\|(\d+)\|(\d+)\|", [number(slow[takes][side]) for side in ("vend", "C", "Python")]
+        yield page, rf"\|{written}\|(\d+)\|(\d+)\|(\d+)\|", \
+            [number(slow[takes][side]) for side in ("vend", "C", "Python")]
     opened = [number(row["format 4, ms"]) * 1000 / number(row["Sales in the file"]) for row in all_tables[older]]
     yield page, r"foreign key, in (\d+) to (\d+) µs a sale", [min(opened[1:]), max(opened[1:])]
     waits = all_tables["How long a reply takes, in ms: median, 99 of 100, slowest"]
@@ -107,8 +108,8 @@ def claims():
 
 
 # Numbers of PERFORMANCE.md that say what was measured, and are no result.
-OF_WHAT = re.compile(r"\b(100|1,000|10,000|100,000) (sales|meters)|100 to 100,000 sales|20,000 messages|99 of 100|above 1 "
-                     r"|^  \|(3|10) ms\|", re.MULTILINE)
+OF_WHAT = re.compile(r"\b(100|1,000|10,000|100,000) (sales|meters)|100 to 100,000 sales|20,000 messages|99 of 100"
+                     r"|above 1 |^  \|(3|10) ms\|", re.MULTILINE)
 
 
 def wrong_claims(texts):
@@ -130,7 +131,8 @@ def wrong_claims(texts):
     text = texts[page_claimed]
     for found in OF_WHAT.finditer(text):
         claimed |= {*range(*found.span())}
-    for found in re.finditer(r"(?<![\w.-])\d[\d,.]*", re.sub(r"\]\([^)]*\)|`[^`]*`", lambda it: "_" * len(it[0]), text)):
+    bare = re.sub(r"\]\([^)]*\)|`[^`]*`", lambda it: "_" * len(it[0]), text)
+    for found in re.finditer(r"(?<![\w.-])\d[\d,.]*", bare):
         if found.start() not in claimed:
             yield f"{page_claimed}: no script made {found[0]}: {text[max(0, found.start() - 30):found.end() + 30]!r}"
     print(f"pages: {count} numbers of docs/performance.txt")
