@@ -1,9 +1,11 @@
 """Which numbers of the pages come from docs/performance.txt, and whether they are its numbers. A claim
 is a pattern with a group for each number, and what these have to be: numbers of the tables there,
 rounded as the page writes them."""
+import math
 import re
 from pathlib import Path
 
+WEEKS = 365.25 / 7  # of a year
 DOCS = Path(__file__).resolve().parent.parent / "docs"
 
 
@@ -97,6 +99,21 @@ def claims():
     yield "docs/FAQ.md", r"a `sell` takes (\S+) s\. .*`sell --desk` takes (\S+) ms", \
         [number(sells["100000"]["vend"]) / 1000, max(at_desk[0])]
     yield "docs/FAQ.md", r"and (\d+) times at 100,000", [1 / number(sells["100000"]["vend to Python"])]
+    # Between two sizes of a file the ratio is taken as a line over logarithms.
+    faster, slower = (math.log(number(sells[count]["vend to Python"])) for count in ("1000", "10000"))
+    yield "docs/FAQ.md", r"from some (\d+),000 sales on", [10 ** (faster / (faster - slower))]
+    held_by_audit = number(all_tables[audit][-1]["audit, MiB at most"])
+    gigabytes = held_by_audit * 2 ** 20 / 1e5 * 1e6 / 1e9  # for a million sales
+    growing = "docs/GROWING.md"
+    yield growing, r"a million sales take some (\S+) s", [number(most["format 4, ms"]) * 10 / 1000]
+    yield growing, r"(\d+) MiB with 100,000 sales, so some (\S+) GB with a million and (\d+) GB with ten million", \
+        [held_by_audit, gigabytes, gigabytes * 10]
+    years = 1e5 / WEEKS
+    yield growing, r"\| (\d+),000 \| (\d+) months \| (\d),(\d)00 years \|", \
+        [10, 100 / WEEKS * 12, years // 1000, years % 1000 / 100]
+    yield growing, r"\| 1,000,000 \| (\d+) days \| (\d+) years \|", [7, 1000 / WEEKS]
+    yield growing, r"\| 10,000,000, (\d+) sales a second \| (\d+) hours \| (\d+) months \|", \
+        [1e7 / 604800, 1e6 / (1e7 / 604800) / 3600, 100 / WEEKS * 12]
     yield "README.md", r"`sell` with 100,000 sales in the file \| (\S+) s \| (\S+) s in Python", \
         [number(sells["100000"][side]) / 1000 for side in ("vend", "Python")]
     yield "README.md", r"on a disk that syncs in 3 ms \| (\d+) a second \| (\d+) in Python, (\d+) in C", \
