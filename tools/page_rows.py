@@ -15,7 +15,7 @@ import audited_offices
 from help_texts import helps_of
 from page_bounds import check_bounds
 from program import AT, KEY, METER, NO_METER, RECEIPT, SPENT, TOP, VEND, begin_desk, change, expect, prepare, vend
-from shared import quoted, rows_of_page, same, wrong
+from shared import back_to, quoted, rows_of_page, same, wrong
 from shut_offices import check_shut
 
 PAGE = "COMMANDS.md"
@@ -375,6 +375,8 @@ def check_limits(offices):
     file, meters = offices.copy(), offices.text(f"meter,base,tariff,key\n{rows}")
     is_at_most(megabytes("an import of 10,000 meters"),
                watched(file, "import", "--file", file, "--at", AT, "meters", meters), "an import")
+    change(file, f"{back_to(1)} PRAGMA wal_checkpoint(TRUNCATE);")
+    is_at_most(megabytes("migrating an older file"), watched(file, "list", "--file", file, "tariffs"), "a migration")
     is_at_most(megabytes("a desk"), log_of_desk(offices.copy()), "a desk")
     same(limits, {}, f"docs/{PAGE}: the limits that are not tried")
     return len(rows_of_page(PAGE, "What", "Limit"))
