@@ -144,7 +144,7 @@ def wrong_witnesses():
     """The witnesses in the table of promises are those of PROVED.md."""
     known = {quoted(witness)[0] for _, witness in rows_of_page("PROVED.md", "Law", "Witness") if quoted(witness)}
     for promise, *_, witness, _ in rows_of_page("PROMISE.md", "The promise", "Law [clauses], in", "Witness",
-                                                "A wrong program that is refused"):
+                                                "A wrong program to be refused"):
         for name in quoted(witness):
             if name not in known:
                 yield f"docs/PROMISE.md: {name} is no witness in PROVED.md: {promise}"
