@@ -60,59 +60,68 @@ class Offices:
         return str(file)
 
 
+# Each command without its file.
+WORDS = {
+    "import": ["import", "--at", AT, "tariffs", str(TOP / "examples" / "tariffs.csv")],
+    "shift": ["shift", "--operator", "ann", "--at", AT, "close"],
+    "sell": sell("", "A-1")[:1] + sell("", "A-1")[3:],
+    "report": ["report", "--kind", "totals"],
+    "show": ["show", "--at", AT, "meter", "--meter", METER],
+    "list": ["list", "--at", AT, "tariffs"],
+    "offer": ["offer", "--at", AT, "--meter", METER, "15"],
+    "base": ["base", "--at", AT, "--meter", METER, "--base", "2014"],
+    "audit": ["audit"],
+    "serve": ["serve", "--listen", "127.0.0.1:0", "--connections", "1"],
+    "quote": ["quote", ":100", "0", "15"],
+    "meter": ["meter", "--key", KEY, "00072057602627981690"],
+    "trial": ["trial", "--base", "2014", "--key", KEY, "--at", AT, "1"],
+    "selfcheck": ["selfcheck"],
+}
+
+
+def given(name, file, has_file=True):
+    """The words of a command with this file."""
+    return [name, *(["--file", str(file)] if has_file else []), *WORDS[name][1:]]
+
+
 def check_commands(offices):
     """Each command has a row, which says what it prints, and what it does where its file does not exist."""
     meters = str(TOP / "examples" / "meters.csv")
-    words = {
-        "import": ["import", "--at", AT, "tariffs", str(TOP / "examples" / "tariffs.csv")],
-        "shift": ["shift", "--operator", "ann", "--at", AT, "close"],
-        "sell": sell("", "A-1")[:1] + sell("", "A-1")[3:],
-        "report": ["report", "--kind", "totals"],
-        "show": ["show", "--at", AT, "meter", "--meter", METER],
-        "list": ["list", "--at", AT, "tariffs"],
-        "offer": ["offer", "--at", AT, "--meter", METER, "15"],
-        "base": ["base", "--at", AT, "--meter", METER, "--base", "2014"],
-        "audit": ["audit"],
-        "serve": ["serve", "--listen", "127.0.0.1:0", "--connections", "1"],
-        "quote": ["quote", ":100", "0", "15"],
-        "meter": ["meter", "--key", KEY, "00072057602627981690"],
-        "trial": ["trial", "--base", "2014", "--key", KEY, "--at", AT, "1"],
-        "selfcheck": ["selfcheck"],
-    }
     rows = rows_of_page(PAGE, "Command", "Standard output", "If the file does not exist", "With `--desk`")
     helps = helps_of(VEND)[1]
     same([quoted(name)[0] for name, *_ in rows], [*helps], f"docs/{PAGE}: the commands, beside the help")
     for cell, prints, missing, desk in rows:
         name = quoted(cell)[0]
-        if name not in words:
+        if name not in WORDS:
             wrong(f"tools/page_rows.py runs no command {name}: add it there")
         files = [said for option, said in helps[name].lists["Options"] if option.startswith("--file ")]
         same("--desk" in "".join(files), desk == "yes", f"docs/{PAGE}: {name} with --desk")
-        asked = [name, "--desk", "127.0.0.1:1", *(it for it in words[name][1:] if it not in ("--at", AT))]
+        asked = [name, "--desk", "127.0.0.1:1", *(it for it in WORDS[name][1:] if it not in ("--at", AT))]
         expect(vend(*asked), *((1, b"", b"net\n") if desk == "yes" else (2, b"")))
         same(not files, missing == "needs none", f"docs/{PAGE}: the file of {name}")
-        given = lambda file: [words[name][0], *(["--file", str(file)] if files else []), *words[name][1:]]
+        has_file = bool(files)
         if name == "serve":
-            ends_by_signal(given(offices.copy()), quoted(prints)[0])
+            ends_by_signal(given(name, offices.copy(), has_file), quoted(prints)[0])
         elif name == "import":
             file = offices.new()
-            expect(vend(*given(file)), 0, b"added 1\n")
+            expect(vend(*given(name, file, has_file)), 0, b"added 1\n")
             expect(vend("import", "--file", str(file), "--at", AT, "meters", meters), 0,
                    f"{quoted(prints)[0]}\n".encode())
         else:
-            check_printed(name, prints, vend(*given(offices.copy())))
+            check_printed(name, prints, vend(*given(name, offices.copy(), has_file)))
         if files:
             file = offices.new()
-            ran = ends_by_signal(given(file), None) if name == "serve" else vend(*given(file))
+            words = given(name, file)
+            ran = ends_by_signal(words, None) if name == "serve" else vend(*words)
             same(file.exists(), missing == "is created", f"docs/{PAGE}: {name} makes its file")
             if missing == "`file`":
                 expect(ran, 1, b"", b"file\n")
     for kind, first in (("shift", "SHIFT 1 ann"), ("receipt", "SALE 1"), ("sales", EXPORT)):
         ran = vend("report", "--file", offices.copy(), "--kind", kind)
         same(ran.stdout.decode().partition("\n")[0], first, f"report --kind {kind}")
-    expect(vend("quote", *words["offer"][1:3], "--file", offices.copy(), *words["offer"][3:]), 2)
-    expect(vend("quote", "--file", offices.copy(), *words["offer"][1:]), 0, b"1 10 5\n")
-    expect(vend("sell", "--base", "2014", *words["trial"][3:]), 0, b"00072057602627981690\n")
+    expect(vend("quote", *WORDS["offer"][1:3], "--file", offices.copy(), *WORDS["offer"][3:]), 2)
+    expect(vend("quote", "--file", offices.copy(), *WORDS["offer"][1:]), 0, b"1 10 5\n")
+    expect(vend("sell", "--base", "2014", *WORDS["trial"][3:]), 0, b"00072057602627981690\n")
     return len(rows)
 
 
@@ -137,6 +146,26 @@ def check_printed(name, prints, ran):
     else:
         wanted = shown if name == "meter" else shown[-1:] if name == "report" else shown[:1]
         same((ran.returncode, lines), (0, wanted), f"docs/{PAGE}: what {name} prints")
+
+
+def check_strangers(offices):
+    """Which commands leave a stranger's database as it is: those of which docs/USING.md says so, and `audit`."""
+    page = (TOP / "docs" / "USING.md").read_text(encoding="utf-8")
+    said = re.search(r"((?:`\w+`(?:, | and ))+`\w+`) never do", page)
+    keep = {*quoted(said[1])} if said else {"audit"}
+    stranger = offices.new()
+    change(stranger, "CREATE TABLE notes (text TEXT); INSERT INTO notes VALUES ('kept');")
+    names = [name for name, said in helps_of(VEND)[1].items() if "--file <FILE>" in said.usage and name in WORDS]
+    for name in names:
+        file = offices.new()
+        shutil.copy(stranger, file)
+        if name == "serve":
+            ends_by_signal(given(name, file), None)
+        else:
+            vend(*given(name, file))
+        tables = subprocess.run(["sqlite3", file, ".tables"], capture_output=True, text=True, check=True).stdout.split()
+        same(tables == ["notes"], name in keep, f"docs/USING.md: {name} on a database of somebody else: {tables}")
+    return len(names)
 
 
 def check_columns(offices):
@@ -447,8 +476,8 @@ def log_of_desk(file):
         process.communicate()
 
 
-PARTS = (check_commands, check_columns, check_statuses, check_refusals, check_causes, check_audits, check_limits,
-         check_examples, check_spreadsheets)
+PARTS = (check_commands, check_strangers, check_columns, check_statuses, check_refusals, check_causes, check_audits,
+         check_limits, check_examples, check_spreadsheets)
 
 
 def check_page_rows(folder):
