@@ -2,7 +2,8 @@
 use Rattle.std.proofs.Common.{◌≡◌, ℕ, List, subst}
 use Rattle.std.specs.Borrow.{Bor}
 use Rattle.desk_client.specs.Alike.{GrantAlike, TellAlike}
-use Rattle.desk_client.specs.Answers.{Answers, GrantsWhat, IsReportOf, MayRefuse}
+use Rattle.desk_client.specs.Answers.{Answers, GrantsWhat, MayRefuse}
+use Rattle.desk_client.specs.Report.{IsReportOf}
 use Rattle.desk_client.specs.declared.question.Question.{Question}
 use Rattle.desk_client.specs.declared.question.Question.TheVariants as questions
 use Rattle.desk_client.specs.declared.told.Granted.{Granted}

@@ -1,6 +1,7 @@
 pub mod AlikeLemmas
 pub mod AnswersLemmas
 pub mod AsksLemmas
+pub mod ColumnLemmas
 pub mod FoundLemmas
 pub mod FrontLemmas
 pub mod HeadLemmas
@@ -15,6 +16,7 @@ pub mod PlainLemmas
 pub mod QuestionLemmas
 pub mod ReadingLemmas
 pub mod RefusalLemmas
+pub mod ReportLemmas
 pub mod SaleLemmas
 pub mod SummaryLemmas
 pub mod TargetLemmas
@@ -23,6 +25,7 @@ pub mod TariffLemmas
 pub mod TariffPageLemmas
 pub mod TellsLemmas
 pub mod TextLemmas
+pub mod TimeLemmas
 pub mod ValueLemmas
 pub mod WalkLemmas
 pub mod WordLemmas

@@ -13,7 +13,8 @@ use Rattle.sts_fields.specs.declared.base.Base.TheVariants.{Y1993, Y2014, Y2035}
 use Rattle.office_rules.specs.Name.{is_name_byte}
 use Rattle.desk_client.specs.Text.{LacksStop, is_stop}
 
-digit : (b : ℕ) → 48 ≤ b → b ≤ 57 → is_stop b ≡ false
+-- a digit is no stop
+pub digit : (b : ℕ) → 48 ≤ b → b ≤ 57 → is_stop b ≡ false
 digit b low high = grind (arith, nat_tests)
 
 digit_passes : (b : ℕ) → is_ascii_digit b ≡ true → is_stop b ≡ false

@@ -1,6 +1,5 @@
 -- Which replies answer a question: those that tell what it asks for, or why an office refuses it.
-use Rattle.std.specs.Prelude.{◌≡◌, ⊤, ℕ, ◌+◌, ◌≤◌, List, ◌∷◌, ◌++◌, codes, decimal}
-use Rattle.papers.specs.Text.{space}
+use Rattle.std.specs.Prelude.{◌≡◌, ⊤, ℕ, ◌+◌, ◌≤◌, List}
 use Rattle.sts_token.specs.Reading.{IsOfClassZero}
 use Rattle.office_rules.specs.Office.Rows.{greatest_rows}
 use Rattle.office_rules.specs.declared.decision.refusal.Refusal.{Refusal}
@@ -11,6 +10,7 @@ use Rattle.office_rules.specs.declared.decision.row_cause.RowCause.TheVariants a
 use Rattle.office_rules.specs.declared.office.sale.Sale.{Sale}
 use Rattle.desk_client.specs.Question.{wanted_by}
 use Rattle.desk_client.specs.Reply.{IsReply}
+use Rattle.desk_client.specs.Report.{IsReportOf}
 use Rattle.desk_client.specs.declared.question.Question.{Question}
 use Rattle.desk_client.specs.declared.question.Question.TheVariants as questions
 use Rattle.desk_client.specs.declared.told.Granted.{Granted}
@@ -34,11 +34,6 @@ IsNamedSale s (questions.Receipt number) = s.number ≡ number
 IsNamedSale s (questions.SaleOfRef operator order_ref) =
     (s.operator ≡ operator) × (s.order_ref ≡ order_ref)
 IsNamedSale s question = ⊤
-
--- the paper of a report begins with the number of its shift
-abbrev pub IsReportOf : ℕ → List ℕ → Type 0
-IsReportOf number text =
-    (rest : List ℕ) × (text ≡ codes "SHIFT " ++ (decimal number ++ space ∷ rest))
 
 -- What is granted is what the question names: the sale, whose digits can be a token's; the totals
 -- or the report of the shift; the meter; or a quote for the meter and the tender.

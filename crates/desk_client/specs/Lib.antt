@@ -11,10 +11,12 @@ pub mod Question
 pub mod Quote
 pub mod Refusal
 pub mod Reply
+pub mod Report
 pub mod Sale
 pub mod Start
 pub mod TariffItem
 pub mod Tells
 pub mod Text
+pub mod Time
 pub mod Told
 pub mod Totals

@@ -1,5 +1,6 @@
 -- Pages of lists in replies: their texts, and the pages that they tell.
 use Rattle.std.specs.Prelude.{◌≡◌, ℕ, ◌≤◌, List, All, length, map, Option, Some, None, ⊤}
+use Rattle.std.specs.List.{AllByRecursion}
 use Rattle.book_states.specs.declared.lookup.Found.{Found}
 use Rattle.book_states.specs.declared.lookup.Found.TheVariants as found
 use Rattle.book_states.specs.declared.lookup.LaterSteps.{LaterSteps}
@@ -12,9 +13,11 @@ use Rattle.desk_messages.specs.reply.Body.{found_body}
 use Rattle.desk_messages.specs.route.Route.{IsTargetNumber}
 use Rattle.sts_fields.specs.Day.{IsDay}
 use Rattle.sts_fields.specs.Moment.{IsMoment}
+use Rattle.sts_token.specs.Reading.{IsOfClassZero}
 use Rattle.tariff.specs.Steps.{IsSteps}
 use Rattle.tariff.specs.declared.step.Step.{Step}
 use Rattle.office_rules.specs.Name.{IsMeterNo, IsName, IsOperator}
+use Rattle.office_rules.specs.declared.office.sale.Sale.{Sale}
 use Rattle.desk_client.specs.Sale.{IsSaleTold}
 use Rattle.desk_client.specs.Totals.{AreTotals}
 use Rattle.desk_client.specs.declared.page.PageKind.{PageKind}
@@ -65,6 +68,14 @@ IsToldPage Meters (found.Meters page) = AreTold IsToldListedMeter page.items
 IsToldPage Shifts (found.Shifts page) = AreTold IsToldListedShift page.items
 IsToldPage Sales (found.Sales page) = AreTold IsSaleTold page.items
 IsToldPage kind page = ⊥
+
+-- the digits of each sale of a page can be a token's
+abbrev pub HaveTokens : List Sale → Type 0
+HaveTokens sales = AllByRecursion (λ (s : Sale). IsOfClassZero s.digits) sales
+
+abbrev pub HasTokens : Found → Type 0
+HasTokens (found.Sales page) = HaveTokens page.items
+HasTokens page = ⊤
 
 -- what a tariff of a list has
 abbrev pub tariff_view : ListedTariff → List ℕ × List Step × List LaterSteps

@@ -13,9 +13,10 @@ IsFound {A} Holds None = (value : A) → ¬ Holds value
 abbrev pub now : Bor (List ℕ) → List ℕ
 now text = text.now
 
--- a quotation mark, a comma, a closing brace or a carriage return: none stands in a value
+-- a quotation mark, a comma, a closing brace or the end of a line: none stands in a value
 abbrev pub is_stop : ℕ → Bool
-is_stop byte = (byte == 34) || ((byte == 44) || ((byte == 125) || (byte == 13)))
+is_stop byte =
+    (byte == 34) || ((byte == 44) || ((byte == 125) || ((byte == 13) || (byte == 10))))
 
 abbrev pub LacksStop : List ℕ → Type 0
 LacksStop text = AllByRecursion (λ byte. is_stop byte ≡ false) text

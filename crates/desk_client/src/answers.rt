@@ -1,16 +1,16 @@
 //! Which replies answer a question.
 
-ghost use Rattle.std.specs.Prelude.{◌≡◌, ◌≢◌, ◌↔◌, ◌++◌, ℕ, List, IsTrue, MatchOption};
+ghost use Rattle.std.specs.Prelude.{◌↔◌, IsTrue, MatchOption};
 ghost use Rattle.desk_client.specs.Answers.{Answers, GrantsWhat, IsReplyTo, IsRowRefused};
-ghost use Rattle.desk_client.specs.Answers.{IsNamedSale, IsReportOf, IsSaleFor, MayRefuse};
+ghost use Rattle.desk_client.specs.Answers.{IsNamedSale, IsSaleFor, MayRefuse};
 ghost use Rattle.sts_token.specs.Reading.{IsOfClassZero};
 ghost use Rattle.desk_client.specs.declared.told.Told.{Told as WhatIsTold};
 
 use crate::law::told_law;
 use crate::question::Question;
 use crate::reply::{Reading, reply_in};
+use crate::report::is_report_of;
 use crate::told::{Granted, Told};
-use itoa::Buffer;
 use office_rules::{Order, Refusal, RowCause, Rows, Sale};
 use sts_token::{Plain, TokenFault, read};
 
@@ -137,7 +137,7 @@ fn is_sale_for(order: &Order, sale: &Sale) -> bool
 }
 
 // Whether some digits can be those of a token of credit: of 66 bits and class 0.
-fn is_of_class_zero(digits: &[u8]) -> bool
+pub(crate) fn is_of_class_zero(digits: &[u8]) -> bool
     ensures { IsTrue result ↔ IsOfClassZero digits.now }
 {
     match read(&Plain, 0, digits) {
@@ -149,34 +149,6 @@ fn is_of_class_zero(digits: &[u8]) -> bool
             TokenFault::BadCheck => true,
             TokenFault::WrongSubclass => true,
         },
-    }
-}
-
-// Whether a paper begins as the report of a shift does.
-fn is_report_of(number: u32, text: &[u8]) -> bool
-    ensures { IsTrue result ↔ IsReportOf number text.now }
-{
-    let mut digits = Buffer::new();
-    let Some(behind_word) = behind(text, b"SHIFT ") else {
-        return false;
-    };
-    let Some(behind_number) = behind(behind_word, digits.format(number).as_bytes()) else {
-        return false;
-    };
-    match behind(behind_number, b" ") {
-        Some(_) => true,
-        None => false,
-    }
-}
-
-// What follows a front in a text that begins with it.
-fn behind<'t>(text: &'t [u8], front: &[u8]) -> Option<&'t [u8]>
-    ensures { MatchOption result ((rest : List ℕ) → text.now ≢ front.now ++ rest)
-        (λ rest. text.now ≡ front.now ++ rest.now) }
-{
-    match text.strip_prefix(front) {
-        Some(rest) => Some(rest),
-        None => None,
     }
 }
 

@@ -1,12 +1,14 @@
 //! Pages of lists, as replies tell them.
 
-ghost use Rattle.std.specs.Prelude.{◌≡◌, IfOk};
+ghost use Rattle.std.specs.Prelude.{◌≡◌, ◌↔◌, IfOk, IsTrue};
 ghost use Rattle.book_states.specs.declared.lookup.Found.{Found as WhatIsFound};
-ghost use Rattle.desk_client.specs.Page.{AreAlike, IsToldPage, page_as_read};
+ghost use Rattle.desk_client.specs.Page.{AreAlike, HasTokens, HaveTokens, IsToldPage};
+ghost use Rattle.desk_client.specs.Page.{page_as_read};
 ghost use Rattle.desk_client.specs.Text.{IsFound};
 ghost use Rattle.desk_client.specs.declared.page.PageKind.TheVariants.{Meters, Sales, Shifts};
 ghost use Rattle.desk_client.specs.declared.page.PageKind.TheVariants.{Tariffs};
 
+use crate::answers::is_of_class_zero;
 use crate::items::{Item, read_list};
 use crate::tariff_items::tariff_law;
 use book_states::{Found, ListedMeter, ListedShift, ListedTariff};
@@ -84,6 +86,26 @@ fn sales_in(alloc: Global, body: &[u8]) -> Result<Option<Found>, AllocError>
     match read_list(alloc, "{\"sales\":[", body)? {
         Some(sales) => Ok(Some(Found::Sales(sales))),
         None => Ok(None),
+    }
+}
+
+/// Whether the digits of each sale of a page can be those of a token. Other pages have no sales.
+pub fn has_tokens(page: &Found) -> bool
+    ensures { IsTrue result ↔ HasTokens page.now }
+{
+    match page {
+        Found::Sales(sales) => have_tokens(sales),
+        _ => true,
+    }
+}
+
+// Whether the digits of each of these sales can be those of a token.
+fn have_tokens(sales: &[Sale]) -> bool
+    ensures { IsTrue result ↔ HaveTokens sales.now }
+{
+    match sales {
+        [] => true,
+        [sale, rest @ ..] => is_of_class_zero(&sale.digits) && have_tokens(rest),
     }
 }
 

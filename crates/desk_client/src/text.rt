@@ -86,8 +86,19 @@ fn len_before_stop(text: &[u8]) -> usize
     ensures found { result < length text.now → is_stop (slice_index text.now result) ≡ true }
 {
     text.iter()
-        .position(|byte| matches!(byte, b'"' | b',' | b'}' | b'\r'))
+        .position(|byte| matches!(byte, b'"' | b',' | b'}' | b'\r' | b'\n'))
         .unwrap_or(text.len())
+}
+
+// What follows a front in a text that begins with it.
+pub(crate) fn behind<'t>(text: &'t [u8], front: &[u8]) -> Option<&'t [u8]>
+    ensures { MatchOption result ((rest : List ℕ) → text.now ≢ front.now ++ rest)
+        (λ rest. text.now ≡ front.now ++ rest.now) }
+{
+    match text.strip_prefix(front) {
+        Some(rest) => Some(rest),
+        None => None,
+    }
 }
 
 // The number that is written so, in decimal digits without leading zeros.

@@ -9,7 +9,7 @@ use Rattle.book_states.specs.declared.lookup.ListedShift.{ListedShift}
 use Rattle.book_states.specs.declared.lookup.ListedTariff.{ListedTariff}
 use Rattle.command_line.specs.declared.commands.list.Listed.{Listed}
 use Rattle.command_line.specs.declared.commands.list.Listed.TheVariants as listed
-use Rattle.desk_client.specs.Page.{AreAlike, tariff_view}
+use Rattle.desk_client.specs.Page.{AreAlike, HasTokens, HaveTokens, tariff_view}
 use Rattle.office_rules.specs.declared.office.sale.Sale.{Sale}
 use Rattle.desk_commands.specs.PageOrder.{ComesAfter, Rise}
 
@@ -50,3 +50,13 @@ alike_after (listed.Meters after) page (found.Meters other) alike is = meters_af
 alike_after (listed.Shifts after) page (found.Shifts other) alike is = shifts_after after page other alike is
 alike_after (listed.Sales after) page (found.Sales other) alike is = sales_after after page other alike is
 alike_after list page other alike is = absurd is
+
+tokens_of : (page : Found) (other : Vec Sale Global) → AreAlike page (found.Sales other) → HasTokens (found.Sales other) → HasTokens page
+tokens_of (found.Sales page) other alike is = subst HaveTokens (sym alike) is
+tokens_of page other alike is = absurd alike
+
+-- so do its sales have tokens, where the other's have
+pub alike_tokens : (page other : Found) → AreAlike page other → HasTokens other → HasTokens page
+alike_tokens page (found.Sales other) alike is = tokens_of page other alike is
+alike_tokens (found.Sales page) other alike is = absurd alike
+alike_tokens page other alike is = tt

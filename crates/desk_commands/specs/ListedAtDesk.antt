@@ -8,7 +8,7 @@ use Rattle.command_line.specs.declared.address.Address.{Address}
 use Rattle.command_line.specs.declared.commands.list.Listed.{Listed}
 use Rattle.command_line.specs.declared.commands.list.Listed.TheVariants as listed
 use Rattle.desk_client.specs.Answers.{IsReplyTo}
-use Rattle.desk_client.specs.Page.{IsToldPage, page_as_read}
+use Rattle.desk_client.specs.Page.{HasTokens, IsToldPage, page_as_read}
 use Rattle.desk_client.specs.Question.{question_text}
 use Rattle.desk_client.specs.declared.question.Question.{Question}
 use Rattle.desk_client.specs.declared.question.Question.TheVariants as questions
@@ -51,12 +51,14 @@ page_kind (listed.Sales after) = kinds.Sales
 abbrev pub IsTextReply : Listed → (came : Text) → (body : Bor Text) → Type 0
 IsTextReply list came body = IsReplyTo (page_question list) came (tells.Granted (grants.Page body))
 
--- a whole reply came that tells this page of the list; its members come after what was asked for
+-- a whole reply came that tells this page of the list; its members come after what was asked for,
+-- and the digits of its sales can be a token's
 pub record IsPageReply (list : Listed) (came : Text) (page : Found) : Type 0 where
   pub body : Bor Text
   pub reply : IsTextReply list came body
   pub told : IsToldPage (page_kind list) page
   pub order : ComesAfter list page
+  pub tokens : HasTokens page
   pub text : body.now ≡ page_as_read page
 
 -- These rounds told these pages of a list: the first, and each next one the first of the list
@@ -79,10 +81,11 @@ page_fault_line faults.NoMoment = clock_line
 page_fault_line faults.OutOfForm = net_line
 page_fault_line faults.Memory = refusal_line refusals.Memory
 
--- the text is no page of the list, or one whose members do not come after what was asked for
+-- the text is no page of the list, or one whose members do not come after what was asked for, or
+-- one with a sale whose digits can be no token's
 abbrev pub IsOtherText : Listed → Text → Type 0
 IsOtherText list text = (page : Found) → IsToldPage (page_kind list) page → ComesAfter list page
-    → text ≢ page_as_read page
+    → HasTokens page → text ≢ page_as_read page
 
 -- why a text is not printed as a page of a list: it is none, or there is no room for its page
 abbrev pub IsNoPageText : Listed → Text → PageFault → Type 0

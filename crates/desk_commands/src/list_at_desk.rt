@@ -1,7 +1,7 @@
 //! A list that a running desk has, printed page by page.
 
 ghost use Rattle.std.specs.Prelude.{◌≡◌, IfOk, MatchResult};
-ghost use Rattle.desk_client.specs.Page.{IsToldPage, page_as_read};
+ghost use Rattle.desk_client.specs.Page.{HasTokens, IsToldPage, page_as_read};
 ghost use Rattle.desk_client.specs.Question.{question_text};
 ghost use Rattle.desk_commands.specs.ListedAtDesk.{IsListedAtDesk, IsNoPageText, IsPageAsked};
 ghost use Rattle.desk_commands.specs.ListedAtDesk.{IsPageIn};
@@ -16,7 +16,7 @@ use crate::page_order::comes_after;
 use crate::print::pages::put_page;
 use book_states::Found;
 use command_line::{Address, Listed};
-use desk_client::{Granted, PageKind, Question, Told, Wanted, page_in, page_law};
+use desk_client::{Granted, PageKind, Question, Told, Wanted, has_tokens, page_in, page_law};
 use office_rules::Refusal;
 use std::alloc::{AllocError, Global};
 use std::io::{Read, Write};
@@ -144,7 +144,7 @@ fn page_of(alloc: Global, list: &Listed, came: &[u8]) -> Result<Found, PageFault
 fn page_told(alloc: Global, list: &Listed, text: &[u8]) -> Result<Found, PageFault>
     ensures { MatchResult result
         (λ page. IsToldPage (page_kind list.now) page × ComesAfter list.now page
-        × (text.now ≡ page_as_read page))
+        × HasTokens page × (text.now ≡ page_as_read page))
         (IsNoPageText list.now text.now) }
 {
     page_law();
@@ -153,11 +153,13 @@ fn page_told(alloc: Global, list: &Listed, text: &[u8]) -> Result<Found, PageFau
         Ok(None) => return Err(PageFault::OutOfForm),
         Err(_) => return Err(PageFault::Memory),
     };
-    if comes_after(list, &page) {
-        Ok(page)
-    } else {
-        Err(PageFault::OutOfForm)
+    if !comes_after(list, &page) {
+        return Err(PageFault::OutOfForm);
     }
+    if !has_tokens(&page) {
+        return Err(PageFault::OutOfForm);
+    }
+    Ok(page)
 }
 
 /// The question that asks for the first page of a list.

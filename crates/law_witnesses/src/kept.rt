@@ -199,6 +199,8 @@ impl Door for Nothing {
 impl Loopback for Nothing {
     type Stream = Nothing;
 
+    ghost joins = { λ _ _. ⊤ };
+
     ghost connects = { λ _ _ _ _ _. ⊤ };
 
     ghost lacks = { λ _. ⊤ };

@@ -145,7 +145,7 @@ module _ {N S : Type 0} (of : loopback.Ghosts N S) (remaining contents : S → H
     pub writer : S
     pub written : S
     pub connects : of.connects net messages near reader writer
-    pub sent : IsSent contents messages near
+    pub sent : IsSent contents (of.joins net) messages near
     pub life : Life
     pub prepared : IsPrepared forward life
     pub converses :

@@ -19,8 +19,11 @@ pub trait Loopback: Drop {
     /// An end of the connection.
     type Stream: Read + Write + Drop;
 
-    /// A connection of the machine with itself was had. This text was sent on the first stream, and
-    /// no more is; the other two read and write the other end.
+    /// A connection of the machine with itself was had, and nothing was sent on this end of it yet.
+    ghost joins: { Self → Self.Stream → Type 0 };
+
+    /// Such a connection was had. This text was sent on the first stream, and no more is; the other
+    /// two read and write the other end.
     ghost connects: { Self → Text → Self.Stream → Self.Stream → Self.Stream → Type 0 };
 
     /// None could be had.
@@ -41,7 +44,8 @@ pub trait Loopback: Drop {
     /// Has a connection of the machine with itself, and sends a text on it.
     fn connect(self, text: &[u8]) -> io::Result<(Self::Stream, Self::Stream, Self::Stream)>
         ensures connects { IfOk result (λ ends. connects self text.now ends.0 ends.1 ends.2) }
-        ensures sent { IfOk result (λ ends. IsSent Self.Stream.contents text.now ends.0) }
+        ensures sent { IfOk result
+            (λ ends. IsSent Self.Stream.contents (joins self) text.now ends.0) }
         ensures lacks { IfErr result (λ error. lacks self) };
 
     /// Has a connection with the desk at an address. A desk that lets it wait for ten seconds, when
@@ -61,6 +65,8 @@ pub trait Loopback: Drop {
 
 impl<N: Net> Loopback for &N {
     type Stream = N::Stream;
+
+    ghost joins = { λ _ _. ⊤ };
 
     ghost connects = { λ _ _ _ _ _. ⊤ };
 
