@@ -20,15 +20,20 @@ SALE = {"base": 2014, "change": 0, "meter": METER, "moment": 1388534430, "number
         "ref": "A-1", "shift": 1, "tender": 10, "tenths": 1, "tid": 2, "token": "00072057602627981690"}
 ROW = (b"number,moment,shift,operator,ref,meter,base,tid,tenths,price,tender,change,token\n"
        b"1,1388534430,1,ann,A-1,12345678903,2014,2,1,10,10,0,00072057602627981690\n")
+REPORT = (b"SHIFT 1 ann\nOPENED 2014-01-01T00:00:00Z\nCLOSED -\n"
+          b"         1 12345678903        1        10        10         0\n"
+          b"SALES 1\nTENTHS 1\nCASH 10\n")
 TARIFFS = str(TOP / "examples" / "tariffs.csv")
 SELL = ("sell", "--operator", "ann", "--ref", "A-1", "--meter", METER, "--tender", "10")
+TOKENS = (f"{2**66:020}", "9" * 20, f"{2**27:020}")  # too large, or of another class
 MOST_BODY = 2**26  # bytes of a body, at most
 MOST_MEMORY = 2**28  # bytes of memory that a command takes for it, at most
 PATIENCE = 10  # seconds
 LAST_NUMBER = 10**9  # of a shift or a sale
 # The refusals that an office has for each kind of command, by their numbers, and those that it may have for any.
 REFUSED = {"import": {14}, "base": {4, 7, 18}, "shift": {3, 11}, "sell": {1, 2, 4, 7, 8, 9, 10, 11}, "show sale": {12},
-           "receipt": {12}, "totals": {13}, "show meter": {4}, "quote": {4, 7, 8, 9, 10, 11}, "list": set()}
+           "receipt": {12}, "totals": {13}, "report": {13}, "show last": {4, 12},
+           "show meter": {4}, "quote": {4, 7, 8, 9, 10, 11}, "list": set()}
 UNABLE = {15, 16, 17}
 OF_A_SALE = {"sell", "show sale", "receipt"}
 
@@ -87,6 +92,8 @@ def granted():
         "sell": (SELL, in_json(SALE), json_type, RECEIPT),
         "show sale": (("show", "sale", "--operator", "ann", "--ref", "A-1"), in_json(SALE), json_type, ROW),
         "receipt": (("report", "--kind", "receipt"), in_json(SALE), json_type, RECEIPT),
+        "report": (("report", "--kind", "shift"), REPORT, "text/plain", REPORT),
+        "show last": (("show", "last", "--meter", METER), RECEIPT, "text/plain", RECEIPT),
         "totals": (("report", "--kind", "totals"), in_json(totals), json_type, b"shift 1 sales 1 tenths 1 cash 10\n"),
         "show meter": (("show", "meter", "--meter", METER), in_json(meter), json_type,
                        b"meter\tbase\ttariff\ttenths\tsale\n12345678903\t2014\tflat\t0\t-\n"),
@@ -141,7 +148,7 @@ def spoilt_sales():
         "moment": (725846399, 4102444800, "1388534430"), "number": counts, "operator": ("a" * 17, "a b", ""),
         "price": (9, 11, 2**32), "ref": ("r" * 33, "A_1", ""), "shift": counts, "tender": (0, 100000001, 9, 11),
         "tenths": (16385, 18201625), "tid": (-1, 2**24, 2**32),
-        "token": ("0" * 19, "0" * 21, "0" * 19 + "x", f"{2**66:020}", "9" * 20, f"{2**27:020}"),
+        "token": ("0" * 19, "0" * 21, "0" * 19 + "x", *TOKENS),
     }
     for name, others in values.items():
         for value in others:
@@ -185,6 +192,9 @@ def other_answers():
         yield ("list", "--after=2", "shifts"), in_json({"shifts": [{**shift, "number": number} for number in numbers_of]})
     for numbers_of in ((1,), (2, 1), (3, 3)):
         yield ("list", "--after=1", "sales"), in_json({"sales": [{**SALE, "number": number} for number in numbers_of]})
+    for digits in TOKENS:
+        for asked in (("list", "sales"), ("report", "--kind", "sales")):
+            yield asked, in_json({"sales": [SALE, {**SALE, "number": 2, "token": digits}]})
     for names in (("flat",), ("home", "flat"), ("home", "home")):
         tariffs = [{"later": [], "name": name, "steps": ":100"} for name in names]
         yield ("list", "--after=flat", "tariffs"), in_json({"tariffs": tariffs})
@@ -196,9 +206,76 @@ def check_other_answers():
     pairs = [*other_answers()]
     for words, body in pairs:
         same(asked_of(reply(200, body), *words), NET, f"{words} got {body}")
-    for paper in (b"SHIFT 2 ann\n", b"SHIFT 10 ann\n", RECEIPT, b""):
-        same(asked_of(reply(200, paper, "text/plain"), "report", "--kind", "shift"), NET, f"a report got {paper}")
-    return len(pairs) + 4
+    return len(pairs)
+
+
+def spoilt(text, pairs):
+    """The text with one piece changed, for each pair of an old piece and a new one."""
+    for old, new in pairs:
+        if text.count(old) != 1:
+            wrong(f"{old} stands {text.count(old)} times in {text}")
+        yield text.replace(old, new)
+
+
+def spoilt_times(time):
+    """Times that are none of an office."""
+    return ((time, other) for other in (b"2014-02-29T00:00:30Z", b"2014-01-01T24:00:00Z", b"2014-01-01T00:60:30Z",
+                                        b"1992-12-31T23:59:59Z", b"2100-01-01T00:00:00Z", b"2014-01-01T00:00:30",
+                                        b"2014-01-01 00:00:30Z", b"", b"-\n-"))
+
+
+def spoilt_reports():
+    """Texts that no desk writes as the report of shift 1."""
+    first = REPORT.splitlines(keepends=True)[3]
+    again, second = first.replace(b" 1 ", b" 3 ", 1), first.replace(b" 1 ", b" 2 ", 1)
+    head, tail = REPORT.split(first)
+    sums = lambda count: b"SALES %d\nTENTHS %d\nCASH %d\n" % (count, count, 10 * count)
+    same(asked_of(reply(200, head + first + second + again + sums(3), "text/plain"), "report", "--kind", "shift"),
+         Ran(0, head + first + second + again + sums(3), b""), "a report of three sales")
+    yield from spoilt(REPORT, (
+        (b"SHIFT 1 ", b"SHIFT 2 "), (b"SHIFT 1 ", b"SHIFT 10 "), (b"SHIFT 1 ", b"SHIFT 01 "), (b"ann", b""),
+        (b"ann", b"a b"), (b"ann", b"\x1b[2J"), (b"ann", b"ann\x07"), (b"ann\n", b"ann\r\n"), (b"ann\n", b"ann \n"),
+        (b"OPENED", b"Opened"), (b"CLOSED -", b"CLOSED"), (b"CLOSED -", b"CLOSED 0"), (b"SALES 1", b"SALES 2"),
+        (b"SALES 1", b"SALES 01"), (b"TENTHS 1", b"TENTHS 2"), (b"CASH 10\n", b"CASH 11\n"), (b"CASH 10\n", b"CASH 10"),
+        (b"CASH 10\n", b"CASH 10\n\n"), (b"CASH 10\n", b"CASH 10\nCASH 10\n"), (b"CASH 10\n", b"CASH 10\nTOKEN 1\n"),
+        (b"CASH 10\n", b"CASH 10\n\x1b[31m"), (b"CASH 10\n", b""), (first, first + first), (first, b""),
+        (METER.encode(), b"1234567890x")))
+    yield from spoilt(REPORT, spoilt_times(b"2014-01-01T00:00:00Z"))
+    for old, new in ((b"         1 ", b"         0 "), (b"         1 ", b"        01 "), (b"         1 ", b"1000000001 "),
+                     (b"         1 ", b"1          "), (b"3        1 ", b"3    16385 "), (b"       10 ", b"       11 "),
+                     (b"0\n", b"1\n"), (b"0\n", b"0 \n"), (b"0\n", b"\x1b\n"), (b" 12345678903 ", b" 12345678903  "),
+                     (b" 12345678903 ", b"\t12345678903 ")):
+        yield head + first.replace(old, new, 1) + tail
+    for lines, count in ((first + first, 2), (second + first, 2), (first + again + second, 3), (first + second, 1),
+                         (first + second, 3), (b"", 1), (first + b"\n" + second, 2)):
+        yield head + lines + sums(count)
+    yield from (b"", head, first, tail, head + tail, REPORT + REPORT, b" " + REPORT, RECEIPT)
+
+
+def spoilt_receipts():
+    """Texts that no desk writes as the receipt of a sale to the meter that was asked for."""
+    token = RECEIPT.splitlines()[-1]
+    groups = lambda digits: b"TOKEN " + b" ".join(digits[at:at + 4].encode() for at in range(0, 20, 4))
+    yield from spoilt(RECEIPT, (
+        (METER.encode(), meter_of("0000000001").encode()), (b"SALE 1\n", b"SALE 0\n"), (b"SALE 1\n", b"SALE 01\n"),
+        (b"SALE 1\n", b"SALE 1000000001\n"), (b"SALE 1\n", b"SALE 1\x1b[2J\n"), (b"SALE 1\n", b"SALE 1\r\n"),
+        (b"KWH 0.1", b"KWH 0.10"), (b"KWH 0.1", b"KWH .1"), (b"KWH 0.1", b"KWH 0,1"), (b"KWH 0.1", b"KWH 1638.5"),
+        (b"KWH 0.1", b"KWH 00.1"), (b"KWH 0.1", b"KWH 1"), (b"PRICE 10", b"PRICE 11"), (b"PRICE 10", b"PRICE 9"),
+        (b"TENDER 10", b"TENDER 0"), (b"TENDER 10", b"TENDER 11"), (b"CHANGE 0", b"CHANGE 1"), (b"CHANGE 0", b"CHANGE -0"),
+        *((token, groups(digits)) for digits in TOKENS), (token, token.replace(b" ", b"")), (token, token + b" "),
+        (token, token[:-1]), (token, token[:-1] + b"x"), (token, token + b"\nTOKEN 0000 0000 0000 0000 0000"),
+        (token, token + b"\n"), (token + b"\n", token), (token + b"\n", b"")))
+    yield from spoilt(RECEIPT, spoilt_times(b"2014-01-01T00:00:30Z"))
+    yield from (b"", RECEIPT + RECEIPT, b" " + RECEIPT, REPORT)
+
+
+def check_papers():
+    """A report or a receipt that no desk writes of what was asked is not printed."""
+    texts = [(("report", "--kind", "shift"), text) for text in spoilt_reports()]
+    texts += [(("show", "last", "--meter", METER), text) for text in spoilt_receipts()]
+    for words, text in texts:
+        same(asked_of(reply(200, text, "text/plain"), *words), NET, f"{words} got {text}")
+    return len(texts)
 
 
 def spoilt_heads():
@@ -276,7 +353,7 @@ def check_endless():
         (head(2**63 - 1), b"x" * 65536, SELL, (1, 0, b"net\n")),
         (head(MOST_BODY + 1, "text/plain"), b"x" * 65536, report, (1, 0, b"net\n")),
         (head(MOST_BODY), b"x" * 65536, SELL, (1, 0, b"net\n")),
-        (head(MOST_BODY, "text/plain") + b"SHIFT 1 ", b"x" * 65536, report, (0, MOST_BODY, b"")))
+        (head(MOST_BODY, "text/plain") + b"SHIFT 1 ", b"x" * 65536, report, (1, 0, b"net\n")))
     for front, piece, words, wanted in rows:
         with Pretender(endless(front, piece)) as it:
             *found, memory = measured(it.address, words)
@@ -328,6 +405,7 @@ def check_bad_desks():
         same(run([words[0], "--desk", nobody, *words[1:]]), NET, "nobody listens")
     kinds, refusals, _ = check_told()
     others, rubbish, ends, pages = check_other_answers(), check_rubbish(), check_endless(), check_pages_of_rubbish()
+    papers = check_papers()
     print(f"replies: of {kinds} kinds each is printed, {refusals} refusals too, each under its status alone and of a command "
-          f"that has it; {others} to other commands, {rubbish} of another form, {ends} without an end and {pages} lists that "
-          "break end with `net`")
+          f"that has it; {others} to other commands, {rubbish} of another form, {papers} reports and receipts that no desk "
+          f"writes, {ends} without an end and {pages} lists that break end with `net`")

@@ -3,6 +3,7 @@ use Rattle.std.proofs.Common.{◌≡◌, ℕ, List, subst}
 use Rattle.std.specs.Borrow.{Bor}
 use Rattle.desk_client.specs.Alike.{GrantAlike, TellAlike}
 use Rattle.desk_client.specs.Answers.{Answers, GrantsWhat, MayRefuse}
+use Rattle.desk_client.specs.Receipt.{IsReceiptOf}
 use Rattle.desk_client.specs.Report.{IsReportOf}
 use Rattle.desk_client.specs.declared.question.Question.{Question}
 use Rattle.desk_client.specs.declared.question.Question.TheVariants as questions
@@ -15,6 +16,7 @@ use Rattle.office_rules.specs.declared.decision.refusal.Refusal.{Refusal}
 -- of a paper nothing is looked at but its text
 alike_papers : (q : Question) (text other : Bor (List ℕ)) → text.now ≡ other.now → GrantsWhat (granted.Paper text) q → GrantsWhat (granted.Paper other) q
 alike_papers (questions.ShiftReport number) text other same is = subst (IsReportOf number) same is
+alike_papers (questions.LastSale meter) text other same is = subst (IsReceiptOf meter) same is
 alike_papers q text other same is = tt
 
 alike_grants : (q : Question) (g h : Granted) → GrantAlike g h → GrantsWhat g q → GrantsWhat h q

@@ -27,7 +27,8 @@ abbrev pub one_by_one : Bor (List ℕ) → (count place : ℕ) → List (Bor (Li
 one_by_one d zero i vs = []
 one_by_one d (suc n) i vs = now (get_or vs i d) ∷ one_by_one d n (suc i) vs
 
-from_place : (d : Bor (List ℕ)) (n i : ℕ) (vs : List (Bor (List ℕ))) → i + n ≤ length vs → take n (map now (drop i vs)) ≡ one_by_one d n i vs
+-- the first of them
+pub from_place : (d : Bor (List ℕ)) (n i : ℕ) (vs : List (Bor (List ℕ))) → i + n ≤ length vs → take n (map now (drop i vs)) ≡ one_by_one d n i vs
 from_place d zero i vs e = refl
 from_place d (suc n) i vs e =
     ap (λ (xs : List (Bor (List ℕ))). take (suc n) (map now xs)) (drop-cons vs i d (omega (arith, e)))

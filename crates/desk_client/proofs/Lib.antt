@@ -15,6 +15,7 @@ pub mod PieceLemmas
 pub mod PlainLemmas
 pub mod QuestionLemmas
 pub mod ReadingLemmas
+pub mod ReceiptLemmas
 pub mod RefusalLemmas
 pub mod ReportLemmas
 pub mod SaleLemmas

@@ -22,7 +22,7 @@ use Rattle.desk_client.proofs.ReadingLemmas.{cut_off}
 use Rattle.desk_client.proofs.WovenLemmas.{one_front}
 
 -- a line, and what follows it
-line-rest : (word value rest : List ℕ) → line word value ++ rest ≡ word ++ 32 ∷ (value ++ 10 ∷ rest)
+pub line-rest : (word value rest : List ℕ) → line word value ++ rest ≡ word ++ 32 ∷ (value ++ 10 ∷ rest)
 unfolding line
 line-rest word value rest = append_assoc (word ++ 32 ∷ value) (10 ∷ []) rest ∙ append_assoc word (32 ∷ value) (10 ∷ rest)
 

@@ -9,6 +9,7 @@ use Rattle.office_rules.specs.declared.decision.row_cause.RowCause.{RowCause}
 use Rattle.office_rules.specs.declared.decision.row_cause.RowCause.TheVariants as causes
 use Rattle.office_rules.specs.declared.office.sale.Sale.{Sale}
 use Rattle.desk_client.specs.Question.{wanted_by}
+use Rattle.desk_client.specs.Receipt.{IsReceiptOf}
 use Rattle.desk_client.specs.Reply.{IsReply}
 use Rattle.desk_client.specs.Report.{IsReportOf}
 use Rattle.desk_client.specs.declared.question.Question.{Question}
@@ -36,11 +37,13 @@ IsNamedSale s (questions.SaleOfRef operator order_ref) =
 IsNamedSale s question = ⊤
 
 -- What is granted is what the question names: the sale, whose digits can be a token's; the totals
--- or the report of the shift; the meter; or a quote for the meter and the tender.
+-- or the report of the shift; the meter, or the receipt of a sale to it; or a quote for the meter
+-- and the tender.
 abbrev pub GrantsWhat : Granted → Question → Type 0
 GrantsWhat (grants.Sale s) question = IsOfClassZero s.digits × IsNamedSale s question
 GrantsWhat (grants.Totals shift totals) (questions.ShiftTotals number) = shift ≡ number
 GrantsWhat (grants.Paper text) (questions.ShiftReport number) = IsReportOf number text.now
+GrantsWhat (grants.Paper text) (questions.LastSale meter) = IsReceiptOf meter text.now
 GrantsWhat (grants.Meter m) (questions.Meter meter) = m.number ≡ meter
 GrantsWhat (grants.Quote q) (questions.Quote meter tender) =
     (q.meter ≡ meter) × (q.tender ≡ tender)

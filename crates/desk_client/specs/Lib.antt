@@ -9,6 +9,7 @@ pub mod Meter
 pub mod Page
 pub mod Question
 pub mod Quote
+pub mod Receipt
 pub mod Refusal
 pub mod Reply
 pub mod Report

@@ -8,6 +8,7 @@ ghost use Rattle.desk_client.specs.declared.told.Told.{Told as WhatIsTold};
 
 use crate::law::told_law;
 use crate::question::Question;
+use crate::receipt::is_receipt_of;
 use crate::reply::{Reading, reply_in};
 use crate::report::is_report_of;
 use crate::told::{Granted, Told};
@@ -53,6 +54,7 @@ impl Question<'_> {
             (Granted::Sale(sale), _) => is_of_class_zero(&sale.digits) && self.names_sale(sale),
             (Granted::Totals(shift, _), Question::ShiftTotals(number)) => shift == number,
             (Granted::Paper(text), Question::ShiftReport(number)) => is_report_of(*number, text),
+            (Granted::Paper(text), Question::LastSale(meter)) => is_receipt_of(meter, text),
             (Granted::Meter(summary), Question::Meter(meter)) => {
                 summary.number.as_bytes() == meter.as_bytes()
             }

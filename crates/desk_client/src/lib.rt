@@ -13,6 +13,7 @@ mod meter;
 mod page;
 mod question;
 mod quote;
+mod receipt;
 mod refusal;
 mod reply;
 mod report;

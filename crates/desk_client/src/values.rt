@@ -160,7 +160,7 @@ pub(crate) fn token_of(value: &[u8]) -> Option<[u8; 20]>
 }
 
 // Whether each byte is a digit.
-fn are_digits(value: &[u8]) -> bool
+pub(crate) fn are_digits(value: &[u8]) -> bool
     ensures { IsTrue result ↔ AllPass is_ascii_digit value.now }
 {
     value.iter().all(|byte| byte.is_ascii_digit())

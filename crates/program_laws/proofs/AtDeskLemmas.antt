@@ -8,6 +8,7 @@ pub mod LineLemmas
 pub mod ListLemmas
 pub mod OrderLemmas
 pub mod PageLemmas
+pub mod PaperLemmas
 pub mod PrintedLemmas
 pub mod RangeLemmas
 pub mod ReadLemmas

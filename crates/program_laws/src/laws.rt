@@ -309,7 +309,7 @@ pub fn at_desk_law()
         → (told : Told) × IsReplyTo question came told }
     ensures page_read { (list : Listed) (moment : ℕ) (old new : Timed Life) (came : Text)
         → IsAskable (page_question list) → IsMoment moment
-        → IsOffice old.0.opening → IsLife old.0
+        → IsOffice old.0.opening → IsPlausible old.0.opening → IsLife old.0
         → IsAnsweredAt (pos moment) old (question_text (page_question list)) came new
         → length came ≤ longest_reply_body → IsPageOrRefusal list came }
 

@@ -1,9 +1,8 @@
 -- What a desk tells of its office answers the question that was asked.
 use Rattle.std.proofs.Common.{◌≡◌, ℕ, ◌+◌, ◌≤◌, ◌<◌, Bool, true, false, List, length, Option, None, Some, Result, Ok, Err, inl, inr, refl, sym, subst, arith}
-use Rattle.std.proofs.Common.{append_assoc, ap, ◌∙◌, [], ◌∷◌, ◌++◌}
-use Rattle.std.specs.Prelude.{codes, decimal}
+use Rattle.std.proofs.Common.{[]}
 use Rattle.std.proofs.lemmas.List.Elements.{All-head}
-use Rattle.std.specs.Prelude.{All, IfErr, find, if◌then◌else◌, nat_lt, bytes_eq, ◌&&◌, option_map}
+use Rattle.std.specs.Prelude.{All, Contains, IfErr, IfSome, find, if◌then◌else◌, nat_lt, bytes_eq, ◌&&◌, option_map}
 use Rattle.std.specs.Option.{ok_or}
 use Rattle.std.proofs.lemmas.Slice.Eq.{bytes_eq-Decides}
 use Rattle.sts_fields.specs.Tid.{fresh_after, minute_of}
@@ -13,10 +12,8 @@ use Rattle.sts_fields.specs.declared.fault.TidFault.TheVariants as tids
 use Rattle.tariff.specs.Purchase.{purchase_of}
 use Rattle.papers.specs.declared.file_kind.FileKind.{FileKind}
 use Rattle.office_rules.specs.Decision.{◌>>=◌, MeterAccount, account_of, next_number, or_refusal}
-use Rattle.papers.specs.Report.{report_of, shift_head}
-use Rattle.papers.specs.Text.{line}
 use Rattle.office_rules.specs.Law.Handed.{sales_of}
-use Rattle.office_rules.specs.Office.{Office, greatest_count}
+use Rattle.office_rules.specs.Office.{IsOffice, Office, greatest_count}
 use Rattle.office_rules.specs.Office.Lookup.{sale_of_ref}
 use Rattle.office_rules.specs.declared.decision.answer.Answer.{Answer}
 use Rattle.office_rules.specs.declared.decision.answer.Answer.TheVariants as answers
@@ -38,12 +35,13 @@ use Rattle.book_states.specs.declared.lookup.Found.TheVariants as found
 use Rattle.book_states.specs.declared.lookup.Lookup.TheVariants as lookups
 use Rattle.desk_messages.specs.declared.reply.form.Form.{Form}
 use Rattle.desk_messages.specs.declared.reply.form.Form.TheVariants as forms
-use Rattle.desk_client.specs.Answers.{Answers, IsReportOf, MayRefuse}
+use Rattle.desk_client.specs.Answers.{Answers, MayRefuse}
 use Rattle.desk_client.specs.declared.question.Question.{Question}
 use Rattle.desk_client.specs.declared.question.Question.TheVariants as questions
 use Rattle.desk_client.specs.Tells.{as_told}
 use Rattle.office_rules.proofs.OfficeLemmas.RowLemmas.{parts_true}
 use Rattle.office_rules.proofs.OfficeLemmas.RowLemmas as rows_of
+use Rattle.program_laws.proofs.AtDeskLemmas.PaperLemmas.{receipt_told}
 use Rattle.program_laws.proofs.AtDeskLemmas.RuleLemmas.{MayReplyTo, RefusesRows}
 use Rattle.program_laws.proofs.AtDeskLemmas.TellableLemmas.{told_look, told_reply}
 use Rattle.program_laws.proofs.AtDeskLemmas.TokenLemmas.{HasToken, token_there}
@@ -89,26 +87,10 @@ answers_reprint number (Ok (answers.Reprinted s)) tokens h = (All-head HasToken 
 answers_reprint number (Ok answer) tokens h = absurd h
 answers_reprint number (Err refusal) tokens h = h
 
-goes_on : (number : ℕ) (text more : List ℕ) → IsReportOf number text → IsReportOf number (text ++ more)
-goes_on number text more is = (
-  is.0 ++ more,
-  ap (λ (l : List ℕ). l ++ more) is.1 ∙ ap (λ (l : List ℕ). codes "SHIFT " ++ l) (append_assoc (decimal number) (32 ∷ is.0) more),
-)
-
-first_line : (number : ℕ) (name : List ℕ) → IsReportOf number (line (codes "SHIFT") (decimal number ++ 32 ∷ name))
-unfolding line
-first_line number name = (name ++ 10 ∷ [], ap (λ (l : List ℕ). codes "SHIFT " ++ l) (append_assoc (decimal number) (32 ∷ name) (10 ∷ [])))
-
--- a report begins with the number of its shift
-begins_so : (shift : Shift) (sales : List Sale) → IsReportOf shift.number (report_of shift sales)
-unfolding report_of shift_head
-begins_so shift sales =
-    let n = shift.number in
-    goes_on n _ _ (goes_on n _ _ (goes_on n _ _ (goes_on n _ _ (first_line n shift.operator))))
-
 -- of a report
 pub answers_report : (number : ℕ) (r : Result Answer Refusal) → MayReplyTo (requests.ShiftReport number) r → IsAnswered (questions.ShiftReport number) r
-answers_report number (Ok (answers.Report shift sales)) h = subst (λ n. IsReportOf n (report_of shift sales)) h (begins_so shift sales)
+answers_report number (Ok (answers.Report shift sales)) h =
+    record { shift = shift; sales = sales; told = h.1; named = h.0; lines = h.2; written = refl }
 answers_report number (Ok answer) h = absurd h
 answers_report number (Err refusal) h = h
 
@@ -164,11 +146,12 @@ pub shows_meter : (number : List ℕ) (m : Option Meter) (tenths : ℕ) (last : 
 shows_meter number None tenths last = tt
 shows_meter number (Some m) tenths last = refl
 
--- the last sale to a meter
-pub shows_last : (number : List ℕ) (m : Option Meter) (last : Option Sale) → IsShown (questions.LastSale number) forms.Paper (last_found m last)
-shows_last number None last = tt
-shows_last number (Some m) None = tt
-shows_last number (Some m) (Some s) = tt
+-- the receipt of the last sale to a meter
+pub shows_last : (o : Office) → IsOffice o → IsPlausible o → (number : List ℕ) (m : Option Meter) (last : Option Sale)
+    → IfSome last (λ s. Contains o.sales s × (s.meter ≡ number)) → IsShown (questions.LastSale number) forms.Paper (last_found m last)
+shows_last o office plausible number None last there = tt
+shows_last o office plausible number (Some m) None there = tt
+shows_last o office plausible number (Some m) (Some s) there = receipt_told o s number office there.0 (token_there o s plausible there.0) there.1
 
 -- the sale of a ref
 pub shows_sale : (o : Office) → IsPlausible o → (operator order_ref : List ℕ) (sale : Option Sale) → sale_of_ref o operator order_ref ≡ sale

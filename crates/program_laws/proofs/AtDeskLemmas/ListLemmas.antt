@@ -6,6 +6,7 @@ use Rattle.std.specs.Borrow.{Bor}
 use Rattle.sts_fields.specs.Day.{day_at}
 use Rattle.sts_fields.specs.Moment.{IsMoment}
 use Rattle.vend_core.specs.Law.Life.{IsLife, Life, present}
+use Rattle.vend_core.specs.Law.Reached.{IsPlausible}
 use Rattle.office_rules.specs.Office.{IsOffice, Office}
 use Rattle.office_rules.specs.declared.decision.refusal.Refusal.{Refusal}
 use Rattle.book_facts.specs.Lookups.{Finds, FindsTariffs}
@@ -43,12 +44,13 @@ use Rattle.desk_commands.specs.print.Pages.{ArePages, list_behind, page_lookup}
 use Rattle.office_commands.proofs.ListingLemmas.{page_found}
 use Rattle.program_laws.proofs.AtDeskLemmas.MeaningLemmas.{looked}
 use Rattle.program_laws.proofs.AtDeskLemmas.OneLemmas.{DeskLaws, came_of, same_told}
-use Rattle.program_laws.proofs.AtDeskLemmas.PageLemmas.{CanAsk, IsSamePage, behind_askable, page_as_told, page_told, same_page, told_text}
+use Rattle.program_laws.proofs.AtDeskLemmas.PageLemmas.{CanAsk, IsSamePage, behind_askable, page_as_told, page_told, page_tokens, same_page, told_text}
 use Rattle.program_laws.proofs.AtDeskLemmas.AnswerLemmas.{IsShown, shows_meters, shows_sales, shows_shifts, shows_tariffs}
 use Rattle.program_laws.proofs.AtDeskLemmas.OrderLemmas.{page_after}
 use Rattle.program_laws.proofs.AtDeskLemmas.ReadLemmas.{Reads, shown_at, whole_reply}
 use Rattle.program_laws.proofs.AtDeskLemmas.RuleLemmas.{present_is}
 use Rattle.program_laws.proofs.AtDeskLemmas.TellableLemmas.{look_tells, no_count, tellable_look, told_found, told_look}
+use Rattle.program_laws.proofs.AtDeskLemmas.TokenLemmas.{plausible_present}
 
 -- one body tells one page
 abbrev pub OnePage : Type 0
@@ -154,10 +156,10 @@ module _ (laws : DeskLaws) where
       }
 
   -- ---- what came for a page is one, or a refusal
-  came_page : (moment : ℕ) (old : Life) (list : Listed) (came : List ℕ) → IsOffice (present old) → (r : Result Found Refusal)
+  came_page : (moment : ℕ) (old : Life) (list : Listed) (came : List ℕ) → IsOffice (present old) → IsPlausible (present old) → (r : Result Found Refusal)
       → IsFoundAt old moment (page_lookup list) r
       → IsTellable wants.Page (told_look forms.Json r) → IsReply wants.Page came (told_look forms.Json r) → IsPageOrRefusal list came
-  came_page moment old list came office (Ok it) found keeps is =
+  came_page moment old list came office plausible (Ok it) found keeps is =
       let page = as_page it keeps in
       let finds = page_found old moment (page_lookup list) it found in
       inl (
@@ -167,22 +169,23 @@ module _ (laws : DeskLaws) where
           reply = to_page list came _ (subst (λ (t : Told). IsReply wants.Page came t) page.1 is) tt;
           told = page_told laws.ranges (present old) office moment list it finds;
           order = page_after (present old) office moment list it finds;
+          tokens = page_tokens (present old) plausible moment list it finds;
           text = page.2 ∙ sym (told_text it);
         },
       )
-  came_page moment old list came office (Err refusal) found keeps is =
+  came_page moment old list came office plausible (Err refusal) found keeps is =
       inr (refusal, to_page list came _ is (page_shown old moment list (Err refusal) found))
 
   -- what comes back for such a question is read as a page that keeps the rules, or a refusal
   pub page_read : (list : Listed) (moment : ℕ) (old new : Timed Life) (came : List ℕ) → IsAskable (page_question list) → IsMoment moment
-      → IsOffice old.0.opening → IsLife old.0
+      → IsOffice old.0.opening → IsPlausible old.0.opening → IsLife old.0
       → IsAnsweredAt (pos moment) old (question_text (page_question list)) came new → length came ≤ longest_reply_body → IsPageOrRefusal list came
-  page_read list moment old new came askable is_moment opening life at few =
+  page_read list moment old new came askable is_moment opening plausible life at few =
       let office = present_is laws.along old.0 life opening in
       let l = looks_up moment old new list came is_moment office askable at in
       let reads : Reads wants.Page (outcomes.Found forms.Json l.result) =
       record { told = told_look forms.Json l.result; tellable = l.tellable; tells = l.tells } in
-      came_page moment old.0 list came office l.result l.found l.tellable
+      came_page moment old.0 list came office (plausible_present laws.one_step laws.plausible old.0 life opening plausible) l.result l.found l.tellable
       (whole_reply laws wants.Page (outcomes.Found forms.Json l.result) came l.text few reads)
 
   -- ---- a page that a desk told is one of its office

@@ -1,12 +1,11 @@
 -- The members of an office's page come after what was asked for, in order.
-use Rattle.std.proofs.Common.{◌≡◌, ◌∙◌, ℕ, zero, suc, ◌+◌, ◌<◌, true, List, [], ◌∷◌, length, map, take, get_or, Option, Some, Ok, refl, sym, ap, subst, arith}
+use Rattle.std.proofs.Common.{◌≡◌, ◌∙◌, ℕ, ◌<◌, true, List, [], ◌∷◌, length, map, take, get_or, Option, Some, Ok, refl, sym, ap, subst, arith}
 use Rattle.std.specs.Prelude.{All, AllPairs, IsSome, filter, nat_lt, unwrap_or}
 use Rattle.std.proofs.lemmas.Bool.Decides.{nat_tests}
 use Rattle.std.proofs.lemmas.List.{get_or-take, length-take}
-use Rattle.std.proofs.lemmas.Option.{slice_get-get_or}
 use Rattle.std.proofs.lemmas.List.Elements.{All-head, All-take, All-weaker, filter_passes}
 use Rattle.std.proofs.lemmas.List.Kept.{AllPairs-filter}
-use Rattle.office_rules.specs.Office.{AreNumbered, IsOffice, Office}
+use Rattle.office_rules.specs.Office.{IsOffice, Office}
 use Rattle.office_rules.specs.declared.office.sale.Sale.{Sale}
 use Rattle.office_rules.specs.declared.office.shift.Shift.{Shift}
 use Rattle.book_lists.specs.Pages.{ComesBefore, page_size}
@@ -22,16 +21,11 @@ use Rattle.desk_client.specs.Tells.{as_told}
 use Rattle.desk_commands.specs.PageOrder.{ComesAfter, Rise}
 use Rattle.desk_commands.specs.print.Pages.{page_lookup}
 use Rattle.program_laws.proofs.AtDeskLemmas.PageLemmas.{page_as_told}
+use Rattle.program_laws.proofs.AtDeskLemmas.PaperLemmas.{numbered_pairs, pairs_head, pairs_tail}
 
 -- ---- pairs
 
 module _ {X : Type 0} (R : X → X → Type 0) where
-  pairs_head : (x : X) (xs : List X) → AllPairs R (x ∷ xs) → All (R x) xs
-  pairs_head x xs h k d within = h zero (suc k) d (omega arith) (omega (arith, within))
-
-  pairs_tail : (x : X) (xs : List X) → AllPairs R (x ∷ xs) → AllPairs R xs
-  pairs_tail x xs h i j d first within = h (suc i) (suc j) d (omega (arith, first)) (omega (arith, within))
-
   pairs_take : (n : ℕ) (xs : List X) → AllPairs R xs → AllPairs R (take n xs)
   pairs_take n xs h i j d first within =
       let right : j < n = omega (arith, length-take n xs, within) in
@@ -43,7 +37,7 @@ module _ {X : Type 0} (R : X → X → Type 0) where
   keys_rise : (after : X) (keys : List X) → All (R after) keys → AllPairs R keys → Rise R after keys
   keys_rise after [] all pairs = tt
   keys_rise after (key ∷ keys) all pairs =
-      (All-head (R after) key keys all, keys_rise key keys (pairs_head key keys pairs) (pairs_tail key keys pairs))
+      (All-head (R after) key keys all, keys_rise key keys (pairs_head R key keys pairs) (pairs_tail R key keys pairs))
 
 -- so do the numbers of members that were made of such
 numbers_rise : {A B : Type 0} (number : A → ℕ) (f : A → B) (seen : B → ℕ) → ((x : A) → seen (f x) ≡ number x) → (after : ℕ) (xs : List A)
@@ -66,12 +60,6 @@ page_rises number f seen same after xs pairs =
     (All-weaker (λ x. nat_lt after (number x) ≡ true) (λ x. after < number x) (λ x e. grind (arith, nat_tests, e)) (take page_size kept)
     (All-take (λ x. nat_lt after (number x) ≡ true) page_size kept (filter_passes (λ x. nat_lt after (number x)) xs)))
     (pairs_take (λ a b. number a < number b) page_size kept (AllPairs-filter (λ a b. number a < number b) (λ x. nat_lt after (number x)) xs pairs))
-
-numbered_pairs : {A : Type 0} (number : A → ℕ) (xs : List A) → AreNumbered number xs → AllPairs (λ a b. number a < number b) xs
-numbered_pairs number xs numbered i j d first within =
-    let a = numbered i (get_or xs i d) (slice_get-get_or xs i d (omega (arith, first, within))) in
-    let b = numbered j (get_or xs j d) (slice_get-get_or xs j d within) in
-    omega (arith, a, b, first)
 
 -- ---- pages
 

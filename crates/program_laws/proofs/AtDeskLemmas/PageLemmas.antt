@@ -26,11 +26,13 @@ use Rattle.desk_messages.specs.reply.Body.{sale_data}
 use Rattle.desk_messages.specs.reply.Lists.{list_members}
 use Rattle.desk_messages.specs.reply.Members.{json_text}
 use Rattle.desk_client.specs.Asks.{IsAskable}
-use Rattle.desk_client.specs.Page.{AreAlike, AreTold, IsToldLater, IsToldListedMeter, IsToldEnd, IsToldListedShift, IsToldPage, IsToldTariff, tariff_view}
+use Rattle.desk_client.specs.Page.{AreAlike, AreTold, HasTokens, HaveTokens, IsToldEnd, IsToldLater, IsToldListedMeter, IsToldListedShift, IsToldPage, IsToldTariff, tariff_view}
 use Rattle.desk_client.specs.Page as pages
 use Rattle.desk_client.specs.declared.page.PageKind.{PageKind}
 use Rattle.desk_client.specs.declared.page.PageKind.TheVariants as kinds
 use Rattle.desk_client.specs.Sale.{IsSaleTold}
+use Rattle.std.proofs.lemmas.List.Elements.{recursion_from_All}
+use Rattle.vend_core.specs.Law.Reached.{IsPlausible}
 use Rattle.desk_client.specs.Tells.{as_told}
 use Rattle.command_line.specs.declared.commands.list.Listed.{Listed}
 use Rattle.command_line.specs.declared.commands.list.Listed.TheVariants as listed
@@ -41,6 +43,7 @@ use Rattle.desk_commands.specs.print.ListTexts.{later_line, meter_line, meter_na
 use Rattle.desk_commands.specs.print.Pages.{last_of_full, list_behind, page_lookup}
 use Rattle.program_laws.proofs.AtDeskLemmas.RangeLemmas.{or_keeps, sale_numbered, shift_numbered, shift_row, tariff_named, there_is, totals_within}
 use Rattle.program_laws.proofs.AtDeskLemmas.TellableLemmas.{RangeLaws, sale_told}
+use Rattle.program_laws.proofs.AtDeskLemmas.TokenLemmas.{HasToken, token_there}
 
 -- ---- members
 
@@ -200,6 +203,18 @@ page_told laws o office moment (listed.Sales after) (found.Sales page) is =
       few = few_told as_told o.sales (λ s. nat_lt after s.number);
     })
 page_told laws o office moment list page is = absurd is
+
+-- the digits of its sales can be a token's, where those of the office's can
+pub page_tokens : (o : Office) → IsPlausible o → (moment : ℕ) (list : Listed) (page : Found) → Finds o moment (page_lookup list) (Ok page)
+    → HasTokens (page_as_told page)
+page_tokens o plausible moment (listed.Tariffs after) (found.Tariffs page) is = tt
+page_tokens o plausible moment (listed.Meters after) (found.Meters page) is = tt
+page_tokens o plausible moment (listed.Shifts after) (found.Shifts page) is = tt
+page_tokens o plausible moment (listed.Sales after) (found.Sales page) is =
+    subst (λ (items : List Sale). HaveTokens (map as_told items)) (sym is)
+    (recursion_from_All HasToken (map as_told (take page_size (filter (λ s. nat_lt after s.number) o.sales)))
+    (told_each HasToken as_told o.sales (λ s. nat_lt after s.number) (λ s there. token_there o s plausible there)))
+page_tokens o plausible moment list page is = absurd is
 
 abbrev SmallShift : ListedShift → Type 0
 SmallShift l = l.shift.number ≤ 1000000000

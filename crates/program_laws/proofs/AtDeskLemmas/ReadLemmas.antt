@@ -17,7 +17,7 @@ use Rattle.office_rules.specs.declared.decision.request.Request.TheVariants as r
 use Rattle.office_rules.specs.declared.decision.row_cause.RowCause.{RowCause}
 use Rattle.office_rules.specs.declared.decision.row_cause.RowCause.TheVariants as causes
 use Rattle.office_rules.specs.declared.office.row.Row.{Row}
-use Rattle.book_facts.specs.Lookups.{Finds}
+use Rattle.book_facts.specs.Lookups.{Finds, last_sale}
 use Rattle.book_states.specs.declared.lookup.Found.{Found}
 use Rattle.book_states.specs.declared.lookup.Lookup.{Lookup}
 use Rattle.book_states.specs.declared.lookup.Lookup.TheVariants as lookups
@@ -43,6 +43,7 @@ use Rattle.desk_client.specs.declared.told.Wanted.TheVariants as wants
 use Rattle.desk_client.proofs.TellsLemmas.{says}
 use Rattle.program_laws.specs.AtDesk.{IsAnsweredAt}
 use Rattle.program_laws.proofs.AtDeskLemmas.OneLemmas.{Came, DeskLaws, came_of, few_fields, few_rows, import_for, may_be, reply_length, row_tellable}
+use Rattle.program_laws.proofs.AtDeskLemmas.PaperLemmas.{last_to}
 use Rattle.program_laws.proofs.AtDeskLemmas.MeaningLemmas.{ComesOfRows, IsRead, came_rows, looked, replied}
 use Rattle.program_laws.proofs.AtDeskLemmas.AnswerLemmas.{IsAnswered, IsShown, answers_base, answers_close, answers_import, answers_open, answers_report, answers_reprint, answers_sell, shows_last, shows_meter, shows_meters, shows_none, shows_quote, shows_sale, shows_sales, shows_shifts, shows_tariffs, shows_totals}
 use Rattle.vend_core.specs.Law.Reached.{IsPlausible}
@@ -94,7 +95,7 @@ module _ (laws : DeskLaws) (moment : ℕ) (is_moment : IsMoment moment) (old new
 
   look_reads : (q : Question) (lookup : Lookup) → MessageLooks (question_message q) (Some (pos moment)) (lookup_form lookup) moment lookup → MayLook lookup
       → wanted_by q ≡ wanted_look lookup → wanted_look lookup ≢ wants.Done
-      → (IsPlausible (present old.0) → (r : Result Found Refusal) → Finds (present old.0) moment lookup r → IsShown q (lookup_form lookup) r)
+      → (IsOffice (present old.0) → IsPlausible (present old.0) → (r : Result Found Refusal) → Finds (present old.0) moment lookup r → IsShown q (lookup_form lookup) r)
       → (c : Came laws q (pos moment) old new came) → ReadsTo q c.outcome
   look_reads q lookup looks may wanted some shows c =
       let m = question_message q in
@@ -113,7 +114,7 @@ module _ (laws : DeskLaws) (moment : ℕ) (is_moment : IsMoment moment) (old new
         };
         answers =
             shown_at q (lookup_form lookup) lookup old.0 moment
-            (shows (plausible_present laws.one_step laws.plausible old.0 (subst IsLife r.3 life) opening plausible)) r.0 r.2;
+            (shows office (plausible_present laws.one_step laws.plausible old.0 (subst IsLife r.3 life) opening plausible)) r.0 r.2;
       }
 
   json_reads : (kind : FileKind) (csv : Bor (List ℕ)) (r : Result Answer Refusal) (outcome : Outcome) → outcome ≡ outcomes.Replied forms.Json r
@@ -184,34 +185,36 @@ module _ (laws : DeskLaws) (moment : ℕ) (is_moment : IsMoment moment) (old new
   question_reads (questions.ShiftTotals number) askable c =
       look_reads (questions.ShiftTotals number) (lookups.ShiftTotals number) (laws.means (questions.ShiftTotals number) moment askable is_moment)
       askable refl (λ e. absurd cc)
-      (λ there r finds. subst (IsShown (questions.ShiftTotals number) forms.Json) (sym finds) (shows_totals number _)) c
+      (λ office there r finds. subst (IsShown (questions.ShiftTotals number) forms.Json) (sym finds) (shows_totals number _)) c
   question_reads (questions.Meter number) askable c =
       look_reads (questions.Meter number) (lookups.Meter number) (laws.means (questions.Meter number) moment askable is_moment) tt refl (λ e. absurd cc)
-      (λ there r finds. subst (IsShown (questions.Meter number) forms.Json) (sym finds) (shows_meter number _ _ _)) c
+      (λ office there r finds. subst (IsShown (questions.Meter number) forms.Json) (sym finds) (shows_meter number _ _ _)) c
   question_reads (questions.LastSale number) askable c =
       look_reads (questions.LastSale number) (lookups.LastSale number) (laws.means (questions.LastSale number) moment askable is_moment) tt refl
       (λ e. absurd cc)
-      (λ there r finds. subst (IsShown (questions.LastSale number) forms.Paper) (sym finds) (shows_last number _ _)) c
+      (λ office there r finds.
+      subst (IsShown (questions.LastSale number) forms.Paper) (sym finds)
+      (shows_last (present old.0) office there number ((present old.0).meters number) (last_sale (present old.0) number) (last_to (present old.0) number))) c
   question_reads (questions.SaleOfRef operator order_ref) askable c =
       look_reads (questions.SaleOfRef operator order_ref) (lookups.SaleOfRef operator order_ref)
       (laws.means (questions.SaleOfRef operator order_ref) moment askable is_moment) tt refl (λ e. absurd cc)
-      (λ there r finds. subst (IsShown (questions.SaleOfRef operator order_ref) forms.Json) (sym finds) (shows_sale (present old.0) there operator order_ref _ refl)) c
+      (λ office there r finds. subst (IsShown (questions.SaleOfRef operator order_ref) forms.Json) (sym finds) (shows_sale (present old.0) there operator order_ref _ refl)) c
   question_reads (questions.Quote number tender) askable c =
       look_reads (questions.Quote number tender) (lookups.Quote number tender)
       (laws.means (questions.Quote number tender) moment askable is_moment) askable refl (λ e. absurd cc)
-      (λ there r finds. subst (IsShown (questions.Quote number tender) forms.Json) (sym finds) (shows_quote number tender moment _ _)) c
+      (λ office there r finds. subst (IsShown (questions.Quote number tender) forms.Json) (sym finds) (shows_quote number tender moment _ _)) c
   question_reads (questions.Tariffs after) askable c =
       look_reads (questions.Tariffs after) (lookups.Tariffs after) (laws.means (questions.Tariffs after) moment askable is_moment) tt refl (λ e. absurd cc)
-      (λ there. shows_tariffs (present old.0) (day_at moment) after) c
+      (λ office there. shows_tariffs (present old.0) (day_at moment) after) c
   question_reads (questions.Meters after) askable c =
       look_reads (questions.Meters after) (lookups.Meters after) (laws.means (questions.Meters after) moment askable is_moment) tt refl (λ e. absurd cc)
-      (λ there. shows_meters (present old.0) after) c
+      (λ office there. shows_meters (present old.0) after) c
   question_reads (questions.Shifts after) askable c =
       look_reads (questions.Shifts after) (lookups.Shifts after) (laws.means (questions.Shifts after) moment askable is_moment) tt refl (λ e. absurd cc)
-      (λ there. shows_shifts (present old.0) after) c
+      (λ office there. shows_shifts (present old.0) after) c
   question_reads (questions.Sales after) askable c =
       look_reads (questions.Sales after) (lookups.Sales after) (laws.means (questions.Sales after) moment askable is_moment) tt refl (λ e. absurd cc)
-      (λ there. shows_sales (present old.0) after) c
+      (λ office there. shows_sales (present old.0) after) c
 
 -- a reply that is not too long tells it
 pub whole_reply : (laws : DeskLaws) (w : Wanted) (outcome : Outcome) (came : List ℕ) → came ≡ reply_bytes_of outcome false → length came ≤ longest_reply_body

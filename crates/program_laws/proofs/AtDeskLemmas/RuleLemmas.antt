@@ -40,9 +40,11 @@ use Rattle.office_rules.specs.declared.office.sale.Sale.{Sale}
 use Rattle.office_rules.specs.declared.office.shift.Shift.{Shift}
 use Rattle.desk_messages.specs.route.Route.{IsTargetNumber}
 use Rattle.desk_client.specs.Answers.{IsSaleFor, MayRefuse}
+use Rattle.desk_client.specs.Report.{AreToldLines, IsToldShift}
 use Rattle.desk_client.specs.declared.question.Question.{Question}
 use Rattle.desk_client.specs.declared.question.Question.TheVariants as questions
 use Rattle.office_rules.proofs.OfficeLemmas.RowLemmas.{found, number_within, parts_true}
+use Rattle.program_laws.proofs.AtDeskLemmas.PaperLemmas.{shift_lines, shift_reported}
 
 -- ---- a life's reply
 
@@ -158,7 +160,7 @@ MayAnswer (requests.OpenShift operator) (answers.Opened number) = IsTargetNumber
 MayAnswer (requests.CloseShift operator) (answers.Closed number) = IsTargetNumber number
 MayAnswer (requests.Sell order) (answers.Sold sale) = IsSaleFor order sale
 MayAnswer (requests.Reprint number) (answers.Reprinted sale) = sale.number ≡ number
-MayAnswer (requests.ShiftReport number) (answers.Report shift sales) = shift.number ≡ number
+MayAnswer (requests.ShiftReport number) (answers.Report shift sales) = (shift.number ≡ number) × IsToldShift shift × AreToldLines 0 sales
 MayAnswer request answer = ⊥
 
 -- what an office with its rules may refuse such a request for
@@ -397,7 +399,8 @@ may_decide forward o office moment nibble (requests.Reprint number) of_desk =
     (Decides-eqb s.number number).0 (found _ o.sales s is).1)
 may_decide forward o office moment nibble (requests.ShiftReport number) of_desk =
     there_plain (requests.ShiftReport number) (shift_numbered o number) refusals.NoSuchShift _ tt (λ s is.
-    (Decides-eqb s.number number).0 (found _ o.shifts s is).1)
+    let there = found _ o.shifts s is in
+    ((Decides-eqb s.number number).0 there.1, shift_reported o s office there.0, shift_lines o number office))
 
 -- a reply of a life, whatever it is, is one that an office may give
 pub may_reply : (o : Office) (forward : BlockFunction) (at : Stamped) (r : Reply) → IsOffice o → (acknowledges r ≡ true → r ≡ reply forward o at)

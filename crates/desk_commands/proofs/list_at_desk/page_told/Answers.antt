@@ -1,4 +1,5 @@
-use Rattle.std.proofs.Common.{◌∙◌, sym, false≢true}
+use Rattle.std.proofs.Common.{◌∙◌, sym}
+use Rattle.std.proofs.lemmas.Bool.{false≢true}
 use Rattle.desk_commands.specs.ListedAtDesk.{page_kind}
 use Rattle.desk_commands.proofs.PageOrderLemmas.{alike_after, alike_tokens}
 use Rattle.desk_commands.proofs.list_at_desk.page_told.Goals as goal
