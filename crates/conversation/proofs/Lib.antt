@@ -8,5 +8,6 @@ pub mod MessageLemmas
 pub mod ProgressLemmas
 pub mod ReadingLemmas
 pub mod RunLemmas
+pub mod TargetLemmas
 pub mod UsesLemmas
 pub mod WiderLemmas

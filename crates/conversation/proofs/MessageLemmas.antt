@@ -19,11 +19,13 @@ use Rattle.conversation.specs.message.Fields.{fields_at, values_of}
 use Rattle.conversation.specs.message.Framing.{◌>>=◌, body_len, framing, framing_of, is_number, is_last, is_uncoded, length_of, longest_body, method_of, names_its_host, unless}
 use Rattle.conversation.specs.declared.message.message_fault.MessageFault.TheVariants as faults
 use Rattle.conversation.specs.declared.message.method.Method.TheVariants.{Get, Post}
+use Rattle.conversation.specs.declared.message.method.Method.TheVariants as methods
 use Rattle.conversation.specs.declared.message.method.Method.{Method}
 use Rattle.conversation.specs.message.Front.{IsHeadAt}
 use Rattle.conversation.specs.message.Heads.{BeginsWithHead, NeverHasHead}
 use Rattle.conversation.specs.message.Messages.{Stop, ended, failed, BeginsMessage, BeginsFaulty, IsMessageRefused}
 use Rattle.conversation.specs.message.Next.{IsRefusedEver}
+use Rattle.conversation.specs.message.Target.{path_of}
 
 -- a head stands at the front whatever follows
 pub BeginsWith-append : (input : List ℕ) (head : RequestHead) (rest more : List ℕ) → BeginsWithHead input head rest
@@ -55,12 +57,13 @@ parts method host coded body last =
     Ok (record { method = name; body = len; closes = last })
 
 of_method : (name : List ℕ) → IsOfHead (method_of name)
-of_method name = by_tests (bytes_eq name (codes "GET")) (bytes_eq name (codes "POST"))
+of_method name = by_tests (bytes_eq name (codes "GET")) (bytes_eq name (codes "POST")) (bytes_eq name (codes "HEAD"))
   where
-    by_tests : (a b : Bool) → IsOfHead (cond a (Ok Get) (cond b (Ok Post) (Err faults.Method)))
-    by_tests true b e = absurd (cc)
-    by_tests false true e = absurd (cc)
-    by_tests false false e = absurd (cc)
+    by_tests : (a b c : Bool) → IsOfHead (cond a (Ok Get) (cond b (Ok Post) (cond c (Ok methods.Head) (Err faults.Method))))
+    by_tests true b c e = absurd (cc)
+    by_tests false true c e = absurd (cc)
+    by_tests false false true e = absurd (cc)
+    by_tests false false false e = absurd (cc)
 
 of_length : (value : List ℕ) → IsOfHead (length_of value)
 of_length value = by_tests (is_number value) (nat_le (digits_value 10 value) longest_body)
@@ -181,7 +184,7 @@ NeverHasHead-append input more never further = rw append_assoc (never (more ++ f
 -- a message that is there whole, from its parts
 pub whole_at : (input : List ℕ) (fields : List HeaderSpan) (spans : RequestSpans) (f : Framing) (after target : List ℕ)
     → (at : IsHeadAt input fields spans) → framing_of at.head ≡ Ok f → after ≡ drop spans.len input → f.body ≤ length after
-    → target ≡ span_bytes input spans.path
+    → target ≡ path_of (span_bytes input spans.path)
     → BeginsMessage input (record { method = f.method; target = target; body = take f.body after; closes = f.closes })
     (drop (spans.len + f.body) input)
 whole_at input fields spans f after target at framed is fits same =
@@ -193,7 +196,7 @@ whole_at input fields spans f after target at framed is fits same =
     record {
       head = at.head;
       begins = rw e at.begins;
-      target = sym at.parts.path ∙ sym same;
+      target = sym (ap path_of at.parts.path) ∙ sym same;
       framed = framed ∙ ap (λ n. Ok (record f { body = n })) (sym body);
     }
 

@@ -8,6 +8,7 @@ use Rattle.httparse.proofs.GrammarLemmas.{request_unique}
 use Rattle.conversation.specs.declared.message.framing.Framing.{Framing}
 use Rattle.conversation.specs.declared.message.message_fault.MessageFault.{MessageFault}
 use Rattle.conversation.specs.declared.message.message_fault.MessageFault.TheVariants.{Head, Method, Host, Coding, Length, Body}
+use Rattle.conversation.specs.message.Target.{path_of}
 use Rattle.conversation.specs.message.Framing.{framing_of}
 use Rattle.conversation.specs.message.Heads.{BeginsWithHead, HasNoHead, NeverHasHead}
 use Rattle.conversation.specs.declared.message.next.Next.{Next}
@@ -58,7 +59,7 @@ message_unique input m n r q x y =
     let closes : m.closes ≡ n.closes = ap (λ (f : Framing). f.closes) framed in
     let long : length m.body ≡ length n.body = ap (λ (f : Framing). f.body) framed in
     let bodies = fronts_same m.body n.body r q heads.1 long in
-    let target : m.target ≡ n.target = sym x.target ∙ ap (λ h. h.target) heads.0 ∙ y.target in
+    let target : m.target ≡ n.target = sym x.target ∙ ap (λ h. path_of h.target) heads.0 ∙ y.target in
     (λ i. record { method = method i; target = target i; body = bodies.0 i; closes = closes i }, bodies.1)
 
 -- what stands at the front is one thing: a message, a fault, a message that is cut, or no head

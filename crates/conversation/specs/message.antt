@@ -5,3 +5,4 @@ pub mod Heads
 pub mod MessageFault
 pub mod Messages
 pub mod Next
+pub mod Target

@@ -7,3 +7,4 @@ pub(crate) mod message_fault;
 pub(crate) mod method;
 pub(crate) mod next;
 pub(crate) mod received;
+mod target;

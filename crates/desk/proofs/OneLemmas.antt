@@ -28,7 +28,7 @@ use Rattle.desk.specs.Along.{AreAsked}
 use Rattle.desk_messages.specs.Asking.{BodyAsks}
 use Rattle.desk_messages.specs.Meaning.{AsksRequest, ComesAt, ComesOutside, IsFor, IsIdle, MessageAsks, MessageLooks, lookup_form, sale_form_of}
 use Rattle.desk.specs.OneConversation.{HasOneMeaning, IsOneConversation, asked_at, conversation_text, moments_of}
-use Rattle.desk_messages.specs.reply.Text.{reply_bytes_of}
+use Rattle.desk_messages.specs.reply.Text.{reply_to}
 use Rattle.desk_messages.specs.route.Route.{IsRouted}
 
 -- a target and a method ask for one thing, and so does a body of a route
@@ -176,7 +176,7 @@ same_exchanges one (x ∷ xs) (y ∷ ys) ats bts replies finds messages moments 
     let outcome = (one x.message x.now).idle nothing.outcome none.outcome nothing.idle
     (at_other (λ m n. IsIdle m n none.outcome) x y message now none.idle) in
     let reply : x.reply ≡ y.reply =
-    nothing.told ∙ ap (λ o. reply_bytes_of o x.message.closes) outcome ∙ ap (λ (m : Message). reply_bytes_of none.outcome m.closes) message ∙ sym none.told in
+    nothing.told ∙ ap (λ o. reply_to x.message.method o x.message.closes) outcome ∙ ap (λ (m : Message). reply_to m.method none.outcome m.closes) message ∙ sym none.told in
     let more = same_exchanges one xs ys ats bts replies finds (cc) (cc) a b in
     (ap (λ z. z ∷ xs) (same_exchange x y message now reply) ∙ ap (λ zs. y ∷ zs) more.0, more.1)
 same_exchanges one (x ∷ xs) (y ∷ ys) ats bts replies finds messages moments (inl (nothing, a)) (inr (inl (at, reply, asked, later, others, is, are, b))) =
@@ -221,8 +221,8 @@ same_exchanges one (x ∷ xs) (y ∷ ys) ats bts replies finds messages moments 
     let same : reply ≡ other = cc in
     let left : others ≡ rest = cc in
     let text : x.reply ≡ y.reply =
-    asked.told ∙ ap (λ f. reply_bytes_of (Replied f reply) x.message.closes) meaning.0 ∙ ap (λ r. reply_bytes_of (Replied ask.form r) x.message.closes) same
-    ∙ ap (λ (m : Message). reply_bytes_of (Replied ask.form other) m.closes) message ∙ sym ask.told in
+    asked.told ∙ ap (λ f. reply_to x.message.method (Replied f reply) x.message.closes) meaning.0 ∙ ap (λ r. reply_to x.message.method (Replied ask.form r) x.message.closes) same
+    ∙ ap (λ (m : Message). reply_to m.method (Replied ask.form other) m.closes) message ∙ sym ask.told in
     let more = same_exchanges one xs ys later then others finds (cc) (cc) a (subst (λ l. AreAsked ys then l finds) (sym left) b) in (
       ap (λ z. z ∷ xs) (same_exchange x y message now text) ∙ ap (λ zs. y ∷ zs) more.0,
       ap asked_at is ∙ ap (λ m. (m, at.request) ∷ asked_at later) meaning.1 ∙ ap (λ q. (bt.moment, q) ∷ asked_at later) meaning.2
@@ -237,9 +237,9 @@ same_exchanges one (x ∷ xs) (y ∷ ys) ats bts replies finds messages moments 
     let same : found ≡ other = cc in
     let left : others ≡ rest = cc in
     let text : x.reply ≡ y.reply =
-    looked.told ∙ ap (λ f. reply_bytes_of (outcomes.Found f found) x.message.closes) meaning.0
-    ∙ ap (λ r. reply_bytes_of (outcomes.Found look.form r) x.message.closes) same
-    ∙ ap (λ (m : Message). reply_bytes_of (outcomes.Found look.form other) m.closes) message ∙ sym look.told in
+    looked.told ∙ ap (λ f. reply_to x.message.method (outcomes.Found f found) x.message.closes) meaning.0
+    ∙ ap (λ r. reply_to x.message.method (outcomes.Found look.form r) x.message.closes) same
+    ∙ ap (λ (m : Message). reply_to m.method (outcomes.Found look.form other) m.closes) message ∙ sym look.told in
     let more = same_exchanges one xs ys ats bts replies others (cc) (cc) a (subst (λ l. AreAsked ys bts replies l) (sym left) b) in
     (ap (λ z. z ∷ xs) (same_exchange x y message now text) ∙ ap (λ zs. y ∷ zs) more.0, more.1)
 

@@ -25,7 +25,7 @@ use Rattle.conversation.proofs.FollowLemmas.{Follows, clocked_follows, run_along
 use Rattle.desk.specs.Answering.{Comes, LifeReplies, Serving, answers_by, books_serve, life_serves, message_refusal_of}
 use Rattle.desk.specs.Converses.{Converses}
 use Rattle.desk_messages.specs.Meaning.{IsIdle, IsMeaning}
-use Rattle.desk_messages.specs.reply.Text.{reply_bytes_of}
+use Rattle.desk_messages.specs.reply.Text.{reply_to}
 use Rattle.desk_messages.specs.declared.reply.form.Form.{Form}
 use Rattle.desk_messages.specs.declared.meaning.Meaning.{Meaning}
 use Rattle.desk_messages.specs.declared.meaning.Meaning.TheVariants as meanings
@@ -68,7 +68,7 @@ comes_told serves m now meaning told outcome old office is means same kept =
 -- a message was answered, by the text that a result has
 pub was_answered : {O A E : Type 0} (serves : Serving O) (gives : ℤ → Type 0) (items : A → List ℕ) (old new : Timed O) (m : Message) (now : Option ℤ)
     (outcome : Outcome) (r : Result A E)
-    → ReadsClock old.1 now new.1 → IfSome now gives → Comes serves m now outcome old.0 new.0 → IfOk r (λ text. items text ≡ reply_bytes_of outcome m.closes)
+    → ReadsClock old.1 now new.1 → IfSome now gives → Comes serves m now outcome old.0 new.0 → IfOk r (λ text. items text ≡ reply_to m.method outcome m.closes)
     → IfOk r (λ reply. (x : MessageExchange) × (x.message ≡ m) × (x.reply ≡ items reply) × timed (clocked gives (answers_by serves)) old x new)
 was_answered serves gives items old new m now outcome (Ok reply) reads gave comes text =
     (record { message = m; now = now; reply = items reply }, refl, refl, (((outcome, comes, text), gave), reads))
@@ -80,7 +80,7 @@ pub was_given_up : {O A E : Type 0} (serves : Serving O) (gives : ℤ → Type 0
     → ReadsClock old.1 now new.1 → IfSome now gives → Comes serves m now outcome old.0 new.0 → OnErr r (GaveUp (clocked gives (answers_by serves)) old m new)
 was_given_up serves gives old new m now outcome (Ok reply) reads gave comes = tt
 was_given_up serves gives old new m now outcome (Err error) reads gave comes =
-    (now, reads, inr (reply_bytes_of outcome m.closes, ((outcome, comes, refl), gave)))
+    (now, reads, inr (reply_to m.method outcome m.closes, ((outcome, comes, refl), gave)))
 
 unless_true : (b : Bool) → ¬ (b ≡ true) → b ≡ false
 unless_true true not = absurd (not refl)

@@ -21,7 +21,7 @@ use Rattle.desk_messages.specs.declared.reply.outcome.Outcome.{Outcome}
 use Rattle.desk_messages.specs.declared.reply.outcome.Outcome.TheVariants.{Refused, Replied}
 use Rattle.desk_messages.specs.declared.reply.outcome.Outcome.TheVariants as outcomes
 use Rattle.desk_messages.specs.Meaning.{MessageAsks, MessageLooks, IsIdle}
-use Rattle.desk_messages.specs.reply.Text.{reply_bytes_of}
+use Rattle.desk_messages.specs.reply.Text.{reply_bytes_of, reply_to}
 
 -- How an office serves: at a moment a request gets a reply, and a look-up finds something or is
 -- refused, between the office before it and the office after it.
@@ -45,7 +45,7 @@ Comes serves m now outcome old new =
 abbrev pub answers_by : {O : Type 0} → Serving O → O → MessageExchange → O → Type 0
 answers_by serves old x new =
     (outcome : Outcome) × Comes serves x.message x.now outcome old new
-    × (x.reply ≡ reply_bytes_of outcome x.message.closes)
+    × (x.reply ≡ reply_to x.message.method outcome x.message.closes)
 
 -- the reply to a message that is refused, after which the conversation ends
 abbrev pub message_refusal_of : MessageFault → List ℕ

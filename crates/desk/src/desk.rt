@@ -5,7 +5,7 @@ ghost use Rattle.desk.specs.Converses.{Converses};
 
 use books::Books;
 use conversation::{Clock, End, Line, MessageFault, Received, Service, Untold, run};
-use desk_messages::{Meaning, Outcome, Routes, reply_bytes};
+use desk_messages::{Meaning, Outcome, Routes, reply_bytes, reply_to};
 use sqlite::Alter;
 use std::alloc::{AllocError, Global};
 use std::io::{Read, Write};
@@ -100,7 +100,7 @@ impl<S: Alter, T: BlockTransform> Service<Books<S, T>> for Desk {
             Meaning::Told(outcome) => outcome,
             Meaning::Memory => return Err(AllocError),
         };
-        reply_bytes(alloc, &outcome, message.closes)
+        reply_to(alloc, message.method, &outcome, message.closes)
     }
 
     fn refuse(&self, alloc: Global, fault: MessageFault) -> Result<Vec<u8>, AllocError> {

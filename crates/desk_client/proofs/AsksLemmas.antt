@@ -5,6 +5,7 @@ use Rattle.std.proofs.lemmas.Bool.{and_parts}
 use Rattle.std.proofs.lemmas.Bool.Decides.{nat_tests}
 use Rattle.std.specs.List.{AllByRecursion, concat, flat_map, list_all}
 use Rattle.book_states.specs.declared.lookup.Lookup.TheVariants as lookups
+use Rattle.conversation.specs.message.Target.{path_of}
 use Rattle.conversation.specs.message.Messages.{BeginsMessage, Message}
 use Rattle.desk_messages.specs.Asking.{BodyAsks, import_of}
 use Rattle.desk_messages.specs.Meaning.{ComesAt, IsFor, IsIdle, sale_form_of}
@@ -16,7 +17,7 @@ use Rattle.desk_messages.specs.declared.route.Route.{Route}
 use Rattle.desk_messages.specs.declared.route.Route.TheVariants as routes
 use Rattle.desk_messages.specs.json_body.Body.{BodySaysBase, BodySaysOperator, BodySaysOrder, IsJson}
 use Rattle.desk_messages.specs.route.Endpoint.{endpoint_method}
-use Rattle.desk_messages.specs.route.Route.{LeadsTo, Names, endpoint_of}
+use Rattle.desk_messages.specs.route.Route.{LeadsTo, Names, endpoint_of, route_method}
 use Rattle.papers.specs.File.{AreFileRecords, Fields}
 use Rattle.papers.specs.declared.file_kind.FileKind.TheVariants as files
 use Rattle.papers.specs.declared.row_fault.RowFault.{RowFault}
@@ -66,7 +67,7 @@ route_by (Sales after) = routes.LookUp (lookups.Sales after)
 target_by : Question → List ℕ
 target_by q = concat (target_pieces q)
 
-method_by : (q : Question) → endpoint_method (endpoint_of (route_by q)) ≡ question_method q
+method_by : (q : Question) → endpoint_method (endpoint_of (route_by q)) ≡ route_method (question_method q)
 method_by (Import files.Meters csv) = refl
 method_by (Import files.Tariffs csv) = refl
 method_by (MoveBase meter base) = refl
@@ -274,6 +275,28 @@ body_fits (Meters after) is = refl
 body_fits (Shifts after) is = refl
 body_fits (Sales after) is = refl
 
+-- a target is a path
+target_path : (q : Question) → path_of (concat (target_pieces q)) ≡ concat (target_pieces q)
+target_path (Import files.Meters csv) = refl
+target_path (Import files.Tariffs csv) = refl
+target_path (MoveBase meter base) = refl
+target_path (OpenShift operator) = refl
+target_path (CloseShift operator) = refl
+target_path (Sell order) = refl
+target_path (ShiftReport number) = refl
+target_path (Receipt number) = refl
+target_path (ShiftTotals number) = refl
+target_path (Meter meter) = refl
+target_path (LastSale meter) = refl
+target_path (SaleOfRef operator order_ref) = refl
+target_path (Quote meter tender) = refl
+target_path (Tariffs None) = refl
+target_path (Tariffs (Some name)) = refl
+target_path (Meters None) = refl
+target_path (Meters (Some meter)) = refl
+target_path (Shifts after) = refl
+target_path (Sales after) = refl
+
 -- a desk reads the message whole
 pub is_sent : (q : Question) (rest : List ℕ) → IsAskable q → BeginsMessage (question_text q ++ rest) (question_message q) rest
 unfolding target_by
@@ -285,6 +308,7 @@ is_sent q rest is =
       short = omega (arith, parts.0, parts_short (target_pieces q) parts.1);
       visible = seen_visible (concat (target_pieces q)) seen;
       text = seen_text (concat (target_pieces q)) seen;
+      path = target_path q;
       body = body_fits q is;
       goes_on = refl;
     })

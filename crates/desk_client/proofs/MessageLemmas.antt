@@ -16,8 +16,9 @@ use Rattle.httparse.proofs.GrammarLemmas.{cons-append, print_request-append}
 use Rattle.httparse.proofs.TrimLemmas.{AllPass-reverse, trim_ows_space}
 use Rattle.conversation.specs.declared.message.message_fault.MessageFault.{MessageFault}
 use Rattle.conversation.specs.declared.message.method.Method.{Method}
-use Rattle.conversation.specs.declared.message.method.Method.TheVariants.{Get, Post}
+use Rattle.conversation.specs.declared.message.method.Method.TheVariants.{Get, Head, Post}
 use Rattle.conversation.specs.message.Framing.{◌>>=◌, framing, framing_of, length_of, longest_body}
+use Rattle.conversation.specs.message.Target.{path_of}
 use Rattle.conversation.specs.message.Messages.{BeginsMessage, Message}
 use Rattle.desk_client.specs.Message.{HasBodyOf, IsSendable, front_lines, length_line, longest_target, message_bytes}
 
@@ -211,9 +212,9 @@ post_framed target n h =
 
 -- ---- messages
 
-begins : (method : Method) (target body rest : List ℕ) → Visible target → HasBodyOf method body
+begins : (method : Method) (target body rest : List ℕ) → Visible target → path_of target ≡ target → HasBodyOf method body
     → BeginsMessage (message_bytes method target body ++ rest) (record { method = method; target = target; body = body; closes = false }) rest
-begins Get target body rest seen none =
+begins Get target body rest seen path none =
     subst (λ b. BeginsMessage (message_bytes Get target b ++ rest) (record { method = Get; target = target; body = b; closes = false })
     rest) (sym none) (record {
       head = get_head target;
@@ -222,17 +223,18 @@ begins Get target body rest seen none =
         fields = omega arith;
         bytes = get_short target seen.1;
       };
-      target = refl;
+      target = path;
       framed = get_framed target;
     })
-begins Post target body rest seen h = record {
+begins Head target body rest seen path none = absurd none
+begins Post target body rest seen path h = record {
   head = post_head target (length body);
   begins = record {
     reads = (post_is target (length body) seen h, post_bytes target body rest);
     fields = omega arith;
     bytes = post_short target body seen.1 h;
   };
-  target = refl;
+  target = path;
   framed = post_framed target (length body) h;
 }
 
@@ -242,4 +244,4 @@ is_message m rest sendable =
     subst (λ (closes : Bool). BeginsMessage (message_bytes m.method m.target m.body ++ rest)
     (record { method = m.method; target = m.target; body = m.body; closes = closes }) rest)
     (sym sendable.goes_on)
-    (begins m.method m.target m.body rest (sendable.some, sendable.short, sendable.text, sendable.visible) sendable.body)
+    (begins m.method m.target m.body rest (sendable.some, sendable.short, sendable.text, sendable.visible) sendable.path sendable.body)

@@ -7,8 +7,8 @@ use conversation::Method;
 use itoa::Buffer;
 use std::alloc::{AllocError, Global};
 
-/// The bytes of a whole message to a desk, with this method, target and body. One of GET is sent
-/// without its body. An error is want of memory.
+/// The bytes of a whole message to a desk, with this method, target and body. One of GET or HEAD is
+/// sent without its body. An error is want of memory.
 pub fn message(
     alloc: Global,
     method: Method,
@@ -40,7 +40,7 @@ fn put_body(text: &mut Vec<u8>, method: Method, body: &[u8]) -> Result<(), Alloc
     ensures { OnOk result (text.new.items ≡ text.old.items ++ body_part method body.now) }
 {
     match method {
-        Method::Get => text.extend_from_slice(b"\r\n"),
+        Method::Get | Method::Head => text.extend_from_slice(b"\r\n"),
         Method::Post => put_sized(text, body),
     }
 }
@@ -64,6 +64,7 @@ fn word_of(method: Method) -> &'static str
 {
     match method {
         Method::Get => "GET",
+        Method::Head => "HEAD",
         Method::Post => "POST",
     }
 }

@@ -22,7 +22,7 @@ use Rattle.desk_messages.specs.declared.route.Route.TheVariants.{Object, Import,
 use Rattle.book_states.specs.declared.lookup.Lookup.{Lookup}
 use Rattle.book_states.specs.declared.lookup.Lookup.TheVariants as lookups
 use Rattle.desk_messages.specs.route.Endpoint.{Table, closes, endpoints, endpoint_method, filled, opens, pattern_of, quote_target, sale_target, with_endpoint, with_pattern}
-use Rattle.desk_messages.specs.route.Route.{FindsRoute, IsRouted, LeadsTo, Names, NamesLookup, NamesObject, endpoint_of, lookup_endpoint, object_endpoint}
+use Rattle.desk_messages.specs.route.Route.{FindsRoute, IsRouted, LeadsTo, Names, NamesLookup, NamesObject, endpoint_of, lookup_endpoint, object_endpoint, route_method}
 use Rattle.desk_messages.proofs.ParameterLemmas.{digits_lack, letters_lack, same_number, same_start, same_two}
 
 -- what `insert` leaves where it succeeds
@@ -156,8 +156,8 @@ one_route target a b one other =
 
 -- the method of a route that was found is not one that another reading refuses
 not_both : (target : List ℕ) (method : Method) (a b : Route) (allowed : Method) → LeadsTo target a
-    → endpoint_method (endpoint_of a) ≡ method → LeadsTo target b → endpoint_method (endpoint_of b) ≡ allowed
-    → allowed ≢ method → ⊥
+    → endpoint_method (endpoint_of a) ≡ route_method method → LeadsTo target b → endpoint_method (endpoint_of b) ≡ allowed
+    → allowed ≢ route_method method → ⊥
 not_both target method a b allowed one own other others apart =
     apart (sym others ∙ ap (λ route. endpoint_method (endpoint_of route)) (one_route target b a other one) ∙ own)
 

@@ -21,7 +21,7 @@ pub use reply::form::Form;
 pub use reply::law::{list_law, reply_law};
 pub use reply::outcome::Outcome;
 pub use reply::steps_text::put_steps;
-pub use reply::text::reply_bytes;
+pub use reply::text::{reply_bytes, reply_to};
 pub use route::Route;
 pub use route::endpoint::Endpoint;
 pub use route::routes::{Routes, route_law};

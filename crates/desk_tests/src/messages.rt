@@ -29,6 +29,14 @@ NeedBody(64) = POST / HTTP/1.1~Host: d~Content-Length: 0064~~
 NeedBody(7) = POST / HTTP/1.1~Host: d~CONTENT-LENGTH: \t7 \t~~
 NeedBody(12) = GET / HTTP/1.1~Host: d~Content-Length:12~~
 NeedBody(1) = POST / HTTP/1.0~Content-Length: 000000000000000000000000000001~~
+Head,/,,true,19 = HEAD / HTTP/1.0~~
+Get,/sales/1,,true,36 = GET http://d:80/sales/1 HTTP/1.0~~
+Get,/sales?after=0,,true,42 = GET HTTPS://d@e/sales?after=0 HTTP/1.0~~
+Get,?a=/b,,true,30 = GET http://d?a=/b HTTP/1.0~~
+Get,,,true,25 = GET http://d HTTP/1.0~~
+Get,http:/d/a,,true,26 = GET http:/d/a HTTP/1.0~~
+Get,ftp://d/a,,true,26 = GET ftp://d/a HTTP/1.0~~
+Get,/http://d/a,,true,28 = GET /http://d/a HTTP/1.0~~
 Post,/,,false,47 = POST / HTTP/1.1~Host: d~Content-Length: 0~~
 Refused(Head) = \x01
 Refused(Head) = GET  / HTTP/1.1~
@@ -41,7 +49,8 @@ Refused(Head) = GET /\0 HTTP/1.1~Host: d~~
 Refused(Head) = GET / HTTP/1.1~Host: d~X: a$b~~
 Refused(Head) = GET / HTTP/1.1$Host: d$$
 Refused(Method) = PUT / HTTP/1.1~~
-Refused(Method) = HEAD / HTTP/1.0~~
+Refused(Method) = OPTIONS / HTTP/1.0~~
+Refused(Method) = head / HTTP/1.0~~
 Refused(Method) = get / HTTP/1.1~Host: d~~
 Refused(Host) = GET / HTTP/1.1~~
 Refused(Host) = GET / HTTP/1.1~Host: d~Host: d~~
@@ -78,7 +87,7 @@ fn what_each_message_says(rt: HostRuntime) -> Result<(), Fail> {
         let found = named(rt.alloc(), next_of(&text))?;
         assert_eq!(rt; found.as_str(), wanted, "{line}");
     }
-    assert_eq!(rt; messages().lines().count(), 42);
+    assert_eq!(rt; messages().lines().count(), 51);
     Ok(())
 }
 

@@ -224,7 +224,7 @@ fn replies() -> &'static str {
     'row':10001}
 422 Unprocessable Entity, 60 = {'cause':'DayPast','error':'ImportRow','refusal':14,'row':2}
 405 Method Not Allowed, 18, Allow: POST~ = {'error':'Method'}
-405 Method Not Allowed, 18, Allow: GET~Connection: close~ = {'error':'Method'}
+405 Method Not Allowed, 18, Allow: GET, HEAD~Connection: close~ = {'error':'Method'}
 404 Not Found, 19 = {'error':'NoRoute'}
 404 Not Found, 19, Connection: close~ = {'error':'NoRoute'}
 503 Service Unavailable, 17 = {'error':'Clock'}

@@ -159,6 +159,8 @@ fn each_route(rt: HostRuntime) -> Result<(), Fail> {
         assert_eq!(rt; routes.route_of(target, own), Ok(route(wanted)?), "{line}");
         let fault = Err(DeskFault::Method(own));
         assert_eq!(rt; routes.route_of(target, other), fault, "{line}");
+        let of_get = routes.route_of(target, Method::Get);
+        assert_eq!(rt; routes.route_of(target, Method::Head), of_get, "{line}");
     }
     assert_eq!(rt; targets().lines().count(), 38);
     Ok(())
@@ -169,7 +171,7 @@ fn no_route(rt: HostRuntime) -> Result<(), Fail> {
     let routes = Routes::new(rt.alloc())?;
     for text in no_targets().split('>').skip(1) {
         let target = bytes(rt.alloc(), text)?;
-        for method in [Method::Get, Method::Post] {
+        for method in [Method::Get, Method::Head, Method::Post] {
             let found = routes.route_of(&target, method);
             assert_eq!(rt; found, Err(DeskFault::NoRoute), "{text}");
         }

@@ -12,7 +12,7 @@ use Rattle.conversation.specs.declared.message.framing.Framing.{Framing}
 use Rattle.conversation.specs.declared.message.message_fault.MessageFault.{MessageFault}
 use Rattle.conversation.specs.declared.message.message_fault.MessageFault.TheVariants as faults
 use Rattle.conversation.specs.declared.message.method.Method.{Method}
-use Rattle.conversation.specs.declared.message.method.Method.TheVariants.{Get, Post}
+use Rattle.conversation.specs.declared.message.method.Method.TheVariants.{Get, Head, Post}
 use Rattle.conversation.specs.message.Fields.{values_of}
 
 -- the most bytes of a body
@@ -23,7 +23,8 @@ longest_body = 1048576
 abbrev pub method_of : List ℕ → Result Method MessageFault
 method_of name =
     if bytes_eq name (codes "GET") then Ok Get
-    else (if bytes_eq name (codes "POST") then Ok Post else Err faults.Method)
+    else (if bytes_eq name (codes "POST") then Ok Post
+    else (if bytes_eq name (codes "HEAD") then Ok Head else Err faults.Method))
 
 -- a message of HTTP/1.1 has exactly one `Host` field
 abbrev pub names_its_host : ℕ → List (List ℕ × List ℕ) → Bool

@@ -8,12 +8,13 @@ use Rattle.conversation.specs.declared.message.message_fault.MessageFault.TheVar
 use Rattle.conversation.specs.declared.message.method.Method.{Method}
 use Rattle.conversation.specs.message.Framing.{framing_of}
 use Rattle.conversation.specs.message.Heads.{BeginsWithHead, HasNoHead, NeverHasHead, longest_head}
+use Rattle.conversation.specs.message.Target.{path_of}
 
 -- how an input stops: it ends, or its reader fails
 pub data Stop : Type 0 where
   ended failed : Stop
 
--- what the desk looks at in a message
+-- what the desk looks at in a message; its target is the path and the query
 pub record Message : Type 0 where
   pub method : Method
   pub target : List ℕ
@@ -24,7 +25,7 @@ pub record Message : Type 0 where
 pub record BeginsMessage (input : List ℕ) (m : Message) (rest : List ℕ) : Type 0 where
   pub head : RequestHead
   pub begins : BeginsWithHead input head (m.body ++ rest)
-  pub target : head.target ≡ m.target
+  pub target : path_of head.target ≡ m.target
   pub framed : framing_of head
       ≡ Ok (record { method = m.method; body = length m.body; closes = m.closes })
 

@@ -59,6 +59,7 @@ fn method_of(name: &[u8]) -> Result<Method, MessageFault>
     match name {
         b"GET" => Ok(Method::Get),
         b"POST" => Ok(Method::Post),
+        b"HEAD" => Ok(Method::Head),
         _ => Err(MessageFault::Method),
     }
 }

@@ -3,4 +3,6 @@
 pub enum Method {
     Get,
     Post,
+    /// As `Get`, but the reply is to have no body.
+    Head,
 }

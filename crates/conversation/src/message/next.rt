@@ -7,6 +7,7 @@ use crate::message::framing::framing_of;
 use crate::message::head::{Front, MAX_FIELDS, front_of};
 use crate::message::message_fault::MessageFault;
 use crate::message::received::Received;
+use crate::message::target::path_of;
 use httparse::spans::{EMPTY_HEADER_SPAN, HeaderSpan, RequestSpans};
 
 /// What stands at the front of an input of which more may come.
@@ -52,7 +53,7 @@ fn next_after<'b>(input: &'b [u8], spans: RequestSpans, fields: &[HeaderSpan]) -
         Ok(framing) => framing,
         Err(fault) => return Next::Refused(fault),
     };
-    let target = spans.path.of(input);
+    let target = path_of(spans.path.of(input));
     let after = &input[spans.len..];
     if after.len() < framing.body {
         return Next::NeedBody(framing.body - after.len());

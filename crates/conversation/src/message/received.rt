@@ -4,7 +4,7 @@ use crate::message::method::Method;
 #[derive(Clone, Copy, Debug, PartialEq, Eq)]
 pub struct Received<'b> {
     pub method: Method,
-    /// The target as it was written: UTF-8, not decoded.
+    /// The path and the query of the target, as they were written: UTF-8, not decoded.
     pub target: &'b [u8],
     pub body: &'b [u8],
     /// Whether the conversation ends after the reply to this message.

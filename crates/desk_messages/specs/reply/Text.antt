@@ -3,7 +3,7 @@ use Rattle.std.specs.Prelude.{ℕ, Bool, List, [], ◌∷◌, ◌++◌, length, 
 use Rattle.std.specs.Prelude.{Some, if◌then◌else◌}
 use Rattle.http.specs.StatusCode.{status_text}
 use Rattle.conversation.specs.declared.message.method.Method.{Method}
-use Rattle.conversation.specs.declared.message.method.Method.TheVariants.{Get, Post}
+use Rattle.conversation.specs.declared.message.method.Method.TheVariants.{Get, Head, Post}
 use Rattle.desk_messages.specs.declared.reply.form.Form.{Form}
 use Rattle.desk_messages.specs.declared.reply.form.Form.TheVariants.{Json, Paper}
 use Rattle.desk_messages.specs.declared.reply.outcome.Outcome.{Outcome}
@@ -27,27 +27,43 @@ abbrev pub media_type : Form → List ℕ
 media_type Json = codes "application/json"
 media_type Paper = codes "text/plain"
 
--- the method that is allowed, where another one was used
+-- the methods that are allowed, where another one was used: with GET, HEAD is
 abbrev pub allow_line : Option Method → List ℕ
 allow_line None = []
-allow_line (Some Get) = field_line (codes "Allow") (codes "GET")
+allow_line (Some Get) = field_line (codes "Allow") (codes "GET, HEAD")
+allow_line (Some Head) = field_line (codes "Allow") (codes "GET, HEAD")
 allow_line (Some Post) = field_line (codes "Allow") (codes "POST")
 
 -- that the conversation ends, where it does
 abbrev pub connection_line : Bool → List ℕ
 connection_line closes = if closes then field_line (codes "Connection") (codes "close") else []
 
--- the status with its phrase, the fields, an empty line and the body
-unfoldable pub reply_text : ReplyHead → List ℕ → List ℕ
-reply_text head body =
+-- the status with its phrase, the fields, which tell the length of a body, an empty line, and what
+-- is sent of the body
+abbrev pub reply_parts : ReplyHead → ℕ → List ℕ → List ℕ
+reply_parts head len sent =
     status_line head.status
     ++ field_line (codes "Content-Type") (media_type head.form)
-    ++ field_line (codes "Content-Length") (decimal (length body))
+    ++ field_line (codes "Content-Length") (decimal len)
     ++ allow_line head.allowed
     ++ connection_line head.closes
     ++ line_end
-    ++ body
+    ++ sent
+
+-- a whole reply
+unfoldable pub reply_text : ReplyHead → List ℕ → List ℕ
+reply_text head body = reply_parts head (length body) body
+
+-- the same without its body
+unfoldable pub bodiless_text : ReplyHead → List ℕ → List ℕ
+bodiless_text head body = reply_parts head (length body) []
 
 -- the reply that tells what came of a message, and after which the conversation ends or not
 abbrev pub reply_bytes_of : Outcome → Bool → List ℕ
 reply_bytes_of outcome closes = reply_text (head_of outcome closes) (body_of outcome)
+
+-- the reply to a message of this method: to HEAD it has no body
+abbrev pub reply_to : Method → Outcome → Bool → List ℕ
+reply_to Get outcome closes = reply_bytes_of outcome closes
+reply_to Head outcome closes = bodiless_text (head_of outcome closes) (body_of outcome)
+reply_to Post outcome closes = reply_bytes_of outcome closes

@@ -9,6 +9,7 @@ use Rattle.office_rules.specs.Name.{IsMeterNo, IsName, IsOperator}
 use Rattle.book_states.specs.declared.lookup.Lookup.{Lookup}
 use Rattle.book_states.specs.declared.lookup.Lookup.TheVariants as lookups
 use Rattle.conversation.specs.declared.message.method.Method.{Method}
+use Rattle.conversation.specs.declared.message.method.Method.TheVariants.{Get, Head, Post}
 use Rattle.desk_messages.specs.declared.desk_fault.DeskFault.{DeskFault}
 use Rattle.desk_messages.specs.declared.desk_fault.DeskFault.TheVariants as faults
 use Rattle.desk_messages.specs.declared.json_body.kind.JsonKind.{JsonKind}
@@ -145,12 +146,18 @@ pub record LeadsTo (target : List ℕ) (route : Route) : Type 0 where
   pub finds : FindsRoute target (endpoint_of route)
   pub names : Names target route
 
+-- the method of the routes that a message of this method asks for: HEAD asks for those of GET
+abbrev pub route_method : Method → Method
+route_method Get = Get
+route_method Head = Get
+route_method Post = Post
+
 -- what a target and a method ask for: a route by its own method, or why there is none
 abbrev pub IsRouted : List ℕ → Method → Result Route DeskFault → Type 0
 IsRouted target method (Ok route) =
-    LeadsTo target route × (endpoint_method (endpoint_of route) ≡ method)
+    LeadsTo target route × (endpoint_method (endpoint_of route) ≡ route_method method)
 IsRouted target method (Err faults.NoRoute) = (route : Route) → ¬ LeadsTo target route
 IsRouted target method (Err (faults.Method allowed)) =
     (route : Route) × LeadsTo target route × (endpoint_method (endpoint_of route) ≡ allowed)
-    × (allowed ≢ method)
+    × (allowed ≢ route_method method)
 IsRouted target method (Err fault) = ⊥

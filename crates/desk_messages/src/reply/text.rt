@@ -1,8 +1,10 @@
 ghost use Rattle.std.specs.Prelude.{◌≡◌, ◌++◌, IfOk, OnOk, codes, decimal};
 ghost use Rattle.http.specs.StatusCode.{IsStatusCode};
-ghost use Rattle.desk_messages.specs.reply.Text.{allow_line, connection_line, field_line};
-ghost use Rattle.desk_messages.specs.reply.Text.{media_type, reply_bytes_of, reply_text};
-ghost use Rattle.desk_messages.specs.reply.Text.{status_line};
+ghost use Rattle.desk_messages.specs.reply.Body.{body_of};
+ghost use Rattle.desk_messages.specs.reply.Head.{head_of};
+ghost use Rattle.desk_messages.specs.reply.Text.{allow_line, bodiless_text, connection_line};
+ghost use Rattle.desk_messages.specs.reply.Text.{field_line, media_type, reply_bytes_of};
+ghost use Rattle.desk_messages.specs.reply.Text.{reply_parts, reply_text, reply_to, status_line};
 
 use crate::reply::body::{body_of, plain_sale};
 use crate::reply::form::Form;
@@ -31,19 +33,70 @@ pub fn reply_bytes(alloc: Global, outcome: &Outcome, closes: bool) -> Result<Vec
     reply_text(alloc, head, &body)
 }
 
+/// The same for a message of this method: to HEAD the reply has no body, and its head tells the
+/// length of the one that GET gets.
+pub fn reply_to(
+    alloc: Global,
+    method: Method,
+    outcome: &Outcome,
+    closes: bool,
+) -> Result<Vec<u8>, AllocError>
+    ensures { IfOk result (λ text. text.items ≡ reply_to method outcome.now closes) }
+{
+    match method {
+        Method::Get | Method::Post => reply_bytes(alloc, outcome, closes),
+        Method::Head => bodiless_reply(alloc, outcome, closes),
+    }
+}
+
+// The head of that reply alone.
+#[cold]
+#[inline(never)]
+fn bodiless_reply(alloc: Global, outcome: &Outcome, closes: bool) -> Result<Vec<u8>, AllocError>
+    ensures { IfOk result (λ text. text.items
+        ≡ bodiless_text (head_of outcome.now closes) (body_of outcome.now)) }
+{
+    let body = body_of(alloc, outcome)?;
+    bodiless_text(alloc, ReplyHead::of(outcome, closes), &body)
+}
+
+// The head of a reply with this body.
+#[tactic(auto, unfolding(crate::specs::reply::Text::bodiless_text))]
+fn bodiless_text(alloc: Global, head: ReplyHead, body: &[u8]) -> Result<Vec<u8>, AllocError>
+    requires { IsStatusCode head.status }
+    ensures { IfOk result (λ text. text.items ≡ bodiless_text head body.now) }
+{
+    reply_parts(alloc, head, body.len(), &[])
+}
+
 // A whole reply with this head and body.
 #[inline(always)]
+#[tactic(auto, unfolding(crate::specs::reply::Text::reply_text))]
 fn reply_text(alloc: Global, head: ReplyHead, body: &[u8]) -> Result<Vec<u8>, AllocError>
     requires { IsStatusCode head.status }
     ensures { IfOk result (λ text. text.items ≡ reply_text head body.now) }
 {
-    let mut text = Vec::with_capacity(alloc, HEAD_ROOM + body.len())?;
+    reply_parts(alloc, head, body.len(), body)
+}
+
+// A reply with this head, which tells the length of a body, and with what is sent of that.
+#[inline(always)]
+fn reply_parts(
+    alloc: Global,
+    head: ReplyHead,
+    len: usize,
+    sent: &[u8],
+) -> Result<Vec<u8>, AllocError>
+    requires { IsStatusCode head.status }
+    ensures { IfOk result (λ text. text.items ≡ reply_parts head len sent.now) }
+{
+    let mut text = Vec::with_capacity(alloc, HEAD_ROOM + sent.len())?;
     put_status(alloc, &mut text, head.status)?;
-    put_content(&mut text, head.form, body.len())?;
+    put_content(&mut text, head.form, len)?;
     put_allowed(&mut text, head.allowed)?;
     put_closing(&mut text, head.closes)?;
     text.extend_from_slice(b"\r\n")?;
-    text.extend_from_slice(body)?;
+    text.extend_from_slice(sent)?;
     Ok(text)
 }
 
@@ -98,13 +151,13 @@ fn put_field(text: &mut Vec<u8>, name: &str, value: &str) -> Result<(), AllocErr
     text.extend_from_slice(b"\r\n")
 }
 
-// Adds the method that is allowed, where another one was used.
+// Adds the methods that are allowed, where another one was used.
 fn put_allowed(text: &mut Vec<u8>, allowed: Option<Method>) -> Result<(), AllocError>
     ensures { OnOk result (text.new.items ≡ text.old.items ++ allow_line allowed) }
 {
     match allowed {
         None => Ok(()),
-        Some(Method::Get) => put_field(text, "Allow", "GET"),
+        Some(Method::Get | Method::Head) => put_field(text, "Allow", "GET, HEAD"),
         Some(Method::Post) => put_field(text, "Allow", "POST"),
     }
 }

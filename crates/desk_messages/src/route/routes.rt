@@ -3,7 +3,7 @@ ghost use Rattle.conversation.specs.declared.message.method.Method.{Method};
 ghost use Rattle.desk_messages.specs.route.Endpoint.{table};
 ghost use Rattle.desk_messages.specs.Reads.{IsFound};
 ghost use Rattle.desk_messages.specs.route.Route.{FindsRoute, IsRouted, Names, NamesLookup};
-ghost use Rattle.desk_messages.specs.route.Route.{endpoint_of, lookup_endpoint};
+ghost use Rattle.desk_messages.specs.route.Route.{endpoint_of, lookup_endpoint, route_method};
 ghost use Rattle.desk_messages.specs.declared.desk_fault.DeskFault.{DeskFault};
 ghost use Rattle.desk_messages.specs.declared.route.endpoint.Endpoint.{Endpoint};
 ghost use Rattle.desk_messages.specs.declared.route.Route.{Route};
@@ -68,8 +68,8 @@ impl Routes {
         Ok(Routes { router })
     }
 
-    /// The route of a target, which the method has to be that of, or why there is none: `NoRoute`
-    /// or `Method`.
+    /// The route of a target, which the method has to be that of, or HEAD where that is GET; or why
+    /// there is none: `NoRoute` or `Method`.
     pub fn route_of(&self, target: &[u8], method: Method) -> Result<Route, DeskFault>
         ensures { IsRouted target.now method result }
     {
@@ -107,9 +107,19 @@ fn route_at(endpoint: Endpoint, target: &[u8], method: Method) -> Result<Route, 
     ensures { IsRouted target.now method result }
 {
     match read_route(endpoint, target) {
-        Some(route) if endpoint.method() == method => Ok(route),
+        Some(route) if endpoint.method() == route_method(method) => Ok(route),
         Some(_) => Err(DeskFault::Method(endpoint.method())),
         None => Err(DeskFault::NoRoute),
+    }
+}
+
+// The method of the routes that a message of this method asks for.
+fn route_method(method: Method) -> Method
+    ensures { result ≡ route_method method }
+{
+    match method {
+        Method::Get | Method::Head => Method::Get,
+        Method::Post => Method::Post,
     }
 }
 

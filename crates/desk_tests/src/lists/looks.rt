@@ -108,26 +108,30 @@ GET /health HTTP/1.1~Host: d~~GET /meters/12345678903 HTTP/1.1~Host: d~~GET /met
 200 OK, 120 = SALE 5|METER 12345678903|TIME 2020-05-31T12:02:00Z|KWH 1.0|PRICE 100|TENDER 100|CHANG\
     E 0|TOKEN 0037 4781 9472 1604 8422|
 > Closed 1388534430
+HEAD /sales/1/receipt HTTP/1.1~Host: d~~GET http://d/health HTTP/1.1~Host: d~~
+200 OK, 118 =\u{20}
+200 OK, 22 = {'format':4,'sales':5}
+> Closed 1388534430
 GET /health HTTP/1.0~Host: d~~
 200 OK, 22, Connection: close~ = {'format':4,'sales':5}
 > Closed 1388534430
 POST /health HTTP/1.1~Host: d~~
-405 Method Not Allowed, 18, Allow: GET~ = {'error':'Method'}
+405 Method Not Allowed, 18, Allow: GET, HEAD~ = {'error':'Method'}
 > Closed 1388534430
 POST /meters/12345678903 HTTP/1.1~Host: d~~
-405 Method Not Allowed, 18, Allow: GET~ = {'error':'Method'}
+405 Method Not Allowed, 18, Allow: GET, HEAD~ = {'error':'Method'}
 > Closed 1388534430
 POST /meters/12345678903/last HTTP/1.1~Host: d~~
-405 Method Not Allowed, 18, Allow: GET~ = {'error':'Method'}
+405 Method Not Allowed, 18, Allow: GET, HEAD~ = {'error':'Method'}
 > Closed 1388534430
 POST /meters/12345678903/quote?tender=100 HTTP/1.1~Host: d~~
-405 Method Not Allowed, 18, Allow: GET~ = {'error':'Method'}
+405 Method Not Allowed, 18, Allow: GET, HEAD~ = {'error':'Method'}
 > Closed 1388534430
 POST /operators/ann/sales/A-1 HTTP/1.1~Host: d~~
-405 Method Not Allowed, 18, Allow: GET~ = {'error':'Method'}
+405 Method Not Allowed, 18, Allow: GET, HEAD~ = {'error':'Method'}
 > Closed 1388534430
 POST /shifts/1/totals HTTP/1.1~Host: d~~
-405 Method Not Allowed, 18, Allow: GET~ = {'error':'Method'}
+405 Method Not Allowed, 18, Allow: GET, HEAD~ = {'error':'Method'}
 > Closed 1388534430
 GET /meters/12345678904 HTTP/1.1~Host: d~~
 404 Not Found, 19 = {'error':'NoRoute'}
@@ -208,22 +212,22 @@ GET /tariffs?after= HTTP/1.1~Host: d~~
 503 Service Unavailable, 17 = {'error':'Clock'}
 > Closed 1388534430
 POST /tariffs?after= HTTP/1.1~Host: d~~
-405 Method Not Allowed, 18, Allow: GET~ = {'error':'Method'}
+405 Method Not Allowed, 18, Allow: GET, HEAD~ = {'error':'Method'}
 > Closed 1388534430
 POST /tariffs?after=flat HTTP/1.1~Host: d~~
-405 Method Not Allowed, 18, Allow: GET~ = {'error':'Method'}
+405 Method Not Allowed, 18, Allow: GET, HEAD~ = {'error':'Method'}
 > Closed 1388534430
 POST /meters?after= HTTP/1.1~Host: d~~
-405 Method Not Allowed, 18, Allow: GET~ = {'error':'Method'}
+405 Method Not Allowed, 18, Allow: GET, HEAD~ = {'error':'Method'}
 > Closed 1388534430
 POST /meters?after=12345678903 HTTP/1.1~Host: d~~
-405 Method Not Allowed, 18, Allow: GET~ = {'error':'Method'}
+405 Method Not Allowed, 18, Allow: GET, HEAD~ = {'error':'Method'}
 > Closed 1388534430
 POST /shifts?after=0 HTTP/1.1~Host: d~~
-405 Method Not Allowed, 18, Allow: GET~ = {'error':'Method'}
+405 Method Not Allowed, 18, Allow: GET, HEAD~ = {'error':'Method'}
 > Closed 1388534430
 POST /sales?after=0 HTTP/1.1~Host: d~~
-405 Method Not Allowed, 18, Allow: GET~ = {'error':'Method'}
+405 Method Not Allowed, 18, Allow: GET, HEAD~ = {'error':'Method'}
 > Closed 1388534430
 GET /tariffs HTTP/1.1~Host: d~~
 405 Method Not Allowed, 18, Allow: POST~ = {'error':'Method'}

@@ -51,11 +51,11 @@ use Rattle.desk_messages.specs.declared.reply.outcome.Outcome.{Outcome}
 use Rattle.desk_messages.specs.declared.reply.outcome.Outcome.TheVariants as outcomes
 use Rattle.desk_messages.specs.declared.route.Route.{Route}
 use Rattle.desk_messages.specs.declared.route.Route.TheVariants.{Import}
-use Rattle.desk_messages.specs.reply.Text.{reply_bytes_of}
+use Rattle.desk_messages.specs.reply.Text.{reply_bytes_of, reply_to}
 use Rattle.desk_messages.specs.route.Route.{IsRouted}
 use Rattle.desk_client.specs.Alike.{TellAlike}
 use Rattle.desk_client.specs.Asks.{IsAskable, IsNoMoment, MeansAsked, asked_by, question_message}
-use Rattle.desk_client.specs.Question.{question_text, wanted_by}
+use Rattle.desk_client.specs.Question.{question_method, question_text, wanted_by}
 use Rattle.desk_client.specs.Reply.{IsReply, longest_reply_body, reply_text}
 use Rattle.desk_client.specs.Start.{category_start, head_end, start_text}
 use Rattle.desk_client.specs.Tells.{Tells}
@@ -174,6 +174,25 @@ module _ (laws : DeskLaws) where
 
   -- ---- the message
 
+  -- no question is asked by HEAD, so its reply has its body
+  has_body : (question : Question) (outcome : Outcome) → reply_to (question_method question) outcome false ≡ reply_bytes_of outcome false
+  has_body (questions.Import kind csv) outcome = refl
+  has_body (questions.MoveBase meter base) outcome = refl
+  has_body (questions.OpenShift operator) outcome = refl
+  has_body (questions.CloseShift operator) outcome = refl
+  has_body (questions.Sell order) outcome = refl
+  has_body (questions.ShiftReport number) outcome = refl
+  has_body (questions.Receipt number) outcome = refl
+  has_body (questions.ShiftTotals number) outcome = refl
+  has_body (questions.Meter meter) outcome = refl
+  has_body (questions.LastSale meter) outcome = refl
+  has_body (questions.SaleOfRef operator order_ref) outcome = refl
+  has_body (questions.Quote meter tender) outcome = refl
+  has_body (questions.Tariffs after) outcome = refl
+  has_body (questions.Meters after) outcome = refl
+  has_body (questions.Shifts after) outcome = refl
+  has_body (questions.Sales after) outcome = refl
+
   -- the message that a question asks came to the desk, and this came of it
   pub record Came (question : Question) (second : ℤ) (old new : Timed Life) (came : List ℕ) : Type 0 where
     pub outcome : Outcome
@@ -196,7 +215,7 @@ module _ (laws : DeskLaws) where
       record {
         outcome = outcome;
         comes = comes;
-        text = at.whole ∙ at.answered.0.2 ∙ ap (λ (m : Message). reply_bytes_of outcome m.closes) same;
+        text = at.whole ∙ at.answered.0.2 ∙ ap (λ (m : Message). reply_to m.method outcome m.closes) same ∙ has_body question outcome;
       }
 
   -- ---- a request

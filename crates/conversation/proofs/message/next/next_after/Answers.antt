@@ -1,6 +1,7 @@
 use Rattle.std.proofs.Common.{◌≡◌, ◌∙◌, Ok, Err, ap, sym, length, arith}
 use Rattle.std.proofs.lemmas.List.{length-drop, take_rest}
 use Rattle.conversation.specs.message.Framing.{framing_of}
+use Rattle.conversation.specs.message.Target.{path_of}
 use Rattle.conversation.proofs.MessageLemmas.{framing_at, refused_ever, whole_at}
 use Rattle.conversation.proofs.message.next.next_after.Goals as goal
 
@@ -13,7 +14,7 @@ returns c =
     sym (framing_at input c.args.fields.now spans _ c.requires c.of.ensures) ∙ sym c.framing_of.ensures ∙ c.in-Ok.is in
     let rest = take_rest input spans.len in
     record {
-      begins = whole_at input c.args.fields.now spans f _ _ c.requires framed rest c.if-after-framing.false c.of-target.ensures;
+      begins = whole_at input c.args.fields.now spans f _ _ c.requires framed rest c.if-after-framing.false (c.path_of-target.ensures ∙ ap path_of c.of-2.ensures);
       len = omega (arith, c.if-after-framing.false, ap length rest, length-drop spans.len input);
     }
 

@@ -22,7 +22,7 @@ returns-clause-ok g c =
     ] in
     was_answered serves (g.C.Clock.reads c.args.clock.now) (λ v. v.items) (c.args.office.now, g.C.Clock.answers c.args.clock.now)
     (c.match-meaning_of.office, g.C.Clock.answers c.meaning_of.new.clock) m
-    now outcome c.reply_bytes.result c.meaning_of.ensures.meaning.1 c.meaning_of.ensures.meaning.2 comes c.reply_bytes.ensures
+    now outcome c.reply_to.result c.meaning_of.ensures.meaning.1 c.meaning_of.ensures.meaning.2 comes c.reply_to.ensures
 
 pub returns-clause-err : goal.returns-clause-err
 returns-clause-err g c =
@@ -41,4 +41,4 @@ returns-clause-err g c =
     ] in
     was_given_up serves (g.C.Clock.reads c.args.clock.now) (c.args.office.now, g.C.Clock.answers c.args.clock.now)
     (c.match-meaning_of.office, g.C.Clock.answers c.meaning_of.new.clock) m
-    now outcome c.reply_bytes.result c.meaning_of.ensures.meaning.1 c.meaning_of.ensures.meaning.2 comes
+    now outcome c.reply_to.result c.meaning_of.ensures.meaning.1 c.meaning_of.ensures.meaning.2 comes
