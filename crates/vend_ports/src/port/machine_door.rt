@@ -2,15 +2,13 @@
 
 ghost use Rattle.std.specs.Prelude.{◌≡◌, ◌≢◌, ⊤, ℕ, IfSome};
 
+use crate::port::deadline::PATIENCE;
 use crate::port::door::Door;
-use crate::port::patient::PatientReader;
+use crate::port::patient::{PatientReader, PatientWriter};
 use command_line::Address;
 use std::io;
 use std::net::{Net, OpenListener, OpenStream, TcpListener};
 use std::time::{Clock, Duration};
-
-// For so many seconds a peer may send nothing, or take nothing, before its conversation ends.
-const PATIENCE: u64 = 30;
 
 /// Connections to a port of this machine.
 #[derive(Drop)]
@@ -32,7 +30,7 @@ impl<'a, N: Net> MachineDoor<'a, N> {
 impl<'a, N: Net + Clock> Door for MachineDoor<'a, N> {
     type Reader = PatientReader<'a, N, N::Stream>;
 
-    type Writer = N::Stream;
+    type Writer = PatientWriter<'a, N, N::Stream>;
 
     ghost listens = { λ _ _ _ _. ⊤ };
 
@@ -55,11 +53,21 @@ impl<'a, N: Net + Clock> Door for MachineDoor<'a, N> {
 
     // A connection of which there can be no second half counts as one that cannot be had.
     // A wait that the system interrupts goes on: `accept` of std sees to that.
-    fn accept(&mut self) -> Option<(PatientReader<'a, N, N::Stream>, N::Stream)> {
+    fn accept(
+        &mut self,
+    ) -> Option<
+        (
+            PatientReader<'a, N, N::Stream>,
+            PatientWriter<'a, N, N::Stream>,
+        ),
+    > {
         let (stream, _) = self.listener.as_ref()?.accept().ok()?;
         set_options(&stream);
         let reader = stream.try_clone().ok()?;
-        Some((PatientReader::new(self.net, reader), stream))
+        Some((
+            PatientReader::new(self.net, reader),
+            PatientWriter::new(self.net, stream),
+        ))
     }
 
     fn end<R: Drop, W: Drop>(reader: R, writer: W) {
