@@ -63,7 +63,7 @@ impl<'a, B: Start, T: TimeSource> Computer<'a, B, T> {
             office: MachineFile { rt, start },
             texts: MachineTexts { rt },
             clock: MachineClock::new(time),
-            door: MachineDoor::new(rt),
+            door: MachineDoor::new(rt, rt.alloc()),
             loopback: rt,
             progress: TerminalProgress::new(rt),
         }

@@ -1,10 +1,12 @@
 //! What a command has of the machine, and the machine's own.
 
-mod deadline;
 pub(crate) mod door;
 pub(crate) mod file_fault;
 pub(crate) mod loopback;
 pub(crate) mod machine_door;
 pub(crate) mod machine_texts;
 pub(crate) mod patient;
+pub(crate) mod patient_writer;
+pub(crate) mod queue;
 pub(crate) mod text_files;
+mod wait;

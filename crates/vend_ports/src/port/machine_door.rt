@@ -2,35 +2,41 @@
 
 ghost use Rattle.std.specs.Prelude.{◌≡◌, ◌≢◌, ⊤, ℕ, IfSome};
 
-use crate::port::deadline::PATIENCE;
 use crate::port::door::Door;
-use crate::port::patient::{PatientReader, PatientWriter};
+use crate::port::patient::PatientReader;
+use crate::port::patient_writer::PatientWriter;
+use crate::port::queue::Listening;
+use crate::port::wait::PATIENCE;
 use command_line::Address;
+use std::alloc::Global;
 use std::io;
 use std::net::{Net, OpenListener, OpenStream, TcpListener};
+use std::rc::Rc;
 use std::time::{Clock, Duration};
 
 /// Connections to a port of this machine.
 #[derive(Drop)]
 pub struct MachineDoor<'a, N: Net> {
     net: &'a N,
-    listener: Option<N::Listener>,
+    alloc: Global,
+    listening: Option<Rc<Listening<N::Listener>>>,
 }
 
 impl<'a, N: Net> MachineDoor<'a, N> {
     /// A door that does not listen yet.
-    pub fn new(net: &'a N) -> MachineDoor<'a, N> {
+    pub fn new(net: &'a N, alloc: Global) -> MachineDoor<'a, N> {
         MachineDoor {
             net,
-            listener: None,
+            alloc,
+            listening: None,
         }
     }
 }
 
 impl<'a, N: Net + Clock> Door for MachineDoor<'a, N> {
-    type Reader = PatientReader<'a, N, N::Stream>;
+    type Reader = PatientReader<'a, N, Rc<Listening<N::Listener>>, N::Stream>;
 
-    type Writer = PatientWriter<'a, N, N::Stream>;
+    type Writer = PatientWriter<'a, N, Rc<Listening<N::Listener>>, N::Stream>;
 
     ghost listens = { λ _ _ _ _. ⊤ };
 
@@ -47,27 +53,21 @@ impl<'a, N: Net + Clock> Door for MachineDoor<'a, N> {
     fn listen(&mut self, address: Address) -> Option<u16> {
         let listener = TcpListener::bind(self.net, address.socket()).ok()?;
         let port = port_of(&listener, address.port)?;
-        self.listener = Some(listener);
+        self.listening = Rc::new(self.alloc, Listening::new(listener)).ok();
+        self.listening.as_ref()?;
         Some(port)
     }
 
     // A connection of which there can be no second half counts as one that cannot be had.
     // A wait that the system interrupts goes on: `accept` of std sees to that.
-    fn accept(
-        &mut self,
-    ) -> Option<
-        (
-            PatientReader<'a, N, N::Stream>,
-            PatientWriter<'a, N, N::Stream>,
-        ),
-    > {
-        let (stream, _) = self.listener.as_ref()?.accept().ok()?;
+    fn accept(&mut self) -> Option<(Self::Reader, Self::Writer)> {
+        let listening = self.listening.as_ref()?;
+        let stream = listening.accept()?;
         set_options(&stream);
-        let reader = stream.try_clone().ok()?;
-        Some((
-            PatientReader::new(self.net, reader),
-            PatientWriter::new(self.net, stream),
-        ))
+        let half = stream.try_clone().ok()?;
+        let reader = PatientReader::new(self.net, listening.clone().ok()?, half);
+        let writer = PatientWriter::new(self.net, listening.clone().ok()?, stream);
+        Some((reader, writer))
     }
 
     fn end<R: Drop, W: Drop>(reader: R, writer: W) {
