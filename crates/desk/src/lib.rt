@@ -17,5 +17,6 @@ pub use conversation::{
 pub use desk::Desk;
 pub use desk_messages::{
     BodyFault, DeskFault, Endpoint, Form, JsonKind, Outcome, Route, Routes, asking_law, found_json,
-    list_law, put_day, put_steps, reply_bytes, reply_law, reply_to, request_of, route_law,
+    head_law, list_law, put_day, put_steps, reply_bytes, reply_law, reply_to, request_of,
+    route_law,
 };

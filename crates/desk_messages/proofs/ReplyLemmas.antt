@@ -1,16 +1,16 @@
 -- The parts of a reply, one behind the other.
-use Rattle.std.proofs.Common.{◌≡◌, ◌∙◌, ◌++◌, ℕ, List, [], ◌∷◌, length, codes, refl, ap, sym, append_assoc}
+use Rattle.std.proofs.Common.{◌≡◌, ◌∙◌, ◌++◌, ℕ, List, [], ◌∷◌, codes, refl, ap, sym, append_assoc}
 use Rattle.desk_messages.specs.declared.reply.form.Form.{Form}
 use Rattle.std.specs.Fmt.{decimal, digits}
 use Rattle.desk_messages.specs.declared.reply.head.ReplyHead.{ReplyHead}
-use Rattle.desk_messages.specs.reply.Text.{allow_line, connection_line, field_line, media_type, reply_parts, status_line}
+use Rattle.desk_messages.specs.reply.Text.{allow_line, connection_line, field_line, head_text, media_type, status_line}
 
 -- each part of a reply stands behind those before it
 pub are_parts : (head : ReplyHead) (len : ℕ) (sent none a b c d e text : List ℕ) → none ≡ []
     → a ≡ none ++ status_line head.status
     → b ≡ a ++ field_line (codes "Content-Type") (media_type head.form) ++ field_line (codes "Content-Length") (decimal len)
     → c ≡ b ++ allow_line head.allowed → d ≡ c ++ connection_line head.closes
-    → e ≡ d ++ 13 ∷ 10 ∷ [] → text ≡ e ++ sent → text ≡ reply_parts head len sent
+    → e ≡ d ++ 13 ∷ 10 ∷ [] → text ≡ e ++ sent → text ≡ head_text head len ++ sent
 are_parts head len sent none a b c d e text e0 e1 e2 e3 e4 e5 e6 = rw (e6, e5, e4, e3, e2, e1, e0) refl
 
 -- the line of the status that most replies have

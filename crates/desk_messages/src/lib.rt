@@ -18,7 +18,7 @@ pub use meaning::Meaning;
 pub use reply::body::found_json;
 pub use reply::dates::put_day;
 pub use reply::form::Form;
-pub use reply::law::{list_law, reply_law};
+pub use reply::law::{head_law, list_law, reply_law};
 pub use reply::outcome::Outcome;
 pub use reply::steps_text::put_steps;
 pub use reply::text::{reply_bytes, reply_to};

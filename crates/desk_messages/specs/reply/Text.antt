@@ -38,25 +38,19 @@ allow_line (Some Post) = field_line (codes "Allow") (codes "POST")
 abbrev pub connection_line : Bool → List ℕ
 connection_line closes = if closes then field_line (codes "Connection") (codes "close") else []
 
--- the status with its phrase, the fields, which tell the length of a body, an empty line, and what
--- is sent of the body
-abbrev pub reply_parts : ReplyHead → ℕ → List ℕ → List ℕ
-reply_parts head len sent =
+-- the status with its phrase, the fields, which tell the length of a body, and an empty line
+abbrev pub head_text : ReplyHead → ℕ → List ℕ
+head_text head len =
     status_line head.status
     ++ field_line (codes "Content-Type") (media_type head.form)
     ++ field_line (codes "Content-Length") (decimal len)
     ++ allow_line head.allowed
     ++ connection_line head.closes
     ++ line_end
-    ++ sent
 
--- a whole reply
+-- a head and the body
 unfoldable pub reply_text : ReplyHead → List ℕ → List ℕ
-reply_text head body = reply_parts head (length body) body
-
--- the same without its body
-unfoldable pub bodiless_text : ReplyHead → List ℕ → List ℕ
-bodiless_text head body = reply_parts head (length body) []
+reply_text head body = head_text head (length body) ++ body
 
 -- the reply that tells what came of a message, and after which the conversation ends or not
 abbrev pub reply_bytes_of : Outcome → Bool → List ℕ
@@ -65,5 +59,5 @@ reply_bytes_of outcome closes = reply_text (head_of outcome closes) (body_of out
 -- the reply to a message of this method: to HEAD it has no body
 abbrev pub reply_to : Method → Outcome → Bool → List ℕ
 reply_to Get outcome closes = reply_bytes_of outcome closes
-reply_to Head outcome closes = bodiless_text (head_of outcome closes) (body_of outcome)
+reply_to Head outcome closes = head_text (head_of outcome closes) (length (body_of outcome))
 reply_to Post outcome closes = reply_bytes_of outcome closes

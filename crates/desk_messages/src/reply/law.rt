@@ -1,4 +1,4 @@
-ghost use Rattle.std.specs.Prelude.{◌≡◌, ℕ, List, map};
+ghost use Rattle.std.specs.Prelude.{◌≡◌, ◌++◌, ℕ, Bool, List, map};
 ghost use Rattle.serde_json.specs.Data.{Data};
 ghost use Rattle.serde_json.specs.Written.{compact_text};
 ghost use Rattle.sts_fields.specs.Day.{IsDay, IsDayText};
@@ -10,13 +10,16 @@ ghost use Rattle.book_states.specs.declared.lookup.LaterSteps.{LaterSteps};
 ghost use Rattle.book_states.specs.declared.lookup.ListedMeter.{ListedMeter};
 ghost use Rattle.book_states.specs.declared.lookup.ListedShift.{ListedShift};
 ghost use Rattle.book_states.specs.declared.lookup.ListedTariff.{ListedTariff};
+ghost use Rattle.conversation.specs.declared.message.method.Method.{Method};
+ghost use Rattle.desk_messages.specs.declared.reply.outcome.Outcome.{Outcome};
 ghost use Rattle.desk_messages.specs.reply.Members.{array_of, json_text};
-ghost use Rattle.desk_messages.specs.reply.Body.{sale_data, sale_members};
+ghost use Rattle.desk_messages.specs.reply.Body.{body_of, sale_data, sale_members};
 ghost use Rattle.desk_messages.specs.reply.Lists.{array_text, day_text, later_data, later_text};
 ghost use Rattle.desk_messages.specs.reply.Lists.{list_members, list_text, listed_meter_data};
 ghost use Rattle.desk_messages.specs.reply.Lists.{listed_meter_text, listed_shift_data};
 ghost use Rattle.desk_messages.specs.reply.Lists.{listed_shift_text, tariff_data, tariff_text};
 ghost use Rattle.desk_messages.specs.reply.SaleText.{IsTellableSale, sale_text};
+ghost use Rattle.desk_messages.specs.reply.Text.{reply_to};
 ghost use Rattle.office_rules.specs.declared.office.sale.Sale.{Sale};
 
 use sts_fields::{calendar_law, day_law};
@@ -26,6 +29,13 @@ use tariff::steps_text_law;
 /// token as they are.
 pub fn reply_law()
     ensures { (s : Sale) → IsTellableSale s → json_text (sale_members s) ≡ sale_text s }
+{}
+
+/// A reply to GET is that to HEAD, and then its body.
+#[tactic(auto, unfolding(crate::specs::reply::Text::reply_text))]
+pub fn head_law()
+    ensures { (outcome : Outcome) (closes : Bool) → reply_to Method.Get outcome closes
+        ≡ reply_to Method.Head outcome closes ++ body_of outcome }
 {}
 
 /// What the lists of an office are as JSON, written out: the texts of their items in order, with

@@ -1,10 +1,10 @@
-ghost use Rattle.std.specs.Prelude.{◌≡◌, ◌++◌, IfOk, OnOk, codes, decimal};
+ghost use Rattle.std.specs.Prelude.{◌≡◌, ◌++◌, IfOk, OnOk, codes, decimal, length};
 ghost use Rattle.http.specs.StatusCode.{IsStatusCode};
 ghost use Rattle.desk_messages.specs.reply.Body.{body_of};
 ghost use Rattle.desk_messages.specs.reply.Head.{head_of};
-ghost use Rattle.desk_messages.specs.reply.Text.{allow_line, bodiless_text, connection_line};
-ghost use Rattle.desk_messages.specs.reply.Text.{field_line, media_type, reply_bytes_of};
-ghost use Rattle.desk_messages.specs.reply.Text.{reply_parts, reply_text, reply_to, status_line};
+ghost use Rattle.desk_messages.specs.reply.Text.{allow_line, connection_line, field_line};
+ghost use Rattle.desk_messages.specs.reply.Text.{head_text, media_type, reply_bytes_of};
+ghost use Rattle.desk_messages.specs.reply.Text.{reply_text, reply_to, status_line};
 
 use crate::reply::body::{body_of, plain_sale};
 use crate::reply::form::Form;
@@ -54,19 +54,11 @@ pub fn reply_to(
 #[inline(never)]
 fn bodiless_reply(alloc: Global, outcome: &Outcome, closes: bool) -> Result<Vec<u8>, AllocError>
     ensures { IfOk result (λ text. text.items
-        ≡ bodiless_text (head_of outcome.now closes) (body_of outcome.now)) }
+        ≡ head_text (head_of outcome.now closes) (length (body_of outcome.now))) }
 {
+    let head = ReplyHead::of(outcome, closes);
     let body = body_of(alloc, outcome)?;
-    bodiless_text(alloc, ReplyHead::of(outcome, closes), &body)
-}
-
-// The head of a reply with this body.
-#[tactic(auto, unfolding(crate::specs::reply::Text::bodiless_text))]
-fn bodiless_text(alloc: Global, head: ReplyHead, body: &[u8]) -> Result<Vec<u8>, AllocError>
-    requires { IsStatusCode head.status }
-    ensures { IfOk result (λ text. text.items ≡ bodiless_text head body.now) }
-{
-    reply_parts(alloc, head, body.len(), &[])
+    head_and(alloc, head, body.len(), &[])
 }
 
 // A whole reply with this head and body.
@@ -76,19 +68,14 @@ fn reply_text(alloc: Global, head: ReplyHead, body: &[u8]) -> Result<Vec<u8>, Al
     requires { IsStatusCode head.status }
     ensures { IfOk result (λ text. text.items ≡ reply_text head body.now) }
 {
-    reply_parts(alloc, head, body.len(), body)
+    head_and(alloc, head, body.len(), body)
 }
 
-// A reply with this head, which tells the length of a body, and with what is sent of that.
+// This head, which tells the length of a body, and what is sent of that.
 #[inline(always)]
-fn reply_parts(
-    alloc: Global,
-    head: ReplyHead,
-    len: usize,
-    sent: &[u8],
-) -> Result<Vec<u8>, AllocError>
+fn head_and(alloc: Global, head: ReplyHead, len: usize, sent: &[u8]) -> Result<Vec<u8>, AllocError>
     requires { IsStatusCode head.status }
-    ensures { IfOk result (λ text. text.items ≡ reply_parts head len sent.now) }
+    ensures { IfOk result (λ text. text.items ≡ head_text head len ++ sent.now) }
 {
     let mut text = Vec::with_capacity(alloc, HEAD_ROOM + sent.len())?;
     put_status(alloc, &mut text, head.status)?;

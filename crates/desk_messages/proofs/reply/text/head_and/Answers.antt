@@ -1,6 +1,6 @@
 use Rattle.desk_messages.proofs.ReplyLemmas.{are_parts}
 use Rattle.std.proofs.Common.{◌≡◌, ◌++◌}
-use Rattle.desk_messages.proofs.reply.text.reply_parts.Goals as goal
+use Rattle.desk_messages.proofs.reply.text.head_and.Goals as goal
 
 pub returns : goal.returns
 returns c =
