@@ -10,8 +10,8 @@ use Rattle.clap.specs.declared.builder.arg.Arg.{Arg}
 use Rattle.clap.specs.declared.builder.command.Command.{Command}
 use Rattle.sts_fields.specs.Text.{Text}
 use Rattle.command_line.specs.Description.{rule_of_argument, shape_of_description}
-use Rattle.command_line.specs.Line.{IsDescribed, command_named, desk_base_command, line_of_commands, vend_line}
-use Rattle.command_line.specs.Line.{care_commands, desk_reading_commands, desk_shop_commands, officeless_commands, reading_commands, shop_commands}
+use Rattle.command_line.specs.Line.{IsDescribed, command_named, line_of_commands, vend_line}
+use Rattle.command_line.specs.Line.{care_commands, desk_care_commands, desk_reading_commands, desk_shop_commands, officeless_commands, reading_commands, shop_commands}
 use Rattle.command_line.specs.declared.argument.Argument.{Argument}
 use Rattle.command_line.specs.declared.description.Description.{Description}
 
@@ -52,7 +52,7 @@ in_order_joined a b c d e f g = simp append_assoc
 
 -- the seven groups of commands stand in the line in the order in which they were added
 pub in_order : (a b c d e f g : List Shape) (r : Result Command AllocError) → a ≡ shop_commands → b ≡ reading_commands → c ≡ care_commands
-    → d ≡ officeless_commands → e ≡ desk_shop_commands → f ≡ desk_reading_commands → g ≡ desk_base_command ∷ []
+    → d ≡ officeless_commands → e ≡ desk_shop_commands → f ≡ desk_reading_commands → g ≡ desk_care_commands
     → IfOk r (λ line. app_of line ≡ line_of_commands ((((((([] ++ a) ++ b) ++ c) ++ d) ++ e) ++ f) ++ g))
     → IfOk r (λ line. app_of line ≡ vend_line)
 in_order a b c d e f g r is_a is_b is_c is_d is_e is_f is_g is =

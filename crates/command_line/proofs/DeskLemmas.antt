@@ -18,6 +18,7 @@ IsReport name = T (pointwise eqb name (codes "desk-report"))
 pub no_paper : (rows : List Row) → ReadsWhat None (SaysPaper (parsed_argument (codes "kind") rows) (parsed_argument (codes "number") rows))
     → (q : DeskQuestion) → SaysDeskQuestion (codes "desk-report") rows q → ⊥
 no_paper rows none (desk.Import kind csv) says = subst IsReport says.0 tt
+no_paper rows none (desk.SetTariff meter tariff) says = subst IsReport says.0 tt
 no_paper rows none (desk.MoveBase meter base) says = subst IsReport says.0 tt
 no_paper rows none (desk.OpenShift operator) says = subst IsReport says.0 tt
 no_paper rows none (desk.CloseShift operator) says = subst IsReport says.0 tt

@@ -36,8 +36,9 @@ use Rattle.command_line.specs.declared.commands.trial.TrialWords.{TrialWords}
 use Rattle.command_line.specs.declared.request_words.RequestWords.{RequestWords}
 use Rattle.office_rules.specs.declared.decision.request.Order.{Order}
 use Rattle.office_rules.specs.declared.decision.request.Request.{Request}
-use Rattle.office_rules.specs.declared.decision.request.Request.TheVariants.{MoveBase, OpenShift}
-use Rattle.office_rules.specs.declared.decision.request.Request.TheVariants.{CloseShift, Sell}
+use Rattle.office_rules.specs.declared.decision.request.Request.TheVariants.{SetTariff, MoveBase}
+use Rattle.office_rules.specs.declared.decision.request.Request.TheVariants.{OpenShift, CloseShift}
+use Rattle.office_rules.specs.declared.decision.request.Request.TheVariants.{Sell}
 
 pub record SaysTrial (rows : List Row) (words : TrialWords) : Type 0 where
   pub transform : IsArgument SaysTransform
@@ -96,8 +97,12 @@ pub record SaysOrder (rows : List Row) (order : Order) : Type 0 where
   pub meter : IsArgument SaysMeterNo (parsed_argument (codes "meter") rows) order.meter
   pub tender : IsArgument SaysTender (parsed_argument (codes "tender") rows) order.tender
 
--- `base` moves a meter, `shift` opens or closes an operator's shift, `sell` sells an order
+-- `tariff` gives a meter another tariff, `base` moves one, `shift` opens or closes an operator's
+-- shift, `sell` sells an order
 abbrev pub SaysRequest : (name : Text) → List Row → Request → Type 0
+SaysRequest name rows (SetTariff meter tariff) = (name ≡ codes "tariff")
+    × IsArgument SaysMeterNo (parsed_argument (codes "meter") rows) meter
+    × IsArgument SaysTariff (parsed_argument (codes "tariff") rows) tariff
 SaysRequest name rows (MoveBase meter base) = (name ≡ codes "base")
     × IsArgument SaysMeterNo (parsed_argument (codes "meter") rows) meter
     × IsArgument SaysBase (parsed_argument (codes "base") rows) base
@@ -203,6 +208,9 @@ abbrev pub SaysDeskQuestion : (name : Text) → List Row → DeskQuestion → Ty
 SaysDeskQuestion name rows (desk.Import kind csv) = (name ≡ codes "desk-import")
     × IsArgument SaysKind (parsed_argument (codes "kind") rows) kind
     × IsArgument SaysText (parsed_argument (codes "csv") rows) csv
+SaysDeskQuestion name rows (desk.SetTariff meter tariff) = (name ≡ codes "desk-tariff")
+    × IsArgument SaysMeterNo (parsed_argument (codes "meter") rows) meter
+    × IsArgument SaysTariff (parsed_argument (codes "tariff") rows) tariff
 SaysDeskQuestion name rows (desk.MoveBase meter base) = (name ≡ codes "desk-base")
     × IsArgument SaysMeterNo (parsed_argument (codes "meter") rows) meter
     × IsArgument SaysBase (parsed_argument (codes "base") rows) base

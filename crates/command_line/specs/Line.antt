@@ -75,6 +75,10 @@ unfoldable pub import_command : Shape
 import_command = command_named (codes "import") (transform_option ∷ needed (codes "file")
     ∷ wait_option ∷ at_option ∷ word_named (codes "kind") ∷ word_named (codes "csv") ∷ [])
 
+unfoldable pub tariff_command : Shape
+tariff_command = command_named (codes "tariff") (transform_option ∷ needed (codes "file")
+    ∷ wait_option ∷ needed (codes "meter") ∷ needed (codes "tariff") ∷ at_option ∷ [])
+
 unfoldable pub base_command : Shape
 base_command = command_named (codes "base") (transform_option ∷ needed (codes "file")
     ∷ wait_option ∷ needed (codes "meter") ∷ needed (codes "base") ∷ at_option ∷ [])
@@ -159,6 +163,10 @@ unfoldable pub desk_quote_command : Shape
 desk_quote_command = desk_command (codes "desk-quote")
     (needed (codes "meter") ∷ json_option ∷ word_named (codes "tender") ∷ [])
 
+unfoldable pub desk_tariff_command : Shape
+desk_tariff_command = desk_command (codes "desk-tariff")
+    (needed (codes "meter") ∷ needed (codes "tariff") ∷ [])
+
 unfoldable pub desk_base_command : Shape
 desk_base_command = desk_command (codes "desk-base")
     (needed (codes "meter") ∷ needed (codes "base") ∷ [])
@@ -173,9 +181,9 @@ shop_commands = import_command ∷ shift_command ∷ sell_command ∷ []
 abbrev pub reading_commands : List Shape
 reading_commands = report_command ∷ show_command ∷ list_command ∷ offer_command ∷ []
 
--- those that move a meter, check a file and serve it
+-- those that change a meter, check a file and serve it
 abbrev pub care_commands : List Shape
-care_commands = base_command ∷ audit_command ∷ serve_command ∷ []
+care_commands = tariff_command ∷ base_command ∷ audit_command ∷ serve_command ∷ []
 
 -- those that need no office
 abbrev pub officeless_commands : List Shape
@@ -190,11 +198,15 @@ abbrev pub desk_reading_commands : List Shape
 desk_reading_commands = desk_report_command ∷ desk_show_command ∷ desk_list_command
     ∷ desk_quote_command ∷ []
 
+-- those that change a meter at a desk
+abbrev pub desk_care_commands : List Shape
+desk_care_commands = desk_tariff_command ∷ desk_base_command ∷ []
+
 -- the commands, each of which has one level of words, in the order in which a shop needs them;
 -- those that ask a desk come last
 abbrev pub commands : List Shape
 commands = shop_commands ++ (reading_commands ++ (care_commands ++ (officeless_commands
-    ++ (desk_shop_commands ++ (desk_reading_commands ++ desk_base_command ∷ [])))))
+    ++ (desk_shop_commands ++ (desk_reading_commands ++ desk_care_commands)))))
 
 abbrev pub has_none : List Shape → Bool
 has_none [] = true
@@ -252,6 +264,7 @@ desk_name command =
     else if pointwise eqb command (codes "list") then codes "desk-list"
     else if pointwise eqb command (codes "quote") then codes "desk-quote"
     else if pointwise eqb command (codes "offer") then codes "desk-quote"
+    else if pointwise eqb command (codes "tariff") then codes "desk-tariff"
     else if pointwise eqb command (codes "base") then codes "desk-base" else command
 
 -- the option `--desk` comes right after the command

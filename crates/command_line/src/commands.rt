@@ -1,7 +1,7 @@
 //! The commands: how each is described, and what its words say.
-ghost use Rattle.std.specs.Prelude.{◌≡◌, ◌∷◌, [], map};
+ghost use Rattle.std.specs.Prelude.{◌≡◌, map};
 ghost use Rattle.command_line.specs.Description.{shape_of_description};
-ghost use Rattle.command_line.specs.Line.{care_commands, desk_base_command, desk_reading_commands};
+ghost use Rattle.command_line.specs.Line.{care_commands, desk_care_commands, desk_reading_commands};
 ghost use Rattle.command_line.specs.Line.{desk_shop_commands, officeless_commands};
 ghost use Rattle.command_line.specs.Line.{reading_commands, shop_commands};
 
@@ -19,6 +19,7 @@ pub mod report;
 pub mod selfcheck;
 pub mod sell;
 pub mod serve;
+pub mod set_tariff;
 pub mod shift;
 pub mod show;
 pub mod trial;
@@ -34,7 +35,12 @@ static READING: [Description; 4] = [
     offer::COMMAND,
 ];
 
-static CARE: [Description; 3] = [base::COMMAND, audit::COMMAND, serve::COMMAND];
+static CARE: [Description; 4] = [
+    set_tariff::COMMAND,
+    base::COMMAND,
+    audit::COMMAND,
+    serve::COMMAND,
+];
 
 static OFFICELESS: [Description; 4] = [
     quote::COMMAND,
@@ -52,7 +58,7 @@ static DESK_READING: [Description; 4] = [
     at_desk::QUOTE,
 ];
 
-static DESK_CARE: [Description; 1] = [at_desk::BASE];
+static DESK_CARE: [Description; 2] = [at_desk::TARIFF, at_desk::BASE];
 
 /// The commands by which a shop sells.
 pub(crate) fn shop() -> &'static [Description]
@@ -68,7 +74,7 @@ pub(crate) fn reading() -> &'static [Description]
     &READING
 }
 
-/// Those that move a meter, check a file and serve it.
+/// Those that change a meter, check a file and serve it.
 pub(crate) fn care() -> &'static [Description]
     ensures { map shape_of_description result.now ≡ care_commands }
 {
@@ -96,9 +102,9 @@ pub(crate) fn desk_reading() -> &'static [Description]
     &DESK_READING
 }
 
-/// The one that moves a meter at a desk.
+/// Those that change a meter at a desk.
 pub(crate) fn desk_care() -> &'static [Description]
-    ensures { map shape_of_description result.now ≡ desk_base_command ∷ [] }
+    ensures { map shape_of_description result.now ≡ desk_care_commands }
 {
     &DESK_CARE
 }

@@ -109,6 +109,8 @@ fn desk_name<'a>(command: &'a str) -> &'a str
         "desk-list"
     } else if command == "quote" || command == "offer" {
         "desk-quote"
+    } else if command == "tariff" {
+        "desk-tariff"
     } else if command == "base" {
         "desk-base"
     } else {

@@ -1,14 +1,14 @@
 ghost use Rattle.command_line.specs.Commands.{SaysRequest, SaysRequestWords};
 ghost use Rattle.command_line.specs.Said.{ReadsWhat, argument_rows};
 
-use crate::commands::{base, sell, shift};
+use crate::commands::{base, sell, set_tariff, shift};
 use crate::options;
 use crate::transform::Shipped;
 use clap::ArgMatches;
 use office_rules::Request;
 use sts_fields::Moment;
 
-/// What `base`, `shift` and `sell` are asked to do: a request, made to an office.
+/// What `tariff`, `base`, `shift` and `sell` are asked to do: a request, made to an office.
 #[derive(Drop)]
 pub struct RequestWords<'a> {
     pub transform: Shipped,
@@ -40,6 +40,7 @@ fn read_request(name: &str, matches: &ArgMatches) -> Option<Request>
     ensures { ReadsWhat result (SaysRequest name.now (argument_rows matches.now)) }
 {
     match name {
+        "tariff" => set_tariff::read(matches),
         "base" => base::read(matches),
         "shift" => shift::read(matches),
         "sell" => sell::read(matches),

@@ -45,7 +45,7 @@ pub(crate) fn tenths(word: &str) -> Option<u32>
     u32::try_from(number(word)?).ok()
 }
 
-/// The tenths of a kWh that a month had before.
+/// The tenths of a kWh already bought earlier in a month, 0 to 10^17.
 pub(crate) fn prior(word: &str) -> Option<u64>
     ensures { ReadsBy SaysPrior word.now result }
 {

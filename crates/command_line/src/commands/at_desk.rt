@@ -10,11 +10,11 @@ use crate::commands::import::{self, read_csv, read_kind};
 use crate::commands::list::{self, Listed, read_listed};
 use crate::commands::report::{self, Paper, read_paper};
 use crate::commands::show::{self, Shown, read_shown};
-use crate::commands::{base, offer, sell, shift};
+use crate::commands::{base, offer, sell, set_tariff, shift};
 use crate::description::Description;
 use crate::{options, said};
 use clap::ArgMatches;
-use office_rules::{MeterNo, Operator, Order};
+use office_rules::{MeterNo, Operator, Order, TariffName};
 use papers::FileKind;
 use sts_fields::Base;
 use tariff::Tender;
@@ -24,6 +24,7 @@ use tariff::Tender;
 pub enum DeskQuestion<'a> {
     /// To add the rows of this file.
     Import(FileKind, &'a str),
+    SetTariff(MeterNo, TariffName),
     MoveBase(MeterNo, Base),
     OpenShift(Operator),
     CloseShift(Operator),
@@ -138,6 +139,15 @@ pub(crate) const QUOTE: Description = Description {
     arguments: &[options::DESK, options::METER, offer::JSON, offer::TENDER],
 };
 
+/// `tariff --desk A --meter M --tariff NAME`.
+pub(crate) const TARIFF: Description = Description {
+    name: "desk-tariff",
+    about: set_tariff::ABOUT,
+    example: "Example: vend tariff --desk 127.0.0.1:8080 --meter 12345678903 --tariff night",
+    is_hidden: true,
+    arguments: &[options::DESK, options::METER, set_tariff::TARIFF],
+};
+
 /// `base --desk A --meter M --base Y`.
 pub(crate) const BASE: Description = Description {
     name: "desk-base",
@@ -206,6 +216,10 @@ fn read_question<'a>(name: &str, matches: &ArgMatches<'a>) -> Option<DeskQuestio
         "desk-import" => {
             let kind = read_kind(matches)?;
             Some(DeskQuestion::Import(kind, read_csv(matches)?))
+        }
+        "desk-tariff" => {
+            let meter = options::read_meter(matches)?;
+            Some(DeskQuestion::SetTariff(meter, set_tariff::read_tariff(matches)?))
         }
         "desk-base" => {
             let meter = options::read_meter(matches)?;

@@ -13,8 +13,8 @@ use clap::ArgMatches;
 use std::alloc::Global;
 use tariff::{Steps, StepsFault, Tender};
 
-/// What `quote` is asked: what a tender buys of some steps after the tenths that the month had
-/// before.
+/// What `quote` is asked: what a tender buys by some steps, after the tenths of a kWh that were
+/// already bought earlier in the month.
 #[derive(Drop)]
 pub struct QuoteWords {
     /// No token is written or read, so this one does not matter.
@@ -44,7 +44,7 @@ const STEPS: Argument = Argument {
 const PRIOR: Argument = Argument {
     name: "prior",
     kind: ArgumentKind::Word("PRIOR"),
-    help: "Tenths of a kWh that the meter had in the month before, 0 to 100000000000000000",
+    help: "Tenths of a kWh already bought earlier in this month, 0 to 100000000000000000",
 };
 
 const TENDER: Argument = Argument {

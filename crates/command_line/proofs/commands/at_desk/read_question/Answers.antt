@@ -1,4 +1,4 @@
 use Rattle.command_line.proofs.commands.at_desk.read_question.Goals as goal
 
-pub returns-in-text-5 : goal.returns-in-text-5
-returns-in-text-5 c = rw c.in-text-5.is c.read_report.ensures
+pub returns-in-text-6 : goal.returns-in-text-6
+returns-in-text-6 c = rw c.in-text-6.is c.read_report.ensures
