@@ -64,8 +64,8 @@ pub(crate) const COMMAND: Description = Description {
 pub(crate) const AFTER: Argument = Argument {
     name: "after",
     kind: ArgumentKind::Optional("KEY"),
-    help: "Print only what comes after this: with tariffs a name, with meters a number of \
-        eleven digits, with shifts and sales a number from 0 to 1000000000",
+    help: "Print only what comes after this: with tariffs a name, with meters a \
+        meter's number, with shifts and sales a number from 0 to 1000000000",
 };
 
 /// `--json`.

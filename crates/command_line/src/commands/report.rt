@@ -55,8 +55,8 @@ pub(crate) const KIND: Argument = Argument {
 pub(crate) const NUMBER: Argument = Argument {
     name: "number",
     kind: ArgumentKind::Default("N", "1"),
-    help: "The number of the shift ('vend list' prints it with shifts) or of the sale ('vend \
-        show' prints it with last), 1 to 1000000000; ignored with sales",
+    help: "The number of the shift ('list shifts' prints it) or of the sale ('show last' prints \
+        it), 1 to 1000000000; ignored with sales",
 };
 
 impl<'a> ReportWords<'a> {
