@@ -15,7 +15,7 @@ use Rattle.desk_messages.specs.declared.reply.form.Form.TheVariants.{Json}
 use Rattle.desk_messages.specs.declared.reply.outcome.Outcome.TheVariants.{Faulty}
 use Rattle.desk_messages.specs.declared.route.Route.{Route}
 use Rattle.desk_messages.specs.declared.route.Route.TheVariants as routes
-use Rattle.desk_messages.specs.json_body.Body.{BodySaysBase, BodySaysOperator, BodySaysOrder, IsJson}
+use Rattle.desk_messages.specs.json_body.Body.{BodySaysBase, BodySaysOperator, BodySaysOrder, BodySaysTariffName, IsJson}
 use Rattle.desk_messages.specs.route.Endpoint.{endpoint_method}
 use Rattle.desk_messages.specs.route.Route.{LeadsTo, Names, endpoint_of, route_method}
 use Rattle.papers.specs.File.{AreFileRecords, Fields}
@@ -35,12 +35,12 @@ use Rattle.office_rules.specs.declared.decision.request.Order.{Order}
 use Rattle.office_rules.specs.declared.office.row.Row.{Row}
 use Rattle.desk_client.specs.Asks.{IsAskable, IsAskableOrder, IsNoMoment, MeansAsked, MeansRows, asked_by, question_message}
 use Rattle.desk_client.specs.Message.{HasBodyOf}
-use Rattle.desk_client.specs.Question.{body_pieces, operator_pieces, order_pieces, question_method, question_text, target_pieces}
+use Rattle.desk_client.specs.Question.{body_pieces, operator_pieces, order_pieces, question_method, question_text, target_pieces, tariff_pieces}
 use Rattle.desk_client.specs.declared.question.Question.{Question}
-use Rattle.desk_client.specs.declared.question.Question.TheVariants.{Import, MoveBase, OpenShift, CloseShift, Sell, ShiftReport, Receipt, ShiftTotals, Meter, LastSale, SaleOfRef, Quote, Tariffs, Meters, Shifts, Sales}
-use Rattle.desk_client.proofs.JsonLemmas.{base_json, base_read, operator_json, operator_read, order_json, order_read}
+use Rattle.desk_client.specs.declared.question.Question.TheVariants.{Import, SetTariff, MoveBase, OpenShift, CloseShift, Sell, ShiftReport, Receipt, ShiftTotals, Meter, LastSale, SaleOfRef, Quote, Tariffs, Meters, Shifts, Sales}
+use Rattle.desk_client.proofs.JsonLemmas.{base_json, base_read, operator_json, operator_read, order_json, order_read, tariff_json, tariff_read}
 use Rattle.desk_client.proofs.MessageLemmas.{is_message}
-use Rattle.desk_client.proofs.TargetLemmas.{IsFoundFor, found_base, found_close, found_first_meters, found_first_tariffs, found_imports_meters, found_imports_tariffs, found_last, found_meter, found_meters_after, found_quote, found_ref, found_sale, found_sales, found_sales_after, found_shift, found_shifts, found_shifts_after, found_tariffs_after, found_totals, some_target}
+use Rattle.desk_client.proofs.TargetLemmas.{IsFoundFor, found_base, found_close, found_first_meters, found_first_tariffs, found_imports_meters, found_imports_tariffs, found_last, found_meter, found_meters_after, found_quote, found_ref, found_sale, found_sales, found_sales_after, found_shift, found_shifts, found_shifts_after, found_tariff, found_tariffs_after, found_totals, some_target}
 use Rattle.desk_client.proofs.WordLemmas.{IsPart, IsWord, is_seen, meter_word, name_word, number_text, number_word, operator_word, parts_seen, parts_short, seen_text, seen_visible, word_part, word_plain, word_value}
 
 -- ---- the route of each question
@@ -48,6 +48,7 @@ use Rattle.desk_client.proofs.WordLemmas.{IsPart, IsWord, is_seen, meter_word, n
 -- the route that a question leads to
 abbrev pub route_by : Question → Route
 route_by (Import kind csv) = routes.Import kind
+route_by (SetTariff meter tariff) = routes.Object (kinds.SetTariff meter)
 route_by (MoveBase meter base) = routes.Object (kinds.MoveBase meter)
 route_by (OpenShift operator) = routes.Object kinds.OpenShift
 route_by (CloseShift operator) = routes.Object kinds.CloseShift
@@ -70,6 +71,7 @@ target_by q = concat (target_pieces q)
 method_by : (q : Question) → endpoint_method (endpoint_of (route_by q)) ≡ route_method (question_method q)
 method_by (Import files.Meters csv) = refl
 method_by (Import files.Tariffs csv) = refl
+method_by (SetTariff meter tariff) = refl
 method_by (MoveBase meter base) = refl
 method_by (OpenShift operator) = refl
 method_by (CloseShift operator) = refl
@@ -127,6 +129,7 @@ name_part name is = word_part name (name_word name is)
 target_parts : (q : Question) → IsAskable q → AreParts (target_pieces q)
 target_parts (Import files.Meters csv) is = one_part _ (fixed _ refl)
 target_parts (Import files.Tariffs csv) is = one_part _ (fixed _ refl)
+target_parts (SetTariff meter tariff) is = three_parts _ _ _ (fixed _ refl) (meter_part meter is.0) (fixed _ refl)
 target_parts (MoveBase meter base) is = three_parts _ _ _ (fixed _ refl) (meter_part meter is) (fixed _ refl)
 target_parts (OpenShift operator) is = one_part _ (fixed _ refl)
 target_parts (CloseShift operator) is = one_part _ (fixed _ refl)
@@ -153,6 +156,7 @@ target_found : (q : Question) → IsAskable q → IsFoundFor (target_by q) (endp
 unfolding target_by
 target_found (Import files.Meters csv) is = found_imports_meters
 target_found (Import files.Tariffs csv) is = found_imports_tariffs
+target_found (SetTariff meter tariff) is = found_tariff meter (word_value meter (meter_word meter is.0))
 target_found (MoveBase meter base) is = found_base meter (word_value meter (meter_word meter is))
 target_found (OpenShift operator) is = found_shifts
 target_found (CloseShift operator) is = found_close
@@ -176,6 +180,7 @@ target_found (Sales after) is = found_sales_after (decimal after) (word_value (d
 target_names : (q : Question) → IsAskable q → Names (target_by q) (route_by q)
 unfolding target_by
 target_names (Import kind csv) is = tt
+target_names (SetTariff meter tariff) is = (refl, is.0)
 target_names (MoveBase meter base) is = (refl, is)
 target_names (OpenShift operator) is = tt
 target_names (CloseShift operator) is = tt
@@ -215,6 +220,9 @@ is_for q is = (leads q is, method_by q)
 
 operator_parts : (operator : List ℕ) → IsOperator operator → AreParts (operator_pieces operator)
 operator_parts operator is = three_parts _ _ _ (fixed _ refl) (operator_part operator is) (fixed _ refl)
+
+tariff_parts : (name : List ℕ) → IsName name → AreParts (tariff_pieces name)
+tariff_parts name is = three_parts _ _ _ (fixed _ refl) (name_part name is) (fixed _ refl)
 
 order_parts : (o : Order) → IsAskableOrder o → AreParts (order_pieces o)
 order_parts o is = (
@@ -259,6 +267,7 @@ short_body parts are = omega (arith, are.0, parts_short parts are.1)
 
 body_fits : (q : Question) → IsAskable q → HasBodyOf (question_method q) (concat (body_pieces q))
 body_fits (Import kind csv) is = omega (arith, is, length-append csv.now [])
+body_fits (SetTariff meter tariff) is = short_body (tariff_pieces tariff) (tariff_parts tariff is.1)
 body_fits (MoveBase meter base) is = short_body (body_pieces (MoveBase meter base)) (base_parts meter base)
 body_fits (OpenShift operator) is = short_body (operator_pieces operator) (operator_parts operator is)
 body_fits (CloseShift operator) is = short_body (operator_pieces operator) (operator_parts operator is)
@@ -330,6 +339,14 @@ says_operator operator is = (
   record { members = record { count = refl; each = (refl, tt) }; named = is },
 )
 
+says_tariff : (name : List ℕ) → IsName name → (json : Data) × IsJson (concat (tariff_pieces name)) json × BodySaysTariffName json name
+unfolding serde_json_on_literals
+says_tariff name is = (
+  tariff_json name,
+  json_of (tariff_pieces name) (tariff_json name) (tariff_parts name is) (tariff_read name (plain_of name (name_word name is))),
+  record { members = record { count = refl; each = (refl, tt) }; named = is },
+)
+
 says_base : (meter : List ℕ) (base : Base) → (json : Data) × IsJson (concat (body_pieces (MoveBase meter base))) json × BodySaysBase json base
 unfolding serde_json_on_literals
 says_base meter base = (
@@ -374,6 +391,10 @@ pub means : (q : Question) (moment : ℕ) → IsAskable q → IsMoment moment �
 means (Import kind csv) moment is h = λ records read are reading.
     means_rows (question_message (Import kind csv)) moment (routes.Import kind) (comes (Import kind csv) moment is h) refl read
     (records, file_records csv.now records are, read, reading, refl)
+means (SetTariff meter tariff) moment is h =
+    let says = says_tariff tariff is.1 in
+    let at = comes (SetTariff meter tariff) moment is h in
+    record { route = routes.Object (kinds.SetTariff meter); comes = at; asked = (says.0, says.1, (tariff, refl, says.2)); told = refl }
 means (MoveBase meter base) moment is h =
     let says = says_base meter base in
     let at = comes (MoveBase meter base) moment is h in

@@ -49,6 +49,21 @@ operator_read operator plain =
     ∙ ap (λ o. read (codes "{\"operator\":" ++ (in_quotes o ++ codes "}"))) (sym plain)
     ∙ read_back (operator_json operator) (tt, tt) (omega arith) refl
 
+-- ---- a tariff
+
+-- the body that gives a meter a tariff, as JSON: its name
+abbrev pub tariff_json : List ℕ → Data
+tariff_json name = object (member (codes "tariff") (string name) no_members)
+
+-- the text that is sent for a tariff is read as that body
+pub tariff_read : (name : List ℕ) → flat_map escape_byte name ≡ name
+    → read (codes "{\"tariff\":\"" ++ (name ++ codes "\"}")) ≡ Some (tariff_json name)
+unfolding serde_json_on_literals escape_byte
+tariff_read name plain =
+    ap (λ n. read (codes "{\"tariff\":\"" ++ n)) (sym (append_assoc name (34 ∷ []) (125 ∷ [])))
+    ∙ ap (λ n. read (codes "{\"tariff\":" ++ (in_quotes n ++ codes "}"))) (sym plain)
+    ∙ read_back (tariff_json name) (tt, tt) (omega arith) refl
+
 -- ---- a base date
 
 -- the body that moves a base date, as JSON: its year

@@ -6,7 +6,7 @@ use Rattle.matchit.specs.Rows.{param_token}
 use Rattle.matchit.specs.Seek.{cuts, first, longest_suffix, own, step, with_suffix}
 use Rattle.matchit.proofs.OnLiterals.{matchit_on_literals}
 use Rattle.desk_messages.specs.declared.route.endpoint.Endpoint.{Endpoint}
-use Rattle.desk_messages.specs.declared.route.endpoint.Endpoint.TheVariants.{MeterBase, Shifts, ShiftClosing, Shift, Sales, Sale, MeterImports, TariffImports, Meter, LastSale, Quote, SaleOfRef, ShiftTotals, FirstTariffs, TariffsAfter, FirstMeters, MetersAfter, ShiftsAfter, SalesAfter}
+use Rattle.desk_messages.specs.declared.route.endpoint.Endpoint.TheVariants.{MeterTariff, MeterBase, Shifts, ShiftClosing, Shift, Sales, Sale, MeterImports, TariffImports, Meter, LastSale, Quote, SaleOfRef, ShiftTotals, FirstTariffs, TariffsAfter, FirstMeters, MetersAfter, ShiftsAfter, SalesAfter}
 use Rattle.desk_messages.specs.route.Endpoint.{table, Table}
 use Rattle.desk_client.proofs.WordLemmas.{IsNumberText, IsValue}
 use Rattle.desk_client.proofs.WalkLemmas.{IsInside, Leads, at_end, before_slash, behind, through}
@@ -72,6 +72,12 @@ unfolding matchit_on_literals table
 at_meter b text more endpoint small inside leads =
     through value_of (codes "/meters/") table ((b ∷ text) ++ 47 ∷ more) endpoint
     (before_slash value_of meter_rows b text more endpoint inside (rw (apart 256 b (omega arith)) refl) (λ seg e. rw e refl) leads)
+
+-- the target of a meter's tariff finds its endpoint
+pub found_tariff : (meter : List ℕ) → IsValue meter → IsFoundFor (codes "/meters/" ++ (meter ++ codes "/tariff")) MeterTariff
+unfolding matchit_on_literals table
+found_tariff (b ∷ text) is = at_meter b text (codes "tariff") MeterTariff is.0 is.1 refl
+found_tariff [] is = absurd is
 
 -- the target of a meter's base date finds its endpoint
 pub found_base : (meter : List ℕ) → IsValue meter → IsFoundFor (codes "/meters/" ++ (meter ++ codes "/base")) MeterBase

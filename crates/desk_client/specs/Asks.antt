@@ -26,8 +26,9 @@ use Rattle.office_rules.specs.declared.decision.request.Request.TheVariants as r
 use Rattle.office_rules.specs.declared.office.row.Row.{Row}
 use Rattle.desk_client.specs.Question.{body_pieces, question_method, target_pieces}
 use Rattle.desk_client.specs.declared.question.Question.{Question}
-use Rattle.desk_client.specs.declared.question.Question.TheVariants.{Import, MoveBase, OpenShift}
-use Rattle.desk_client.specs.declared.question.Question.TheVariants.{CloseShift, Sell, ShiftReport}
+use Rattle.desk_client.specs.declared.question.Question.TheVariants.{Import, SetTariff, MoveBase}
+use Rattle.desk_client.specs.declared.question.Question.TheVariants.{OpenShift, CloseShift, Sell}
+use Rattle.desk_client.specs.declared.question.Question.TheVariants.{ShiftReport}
 use Rattle.desk_client.specs.declared.question.Question.TheVariants.{Receipt, ShiftTotals, Meter}
 use Rattle.desk_client.specs.declared.question.Question.TheVariants.{LastSale, SaleOfRef, Quote}
 use Rattle.desk_client.specs.declared.question.Question.TheVariants.{Tariffs, Meters, Shifts, Sales}
@@ -52,6 +53,7 @@ pub record IsAskableOrder (order : Order) : Type 0 where
 -- sales are those that a target may have, and the file of an import fits into a body.
 abbrev pub IsAskable : Question → Type 0
 IsAskable (Import kind csv) = length csv.now ≤ longest_body
+IsAskable (SetTariff meter tariff) = IsMeterNo meter × IsName tariff
 IsAskable (MoveBase meter base) = IsMeterNo meter
 IsAskable (OpenShift operator) = IsOperator operator
 IsAskable (CloseShift operator) = IsOperator operator
@@ -81,6 +83,7 @@ pub data Asked : Type 0 where
 -- read, and the receipt is made of it.
 abbrev pub asked_by : Question → Asked
 asked_by (Import kind csv) = imported kind csv.now
+asked_by (SetTariff meter tariff) = requested Json (requests.SetTariff meter tariff)
 asked_by (MoveBase meter base) = requested Json (requests.MoveBase meter base)
 asked_by (OpenShift operator) = requested Json (requests.OpenShift operator)
 asked_by (CloseShift operator) = requested Json (requests.CloseShift operator)

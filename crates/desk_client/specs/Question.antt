@@ -11,8 +11,9 @@ use Rattle.desk_client.specs.Message.{message_bytes}
 use Rattle.desk_client.specs.declared.told.Wanted.{Wanted}
 use Rattle.desk_client.specs.declared.told.Wanted.TheVariants as wanted
 use Rattle.desk_client.specs.declared.question.Question.{Question}
-use Rattle.desk_client.specs.declared.question.Question.TheVariants.{Import, MoveBase, OpenShift}
-use Rattle.desk_client.specs.declared.question.Question.TheVariants.{CloseShift, Sell, ShiftReport}
+use Rattle.desk_client.specs.declared.question.Question.TheVariants.{Import, SetTariff, MoveBase}
+use Rattle.desk_client.specs.declared.question.Question.TheVariants.{OpenShift, CloseShift, Sell}
+use Rattle.desk_client.specs.declared.question.Question.TheVariants.{ShiftReport}
 use Rattle.desk_client.specs.declared.question.Question.TheVariants.{Receipt, ShiftTotals, Meter}
 use Rattle.desk_client.specs.declared.question.Question.TheVariants.{LastSale, SaleOfRef, Quote}
 use Rattle.desk_client.specs.declared.question.Question.TheVariants.{Tariffs, Meters, Shifts, Sales}
@@ -20,6 +21,7 @@ use Rattle.desk_client.specs.declared.question.Question.TheVariants.{Tariffs, Me
 -- what changes an office is asked by POST, and what is looked up by GET
 abbrev pub question_method : Question → Method
 question_method (Import kind csv) = Post
+question_method (SetTariff meter tariff) = Post
 question_method (MoveBase meter base) = Post
 question_method (OpenShift operator) = Post
 question_method (CloseShift operator) = Post
@@ -47,6 +49,7 @@ quote_pieces meter tender =
 -- the pieces of the target
 abbrev pub target_pieces : Question → List (List ℕ)
 target_pieces (Import kind csv) = import_target kind ∷ []
+target_pieces (SetTariff meter tariff) = codes "/meters/" ∷ meter ∷ codes "/tariff" ∷ []
 target_pieces (MoveBase meter base) = codes "/meters/" ∷ meter ∷ codes "/base" ∷ []
 target_pieces (OpenShift operator) = codes "/shifts" ∷ []
 target_pieces (CloseShift operator) = codes "/shifts/close" ∷ []
@@ -70,6 +73,10 @@ target_pieces (Sales after) = codes "/sales?after=" ∷ decimal after ∷ []
 abbrev pub operator_pieces : List ℕ → List (List ℕ)
 operator_pieces operator = codes "{\"operator\":\"" ∷ operator ∷ codes "\"}" ∷ []
 
+-- of one that names a tariff
+abbrev pub tariff_pieces : List ℕ → List (List ℕ)
+tariff_pieces tariff = codes "{\"tariff\":\"" ∷ tariff ∷ codes "\"}" ∷ []
+
 -- of one that orders a sale
 abbrev pub order_pieces : Order → List (List ℕ)
 order_pieces o =
@@ -80,6 +87,7 @@ order_pieces o =
 -- the pieces of the body: the rows of an import as they are, and else an object of JSON
 abbrev pub body_pieces : Question → List (List ℕ)
 body_pieces (Import kind csv) = csv.now ∷ []
+body_pieces (SetTariff meter tariff) = tariff_pieces tariff
 body_pieces (MoveBase meter base) =
     codes "{\"base\":" ∷ decimal (year_of base) ∷ codes "}" ∷ []
 body_pieces (OpenShift operator) = operator_pieces operator
@@ -90,6 +98,7 @@ body_pieces question = []
 -- what the reply is to tell, where what is asked is granted
 abbrev pub wanted_by : Question → Wanted
 wanted_by (Import kind csv) = wanted.Imported
+wanted_by (SetTariff meter tariff) = wanted.Done
 wanted_by (MoveBase meter base) = wanted.Done
 wanted_by (OpenShift operator) = wanted.Shift
 wanted_by (CloseShift operator) = wanted.Shift

@@ -90,12 +90,14 @@ impl Question<'_> {
             Refusal::ShiftOpen => matches!(self, Question::OpenShift(_)),
             Refusal::NoMeter => matches!(
                 self,
-                Question::MoveBase(..)
+                Question::SetTariff(..)
+                    | Question::MoveBase(..)
                     | Question::Sell(_)
                     | Question::Meter(_)
                     | Question::LastSale(_)
                     | Question::Quote(..)
             ),
+            Refusal::NoTariff => matches!(self, Question::SetTariff(..)),
             Refusal::BeforeBase => {
                 matches!(
                     self,
@@ -123,7 +125,7 @@ impl Question<'_> {
             }
             Refusal::NotLater => matches!(self, Question::MoveBase(..)),
             Refusal::Memory | Refusal::Store | Refusal::Stopped => true,
-            Refusal::NoTariff | Refusal::Differs | Refusal::DayPast => false,
+            Refusal::Differs | Refusal::DayPast => false,
         }
     }
 }

@@ -23,6 +23,7 @@ use tariff::Tender;
 pub enum Question<'a> {
     /// To add the rows of a file that has these bytes, at most 2^20.
     Import(FileKind, &'a [u8]),
+    SetTariff(MeterNo, TariffName),
     MoveBase(MeterNo, Base),
     OpenShift(Operator),
     CloseShift(Operator),
@@ -63,7 +64,7 @@ impl Question<'_> {
     {
         match self {
             Question::Import(..) => Wanted::Imported,
-            Question::MoveBase(..) => Wanted::Done,
+            Question::SetTariff(..) | Question::MoveBase(..) => Wanted::Done,
             Question::OpenShift(_) | Question::CloseShift(_) => Wanted::Shift,
             Question::Sell(_) | Question::Receipt(_) | Question::SaleOfRef(..) => Wanted::Sale,
             Question::ShiftReport(_) | Question::LastSale(_) => Wanted::Paper,
@@ -80,6 +81,7 @@ impl Question<'_> {
     {
         match self {
             Question::Import(..)
+            | Question::SetTariff(..)
             | Question::MoveBase(..)
             | Question::OpenShift(_)
             | Question::CloseShift(_)
@@ -104,6 +106,9 @@ impl Question<'_> {
     {
         match self {
             Question::Import(kind, _) => joined(alloc, &[import_target(*kind)]),
+            Question::SetTariff(meter, _) => {
+                joined(alloc, &[b"/meters/", meter.as_bytes(), b"/tariff"])
+            }
             Question::MoveBase(meter, _) => {
                 joined(alloc, &[b"/meters/", meter.as_bytes(), b"/base"])
             }
@@ -142,6 +147,9 @@ impl Question<'_> {
         let mut digits = Buffer::new();
         match self {
             Question::Import(_, csv) => joined(alloc, &[csv]),
+            Question::SetTariff(_, tariff) => {
+                joined(alloc, &[b"{\"tariff\":\"", tariff.as_bytes(), b"\"}"])
+            }
             Question::MoveBase(_, base) => {
                 let year = digits.format(base.year()).as_bytes();
                 joined(alloc, &[b"{\"base\":", year, b"}"])
