@@ -47,6 +47,7 @@ shown_question (shown.Sale operator order_ref) = questions.SaleOfRef operator or
 -- the question that the words ask, an import with these rows; of a list that for its first page
 abbrev pub question_of : DeskQuestion → (rows : Bor Text) → Question
 question_of (asks.Import kind csv) rows = questions.Import kind rows
+question_of (asks.SetTariff meter tariff) rows = questions.SetTariff meter tariff
 question_of (asks.MoveBase meter base) rows = questions.MoveBase meter base
 question_of (asks.OpenShift operator) rows = questions.OpenShift operator
 question_of (asks.CloseShift operator) rows = questions.CloseShift operator

@@ -116,6 +116,7 @@ fn question_of<'a>(asked: &DeskQuestion, rows: &'a [u8]) -> Question<'a>
 {
     match asked {
         DeskQuestion::Import(kind, _) => Question::Import(*kind, rows),
+        DeskQuestion::SetTariff(meter, tariff) => Question::SetTariff(*meter, *tariff),
         DeskQuestion::MoveBase(meter, base) => Question::MoveBase(*meter, *base),
         DeskQuestion::OpenShift(operator) => Question::OpenShift(*operator),
         DeskQuestion::CloseShift(operator) => Question::CloseShift(*operator),

@@ -14,6 +14,7 @@ answered_once : (texts : Texts) (calls : Calls) (uncalled : Type 0) (desk : Addr
     → ((list : Listed) (json : Bool) → question ≢ asks.List list json) → IsAskedOnce texts calls uncalled desk question o end
     → IsAnswered texts calls uncalled desk question o end
 answered_once texts calls uncalled desk (asks.Import kind csv) o end none it = it
+answered_once texts calls uncalled desk (asks.SetTariff meter tariff) o end none it = it
 answered_once texts calls uncalled desk (asks.MoveBase meter base) o end none it = it
 answered_once texts calls uncalled desk (asks.OpenShift operator) o end none it = it
 answered_once texts calls uncalled desk (asks.CloseShift operator) o end none it = it
