@@ -31,9 +31,9 @@ MOST_MEMORY = 2**28  # bytes of memory that a command takes for it, at most
 PATIENCE = 10  # seconds
 LAST_NUMBER = 10**9  # of a shift or a sale
 # The refusals that an office has for each kind of command, by their numbers, and those that it may have for any.
-REFUSED = {"import": {14}, "base": {4, 7, 18}, "shift": {3, 11}, "sell": {1, 2, 4, 7, 8, 9, 10, 11}, "show sale": {12},
-           "receipt": {12}, "totals": {13}, "report": {13}, "show last": {4, 12},
-           "show meter": {4}, "quote": {4, 7, 8, 9, 10, 11}, "list": set()}
+REFUSED = {"import": {14}, "tariff": {4, 5}, "base": {4, 7, 18}, "shift": {3, 11},
+           "sell": {1, 2, 4, 7, 8, 9, 10, 11}, "show sale": {12}, "receipt": {12}, "totals": {13}, "report": {13},
+           "show last": {4, 12}, "show meter": {4}, "quote": {4, 7, 8, 9, 10, 11}, "list": set()}
 UNABLE = {15, 16, 17}
 OF_A_SALE = {"sell", "show sale", "receipt"}
 
@@ -87,6 +87,7 @@ def granted():
     json_type = "application/json"
     return {
         "import": (("import", "tariffs", TARIFFS), b'{"added":1}', json_type, b"added 1\n"),
+        "tariff": (("tariff", "--meter", METER, "--tariff", "flat"), b'{"done":true}', json_type, b"done\n"),
         "base": (("base", "--meter", METER, "--base", "2014"), b'{"done":true}', json_type, b"done\n"),
         "shift": (("shift", "--operator", "ann", "open"), b'{"shift":1}', json_type, b"shift 1\n"),
         "sell": (SELL, in_json(SALE), json_type, RECEIPT),

@@ -107,6 +107,7 @@ def cut_reports(folder):
         (["import", *at, "meters", "missing.csv"], b"file\n"),
         (["shift", *at, "--operator", "ann", "open"], b"refused 3 ShiftOpen\n"),
         (["shift", *at, "--operator", "bob", "close"], b"refused 2 NoShift\n"),
+        (["tariff", *at, "--meter", METER, "--tariff", "none"], b"refused 5 NoTariff\n"),
         (["base", *at, "--meter", METER, "--base", "1993"], b"refused 18 NotLater\n"),
         (sell_words(file, "A-1", "20"), b"refused 1 RefReused\n"),
         ([*report, "totals", "--number", "2"], b"refused 13 NoSuchShift\n"),
@@ -147,7 +148,7 @@ def cut_sales(folder):
 
 
 def cut_answers(folder):
-    """A shift, an import and a later base date stand where their answers are cut."""
+    """A shift, an import, another tariff and a later base date stand where their answers are cut."""
     file = folder / "answers.db"
     prepare(file)
     at = ["--at", AT, "--file", str(file)]
@@ -161,6 +162,10 @@ def cut_answers(folder):
         (folder / "next.csv").write_text(f"name,steps\nt{room},:100\n")
         cut_once(folder, ["import", *at, "tariffs", "next.csv"], b"added 1\n", room)
         same(run(folder, ["import", *at, "tariffs", "next.csv"]), Ran(0, b"added 0\n", b""), "import")
+        tariff, meter = f"t{room}", ["--meter", METER]
+        cut_once(folder, ["tariff", *at, *meter, "--tariff", tariff], b"done\n", min(room, 4))
+        shown = run(folder, ["show", *at, "meter", *meter]).output
+        same(shown.split(b"\n")[1].split(b"\t")[2], tariff.encode(), "tariff")
     meters = ["00000000000", FAR_BASE, SPENT, "79927398713", "10000000017"]
     rows = "".join(f"{meter},1993,flat,{KEY}\n" for meter in meters)
     (folder / "old.csv").write_text(f"meter,base,tariff,key\n{rows}")
@@ -169,7 +174,7 @@ def cut_answers(folder):
         move = ["base", *at, "--meter", meter, "--base"]
         cut_once(folder, [*move, "2014"], b"done\n", room)
         same(run(folder, [*move, "1993"]), Ran(1, b"", b"refused 18 NotLater\n"), move)
-    return 8 * 3 + len(meters)
+    return 8 * 4 + len(meters)
 
 
 def cut_listening(folder):

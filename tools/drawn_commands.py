@@ -53,6 +53,7 @@ class Commands:
             "add-steps": lambda name, day, steps: self.rows(f"s,{name},{day},{steps}"),
             "add-meter": lambda *parts: self.rows(",".join(["m", *parts])),
             "import": self.rows,
+            "set-tariff": lambda meter, name: ("tariff", "--meter", meter, "--tariff", name),
             "move-base": lambda meter, base: ("base", "--meter", meter, "--base", base),
             "open-shift": lambda operator: ("shift", "--operator", operator, "open"),
             "close-shift": lambda operator: ("shift", "--operator", operator, "close"),

@@ -162,7 +162,7 @@ def frozen_desk(folder):
     csv.write_text("name,steps\n" + "flat,:100\n" * ((MIB - 11) // 10))
     asks = [sell("F-1"), sell("F-2"), ["quote", "--meter", METER, "10"], ["show", "meter", "--meter", METER],
             ["report", "--kind", "shift"], ["import", "tariffs", str(csv)], ["shift", "--operator", "bob", "open"],
-            ["base", "--meter", METER, "--base", "2014"]]
+            ["base", "--meter", METER, "--base", "2014"], ["tariff", "--meter", METER, "--tariff", "flat"]]
     with Desk(file, 1000) as desk:
         with frozen(desk.process):
             address = f"127.0.0.1:{desk.port}"

@@ -168,6 +168,7 @@ def check_calls(folder, watcher):
             (sell_words(file, "A-1"), 0, office, []),
             (sell_words(file, "A-1", "20"), 1, office, []),
             (["shift", *given, "--operator", "bob", "open"], 0, office, []),
+            (["tariff", *given, "--meter", METER, "--tariff", "flat"], 0, office, []),
             (["base", *given, "--meter", METER, "--base", "2014"], 0, office, []),
             (["report", "--file", str(file), "--kind", "sales"], 0, office, []),
             (["audit", "--file", str(file)], 0, office, []),
@@ -212,6 +213,7 @@ def check_asking(file, watcher, rows):
     commands = (
         ("sell", "--operator", "ann", "--ref", "D-1", "--meter", METER, "--tender", "10"),
         ("shift", "--operator", "cat", "open"), ("base", "--meter", METER, "--base", "2014"),
+        ("tariff", "--meter", METER, "--tariff", "flat"),
         ("report", "--kind", "sales"), ("report", "--kind", "shift"), ("show", "last", "--meter", METER),
         ("quote", "--meter", METER, "10"), ("list", "meters"), ("import", "tariffs", rows))
     with Desk(file, len(commands)) as desk:
@@ -264,7 +266,7 @@ def check_waits(folder, watcher):
     commands = (
         ["import", *given, "--at", AT, "tariffs", rows], sell_words(file, "A-1"),
         ["shift", *given, "--operator", "bob", "open"], ["audit", *given],
-        ["base", *given, "--meter", METER, "--base", "2014"],
+        ["base", *given, "--meter", METER, "--base", "2014"], ["tariff", *given, "--meter", METER, "--tariff", "flat"],
         *(["report", *given, "--kind", kind] for kind in ("shift", "receipt", "totals", "sales")),
         ["show", *given, "last", "--meter", METER], ["quote", *given, "--meter", METER, "10"],
         ["list", *given, "meters"], ["list", *given, "sales"],
