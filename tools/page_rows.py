@@ -69,6 +69,7 @@ WORDS = {
     "show": ["show", "--at", AT, "meter", "--meter", METER],
     "list": ["list", "--at", AT, "tariffs"],
     "offer": ["offer", "--at", AT, "--meter", METER, "15"],
+    "tariff": ["tariff", "--at", AT, "--meter", METER, "--tariff", "flat"],
     "base": ["base", "--at", AT, "--meter", METER, "--base", "2014"],
     "audit": ["audit"],
     "serve": ["serve", "--listen", "127.0.0.1:0", "--connections", "1"],
@@ -214,7 +215,6 @@ def check_statuses(offices):
 
 # Where a refusal takes more than a command on a file: the script that brings it about, and its text there.
 ELSEWHERE = {
-    "refused 5 NoTariff": ("tools/check_desk", 'refusal(5, "NoTariff")'),
     "refused 6 Differs": ("tools/check_desk", 'refusal(6, "Differs")'),
     "refused 11 OfficeFull": ("tools/check_at_desk", "refused 11 OfficeFull"),
     "refused 15 Memory": ("tools/check_memory", "refused 15 Memory"),
@@ -234,6 +234,8 @@ def check_refusals(offices):
         "refused 2 NoShift": lambda file: [sell(file, "B-1", operator="bob")],
         "refused 3 ShiftOpen": lambda file: [["shift", "--file", file, "--operator", "ann", "--at", AT, "open"]],
         "refused 4 NoMeter": lambda file: [sell(file, "A-2", meter=NO_METER)],
+        "refused 5 NoTariff": lambda file: [
+            ["tariff", "--file", file, "--meter", METER, "--tariff", "night", "--at", AT]],
         "refused 7 BeforeBase": lambda file: [sell(file, "A-2", meter=FAR)],
         "refused 8 IdentifiersSpent": lambda file: [sell(file, "A-2", meter=SPENT, at=SPENT_AT)],
         "refused 9 IdentifierAhead": lambda file: [sell(file, "A-2", at=late), sell(file, "A-3")],
