@@ -1,4 +1,5 @@
 mod AgainLemmas
+mod AskedLemmas
 mod AtDeskLemmas
 mod CourseLemmas
 mod DeskLemmas

@@ -5,5 +5,6 @@ pub mod Uses
 pub mod Files
 pub mod Here
 pub mod Steps
+pub mod Asked
 pub mod EachRun
 pub mod Promise

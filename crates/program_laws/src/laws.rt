@@ -247,7 +247,8 @@ pub fn run_law<M: Machine>()
 ///
 /// Each sale that was handed out in them stands for ever, and no two of them differ under one
 /// identifier, number or reference. The same words of `sell` print the receipt of the sale that
-/// they made before, or why they print none.
+/// they made before, or why they print none. What a command printed by asking a desk is handed out
+/// in the lives of the run of `serve` that answered.
 pub fn program_law<M: Machine, N: Machine>()
     ensures { KeepsPromise (here_of M.Office.Medium.Disk M.Office.Salts.SaltSource
         M.Office.OfficeFile M.Texts.TextFiles M.Clock.Clock
@@ -265,6 +266,15 @@ pub fn program_law<M: Machine, N: Machine>()
     store_law();
     run_law::<M>();
     run_law::<N>();
+    amount_law();
+    purchase_law();
+    reached_law();
+    route_law();
+    conversation_law();
+    reply_law();
+    told_law();
+    question_law();
+    page_law();
 }
 
 /// What is told of a sale names it: two sales of an office with one receipt are one sale, and so

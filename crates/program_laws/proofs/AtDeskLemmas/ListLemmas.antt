@@ -59,7 +59,7 @@ OnePage =
     ≡ pages.page_as_read other → AreAlike page other
 
 -- what was told as a page is one that was found
-page_of : (body : Bor (List ℕ)) (r : Result Found Refusal) → TellAlike (told.Granted (granted.Page body)) (told_look forms.Json r)
+pub page_of : (body : Bor (List ℕ)) (r : Result Found Refusal) → TellAlike (told.Granted (granted.Page body)) (told_look forms.Json r)
     → (it : Found) × (r ≡ Ok it) × (body.now ≡ pages.page_as_read it)
 page_of body (Ok (found.SaleCount n)) alike = absurd alike
 page_of body (Ok (found.Meter m)) alike = absurd alike
@@ -86,7 +86,7 @@ as_page (found.Shifts items) h = (record { ref_ptr = (0, 0); now = pages.page_as
 as_page (found.Sales items) h = (record { ref_ptr = (0, 0); now = pages.page_as_read (found.Sales items) }, refl, refl)
 
 -- a page is what the question for it wants
-page_wanted : (list : Listed) → wanted_by (page_question list) ≡ wants.Page
+pub page_wanted : (list : Listed) → wanted_by (page_question list) ≡ wants.Page
 page_wanted (listed.Tariffs after) = refl
 page_wanted (listed.Meters after) = refl
 page_wanted (listed.Shifts after) = refl
@@ -105,14 +105,14 @@ any_moment o moment other (listed.Shifts after) r same finds = finds
 any_moment o moment other (listed.Sales after) r same finds = finds
 
 module _ (laws : DeskLaws) where
-  page_looks : (moment : ℕ) → IsMoment moment → (list : Listed) → CanAsk list
+  pub page_looks : (moment : ℕ) → IsMoment moment → (list : Listed) → CanAsk list
       → MessageLooks (question_message (page_question list)) (Some (pos moment)) forms.Json moment (page_lookup list)
   page_looks moment is_moment (listed.Tariffs after) askable = laws.means (page_question (listed.Tariffs after)) moment askable is_moment
   page_looks moment is_moment (listed.Meters after) askable = laws.means (page_question (listed.Meters after)) moment askable is_moment
   page_looks moment is_moment (listed.Shifts after) askable = laws.means (page_question (listed.Shifts after)) moment askable is_moment
   page_looks moment is_moment (listed.Sales after) askable = laws.means (page_question (listed.Sales after)) moment askable is_moment
 
-  page_tellable : (life : Life) → IsOffice (present life) → (moment : ℕ) (list : Listed) (r : Result Found Refusal)
+  pub page_tellable : (life : Life) → IsOffice (present life) → (moment : ℕ) (list : Listed) (r : Result Found Refusal)
       → IsFoundAt life moment (page_lookup list) r → IsTellable wants.Page (told_look forms.Json r)
   page_tellable life office moment (listed.Tariffs after) r found = tellable_look laws.ranges life office moment (page_lookup (listed.Tariffs after)) r tt found
   page_tellable life office moment (listed.Meters after) r found = tellable_look laws.ranges life office moment (page_lookup (listed.Meters after)) r tt found
@@ -226,7 +226,7 @@ module _ (laws : DeskLaws) where
 
 -- ---- pages that are printed as others are
 
-abbrev AreSame : List Found → List Found → Type 0
+abbrev pub AreSame : List Found → List Found → Type 0
 AreSame [] [] = ⊤
 AreSame (page ∷ pages) (it ∷ found) = IsSamePage page it × AreSame pages found
 AreSame pages found = ⊥
@@ -243,7 +243,7 @@ same_texts json (page ∷ pages) (it ∷ found) (here, rest) =
     ap (λ (text : List ℕ). text ++ flat_map (page_text json false) pages) (same_text json false page it here)
     ∙ ap (λ (text : List ℕ). page_text json false it ++ text) (same_texts json pages found rest)
 
-same_pages : (json : Bool) (pages found : List Found) → AreSame pages found → pages_text json pages ≡ pages_text json found
+pub same_pages : (json : Bool) (pages found : List Found) → AreSame pages found → pages_text json pages ≡ pages_text json found
 same_pages json [] [] same = refl
 same_pages json [] (it ∷ found) same = absurd same
 same_pages json (page ∷ pages) [] same = absurd same

@@ -152,7 +152,7 @@ short_reply t short =
     omega (arith, reply_length t, short_start t, length-decimal-le 8 (length (told_text t)) (omega arith) (omega (arith, short)) (omega (arith, short)), short)
 
 -- two replies with one text have one body
-same_body : (t u : Told) → length (told_text t) ≤ longest_reply_body → reply_text t ≡ reply_text u → length (told_text u) ≤ longest_reply_body
+pub same_body : (t u : Told) → length (told_text t) ≤ longest_reply_body → reply_text t ≡ reply_text u → length (told_text u) ≤ longest_reply_body
 same_body t u short same =
     let most : length (told_text u) < 2 ^ 64 = omega (arith, short_reply t short, ap length same, reply_length u) in
     let heads =

@@ -16,11 +16,14 @@ use Rattle.office_rules.specs.declared.decision.request.Request.TheVariants.{Rep
 use Rattle.office_rules.specs.declared.decision.request.Stamped.{Stamped}
 use Rattle.office_rules.specs.declared.office.sale.Sale.{Sale}
 use Rattle.books.specs.Path.{StandsIn}
+use Rattle.desk_commands.specs.Exchanged.{Round}
+use Rattle.program_laws.specs.AtDesk.{came_in, sent_in}
 use Rattle.program_laws.specs.Selling.{PrintsSale}
+use Rattle.program_laws.specs.runs.Asked.{AsksDesk, CarriesIn, PrintsOfDesk}
 use Rattle.program_laws.specs.runs.Files.{FindsImage, MayHold}
 use Rattle.program_laws.specs.runs.Here.{Here, ProgramRun, use_of}
 use Rattle.program_laws.specs.runs.Steps.{AreSoldFor, Asks, FailsToPrint, Goes, IsOf}
-use Rattle.program_laws.specs.runs.Steps.{IsUnlessFailed, Tells}
+use Rattle.program_laws.specs.runs.Steps.{IsUnlessFailed, Tells, TellsIn}
 use Rattle.program_laws.specs.runs.Uses.{RunQuestion}
 use Rattle.program_laws.specs.runs.Words.{WordsRequest}
 
@@ -91,6 +94,15 @@ pub record KeepsPromise {P D R W Q E S T : Type 0} (here : Here P D R W) (there 
       → Tells here first comes.before comes.own comes.went.lived s
       → WordsRequest again.words (Reprint s.number)
       → PrintsSale s again.o again.end ⊎ FailsToPrint again.o again.end
+  -- Each sale in what a command printed of a desk is one that a run of `serve` told, where one of
+  -- the run's connections carried what the command sent and what came to it. So it is handed out in
+  -- the lives of that run.
+  pub at_desk : (start : Office) (run : ProgramRun here) (lives more : List Life)
+      (command : ProgramRun there) (rounds : List Round) → IsOffice start
+      → (goes : Goes here start run lives more) → AsksDesk there command rounds
+      → CarriesIn (use_of here run) lives more goes.lived (sent_in rounds) (came_in rounds)
+      → PrintsOfDesk (λ s. TellsIn (use_of here run) lives more goes.lived s
+      × IsHanded (lives ++ more) s) command.o command.end
   -- the reports of all shifts hold the money of all sales
   pub cash : (start : Office) (lives : List Life) (o : Office) (forward : BlockFunction)
       (ats : ℕ → Stamped) → IsOffice start → LeadTo start lives o → AskForReports ats

@@ -1,6 +1,7 @@
 use Rattle.vend_commands.specs.port.Machines.{loop_of, way}
 use Rattle.program_laws.specs.runs.Here.{here_of}
 use Rattle.program_laws.proofs.AgainLemmas.{OrderLaws}
+use Rattle.program_laws.proofs.AtDeskLemmas.OneLemmas.{DeskLaws}
 use Rattle.program_laws.proofs.LeadLemmas.{LeadingLaws}
 use Rattle.program_laws.proofs.OrderLemmas.{SellingLaws}
 use Rattle.program_laws.proofs.PromiseLemmas.{HistoryLaws, promise}
@@ -32,4 +33,20 @@ returns g c =
       at_most_sold = credited.at_most_sold;
       in_order = credited.in_order;
     } in
-    promise here there c.run_law.ensures c.run_law-2.ensures leading selling history
+    let office = c.office_law.ensures in
+    let question = c.question_law.ensures in
+    let desk : DeskLaws = record {
+      along = office.keeps_along;
+      one_step = office.keeps_office;
+      plausible = c.reached_law.ensures.keeps;
+      stand = office.answers_stand;
+      ranges = record { greatest = c.amount_law.ensures.greatest; prior = c.store_law.ensures.prior_range; purchase = c.purchase_law.ensures.computed };
+      meaning = c.conversation_law.ensures.meaning;
+      routed = c.route_law.ensures.one;
+      texts = c.reply_law.ensures;
+      sent = question.sent;
+      means = question.means;
+      outside = question.outside;
+      alike = c.told_law.ensures.alike;
+    } in
+    promise here there c.run_law.ensures c.run_law-2.ensures leading selling history desk c.page_law.ensures.one

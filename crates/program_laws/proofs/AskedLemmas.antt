@@ -1,0 +1,7 @@
+-- What a command printed of a desk is what a run of `serve` told it.
+pub mod LifeLemmas
+pub mod TalkLemmas
+pub mod SaysLemmas
+pub mod PrintsLemmas
+pub mod CommandLemmas
+pub mod ServedLemmas

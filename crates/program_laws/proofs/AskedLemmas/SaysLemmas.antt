@@ -1,0 +1,443 @@
+-- What a desk's answer to a question says, and that what is printed of it has no other sales.
+use Rattle.std.proofs.Common.{◌≡◌, ◌≢◌, ◌⊎◌, ◌∙◌, ℕ, ℤ, pos, Bool, false, List, [], ◌∷◌, Option, None, Some, Result, Ok, Err, inl, inr, refl, sym, ap, subst, arith}
+use Rattle.std.specs.Prelude.{Contains, IfSome}
+use Rattle.std.specs.Borrow.{Bor}
+use Rattle.sts_fields.specs.Moment.{IsMoment}
+use Rattle.papers.specs.Receipt.{receipt_of}
+use Rattle.papers.specs.declared.file_kind.FileKind.{FileKind}
+use Rattle.papers.specs.declared.row_fault.RowFault.{RowFault}
+use Rattle.papers.specs.declared.row_fault.RowFault.TheVariants as row_faults
+use Rattle.office_rules.specs.Law.Handed.{sales_of}
+use Rattle.office_rules.specs.Office.{IsOffice}
+use Rattle.office_rules.specs.declared.decision.answer.Answer.{Answer}
+use Rattle.office_rules.specs.declared.decision.answer.Answer.TheVariants as answers
+use Rattle.office_rules.specs.declared.decision.refusal.Refusal.{Refusal}
+use Rattle.office_rules.specs.declared.decision.refusal.Refusal.TheVariants.{ImportRow}
+use Rattle.office_rules.specs.declared.decision.request.Request.{Request}
+use Rattle.office_rules.specs.declared.decision.request.Request.TheVariants as requests
+use Rattle.office_rules.specs.declared.decision.request.Stamped.{Stamped}
+use Rattle.office_rules.specs.declared.office.row.Row.{Row}
+use Rattle.office_rules.specs.declared.office.sale.Sale.{Sale}
+use Rattle.vend_core.specs.Law.Life.{IsLife, Life, present}
+use Rattle.book_states.specs.declared.lookup.Found.{Found}
+use Rattle.book_states.specs.declared.lookup.Lookup.{Lookup}
+use Rattle.book_states.specs.declared.lookup.Lookup.TheVariants as lookups
+use Rattle.books.specs.Looking.{IsFoundAt}
+use Rattle.conversation.specs.Exchanges.{MessageExchange, Timed, timed}
+use Rattle.conversation.specs.message.Messages.{Message}
+use Rattle.desk.specs.Along.{AskedOffice, LookedUp}
+use Rattle.desk.specs.Answering.{Comes, IsStampedBy, answers_by, life_serves}
+use Rattle.desk_messages.specs.Meaning.{IsIdle, MessageAsks, MessageLooks, lookup_form}
+use Rattle.desk_messages.specs.declared.desk_fault.DeskFault.TheVariants as faults
+use Rattle.desk_messages.specs.declared.reply.form.Form.{Form}
+use Rattle.desk_messages.specs.declared.reply.form.Form.TheVariants as forms
+use Rattle.desk_messages.specs.declared.reply.outcome.Outcome.{Outcome}
+use Rattle.desk_messages.specs.declared.reply.outcome.Outcome.TheVariants as outcomes
+use Rattle.desk_messages.specs.reply.Text.{reply_bytes_of}
+use Rattle.desk_client.specs.Alike.{TellAlike}
+use Rattle.desk_client.specs.Asks.{IsAskable, question_message}
+use Rattle.desk_client.specs.Page.{IsToldPage, page_as_read}
+use Rattle.desk_client.specs.Question.{wanted_by}
+use Rattle.desk_client.specs.Reply.{reply_text}
+use Rattle.desk_client.specs.Told.{IsTellable}
+use Rattle.desk_client.specs.declared.question.Question.{Question}
+use Rattle.desk_client.specs.declared.question.Question.TheVariants as questions
+use Rattle.desk_client.specs.declared.told.Granted.TheVariants as granted
+use Rattle.desk_client.specs.declared.told.Told.{Told}
+use Rattle.desk_client.specs.declared.told.Told.TheVariants as told
+use Rattle.desk_client.specs.declared.told.Wanted.{Wanted}
+use Rattle.desk_client.specs.declared.told.Wanted.TheVariants as wants
+use Rattle.desk_client.proofs.TellsLemmas.{says}
+use Rattle.command_line.specs.declared.commands.list.Listed.{Listed}
+use Rattle.desk_commands.specs.AskedOfDesk.{SaleNeedsRoom, TellsTold, told_sale_text}
+use Rattle.desk_commands.specs.ListedAtDesk.{page_kind, page_question}
+use Rattle.desk_commands.specs.print.Pages.{list_behind, page_lookup}
+use Rattle.office_commands.specs.commands.LookedUp.{TellsFound}
+use Rattle.office_commands.proofs.ListingLemmas.{page_found}
+use Rattle.vend_ports.specs.print.Printed.{clock_line, refusal_line}
+use Rattle.vend_ports.specs.print.Told.{Outputs}
+use Rattle.vend_ports.specs.declared.command_end.CommandEnd.{CommandEnd}
+use Rattle.program_laws.specs.AtDesk.{IsAskedByOne}
+use Rattle.program_laws.specs.SalesTold.{ExchangeTells, sales_found}
+use Rattle.program_laws.specs.runs.Asked.{PrintsOfDesk}
+use Rattle.program_laws.specs.runs.Asked.PrintsOfDesk.{a_find, a_reply, nothing, totals}
+use Rattle.program_laws.proofs.AtDeskLemmas.LineLemmas.{clock_read}
+use Rattle.program_laws.proofs.AtDeskLemmas.ListLemmas.{OnePage, page_looks, page_of, page_tellable}
+use Rattle.program_laws.proofs.AtDeskLemmas.MeaningLemmas.{ComesOfRows, IsRead, came_rows, looked, replied}
+use Rattle.program_laws.proofs.AtDeskLemmas.OneLemmas.{Came, DeskLaws, few_rows, import_for, may_be, row_tellable}
+use Rattle.program_laws.proofs.AtDeskLemmas.PageLemmas.{CanAsk, IsSamePage, behind_askable, page_as_told, page_told, same_page, told_text}
+use Rattle.program_laws.proofs.AtDeskLemmas.PrintedLemmas.{prints_last, prints_meter, prints_quote, prints_reply, prints_sale_of_ref, prints_totals}
+use Rattle.program_laws.proofs.AtDeskLemmas.RuleLemmas.{MayReplyTo, present_is}
+use Rattle.program_laws.proofs.AtDeskLemmas.TellableLemmas.{MayAsk, MayLook, look_tells, no_count, reply_tells, tellable_look, tellable_reply, told_look, told_reply, wanted_for, wanted_look}
+
+-- a reply to rows has no sale
+no_sales : (rows : List Row) (r : Result Answer Refusal) → MayReplyTo (requests.Import rows) r → (s : Sale) → Contains (sales_of r) s → ⊥
+no_sales rows (Ok (answers.Imported count)) may s there = absurd (omega (arith, there.1))
+no_sales rows (Ok answer) may s there = absurd may
+no_sales rows (Err refusal) may s there = absurd (omega (arith, there.1))
+
+-- What a desk's answer to a question says, by its bytes; and whatever is printed of that is a reply
+-- or what was found, whose sales the exchange told.
+pub record DeskSays (q : Question) (old new : Life) (x : MessageExchange) : Type 0 where
+  pub said : Told
+  pub text : x.reply ≡ reply_text said
+  pub tellable : IsTellable (wanted_by q) said
+  pub prints : (json : Bool) (o : Outputs) (end : CommandEnd) → IsAskedByOne json q → TellsTold json q said o end
+      → PrintsOfDesk (ExchangeTells old x new) o end
+
+-- What it says where a page of a list is asked for: whatever page is read of that is one that was
+-- found, whose sales the exchange told, and the office is as it was.
+pub record PageThere (list : Listed) (page : Found) (old new : Life) (x : MessageExchange) : Type 0 where
+  pub there : Found
+  pub alike : IsSamePage page there
+  pub behind : IfSome (list_behind page) CanAsk
+  pub same : new ≡ old
+  pub tells : (s : Sale) → Contains (sales_found (Ok there)) s → ExchangeTells old x new s
+
+pub record PageSays (list : Listed) (old new : Life) (x : MessageExchange) : Type 0 where
+  pub said : Told
+  pub text : x.reply ≡ reply_text said
+  pub tellable : IsTellable wants.Page said
+  pub page : (body : Bor (List ℕ)) (page : Found) → TellAlike (told.Granted (granted.Page body)) said → IsToldPage (page_kind list) page
+      → body.now ≡ page_as_read page → PageThere list page old new x
+
+module _ (laws : DeskLaws) (old new : Timed Life) (x : MessageExchange) (opening : IsOffice old.0.opening) (life : IsLife new.0) where
+  -- its message was the question's, and it closes nothing
+  told_open : (q : Question) (outcome : Outcome) → x.message ≡ question_message q → x.reply ≡ reply_bytes_of outcome false
+      → x.reply ≡ reply_bytes_of outcome x.message.closes
+  told_open q outcome asked text =
+      let closes : x.message.closes ≡ false = ap (λ (m : Message). m.closes) asked in
+      text ∙ ap (λ (b : Bool). reply_bytes_of outcome b) (sym closes)
+
+  -- ---- at a moment
+  module _ (moment : ℕ) (is_moment : IsMoment moment) (given : x.now ≡ Some (pos moment)) where
+    asks_so : (q : Question) (form : Form) (request : Request) (r : Result Answer Refusal) (at : Stamped) → x.message ≡ question_message q
+        → MessageAsks (question_message q) (Some (pos moment)) form moment request → IsStampedBy old.0 moment request r at
+        → MessageAsks x.message x.now form at.moment at.request
+    asks_so q form request r at asked asks stamped =
+        subst (λ (n : ℕ). MessageAsks x.message x.now form n at.request) (sym stamped.at_moment)
+        (subst (λ (request : Request). MessageAsks x.message x.now form moment request) (sym stamped.for_request)
+        (subst (λ (now : Option ℤ). MessageAsks x.message now form moment request) (sym given)
+        (subst (λ (m : Message). MessageAsks m (Some (pos moment)) form moment request) (sym asked) asks)))
+
+    looks_so : (q : Question) (form : Form) (lookup : Lookup) → x.message ≡ question_message q
+        → MessageLooks (question_message q) (Some (pos moment)) form moment lookup → MessageLooks x.message x.now form moment lookup
+    looks_so q form lookup asked looks =
+        subst (λ (now : Option ℤ). MessageLooks x.message now form moment lookup) (sym given)
+        (subst (λ (m : Message). MessageLooks m (Some (pos moment)) form moment lookup) (sym asked) looks)
+
+    -- a request
+    request_says : (q : Question) (request : Request) → x.message ≡ question_message q
+        → MessageAsks (question_message q) (Some (pos moment)) forms.Json moment request → MayAsk request
+        → wanted_by q ≡ wanted_for request → ((json : Bool) (s : Sale) → told_sale_text json q s ≡ receipt_of s)
+        → ((json : Bool) (s : Sale) → SaleNeedsRoom json q s → ⊥)
+        → Came laws q (pos moment) old new x.reply → DeskSays q old.0 new.0 x
+    request_says q request asked asks ask wanted sold small c =
+        let m = question_message q in
+        let now = Some (pos moment) in
+        let r = replied m now (laws.meaning m now) forms.Json moment request asks c.outcome old.0 new.0 c.comes in
+        let may = may_be laws old.0 new.0 moment request r.0 life opening r.2 in
+        let u = told_reply forms.Json r.0 in
+        let keeps : IsTellable (wanted_by q) u = subst (λ (w : Wanted). IsTellable w u) (sym wanted) (tellable_reply request r.0 ask may.1 may.0) in
+        let text : x.reply ≡ reply_bytes_of (outcomes.Replied forms.Json r.0) false = c.text ∙ ap (λ (x : Outcome). reply_bytes_of x false) r.1 in
+        record {
+          said = u;
+          text = text ∙ says laws.texts (wanted_by q) (outcomes.Replied forms.Json r.0) u keeps (reply_tells forms.Json r.0);
+          tellable = keeps;
+          prints = λ json o end one is. a_reply r.0 (prints_reply json q (sold json) (small json) o end forms.Json r.0 is) (λ s there. inl (
+            r.2.0,
+            r.0,
+            record {
+              form = forms.Json;
+              asks = asks_so q forms.Json request r.0 r.2.0 asked asks r.2.1;
+              told = told_open q (outcomes.Replied forms.Json r.0) asked text;
+            },
+            r.2.2,
+            there,
+          ));
+        }
+
+    -- a look-up
+    look_says : (q : Question) (lookup : Lookup) → x.message ≡ question_message q
+        → MessageLooks (question_message q) (Some (pos moment)) (lookup_form lookup) moment lookup → MayLook lookup
+        → wanted_by q ≡ wanted_look lookup → wanted_look lookup ≢ wants.Done
+        → ((json : Bool) (o : Outputs) (end : CommandEnd) (r : Result Found Refusal) → IsAskedByOne json q → IsFoundAt old.0 moment lookup r
+        → TellsTold json q (told_look (lookup_form lookup) r) o end
+        → ((s : Sale) → Contains (sales_found r) s → ExchangeTells old.0 x new.0 s) → PrintsOfDesk (ExchangeTells old.0 x new.0) o end)
+        → Came laws q (pos moment) old new x.reply → DeskSays q old.0 new.0 x
+    look_says q lookup asked looks may wanted some shows c =
+        let m = question_message q in
+        let now = Some (pos moment) in
+        let r = looked m now (laws.meaning m now) (lookup_form lookup) moment lookup looks c.outcome old.0 new.0 c.comes in
+        let office : IsOffice (present old.0) = present_is laws.along old.0 (subst IsLife r.3 life) opening in
+        let u = told_look (lookup_form lookup) r.0 in
+        let keeps : IsTellable (wanted_look lookup) u = tellable_look laws.ranges old.0 office moment lookup r.0 may r.2 in
+        let tellable : IsTellable (wanted_by q) u = subst (λ (w : Wanted). IsTellable w u) (sym wanted) keeps in
+        let text : x.reply ≡ reply_bytes_of (outcomes.Found (lookup_form lookup) r.0) false = c.text ∙ ap (λ (x : Outcome). reply_bytes_of x false) r.1 in
+        record {
+          said = u;
+          text =
+              text ∙ says laws.texts (wanted_by q) (outcomes.Found (lookup_form lookup) r.0) u tellable
+              (look_tells (lookup_form lookup) r.0 (no_count (lookup_form lookup) (wanted_look lookup) r.0 some keeps));
+          tellable = tellable;
+          prints = λ json o end one is. shows json o end r.0 one r.2 is (λ s there. inr (
+            r.0,
+            record {
+              form = lookup_form lookup;
+              moment = moment;
+              lookup = lookup;
+              looks = looks_so q (lookup_form lookup) lookup asked looks;
+              told = told_open q (outcomes.Found (lookup_form lookup) r.0) asked text;
+            },
+            r.2,
+            r.3,
+            there,
+          ));
+        }
+
+    -- the rows of a file
+    import_says : (kind : FileKind) (csv : Bor (List ℕ)) → Came laws (questions.Import kind csv) (pos moment) old new x.reply
+        → DeskSays (questions.Import kind csv) old.0 new.0 x
+    import_says kind csv c =
+        let q = questions.Import kind csv in
+        let rows = came_rows laws.routed (question_message q) kind (import_for kind csv) moment old.0 new.0 is_moment c.outcome c.comes in
+        by_rows rows.0 rows.1 rows.2
+      where
+        by_rows : (read : Result (List Row) RowFault) → IsRead kind (question_message (questions.Import kind csv)).body read
+            → ComesOfRows moment read c.outcome old.0 new.0 → DeskSays (questions.Import kind csv) old.0 new.0 x
+        by_rows (Ok rows) read (r, outcome, replies) =
+            let q = questions.Import kind csv in
+            let may = may_be laws old.0 new.0 moment (requests.Import rows) r life opening replies in
+            let keeps = tellable_reply (requests.Import rows) r (few_rows laws kind _ rows read) may.1 may.0 in
+            record {
+              said = told_reply forms.Json r;
+              text =
+                  c.text ∙ ap (λ (x : Outcome). reply_bytes_of x false) outcome
+                  ∙ says laws.texts wants.Imported (outcomes.Replied forms.Json r) (told_reply forms.Json r) keeps (reply_tells forms.Json r);
+              tellable = keeps;
+              prints = λ json o end one is. a_reply r (prints_reply json q (λ s. refl) (λ s none. none) o end forms.Json r is)
+                  (λ s there. absurd (no_sales rows r (may.0 tt) s there));
+            }
+        by_rows (Err (row_faults.At row cause)) read (outcome, same) =
+            let r : Result Answer Refusal = Err (ImportRow row cause) in
+            let keeps = row_tellable laws kind _ row cause read in
+            record {
+              said = told.Refused (ImportRow row cause);
+              text =
+                  c.text ∙ ap (λ (x : Outcome). reply_bytes_of x false) outcome
+                  ∙ says laws.texts wants.Imported (outcomes.Replied forms.Json r) (told.Refused (ImportRow row cause)) keeps refl;
+              tellable = keeps;
+              prints = λ json o end one is. nothing (refusal_line (ImportRow row cause)) is;
+            }
+        by_rows (Err row_faults.Memory) read none = absurd none
+
+    totals_say : (number : ℕ) (json : Bool) (o : Outputs) (end : CommandEnd) (r : Result Found Refusal) → IsFoundAt old.0 moment (lookups.ShiftTotals number) r
+        → TellsTold json (questions.ShiftTotals number) (told_look forms.Json r) o end → PrintsOfDesk (ExchangeTells old.0 x new.0) o end
+    totals_say number json o end r found is =
+        let printed = prints_totals o end json old.0 moment number r found is in
+        totals number printed.0 printed.2
+
+    last_says : (number : List ℕ) (json : Bool) (o : Outputs) (end : CommandEnd) (r : Result Found Refusal) → json ≡ false
+        → IsFoundAt old.0 moment (lookups.LastSale number) r
+        → TellsTold json (questions.LastSale number) (told_look forms.Paper r) o end → TellsFound false (lookups.LastSale number) r o end
+    last_says number json o end r lines found is =
+        prints_last o end old.0 moment number r found
+        (subst (λ (b : Bool). TellsTold b (questions.LastSale number) (told_look forms.Paper r) o end) lines is)
+
+    -- each question
+    question_says : (q : Question) → IsAskable q → x.message ≡ question_message q → Came laws q (pos moment) old new x.reply → DeskSays q old.0 new.0 x
+    question_says (questions.Import kind csv) askable asked c = import_says kind csv c
+    question_says (questions.MoveBase meter base) askable asked c =
+        let q = questions.MoveBase meter base in
+        request_says q (requests.MoveBase meter base) asked (laws.means q moment askable is_moment) tt refl (λ json s. refl) (λ json s none. none) c
+    question_says (questions.OpenShift operator) askable asked c =
+        let q = questions.OpenShift operator in
+        request_says q (requests.OpenShift operator) asked (laws.means q moment askable is_moment) tt refl (λ json s. refl) (λ json s none. none) c
+    question_says (questions.CloseShift operator) askable asked c =
+        let q = questions.CloseShift operator in
+        request_says q (requests.CloseShift operator) asked (laws.means q moment askable is_moment) tt refl (λ json s. refl) (λ json s none. none) c
+    question_says (questions.Sell order) askable asked c =
+        let q = questions.Sell order in
+        request_says q (requests.Sell order) asked (laws.means q moment askable is_moment) tt refl (λ json s. refl) (λ json s none. none) c
+    question_says (questions.ShiftReport number) askable asked c =
+        let q = questions.ShiftReport number in
+        request_says q (requests.ShiftReport number) asked (laws.means q moment askable is_moment) tt refl (λ json s. refl) (λ json s none. none) c
+    question_says (questions.Receipt number) askable asked c =
+        let q = questions.Receipt number in
+        request_says q (requests.Reprint number) asked (laws.means q moment askable is_moment) tt refl (λ json s. refl) (λ json s none. none) c
+    question_says (questions.ShiftTotals number) askable asked c =
+        let q = questions.ShiftTotals number in
+        look_says q (lookups.ShiftTotals number) asked (laws.means q moment askable is_moment) askable refl (λ e. absurd cc)
+        (λ json o end r one found is sales. totals_say number json o end r found is) c
+    question_says (questions.Meter number) askable asked c =
+        let q = questions.Meter number in
+        look_says q (lookups.Meter number) asked (laws.means q moment askable is_moment) tt refl (λ e. absurd cc)
+        (λ json o end r one found is sales. a_find json (lookups.Meter number) r (prints_meter json o end old.0 moment number r found is) sales) c
+    question_says (questions.LastSale number) askable asked c =
+        let q = questions.LastSale number in
+        look_says q (lookups.LastSale number) asked (laws.means q moment askable is_moment) tt refl (λ e. absurd cc)
+        (λ json o end r one found is sales. a_find false (lookups.LastSale number) r (last_says number json o end r one found is) sales) c
+    question_says (questions.SaleOfRef operator order_ref) askable asked c =
+        let q = questions.SaleOfRef operator order_ref in
+        let lookup = lookups.SaleOfRef operator order_ref in
+        look_says q lookup asked (laws.means q moment askable is_moment) tt refl (λ e. absurd cc)
+        (λ json o end r one found is sales. a_find json lookup r (prints_sale_of_ref json o end old.0 moment operator order_ref r found is) sales) c
+    question_says (questions.Quote number tender) askable asked c =
+        let q = questions.Quote number tender in
+        let lookup = lookups.Quote number tender in
+        look_says q lookup asked (laws.means q moment askable is_moment) askable refl (λ e. absurd cc)
+        (λ json o end r one found is sales. a_find json lookup r (prints_quote json o end old.0 moment number tender r found is) sales) c
+    question_says (questions.Tariffs after) askable asked c =
+        let q = questions.Tariffs after in
+        look_says q (lookups.Tariffs after) asked (laws.means q moment askable is_moment) tt refl (λ e. absurd cc)
+        (λ json o end r one found is sales. absurd one) c
+    question_says (questions.Meters after) askable asked c =
+        let q = questions.Meters after in
+        look_says q (lookups.Meters after) asked (laws.means q moment askable is_moment) tt refl (λ e. absurd cc)
+        (λ json o end r one found is sales. absurd one) c
+    question_says (questions.Shifts after) askable asked c =
+        let q = questions.Shifts after in
+        look_says q (lookups.Shifts after) asked (laws.means q moment askable is_moment) tt refl (λ e. absurd cc)
+        (λ json o end r one found is sales. absurd one) c
+    question_says (questions.Sales after) askable asked c =
+        let q = questions.Sales after in
+        look_says q (lookups.Sales after) asked (laws.means q moment askable is_moment) tt refl (λ e. absurd cc)
+        (λ json o end r one found is sales. absurd one) c
+
+    -- a page of a list
+    page_says_at : OnePage → (list : Listed) → CanAsk list → x.message ≡ question_message (page_question list)
+        → Came laws (page_question list) (pos moment) old new x.reply → PageSays list old.0 new.0 x
+    page_says_at one list askable asked c =
+        let m = question_message (page_question list) in
+        let now = Some (pos moment) in
+        let looks = page_looks laws moment is_moment list askable in
+        let r = looked m now (laws.meaning m now) forms.Json moment (page_lookup list) looks c.outcome old.0 new.0 c.comes in
+        let office : IsOffice (present old.0) = present_is laws.along old.0 (subst IsLife r.3 life) opening in
+        let u = told_look forms.Json r.0 in
+        let keeps = page_tellable laws old.0 office moment list r.0 r.2 in
+        let text : x.reply ≡ reply_bytes_of (outcomes.Found forms.Json r.0) false = c.text ∙ ap (λ (x : Outcome). reply_bytes_of x false) r.1 in
+        record {
+          said = u;
+          text =
+              text ∙ says laws.texts wants.Page (outcomes.Found forms.Json r.0) u keeps
+              (look_tells forms.Json r.0 (no_count forms.Json wants.Page r.0 (λ e. absurd cc) keeps));
+          tellable = keeps;
+          page = λ body page alike is_told as_read.
+              let it = page_of body r.0 alike in
+              let found : IsFoundAt old.0 moment (page_lookup list) (Ok it.0) =
+              subst (λ (x : Result Found Refusal). IsFoundAt old.0 moment (page_lookup list) x) it.1 r.2 in
+              let finds = page_found old.0 moment (page_lookup list) it.0 found in
+              let same_text = sym as_read ∙ it.2 in
+              let pages_alike =
+              one (page_kind list) page (page_as_told it.0) is_told (page_told laws.ranges (present old.0) office moment list it.0 finds)
+              (same_text ∙ sym (told_text it.0)) in
+              let alike = same_page (page_kind list) page it.0 is_told pages_alike same_text in
+              record {
+                there = it.0;
+                alike = alike;
+                behind =
+                    subst (λ (next : Option Listed). IfSome next CanAsk) (sym alike.behind)
+                    (behind_askable (present old.0) office moment list it.0 finds);
+                same = r.3;
+                tells = λ s there. inr (
+                  Ok it.0,
+                  record {
+                    form = forms.Json;
+                    moment = moment;
+                    lookup = page_lookup list;
+                    looks = looks_so (page_question list) forms.Json (page_lookup list) asked looks;
+                    told =
+                        told_open (page_question list) (outcomes.Found forms.Json (Ok it.0)) asked
+                        (text ∙ ap (λ (x : Result Found Refusal). reply_bytes_of (outcomes.Found forms.Json x) false) it.1);
+                  },
+                  found,
+                  r.3,
+                  there,
+                );
+              };
+        }
+
+  -- ---- at whatever second
+
+  -- a moment, or the desk's clock has none
+  abbrev AtMoment : ℤ → Type 0
+  AtMoment second = ((moment : ℕ) × IsMoment moment × (second ≡ pos moment)) ⊎ (x.reply ≡ reply_bytes_of (outcomes.Faulty faults.Clock) false)
+
+  given_moment : (second : ℤ) (moment : ℕ) → IsMoment moment → Some second ≡ Some (pos moment) → AtMoment second
+  given_moment second moment is_moment same = let seconds : second ≡ pos moment = cc in inl (moment, is_moment, seconds)
+
+  idle_moment : (m : Message) (second : ℤ) (outcome : Outcome) → IsIdle m (Some second) outcome → x.reply ≡ reply_bytes_of outcome false → AtMoment second
+  idle_moment m second (outcomes.Faulty faults.Clock) idle text = inr text
+  idle_moment m second (outcomes.Faulty faults.Body) (route, moment, comes, asks, body) text = given_moment second moment comes.is_moment comes.given
+  idle_moment m second (outcomes.Faulty faults.NoRoute) (routed, none) text = absurd cc
+  idle_moment m second (outcomes.Faulty (faults.Method allowed)) (routed, none) text = absurd cc
+  idle_moment m second (outcomes.Replied form (Err (ImportRow row cause))) (is_json, (route, moment, comes, body)) text =
+      given_moment second moment comes.is_moment comes.given
+  idle_moment m second outcome idle text = absurd idle
+
+  at_moment : (m : Message) (second : ℤ) (outcome : Outcome) → Comes life_serves m (Some second) outcome old.0 new.0 → x.reply ≡ reply_bytes_of outcome false
+      → AtMoment second
+  at_moment m second outcome (inl (idle, same)) text = idle_moment m second outcome idle text
+  at_moment m second outcome (inr (inl (form, moment, request, reply, is, asks, replies))) text =
+      given_moment second moment asks.comes.is_moment asks.comes.given
+  at_moment m second outcome (inr (inr (form, moment, lookup, found, is, looks, finds))) text =
+      given_moment second moment looks.comes.is_moment looks.comes.given
+
+  module _ (q : Question) (askable : IsAskable q) (asked : x.message ≡ question_message q) (answered : timed (answers_by life_serves) old x new) where
+    -- the exchange was at a moment, and this came of it; or the desk's clock had none
+    dated : ((moment : ℕ) × IsMoment moment × (x.now ≡ Some (pos moment)) × Came laws q (pos moment) old new x.reply)
+        ⊎ (x.reply ≡ reply_bytes_of (outcomes.Faulty faults.Clock) false)
+    dated = by_now x.now refl
+      where
+        by_now : (now : Option ℤ) → x.now ≡ now
+            → ((moment : ℕ) × IsMoment moment × (x.now ≡ Some (pos moment)) × Came laws q (pos moment) old new x.reply)
+            ⊎ (x.reply ≡ reply_bytes_of (outcomes.Faulty faults.Clock) false)
+        by_now None is =
+            absurd (clock_read laws q askable answered.0.0 old.0 new.0
+            (subst (λ (m : Message). Comes life_serves m None answered.0.0 old.0 new.0) asked
+            (subst (λ (now : Option ℤ). Comes life_serves x.message now answered.0.0 old.0 new.0) is answered.0.1)))
+        by_now (Some second) is =
+            let m = question_message q in
+            let comes : Comes life_serves m (Some second) answered.0.0 old.0 new.0 =
+            subst (λ (m : Message). Comes life_serves m (Some second) answered.0.0 old.0 new.0) asked
+            (subst (λ (now : Option ℤ). Comes life_serves x.message now answered.0.0 old.0 new.0) is answered.0.1) in
+            let text : x.reply ≡ reply_bytes_of answered.0.0 false =
+            answered.0.2 ∙ ap (λ (m : Message). reply_bytes_of answered.0.0 m.closes) asked in
+            elim (at_moment m second answered.0.0 comes text) [
+              | inl (moment, is_moment, same) ↦ inl (
+                moment,
+                is_moment,
+                is ∙ ap (λ (s : ℤ). Some s) same,
+                record {
+                  outcome = answered.0.0;
+                  comes = subst (λ (s : ℤ). Comes life_serves m (Some s) answered.0.0 old.0 new.0) same comes;
+                  text = text;
+                },
+              )
+              | inr none ↦ inr none
+            ]
+
+    -- what a desk's answer to the question says
+    pub exchange_says : DeskSays q old.0 new.0 x
+    exchange_says = elim dated [
+      | inl (moment, is_moment, given, c) ↦ question_says moment is_moment given q askable asked c
+      | inr none ↦ record {
+        said = told.NoMoment;
+        text = none ∙ says laws.texts (wanted_by q) (outcomes.Faulty faults.Clock) told.NoMoment tt refl;
+        tellable = tt;
+        prints = λ json o end one is. nothing clock_line is;
+      }
+    ]
+
+  -- what it says of a page
+  pub page_says : OnePage → (list : Listed) → CanAsk list → x.message ≡ question_message (page_question list) → timed (answers_by life_serves) old x new
+      → PageSays list old.0 new.0 x
+  page_says one list askable asked answered = elim (dated (page_question list) askable asked answered) [
+    | inl (moment, is_moment, given, c) ↦ page_says_at moment is_moment given one list askable asked c
+    | inr none ↦ record {
+      said = told.NoMoment;
+      text = none ∙ says laws.texts wants.Page (outcomes.Faulty faults.Clock) told.NoMoment tt refl;
+      tellable = tt;
+      page = λ body page alike is_told as_read. absurd alike;
+    }
+  ]
