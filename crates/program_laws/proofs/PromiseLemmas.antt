@@ -33,7 +33,7 @@ use Rattle.program_laws.specs.runs.Steps.{AreSoldFor, Asks, FailsToPrint, IsOf, 
 use Rattle.program_laws.specs.runs.Steps.TellsNoRequest.{no_room}
 use Rattle.program_laws.specs.runs.Words.{WordsRequest}
 use Rattle.program_laws.specs.runs.Uses.{RunQuestion, RunUse, connected, unconnected, unseen}
-use Rattle.program_laws.proofs.AskedLemmas.ServedLemmas.{desk_told}
+use Rattle.program_laws.proofs.AskedLemmas.ServedLemmas.{desk_sold, desk_told}
 use Rattle.program_laws.proofs.AtDeskLemmas.ListLemmas.{OnePage}
 use Rattle.program_laws.proofs.AtDeskLemmas.OneLemmas.{DeskLaws}
 use Rattle.program_laws.proofs.DeskLemmas.{handed_more}
@@ -144,6 +144,7 @@ module _ {P D R W Q E S T : Type 0} (here : Here P D R W) (there : Here Q E S T)
       printed_again = λ start first again s q comes told asks request.
           comes.goes.printed q s asks request (handed_more (comes.before ++ comes.own) comes.between s (comes.went.handed s told));
       at_desk = desk_told here there desk one leading;
+      sold_at_desk = desk_sold here there desk one leading;
       cash = λ start lives o forward ats. history.cash start lives forward o ats;
       credit = history.credit;
       at_most_sold = history.at_most_sold;

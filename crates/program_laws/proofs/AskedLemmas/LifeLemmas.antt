@@ -1,6 +1,6 @@
 -- A life before its last requests is a life, and along a conversation a life goes on.
 use Rattle.std.proofs.Common.{◌≡◌, ◌⊎◌, ◌∙◌, ℕ, Bool, List, [], ◌∷◌, ◌++◌, length, Option, Result, Ok, Err, inl, inr, refl, sym, ap, subst, append-nil, append_assoc, arith}
-use Rattle.std.specs.Prelude.{All, filter, map}
+use Rattle.std.specs.Prelude.{filter, map}
 use Rattle.std.proofs.lemmas.List.{map-append}
 use Rattle.std.proofs.lemmas.List.Elements.{filter-append}
 use Rattle.sts_token.specs.Token.{BlockFunction}
@@ -88,9 +88,11 @@ life_before life more is =
 abbrev pub GoesFrom : (old new : Life) → Type 0
 GoesFrom old new = (more : List Exchange) × (new ≡ extended old more)
 
+-- a life that is the same went on by none
 pub goes_none : (old new : Life) → new ≡ old → GoesFrom old new
 goes_none old new same = ([], same ∙ sym (ap (λ es. extended (opened old.forward old.opening) es) (append-nil old.exchanges)))
 
+-- one that went on twice went on
 pub goes_through : (old mid new : Life) → GoesFrom old mid → GoesFrom mid new → GoesFrom old new
 goes_through old mid new (es, first) (more, last) = (
   es ++ more,
@@ -98,24 +100,29 @@ goes_through old mid new (es, first) (more, last) = (
       ∙ ap (λ all. extended (opened old.forward old.opening) all) (append_assoc old.exchanges es more),
 )
 
+-- what a life went on from is a life
 pub life_from : (old new : Life) → GoesFrom old new → IsLife new → IsLife old
 life_from old new (more, is) life = life_before old more (subst IsLife is life)
 
+-- and it opened the same office
 pub opening_from : (old new : Life) → GoesFrom old new → new.opening ≡ old.opening
 opening_from old new (more, is) = ap (λ (l : Life). l.opening) is
 
 -- ---- along a conversation
 
+-- a life goes on by an exchange
 pub answered_goes : (old new : Timed Life) (x : MessageExchange) → timed (answers_by life_serves) old x new → GoesFrom old.0 new.0
 answered_goes old new x ((outcome, inl (idle, same), told), clock) = goes_none old.0 new.0 same
 answered_goes old new x ((outcome, inr (inl (form, moment, request, reply, is, asks, (at, stamped, goes))), told), clock) =
     (record { request = at; reply = reply } ∷ [], goes)
 answered_goes old new x ((outcome, inr (inr (form, moment, lookup, found, is, looks, (finds, same))), told), clock) = goes_none old.0 new.0 same
 
+-- by many
 pub exchanged_goes : (old new : Timed Life) (xs : List MessageExchange) → Exchanged (timed (answers_by life_serves)) old xs new → GoesFrom old.0 new.0
 exchanged_goes old new [] same = goes_none old.0 new.0 (ap (λ (l : Timed Life). l.0) same)
 exchanged_goes old new (x ∷ xs) (mid, first, rest) = goes_through old.0 mid.0 new.0 (answered_goes old mid x first) (exchanged_goes mid new xs rest)
 
+-- by one whose reply was given up, or by none
 pub late_goes : (rest : List ℕ) (mid new : Timed Life)
     → (new ≡ mid) ⊎ ((m : Message) × (after : List ℕ) × BeginsMessage rest m after × GaveUp (answers_by life_serves) mid m new) → GoesFrom mid.0 new.0
 late_goes rest mid new (inl same) = goes_none mid.0 new.0 (ap (λ (l : Timed Life). l.0) same)
@@ -123,6 +130,7 @@ late_goes rest mid new (inr (m, after, begins, (now, reads, inl same))) = goes_n
 late_goes rest mid new (inr (m, after, begins, (now, reads, inr (reply, step)))) =
     answered_goes mid new (record { message = m; now = now; reply = reply }) (step, reads)
 
+-- and along a whole conversation
 pub run_goes : (old new : Timed Life) (unread left held holds : Option (List ℕ)) (end : conversation.End)
     → IsRun (answers_by life_serves) message_refusal_of old new unread left held holds end → GoesFrom old.0 new.0
 run_goes old new unread left held holds Closed (input, all, inl said) = exchanged_goes old new said.conversation.exchanges said.conversation.served

@@ -1,5 +1,5 @@
 -- What a command printed of the conversation of a connection that carried what it sent and what came.
-use Rattle.std.proofs.Common.{◌≡◌, ◌⊎◌, ◌∙◌, ℕ, ◌+◌, ◌<◌, ◌≤◌, ◌^◌, Bool, false, List, [], ◌∷◌, ◌++◌, length, Option, Some, Ok, inl, inr, refl, sym, ap, subst, append-nil, append_assoc, length-append, arith}
+use Rattle.std.proofs.Common.{◌≡◌, ◌∙◌, ℕ, ◌<◌, ◌≤◌, ◌^◌, Bool, false, List, [], ◌∷◌, ◌++◌, length, Option, Some, Ok, inl, inr, sym, ap, subst, append-nil, append_assoc, length-append, arith}
 use Rattle.std.specs.Prelude.{Contains, IfSome, drop, take}
 use Rattle.std.specs.List.{flat_map}
 use Rattle.std.proofs.lemmas.List.{length-take-le, take-append-drop}
@@ -21,12 +21,11 @@ use Rattle.desk_client.specs.declared.question.Question.{Question}
 use Rattle.desk_client.specs.declared.told.Granted.TheVariants as granted
 use Rattle.desk_client.specs.declared.told.Told.{Told}
 use Rattle.desk_client.specs.declared.told.Told.TheVariants as told
-use Rattle.desk_client.specs.declared.told.Wanted.{Wanted}
 use Rattle.desk_client.specs.declared.told.Wanted.TheVariants as wants
 use Rattle.command_line.specs.declared.commands.list.Listed.{Listed}
 use Rattle.desk_commands.specs.AskedOfDesk.{TellsTold}
 use Rattle.desk_commands.specs.Exchanged.{Round}
-use Rattle.desk_commands.specs.ListedAtDesk.{IsPageReply, TellPages, page_question}
+use Rattle.desk_commands.specs.ListedAtDesk.{TellPages, page_question}
 use Rattle.desk_commands.specs.print.ListTexts.{pages_text}
 use Rattle.desk_commands.specs.print.Pages.{list_behind}
 use Rattle.vend_ports.specs.print.Told.{IsTold, Outputs}
@@ -40,8 +39,8 @@ use Rattle.program_laws.proofs.AtDeskLemmas.OneLemmas.{DeskLaws, reply_length, s
 use Rattle.program_laws.proofs.AtDeskLemmas.PageLemmas.{CanAsk}
 use Rattle.program_laws.proofs.AtDeskLemmas.PrintedLemmas.{tell_alike}
 use Rattle.program_laws.proofs.AtDeskLemmas.RoundLemmas.{cut_reply}
-use Rattle.program_laws.proofs.AskedLemmas.LifeLemmas.{GoesFrom, answered_goes, exchanged_goes, goes_through, life_from, opening_from}
-use Rattle.program_laws.proofs.AskedLemmas.SaysLemmas.{exchange_says, page_says}
+use Rattle.program_laws.proofs.AskedLemmas.LifeLemmas.{GoesFrom, exchanged_goes, goes_through, life_from}
+use Rattle.program_laws.proofs.AskedLemmas.SaysLemmas.{Sells, exchange_says, page_says, sells_later}
 use Rattle.program_laws.proofs.AskedLemmas.TalkLemmas.{Reads, Stops, Talk}
 use Rattle.program_laws.proofs.AskedLemmas.TalkLemmas.Stops.{cut_short, no_more, unsaid}
 
@@ -99,7 +98,7 @@ module _ (laws : DeskLaws) where
         → (later tail behind : List ℕ)
         → Reads (question_text q ++ later) (messages_of xs) (λ rest. Stops rest tail mid new) → came ++ behind ≡ replies_of xs ++ tail
         → length (came ++ behind) < 2 ^ 64
-        → PrintsOfDesk (ExchangesTell old xs mid served) o end
+        → PrintsOfDesk (ExchangesTell old xs mid served) o end × Sells q new.0 o end
     by_exchanges [] mid same goes later tail behind (no_more none) text few =
         absurd (none (question_message q) later (laws.sent q later askable))
     by_exchanges [] mid same goes later tail behind (unsaid none) text few = absurd (some_reply t came behind tail is.is_text text none)
@@ -120,14 +119,16 @@ module _ (laws : DeskLaws) where
           is_text = is.is_text ∙ first.0;
         } in
         let alike = laws.alike (wanted_by q) came t says.said is other in
-        map_prints (ExchangeTells old.0 x next.0) (ExchangesTell old (x ∷ xs) mid (next, step, rest)) o end (λ s tells. inl tells)
-        (says.prints json o end one (tell_alike json q o end t says.said alike printed))
+        let prints = says.prints json o end one (tell_alike json q o end t says.said alike printed) in (
+          map_prints (ExchangeTells old.0 x next.0) (ExchangesTell old (x ∷ xs) mid (next, step, rest)) o end (λ s tells. inl tells) prints.0,
+          sells_later q next.0 new.0 o end (goes_through next.0 mid.0 new.0 (exchanged_goes next mid xs rest) goes) prints.1,
+        )
 
     -- what a command printed of its question's conversation
-    pub question_prints : (Tells : Sale → Type 0) → Talk old new (question_text q) came Tells → PrintsOfDesk Tells o end
+    pub question_prints : (Tells : Sale → Type 0) → Talk old new (question_text q) came Tells → PrintsOfDesk Tells o end × Sells q new.0 o end
     question_prints Tells talk =
-        map_prints (ExchangesTell old talk.exchanges talk.mid talk.served) Tells o end talk.tells
-        (by_exchanges talk.exchanges talk.mid talk.served talk.goes talk.later talk.tail talk.behind talk.reads talk.text talk.few)
+        let prints = by_exchanges talk.exchanges talk.mid talk.served talk.goes talk.later talk.tail talk.behind talk.reads talk.text talk.few in
+        (map_prints (ExchangesTell old talk.exchanges talk.mid talk.served) Tells o end talk.tells prints.0, prints.1)
 
   -- ---- the pages of a list
 

@@ -1,6 +1,7 @@
 -- What a desk's answer to a question says, and that what is printed of it has no other sales.
-use Rattle.std.proofs.Common.{◌≡◌, ◌≢◌, ◌⊎◌, ◌∙◌, ℕ, ℤ, pos, Bool, false, List, [], ◌∷◌, Option, None, Some, Result, Ok, Err, inl, inr, refl, sym, ap, subst, arith}
-use Rattle.std.specs.Prelude.{Contains, IfSome}
+use Rattle.std.proofs.Common.{◌≡◌, ◌≢◌, ◌⊎◌, ◌∙◌, ℕ, ℤ, pos, Bool, false, List, [], Option, None, Some, Result, Ok, Err, inl, inr, refl, sym, ap, subst, arith}
+use Rattle.std.specs.Prelude.{⊤, Contains, IfSome}
+use Rattle.std.proofs.lemmas.List.Elements.{Contains-append_left, Contains-push}
 use Rattle.std.specs.Borrow.{Bor}
 use Rattle.sts_fields.specs.Moment.{IsMoment}
 use Rattle.papers.specs.Receipt.{receipt_of}
@@ -13,19 +14,20 @@ use Rattle.office_rules.specs.declared.decision.answer.Answer.{Answer}
 use Rattle.office_rules.specs.declared.decision.answer.Answer.TheVariants as answers
 use Rattle.office_rules.specs.declared.decision.refusal.Refusal.{Refusal}
 use Rattle.office_rules.specs.declared.decision.refusal.Refusal.TheVariants.{ImportRow}
+use Rattle.office_rules.specs.declared.decision.request.Order.{Order}
 use Rattle.office_rules.specs.declared.decision.request.Request.{Request}
 use Rattle.office_rules.specs.declared.decision.request.Request.TheVariants as requests
 use Rattle.office_rules.specs.declared.decision.request.Stamped.{Stamped}
 use Rattle.office_rules.specs.declared.office.row.Row.{Row}
 use Rattle.office_rules.specs.declared.office.sale.Sale.{Sale}
 use Rattle.vend_core.specs.Law.Life.{IsLife, Life, present}
+use Rattle.vend_core.specs.Law.LifeLaws.{extended_by}
 use Rattle.book_states.specs.declared.lookup.Found.{Found}
 use Rattle.book_states.specs.declared.lookup.Lookup.{Lookup}
 use Rattle.book_states.specs.declared.lookup.Lookup.TheVariants as lookups
 use Rattle.books.specs.Looking.{IsFoundAt}
 use Rattle.conversation.specs.Exchanges.{MessageExchange, Timed, timed}
 use Rattle.conversation.specs.message.Messages.{Message}
-use Rattle.desk.specs.Along.{AskedOffice, LookedUp}
 use Rattle.desk.specs.Answering.{Comes, IsStampedBy, answers_by, life_serves}
 use Rattle.desk_messages.specs.Meaning.{IsIdle, MessageAsks, MessageLooks, lookup_form}
 use Rattle.desk_messages.specs.declared.desk_fault.DeskFault.TheVariants as faults
@@ -55,19 +57,22 @@ use Rattle.desk_commands.specs.print.Pages.{list_behind, page_lookup}
 use Rattle.office_commands.specs.commands.LookedUp.{TellsFound}
 use Rattle.office_commands.proofs.ListingLemmas.{page_found}
 use Rattle.vend_ports.specs.print.Printed.{clock_line, refusal_line}
-use Rattle.vend_ports.specs.print.Told.{Outputs}
+use Rattle.office_commands.specs.office.Served.{TellsReply}
+use Rattle.vend_ports.specs.print.Told.{IsTold, Outputs}
 use Rattle.vend_ports.specs.declared.command_end.CommandEnd.{CommandEnd}
-use Rattle.program_laws.specs.AtDesk.{IsAskedByOne}
+use Rattle.vend_ports.specs.declared.command_end.CommandEnd.TheVariants.{Refused}
+use Rattle.program_laws.specs.AtDesk.{IsAskedByOne, IsSoldIn}
 use Rattle.program_laws.specs.SalesTold.{ExchangeTells, sales_found}
-use Rattle.program_laws.specs.runs.Asked.{PrintsOfDesk}
+use Rattle.program_laws.specs.runs.Asked.{PrintsOfDesk, PrintsSaleOrWhy}
 use Rattle.program_laws.specs.runs.Asked.PrintsOfDesk.{a_find, a_reply, nothing, totals}
+use Rattle.program_laws.proofs.AskedLemmas.LifeLemmas.{GoesFrom}
 use Rattle.program_laws.proofs.AtDeskLemmas.LineLemmas.{clock_read}
 use Rattle.program_laws.proofs.AtDeskLemmas.ListLemmas.{OnePage, page_looks, page_of, page_tellable}
 use Rattle.program_laws.proofs.AtDeskLemmas.MeaningLemmas.{ComesOfRows, IsRead, came_rows, looked, replied}
 use Rattle.program_laws.proofs.AtDeskLemmas.OneLemmas.{Came, DeskLaws, few_rows, import_for, may_be, row_tellable}
 use Rattle.program_laws.proofs.AtDeskLemmas.PageLemmas.{CanAsk, IsSamePage, behind_askable, page_as_told, page_told, same_page, told_text}
 use Rattle.program_laws.proofs.AtDeskLemmas.PrintedLemmas.{prints_last, prints_meter, prints_quote, prints_reply, prints_sale_of_ref, prints_totals}
-use Rattle.program_laws.proofs.AtDeskLemmas.RuleLemmas.{MayReplyTo, present_is}
+use Rattle.program_laws.proofs.AtDeskLemmas.RuleLemmas.{IsOfDesk, MayReplyTo, present_is}
 use Rattle.program_laws.proofs.AtDeskLemmas.TellableLemmas.{MayAsk, MayLook, look_tells, no_count, reply_tells, tellable_look, tellable_reply, told_look, told_reply, wanted_for, wanted_look}
 
 -- a reply to rows has no sale
@@ -76,6 +81,48 @@ no_sales rows (Ok (answers.Imported count)) may s there = absurd (omega (arith, 
 no_sales rows (Ok answer) may s there = absurd may
 no_sales rows (Err refusal) may s there = absurd (omega (arith, there.1))
 
+-- What is printed where a sale is asked for: the receipt of one that the life sold for the order.
+abbrev pub Sells : Question → Life → Outputs → CommandEnd → Type 0
+Sells (questions.Sell order) life o end = PrintsSaleOrWhy (IsSoldIn life order) o end
+Sells q life o end = ⊤
+
+-- what prints nothing sells nothing
+pub none_sells : (q : Question) (life : Life) (o : Outputs) (end : CommandEnd) (errors : List ℕ) → IsTold o [] errors Refused end → Sells q life o end
+none_sells (questions.Sell order) life o end errors is = inr (errors, is)
+none_sells q life o end errors is = tt
+
+-- what a life sold it sold for good
+pub sells_later : (q : Question) (before after : Life) (o : Outputs) (end : CommandEnd) → GoesFrom before after → Sells q before o end → Sells q after o end
+sells_later (questions.Sell order) before after o end (more, goes) (inl (s, prints, (at, asks, there))) = inl (
+  s,
+  prints,
+  (
+    at,
+    asks,
+    subst (λ (l : Life). Contains l.exchanges (record { request = at; reply = Ok (answers.Sold s) })) (sym goes)
+        (Contains-append_left before.exchanges more (record { request = at; reply = Ok (answers.Sold s) }) there),
+  ),
+)
+sells_later (questions.Sell order) before after o end goes (inr why) = inr why
+sells_later q before after o end goes sells = tt
+
+-- the reply to an order is printed as its sale, or as why there is none
+order_sells : (order : Order) (old new : Life) (o : Outputs) (end : CommandEnd) (r : Result Answer Refusal) (at : Stamped) → at.request ≡ requests.Sell order
+    → new ≡ extended_by old at r → MayReplyTo (requests.Sell order) r → TellsReply r o end → PrintsSaleOrWhy (IsSoldIn new order) o end
+order_sells order old new o end (Ok (answers.Sold s)) at asks goes may (inl is) = inl (
+  s,
+  is,
+  (
+    at,
+    asks,
+    subst (λ (l : Life). Contains l.exchanges (record { request = at; reply = Ok (answers.Sold s) })) (sym goes)
+        (Contains-push old.exchanges (record { request = at; reply = Ok (answers.Sold s) })),
+  ),
+)
+order_sells order old new o end (Ok (answers.Sold s)) at asks goes may (inr (none, is)) = absurd none
+order_sells order old new o end (Ok answer) at asks goes may is = absurd may
+order_sells order old new o end (Err refusal) at asks goes may is = inr (refusal_line refusal, is)
+
 -- What a desk's answer to a question says, by its bytes; and whatever is printed of that is a reply
 -- or what was found, whose sales the exchange told.
 pub record DeskSays (q : Question) (old new : Life) (x : MessageExchange) : Type 0 where
@@ -83,7 +130,7 @@ pub record DeskSays (q : Question) (old new : Life) (x : MessageExchange) : Type
   pub text : x.reply ≡ reply_text said
   pub tellable : IsTellable (wanted_by q) said
   pub prints : (json : Bool) (o : Outputs) (end : CommandEnd) → IsAskedByOne json q → TellsTold json q said o end
-      → PrintsOfDesk (ExchangeTells old x new) o end
+      → PrintsOfDesk (ExchangeTells old x new) o end × Sells q new o end
 
 -- What it says where a page of a list is asked for: whatever page is read of that is one that was
 -- found, whose sales the exchange told, and the office is as it was.
@@ -130,9 +177,11 @@ module _ (laws : DeskLaws) (old new : Timed Life) (x : MessageExchange) (opening
     request_says : (q : Question) (request : Request) → x.message ≡ question_message q
         → MessageAsks (question_message q) (Some (pos moment)) forms.Json moment request → MayAsk request
         → wanted_by q ≡ wanted_for request → ((json : Bool) (s : Sale) → told_sale_text json q s ≡ receipt_of s)
-        → ((json : Bool) (s : Sale) → SaleNeedsRoom json q s → ⊥)
+        → ((json : Bool) (s : Sale) → SaleNeedsRoom json q s → ⊥) → IsOfDesk request
+        → ((o : Outputs) (end : CommandEnd) (r : Result Answer Refusal) (at : Stamped) → at.request ≡ request → new.0 ≡ extended_by old.0 at r
+        → MayReplyTo request r → TellsReply r o end → Sells q new.0 o end)
         → Came laws q (pos moment) old new x.reply → DeskSays q old.0 new.0 x
-    request_says q request asked asks ask wanted sold small c =
+    request_says q request asked asks ask wanted sold small of_desk sells c =
         let m = question_message q in
         let now = Some (pos moment) in
         let r = replied m now (laws.meaning m now) forms.Json moment request asks c.outcome old.0 new.0 c.comes in
@@ -144,17 +193,21 @@ module _ (laws : DeskLaws) (old new : Timed Life) (x : MessageExchange) (opening
           said = u;
           text = text ∙ says laws.texts (wanted_by q) (outcomes.Replied forms.Json r.0) u keeps (reply_tells forms.Json r.0);
           tellable = keeps;
-          prints = λ json o end one is. a_reply r.0 (prints_reply json q (sold json) (small json) o end forms.Json r.0 is) (λ s there. inl (
-            r.2.0,
-            r.0,
-            record {
-              form = forms.Json;
-              asks = asks_so q forms.Json request r.0 r.2.0 asked asks r.2.1;
-              told = told_open q (outcomes.Replied forms.Json r.0) asked text;
-            },
-            r.2.2,
-            there,
-          ));
+          prints = λ json o end one is.
+              let printed = prints_reply json q (sold json) (small json) o end forms.Json r.0 is in (
+                a_reply r.0 printed (λ s there. inl (
+                  r.2.0,
+                  r.0,
+                  record {
+                    form = forms.Json;
+                    asks = asks_so q forms.Json request r.0 r.2.0 asked asks r.2.1;
+                    told = told_open q (outcomes.Replied forms.Json r.0) asked text;
+                  },
+                  r.2.2,
+                  there,
+                )),
+                sells o end r.0 r.2.0 r.2.1.for_request r.2.2 (may.0 of_desk) printed,
+              );
         }
 
     -- a look-up
@@ -164,8 +217,9 @@ module _ (laws : DeskLaws) (old new : Timed Life) (x : MessageExchange) (opening
         → ((json : Bool) (o : Outputs) (end : CommandEnd) (r : Result Found Refusal) → IsAskedByOne json q → IsFoundAt old.0 moment lookup r
         → TellsTold json q (told_look (lookup_form lookup) r) o end
         → ((s : Sale) → Contains (sales_found r) s → ExchangeTells old.0 x new.0 s) → PrintsOfDesk (ExchangeTells old.0 x new.0) o end)
+        → ((o : Outputs) (end : CommandEnd) → Sells q new.0 o end)
         → Came laws q (pos moment) old new x.reply → DeskSays q old.0 new.0 x
-    look_says q lookup asked looks may wanted some shows c =
+    look_says q lookup asked looks may wanted some shows sells c =
         let m = question_message q in
         let now = Some (pos moment) in
         let r = looked m now (laws.meaning m now) (lookup_form lookup) moment lookup looks c.outcome old.0 new.0 c.comes in
@@ -180,19 +234,22 @@ module _ (laws : DeskLaws) (old new : Timed Life) (x : MessageExchange) (opening
               text ∙ says laws.texts (wanted_by q) (outcomes.Found (lookup_form lookup) r.0) u tellable
               (look_tells (lookup_form lookup) r.0 (no_count (lookup_form lookup) (wanted_look lookup) r.0 some keeps));
           tellable = tellable;
-          prints = λ json o end one is. shows json o end r.0 one r.2 is (λ s there. inr (
-            r.0,
-            record {
-              form = lookup_form lookup;
-              moment = moment;
-              lookup = lookup;
-              looks = looks_so q (lookup_form lookup) lookup asked looks;
-              told = told_open q (outcomes.Found (lookup_form lookup) r.0) asked text;
-            },
-            r.2,
-            r.3,
-            there,
-          ));
+          prints = λ json o end one is. (
+            shows json o end r.0 one r.2 is (λ s there. inr (
+              r.0,
+              record {
+                form = lookup_form lookup;
+                moment = moment;
+                lookup = lookup;
+                looks = looks_so q (lookup_form lookup) lookup asked looks;
+                told = told_open q (outcomes.Found (lookup_form lookup) r.0) asked text;
+              },
+              r.2,
+              r.3,
+              there,
+            )),
+            sells o end,
+          );
         }
 
     -- the rows of a file
@@ -215,8 +272,11 @@ module _ (laws : DeskLaws) (old new : Timed Life) (x : MessageExchange) (opening
                   c.text ∙ ap (λ (x : Outcome). reply_bytes_of x false) outcome
                   ∙ says laws.texts wants.Imported (outcomes.Replied forms.Json r) (told_reply forms.Json r) keeps (reply_tells forms.Json r);
               tellable = keeps;
-              prints = λ json o end one is. a_reply r (prints_reply json q (λ s. refl) (λ s none. none) o end forms.Json r is)
-                  (λ s there. absurd (no_sales rows r (may.0 tt) s there));
+              prints = λ json o end one is. (
+                a_reply r (prints_reply json q (λ s. refl) (λ s none. none) o end forms.Json r is)
+                    (λ s there. absurd (no_sales rows r (may.0 tt) s there)),
+                tt,
+              );
             }
         by_rows (Err (row_faults.At row cause)) read (outcome, same) =
             let r : Result Answer Refusal = Err (ImportRow row cause) in
@@ -227,7 +287,7 @@ module _ (laws : DeskLaws) (old new : Timed Life) (x : MessageExchange) (opening
                   c.text ∙ ap (λ (x : Outcome). reply_bytes_of x false) outcome
                   ∙ says laws.texts wants.Imported (outcomes.Replied forms.Json r) (told.Refused (ImportRow row cause)) keeps refl;
               tellable = keeps;
-              prints = λ json o end one is. nothing (refusal_line (ImportRow row cause)) is;
+              prints = λ json o end one is. (nothing (refusal_line (ImportRow row cause)) is, tt);
             }
         by_rows (Err row_faults.Memory) read none = absurd none
 
@@ -249,60 +309,66 @@ module _ (laws : DeskLaws) (old new : Timed Life) (x : MessageExchange) (opening
     question_says (questions.Import kind csv) askable asked c = import_says kind csv c
     question_says (questions.MoveBase meter base) askable asked c =
         let q = questions.MoveBase meter base in
-        request_says q (requests.MoveBase meter base) asked (laws.means q moment askable is_moment) tt refl (λ json s. refl) (λ json s none. none) c
+        request_says q (requests.MoveBase meter base) asked (laws.means q moment askable is_moment) tt refl (λ json s. refl) (λ json s none. none) tt
+        (λ o end r at asks goes may told. tt) c
     question_says (questions.OpenShift operator) askable asked c =
         let q = questions.OpenShift operator in
-        request_says q (requests.OpenShift operator) asked (laws.means q moment askable is_moment) tt refl (λ json s. refl) (λ json s none. none) c
+        request_says q (requests.OpenShift operator) asked (laws.means q moment askable is_moment) tt refl (λ json s. refl) (λ json s none. none) tt
+        (λ o end r at asks goes may told. tt) c
     question_says (questions.CloseShift operator) askable asked c =
         let q = questions.CloseShift operator in
-        request_says q (requests.CloseShift operator) asked (laws.means q moment askable is_moment) tt refl (λ json s. refl) (λ json s none. none) c
+        request_says q (requests.CloseShift operator) asked (laws.means q moment askable is_moment) tt refl (λ json s. refl) (λ json s none. none) tt
+        (λ o end r at asks goes may told. tt) c
     question_says (questions.Sell order) askable asked c =
         let q = questions.Sell order in
-        request_says q (requests.Sell order) asked (laws.means q moment askable is_moment) tt refl (λ json s. refl) (λ json s none. none) c
+        request_says q (requests.Sell order) asked (laws.means q moment askable is_moment) tt refl (λ json s. refl) (λ json s none. none) tt
+        (order_sells order old.0 new.0) c
     question_says (questions.ShiftReport number) askable asked c =
         let q = questions.ShiftReport number in
-        request_says q (requests.ShiftReport number) asked (laws.means q moment askable is_moment) tt refl (λ json s. refl) (λ json s none. none) c
+        request_says q (requests.ShiftReport number) asked (laws.means q moment askable is_moment) tt refl (λ json s. refl) (λ json s none. none) tt
+        (λ o end r at asks goes may told. tt) c
     question_says (questions.Receipt number) askable asked c =
         let q = questions.Receipt number in
-        request_says q (requests.Reprint number) asked (laws.means q moment askable is_moment) tt refl (λ json s. refl) (λ json s none. none) c
+        request_says q (requests.Reprint number) asked (laws.means q moment askable is_moment) tt refl (λ json s. refl) (λ json s none. none) tt
+        (λ o end r at asks goes may told. tt) c
     question_says (questions.ShiftTotals number) askable asked c =
         let q = questions.ShiftTotals number in
         look_says q (lookups.ShiftTotals number) asked (laws.means q moment askable is_moment) askable refl (λ e. absurd cc)
-        (λ json o end r one found is sales. totals_say number json o end r found is) c
+        (λ json o end r one found is sales. totals_say number json o end r found is) (λ o end. tt) c
     question_says (questions.Meter number) askable asked c =
         let q = questions.Meter number in
         look_says q (lookups.Meter number) asked (laws.means q moment askable is_moment) tt refl (λ e. absurd cc)
-        (λ json o end r one found is sales. a_find json (lookups.Meter number) r (prints_meter json o end old.0 moment number r found is) sales) c
+        (λ json o end r one found is sales. a_find json (lookups.Meter number) r (prints_meter json o end old.0 moment number r found is) sales) (λ o end. tt) c
     question_says (questions.LastSale number) askable asked c =
         let q = questions.LastSale number in
         look_says q (lookups.LastSale number) asked (laws.means q moment askable is_moment) tt refl (λ e. absurd cc)
-        (λ json o end r one found is sales. a_find false (lookups.LastSale number) r (last_says number json o end r one found is) sales) c
+        (λ json o end r one found is sales. a_find false (lookups.LastSale number) r (last_says number json o end r one found is) sales) (λ o end. tt) c
     question_says (questions.SaleOfRef operator order_ref) askable asked c =
         let q = questions.SaleOfRef operator order_ref in
         let lookup = lookups.SaleOfRef operator order_ref in
         look_says q lookup asked (laws.means q moment askable is_moment) tt refl (λ e. absurd cc)
-        (λ json o end r one found is sales. a_find json lookup r (prints_sale_of_ref json o end old.0 moment operator order_ref r found is) sales) c
+        (λ json o end r one found is sales. a_find json lookup r (prints_sale_of_ref json o end old.0 moment operator order_ref r found is) sales) (λ o end. tt) c
     question_says (questions.Quote number tender) askable asked c =
         let q = questions.Quote number tender in
         let lookup = lookups.Quote number tender in
         look_says q lookup asked (laws.means q moment askable is_moment) askable refl (λ e. absurd cc)
-        (λ json o end r one found is sales. a_find json lookup r (prints_quote json o end old.0 moment number tender r found is) sales) c
+        (λ json o end r one found is sales. a_find json lookup r (prints_quote json o end old.0 moment number tender r found is) sales) (λ o end. tt) c
     question_says (questions.Tariffs after) askable asked c =
         let q = questions.Tariffs after in
         look_says q (lookups.Tariffs after) asked (laws.means q moment askable is_moment) tt refl (λ e. absurd cc)
-        (λ json o end r one found is sales. absurd one) c
+        (λ json o end r one found is sales. absurd one) (λ o end. tt) c
     question_says (questions.Meters after) askable asked c =
         let q = questions.Meters after in
         look_says q (lookups.Meters after) asked (laws.means q moment askable is_moment) tt refl (λ e. absurd cc)
-        (λ json o end r one found is sales. absurd one) c
+        (λ json o end r one found is sales. absurd one) (λ o end. tt) c
     question_says (questions.Shifts after) askable asked c =
         let q = questions.Shifts after in
         look_says q (lookups.Shifts after) asked (laws.means q moment askable is_moment) tt refl (λ e. absurd cc)
-        (λ json o end r one found is sales. absurd one) c
+        (λ json o end r one found is sales. absurd one) (λ o end. tt) c
     question_says (questions.Sales after) askable asked c =
         let q = questions.Sales after in
         look_says q (lookups.Sales after) asked (laws.means q moment askable is_moment) tt refl (λ e. absurd cc)
-        (λ json o end r one found is sales. absurd one) c
+        (λ json o end r one found is sales. absurd one) (λ o end. tt) c
 
     -- a page of a list
     page_says_at : OnePage → (list : Listed) → CanAsk list → x.message ≡ question_message (page_question list)
@@ -425,7 +491,7 @@ module _ (laws : DeskLaws) (old new : Timed Life) (x : MessageExchange) (opening
         said = told.NoMoment;
         text = none ∙ says laws.texts (wanted_by q) (outcomes.Faulty faults.Clock) told.NoMoment tt refl;
         tellable = tt;
-        prints = λ json o end one is. nothing clock_line is;
+        prints = λ json o end one is. (nothing clock_line is, none_sells q new.0 o end clock_line is);
       }
     ]
 

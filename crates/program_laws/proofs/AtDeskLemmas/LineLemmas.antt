@@ -45,6 +45,7 @@ module _ (laws : DeskLaws) (q : Question) (askable : IsAskable q) where
       let none : None ≡ Some (pos moment) = comes.given in absurd cc
   not_idle outcome idle = idle
 
+  -- whatever comes of its message, the clock was read for it
   pub clock_read : (outcome : Outcome) (old new : Life) → Comes life_serves (question_message q) None outcome old new → ⊥
   clock_read outcome old new (inl (idle, same)) = not_idle outcome idle
   clock_read outcome old new (inr (inl (form, moment, request, reply, is, asks, replies))) = let none : None ≡ Some (pos moment) = asks.comes.given in absurd cc

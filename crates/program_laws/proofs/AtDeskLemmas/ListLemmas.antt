@@ -105,6 +105,7 @@ any_moment o moment other (listed.Shifts after) r same finds = finds
 any_moment o moment other (listed.Sales after) r same finds = finds
 
 module _ (laws : DeskLaws) where
+  -- what the message for a page looks up
   pub page_looks : (moment : ℕ) → IsMoment moment → (list : Listed) → CanAsk list
       → MessageLooks (question_message (page_question list)) (Some (pos moment)) forms.Json moment (page_lookup list)
   page_looks moment is_moment (listed.Tariffs after) askable = laws.means (page_question (listed.Tariffs after)) moment askable is_moment
@@ -112,6 +113,7 @@ module _ (laws : DeskLaws) where
   page_looks moment is_moment (listed.Shifts after) askable = laws.means (page_question (listed.Shifts after)) moment askable is_moment
   page_looks moment is_moment (listed.Sales after) askable = laws.means (page_question (listed.Sales after)) moment askable is_moment
 
+  -- what is found of it can be told
   pub page_tellable : (life : Life) → IsOffice (present life) → (moment : ℕ) (list : Listed) (r : Result Found Refusal)
       → IsFoundAt life moment (page_lookup list) r → IsTellable wants.Page (told_look forms.Json r)
   page_tellable life office moment (listed.Tariffs after) r found = tellable_look laws.ranges life office moment (page_lookup (listed.Tariffs after)) r tt found
@@ -226,6 +228,7 @@ module _ (laws : DeskLaws) where
 
 -- ---- pages that are printed as others are
 
+-- pages that are printed alike, one by one
 abbrev pub AreSame : List Found → List Found → Type 0
 AreSame [] [] = ⊤
 AreSame (page ∷ pages) (it ∷ found) = IsSamePage page it × AreSame pages found
@@ -243,6 +246,7 @@ same_texts json (page ∷ pages) (it ∷ found) (here, rest) =
     ap (λ (text : List ℕ). text ++ flat_map (page_text json false) pages) (same_text json false page it here)
     ∙ ap (λ (text : List ℕ). page_text json false it ++ text) (same_texts json pages found rest)
 
+-- and together
 pub same_pages : (json : Bool) (pages found : List Found) → AreSame pages found → pages_text json pages ≡ pages_text json found
 same_pages json [] [] same = refl
 same_pages json [] (it ∷ found) same = absurd same

@@ -41,6 +41,7 @@ use Rattle.program_laws.proofs.AtDeskLemmas.TellableLemmas.{told_look}
 
 -- ---- an input that begins with a message does not end there
 
+-- its message is whole
 pub no_cut : (input : List ℕ) (m : Message) (rest : List ℕ) → BeginsMessage input m rest → ¬ IsCutMessage input
 no_cut input m rest begins (missing, cut) =
     let heads = head_unique input begins.head cut.head (m.body ++ rest) cut.body begins.begins cut.begins in
@@ -55,12 +56,14 @@ framed_as m = Ok (record { method = m.method; body = length m.body; closes = m.c
 abbrev faulty_as : MessageFault → Result Framing MessageFault
 faulty_as fault = Err fault
 
+-- and has no fault
 pub no_fault : (input : List ℕ) (m : Message) (rest : List ℕ) (fault : MessageFault) → BeginsMessage input m rest → ¬ BeginsFaulty input fault
 no_fault input m rest fault begins faulty =
     let heads = head_unique input begins.head faulty.head (m.body ++ rest) faulty.rest begins.begins faulty.begins in
     let framings : framed_as m ≡ faulty_as fault = sym begins.framed ∙ ap framing_of heads.0 ∙ faulty.faulty in
     absurd cc
 
+-- so an input that ended did not end there
 pub not_end : (input : List ℕ) (m : Message) (rest : List ℕ) (e : Ending) → 0 < length input → BeginsMessage input m rest → ¬ EndsAs ended input e
 not_end input m rest finished some begins (inl none) = omega (arith, some, ap length none)
 not_end input m rest finished some begins (inr cut) = no_cut input m rest begins cut
@@ -81,6 +84,7 @@ one_more x xs ys = refl
 regroup : (s d r more : List ℕ) → (s ++ (d ++ 13 ∷ 10 ∷ 13 ∷ 10 ∷ r)) ++ more ≡ s ++ (d ++ 13 ∷ 10 ∷ 13 ∷ 10 ∷ (r ++ more))
 regroup s d r more = simp (append_assoc, one_more)
 
+-- two replies at the front of one text are one, and so is what follows them
 pub cut_reply : (t u : Told) (a b : List ℕ) → length (told_text t) ≤ longest_reply_body → length (reply_text u ++ b) < 2 ^ 64 → reply_text t
     ++ a ≡ reply_text u ++ b
     → (reply_text t ≡ reply_text u) × (a ≡ b)
@@ -108,6 +112,7 @@ cut_reply t u a b short few same =
 
 -- ---- rounds
 
+-- a message has some bytes
 pub some_text : (text : List ℕ) (m : Message) (rest : List ℕ) → BeginsMessage text m rest → text ≡ [] → ⊥
 some_text text m rest begins none =
     no_empty_head begins.head (m.body ++ rest) (subst (λ (x : List ℕ). BeginsWithHead x begins.head (m.body ++ rest)) none begins.begins)
@@ -122,6 +127,7 @@ came_so : (second : ℤ) (old mid : Timed Life) (text came wrote : List ℕ) →
     → IsAnsweredAt second old text came mid
 came_so second old mid text came wrote same at = subst (λ (bytes : List ℕ). IsAnsweredAt second old text bytes mid) (sym same) at
 
+-- and a text that is not empty has
 pub some_length : (text : List ℕ) → ¬ (text ≡ []) → 0 < length text
 some_length [] some = absurd (some refl)
 some_length (c ∷ text) some = omega arith

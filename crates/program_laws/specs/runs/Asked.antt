@@ -1,8 +1,8 @@
 -- A command that asked a desk, which a run of `serve` was, on the same machine or on another: what
 -- a connection of the run carried, and what the command printed of it.
 use Rattle.std.proofs.Common.{inl, inr}
-use Rattle.std.specs.Prelude.{◌≡◌, ◌⊎◌, ◌<◌, ◌^◌, ℕ, zero, suc, Bool, List, [], ◌++◌, length, Option}
-use Rattle.std.specs.Prelude.{Contains, Result, Ok}
+use Rattle.std.specs.Prelude.{◌≡◌, ◌⊎◌, ◌<◌, ◌^◌, ℕ, zero, suc, Bool, List, [], ◌++◌, length}
+use Rattle.std.specs.Prelude.{Contains, Option, Result, Ok}
 use Rattle.std.specs.List.{flat_map}
 use Rattle.sqlite_disk.specs.declared.Disk as disk
 use Rattle.sqlite_trees.specs.declared.store.Store.{Ghosts}
@@ -49,6 +49,7 @@ use Rattle.vend_ports.specs.declared.command_end.CommandEnd.{CommandEnd}
 use Rattle.vend_ports.specs.declared.command_end.CommandEnd.TheVariants.{Refused}
 use Rattle.program_laws.specs.Courses.{AreLived, Course, course}
 use Rattle.program_laws.specs.SalesTold.{sales_found}
+use Rattle.program_laws.specs.Selling.{PrintsSale}
 use Rattle.program_laws.specs.runs.Here.{Here, ProgramRun}
 use Rattle.program_laws.specs.runs.Steps.{LivesIn}
 use Rattle.program_laws.specs.runs.Uses.{Living, LivesSo, RunUse, asking_life, connected, idle_life}
@@ -143,27 +144,28 @@ rounds_answered texts calls uncalled desk (PagesOf list json) o end (leaves, lis
     listed.rounds
 rounds_answered texts calls uncalled desk question o end is = rounds_asked question o end is
 
--- a command asked a desk, and these were its rounds
+-- a command asked a desk this, and these were its rounds
 abbrev pub AsksIn : {S D R W : Type 0} → (store : Ghosts S) → (m : Machine D R W)
-    → (asked : Asked) → (o : Outputs) → (end : CommandEnd) → IsCarriedOut store m asked o end
-    → List Round → Type 0
-AsksIn store m (asks.Desk words) o end (untouched, (shut, done)) rounds = rounds
-    ≡ rounds_answered m.texts m.loop.calls m.loop.leaves words.desk words.question o end done
-AsksIn store m asked o end done rounds = ⊥
+    → (it : Asked) → (o : Outputs) → (end : CommandEnd) → IsCarriedOut store m it o end
+    → DeskQuestion → List Round → Type 0
+AsksIn store m (asks.Desk words) o end (untouched, shut, done) question rounds =
+    (question ≡ words.question) × (rounds
+    ≡ rounds_answered m.texts m.loop.calls m.loop.leaves words.desk words.question o end done)
+AsksIn store m it o end done question rounds = ⊥
 
 abbrev pub AsksDeskSo : {S D R W : Type 0} → {store : Ghosts S} → {m : Machine D R W}
     → (words : List Text) → (o : Outputs) → (end : CommandEnd)
-    → IsProgramRun store m words o end → List Round → Type 0
-AsksDeskSo {store = store} {m = m} words o end (answered asked for done) rounds =
-    AsksIn store m asked o end done rounds
-AsksDeskSo words o end (bad_word idle none asks_none told) rounds = ⊥
-AsksDeskSo words o end (explained idle kind text among some says) rounds = ⊥
-AsksDeskSo words o end (no_room_for_words idle told) rounds = ⊥
+    → IsProgramRun store m words o end → DeskQuestion → List Round → Type 0
+AsksDeskSo {store = store} {m = m} words o end (answered it for done) question rounds =
+    AsksIn store m it o end done question rounds
+AsksDeskSo words o end (bad_word idle none asks_none told) question rounds = ⊥
+AsksDeskSo words o end (explained idle kind text among some says) question rounds = ⊥
+AsksDeskSo words o end (no_room_for_words idle told) question rounds = ⊥
 
 -- so in a run
-abbrev pub AsksDesk : {P D R W : Type 0} → (here : Here P D R W) → ProgramRun here → List Round
-    → Type 0
-AsksDesk here run rounds = AsksDeskSo run.words run.o run.end run.ran rounds
+abbrev pub AsksDesk : {P D R W : Type 0} → (here : Here P D R W) → ProgramRun here
+    → DeskQuestion → List Round → Type 0
+AsksDesk here run question rounds = AsksDeskSo run.words run.o run.end run.ran question rounds
 
 -- ---- what it printed
 
@@ -183,3 +185,8 @@ pub data PrintsOfDesk (Tells : Sale → Type 0) (o : Outputs) (end : CommandEnd)
       → ((s : Sale) → Contains (flat_map (λ page. sales_found (Ok page)) pages) s → Tells s)
       → PrintsOfDesk Tells o end
   nothing : (errors : Text) → IsTold o [] errors Refused end → PrintsOfDesk Tells o end
+
+-- it printed the receipt of a sale of which this holds, and nothing else; or why it printed nothing
+abbrev pub PrintsSaleOrWhy : (Sold : Sale → Type 0) → Outputs → CommandEnd → Type 0
+PrintsSaleOrWhy Sold o end = ((s : Sale) × PrintsSale s o end × Sold s)
+    ⊎ ((errors : Text) × IsTold o [] errors Refused end)

@@ -16,10 +16,13 @@ use Rattle.office_rules.specs.declared.decision.request.Request.TheVariants.{Rep
 use Rattle.office_rules.specs.declared.decision.request.Stamped.{Stamped}
 use Rattle.office_rules.specs.declared.office.sale.Sale.{Sale}
 use Rattle.books.specs.Path.{StandsIn}
+use Rattle.command_line.specs.declared.commands.at_desk.DeskQuestion.{DeskQuestion}
+use Rattle.command_line.specs.declared.commands.at_desk.DeskQuestion.TheVariants as questions
 use Rattle.desk_commands.specs.Exchanged.{Round}
 use Rattle.program_laws.specs.AtDesk.{came_in, sent_in}
 use Rattle.program_laws.specs.Selling.{PrintsSale}
 use Rattle.program_laws.specs.runs.Asked.{AsksDesk, CarriesIn, PrintsOfDesk}
+use Rattle.program_laws.specs.runs.Asked.{PrintsSaleOrWhy}
 use Rattle.program_laws.specs.runs.Files.{FindsImage, MayHold}
 use Rattle.program_laws.specs.runs.Here.{Here, ProgramRun, use_of}
 use Rattle.program_laws.specs.runs.Steps.{AreSoldFor, Asks, FailsToPrint, Goes, IsOf}
@@ -98,11 +101,20 @@ pub record KeepsPromise {P D R W Q E S T : Type 0} (here : Here P D R W) (there 
   -- the run's connections carried what the command sent and what came to it. So it is handed out in
   -- the lives of that run.
   pub at_desk : (start : Office) (run : ProgramRun here) (lives more : List Life)
-      (command : ProgramRun there) (rounds : List Round) → IsOffice start
-      → (goes : Goes here start run lives more) → AsksDesk there command rounds
+      (command : ProgramRun there) (question : DeskQuestion) (rounds : List Round)
+      → IsOffice start → (goes : Goes here start run lives more)
+      → AsksDesk there command question rounds
       → CarriesIn (use_of here run) lives more goes.lived (sent_in rounds) (came_in rounds)
       → PrintsOfDesk (λ s. TellsIn (use_of here run) lives more goes.lived s
       × IsHanded (lives ++ more) s) command.o command.end
+  -- A command that asked it to sell printed the receipt of a sale that these lives sold for the
+  -- order, or why it printed none.
+  pub sold_at_desk : (start : Office) (run : ProgramRun here) (lives more : List Life)
+      (command : ProgramRun there) (order : Order) (rounds : List Round)
+      → IsOffice start → (goes : Goes here start run lives more)
+      → AsksDesk there command (questions.Sell order) rounds
+      → CarriesIn (use_of here run) lives more goes.lived (sent_in rounds) (came_in rounds)
+      → PrintsSaleOrWhy (AreSoldFor (lives ++ more) order) command.o command.end
   -- the reports of all shifts hold the money of all sales
   pub cash : (start : Office) (lives : List Life) (o : Office) (forward : BlockFunction)
       (ats : ℕ → Stamped) → IsOffice start → LeadTo start lives o → AskForReports ats
