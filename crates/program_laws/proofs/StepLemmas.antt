@@ -30,6 +30,7 @@ use Rattle.program_laws.proofs.OrderLemmas.{SellingLaws}
 use Rattle.program_laws.proofs.RunsLemmas.KeptLemmas.{Laws}
 use Rattle.program_laws.proofs.RunsLemmas.MadeLemmas.{IsMade}
 use Rattle.program_laws.proofs.RunsLemmas.WalkLemmas.{run_made}
+use Rattle.program_laws.proofs.WordLemmas.AtDeskLemmas.{sells_at_desk}
 use Rattle.program_laws.proofs.WordLemmas.AnswerLemmas.{run_answers}
 use Rattle.program_laws.proofs.WordLemmas.OrderLemmas.{sells_again}
 use Rattle.program_laws.proofs.WordLemmas.ReceiptLemmas.{reprints_again}
@@ -107,6 +108,7 @@ module _ {P D R W : Type 0} (here : Here P D R W) (laws : (start : Office) → L
           (λ rows is. let no : ⊥ = cc in no) run.words run.o run.end wanted.0 wanted.1 (sells_again run.words order wanted) run.ran;
       reprints = λ run number wanted. run_answers here.disk here.salts here.of (here.office run.ports) run.back (here.rest run.ports run.back) (Reprint number)
           (λ rows is. let no : ⊥ = cc in no) run.words run.o run.end wanted.0 wanted.1 (reprints_again run.words number wanted) run.ran;
+      sells_at_desk = λ run order says. sells_at_desk order run.words run.o run.end says run.ran;
       told = λ run q asks. (asks_wanted run q asks).1;
       prints = λ run q s asks sold. tells_sale q s run.o run.end sold (asks_wanted run q asks).1;
     }

@@ -1,5 +1,6 @@
 -- What the words of a run ask of its office: they say one order, and what they ask for is asked.
 pub mod AnswerLemmas
+pub mod AtDeskLemmas
 pub mod OrderLemmas
 pub mod ReceiptLemmas
 use Rattle.std.proofs.Common.{◌≡◌, List, Option, Some, None, codes, eqb, inl, inr, sym, subst}

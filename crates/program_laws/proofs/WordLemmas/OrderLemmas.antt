@@ -17,7 +17,7 @@ use Rattle.program_laws.specs.runs.Words.{Reports, Requests, WordsRequest}
 use Rattle.program_laws.proofs.WordLemmas.{IsNamed, desk_named, one_argument}
 
 -- some rows say one order
-one_order : (rows : List Row) (a b : Order) → SaysOrder rows a → SaysOrder rows b → a ≡ b
+pub one_order : (rows : List Row) (a b : Order) → SaysOrder rows a → SaysOrder rows b → a ≡ b
 one_order rows a b one other =
     let operator = one_argument SaysOperator (λ text v w x y. sym x.0 ∙ y.0) _ a.operator b.operator one.operator other.operator in
     let order_ref = one_argument SaysRef (λ text v w x y. sym x.0 ∙ y.0) _ a.order_ref b.order_ref one.order_ref other.order_ref in

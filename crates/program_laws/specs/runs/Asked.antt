@@ -11,6 +11,7 @@ use Rattle.sts_token.specs.Token.{BlockFunction}
 use Rattle.office_rules.specs.Law.Handed.{sales_of}
 use Rattle.office_rules.specs.declared.decision.answer.Answer.{Answer}
 use Rattle.office_rules.specs.declared.decision.refusal.Refusal.{Refusal}
+use Rattle.office_rules.specs.declared.decision.request.Order.{Order}
 use Rattle.office_rules.specs.declared.office.sale.Sale.{Sale}
 use Rattle.vend_core.specs.Law.Life.{Life}
 use Rattle.vend_core.specs.Law.LifeLaws.{opened}
@@ -25,11 +26,13 @@ use Rattle.conversation.specs.declared.end.End.TheVariants.{WriteFault, Memory}
 use Rattle.desk.specs.Answering.{answers_by, life_serves, message_refusal_of}
 use Rattle.desk_client.specs.Question.{question_text}
 use Rattle.desk_client.specs.declared.question.Question.{Question}
+use Rattle.command_line.specs.Asked.{AskFor}
 use Rattle.command_line.specs.declared.address.Address.{Address}
 use Rattle.command_line.specs.declared.asked.Asked.{Asked}
 use Rattle.command_line.specs.declared.asked.Asked.TheVariants as asks
 use Rattle.command_line.specs.declared.commands.at_desk.DeskQuestion.{DeskQuestion}
-use Rattle.command_line.specs.declared.commands.at_desk.DeskQuestion.TheVariants.{List as PagesOf}
+use Rattle.command_line.specs.declared.commands.at_desk.DeskQuestion.TheVariants as desk_asks
+use Rattle.command_line.specs.declared.commands.at_desk.DeskWords.{DeskWords}
 use Rattle.desk_commands.specs.AskedOfDesk.{IsAnswered, IsAsked, IsAskedOnce, question_of}
 use Rattle.desk_commands.specs.AskedOfDesk.IsAsked.{broken, no_room, replied, unsent}
 use Rattle.desk_commands.specs.AskedOfDesk.IsAskedOnce.{asked, without_rows}
@@ -140,7 +143,7 @@ rounds_asked question o end (without_rows fault lacks idle tells) = []
 abbrev pub rounds_answered : (texts : Texts) → (calls : Calls) → (uncalled : Type 0)
     → (desk : Address) → (question : DeskQuestion) → (o : Outputs) → (end : CommandEnd)
     → IsAnswered texts calls uncalled desk question o end → List Round
-rounds_answered texts calls uncalled desk (PagesOf list json) o end (leaves, listed) =
+rounds_answered texts calls uncalled desk (desk_asks.List list json) o end (leaves, listed) =
     listed.rounds
 rounds_answered texts calls uncalled desk question o end is = rounds_asked question o end is
 
@@ -166,6 +169,11 @@ AsksDeskSo words o end (no_room_for_words idle told) question rounds = ⊥
 abbrev pub AsksDesk : {P D R W : Type 0} → (here : Here P D R W) → ProgramRun here
     → DeskQuestion → List Round → Type 0
 AsksDesk here run question rounds = AsksDeskSo run.words run.o run.end run.ran question rounds
+
+-- the words ask a desk to sell this order
+abbrev pub WordsSellAtDesk : List Text → Order → Type 0
+WordsSellAtDesk words order = (it : DeskWords) × AskFor words (asks.Desk it)
+    × (it.question ≡ desk_asks.Sell order)
 
 -- ---- what it printed
 

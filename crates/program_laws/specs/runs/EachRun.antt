@@ -8,9 +8,16 @@ use Rattle.office_rules.specs.declared.decision.answer.Answer.TheVariants.{Repri
 use Rattle.office_rules.specs.declared.decision.request.Order.{Order}
 use Rattle.office_rules.specs.declared.decision.request.Request.TheVariants.{Reprint, Sell}
 use Rattle.office_rules.specs.declared.office.sale.Sale.{Sale}
+use Rattle.office_rules.specs.declared.decision.refusal.Refusal.TheVariants.{Memory}
+use Rattle.command_line.specs.declared.commands.at_desk.DeskQuestion.TheVariants as questions
+use Rattle.desk_commands.specs.Exchanged.{Round}
 use Rattle.books.specs.Path.{StandsIn}
 use Rattle.office_commands.specs.office.Served.{TellsReply}
+use Rattle.vend_ports.specs.print.Printed.{refusal_line}
+use Rattle.vend_ports.specs.print.Told.{IsTold}
+use Rattle.vend_ports.specs.declared.command_end.CommandEnd.TheVariants.{Refused}
 use Rattle.program_laws.specs.Selling.{PrintsSale}
+use Rattle.program_laws.specs.runs.Asked.{AsksDesk, WordsSellAtDesk}
 use Rattle.program_laws.specs.runs.Files.{FindsImage, IsClean}
 use Rattle.program_laws.specs.runs.Here.{Here, HoldsSo, IsAlwaysClean, ProgramRun, use_of}
 use Rattle.program_laws.specs.runs.Steps.{Asks, AsksOrTells, Goes, IsOf}
@@ -42,6 +49,10 @@ pub record KeepsEachRun {P D R W : Type 0} (here : Here P D R W) : Type 0 where
       → AsksOrTells here run (Sell order)
   pub reprints : (run : ProgramRun here) (number : ℕ) → WordsRequest run.words (Reprint number)
       → AsksOrTells here run (Reprint number)
+  -- If they ask a desk to sell an order, it asks that, or tells that there was no room for them.
+  pub sells_at_desk : (run : ProgramRun here) (order : Order) → WordsSellAtDesk run.words order
+      → ((rounds : List Round) × AsksDesk here run (questions.Sell order) rounds)
+      ⊎ IsTold run.o [] (refusal_line Memory) Refused run.end
   -- It tells the reply that it got, and nothing else: of a sale and of a reprint the receipt.
   pub told : (run : ProgramRun here) (q : RunQuestion) → Asks here run q
       → TellsReply q.reply run.o run.end
