@@ -38,7 +38,7 @@ impl Address {
         })
     }
 
-    /// The same for a socket.
+    /// This address and port, as the system's calls take them.
     pub fn socket(self) -> SocketAddr
         ensures { IsSocketOf self result }
     {

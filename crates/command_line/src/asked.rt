@@ -41,7 +41,10 @@ pub enum Asked<'m, 'a> {
 }
 
 impl<'m, 'a> Asked<'m, 'a> {
-    /// Reads the words of the command that the matches have.
+    /// Reads what the arguments of the given command ask for.
+    ///
+    /// # Errors
+    /// `Value` if a value is outside its rule, so that they ask for nothing; `Memory`.
     pub fn read(alloc: Global, matches: &'m ArgMatches<'a>) -> Result<Asked<'m, 'a>, BadWords>
         ensures { ReadsOrFull result (CommandAsks (subcommand_rows_of matches.now)) }
     {

@@ -29,8 +29,8 @@ impl Syncs {
     }
 }
 
-/// How often the words ask for a change to be synced: once only where they say so, and twice also
-/// where they cannot be read.
+/// How often a change is to be synced: once for `serve --sync full`, and twice otherwise, also if
+/// the arguments cannot be read. Once needs a disk that finishes each sector it begins to write.
 pub fn syncs_asked(alloc: Global, words: &[&str]) -> Syncs
     ensures { result ≡ Syncs.Once → (asked : Asked)
         × AskFor (map (λ w. w.now) words.now) asked × (syncs_of asked ≡ Syncs.Once) }

@@ -52,9 +52,9 @@ impl Desk {
         run(self, alloc, &mut Untold, reader, writer, books, clock)
     }
 
-    /// The same, where each use of the reader and the writer goes through a line: the uses that it
-    /// tells are in turn (`paced`), so that each reply is written before more input is asked for,
-    /// and the last of them is why it ended.
+    /// Does what `run` does, and passes each read and each write through `line`, which records
+    /// them. They come in turn (`paced`): a reply is written before more input is read, and the
+    /// last of them is why the conversation ended.
     pub fn run_over<S: Alter, T: BlockTransform, L: Line<R, W>, R: Read, W: Write, C: Clock>(
         &self,
         alloc: Global,

@@ -19,7 +19,9 @@ use sts_token::{Plain, TokenFault, read};
 const LAST_ROW: u32 = Rows::MAX as u32;
 
 impl Question<'_> {
-    /// What these bytes tell, where they are a whole reply that answers the question.
+    /// Reads bytes as the whole reply to this question. `None` if they are no whole reply, have
+    /// another form than a desk writes, or answer another question: another sale, meter, quote or
+    /// shift, or by a refusal that the office does not give for this one.
     pub fn answer_in<'b>(&self, came: &'b [u8]) -> Option<Told<'b>>
         ensures { MatchOption result ((told : WhatIsTold) → ¬ IsReplyTo self.now came.now told)
             (IsReplyTo self.now came.now) }

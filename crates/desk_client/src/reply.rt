@@ -36,7 +36,8 @@ struct Head<'b> {
     rest: &'b [u8],
 }
 
-/// What the bytes are that came so far of the reply to a message that wants this.
+/// Reads the bytes that came so far of the reply to a message: the whole reply, or what is missing
+/// of it, or that nothing which follows makes a reply to this message of them.
 pub fn reply_in(input: &[u8], wanted: Wanted) -> Reading<'_>
     ensures { IsReplyReading wanted input.now result }
 {

@@ -136,10 +136,10 @@ pub fn list_law()
     export_law();
 }
 
-/// What `sell` has done where it ends as done: where the files stood for an office, it printed the
-/// receipt of the sale that the office's rules give for the order, and the sale stands in all that
-/// a crash may leave of them as they are closed. Of a sale nothing is told but the receipt: what is
-/// told of want of memory came before any sale stood.
+/// A `sell` that ends as done on files that stood for an office printed the receipt of the sale
+/// that the office's rules give for the order; and this sale is in all that a crash may leave of
+/// the files once they are closed. Of a granted sale it prints the receipt and nothing else: if
+/// memory ran out, that was before anything was sold.
 pub fn sell_law<H: OfficeFile>()
     ensures done { (file : H) (back : Option (H.Medium × H.Medium)) (path : Text) (wait : ℕ)
         (transform : Shipped) (order : Order) (moment : ℕ) (office : Office)
@@ -169,10 +169,9 @@ pub fn offer_law()
         → IsPurchaseFor office moment meter tender quoted }
 {}
 
-/// What `audit` has shown where it ends as done: it printed what it counted. Where the disk
-/// returned what was written, that is the count of a database that an opening of the files may
-/// find, which stands for an office that requests may lead to, whose tokens the transform that was
-/// given wrote, where one was.
+/// An `audit` that ends as done printed `sound` with what it counted. If the disk returned what was
+/// written, it counted a database that an opening of the files may find, and this stands for an
+/// office that requests may lead to. With a transform its tokens were written by this one.
 pub fn sound_law<H: OfficeFile>()
     ensures { (file : H) (back : Option (H.Medium × H.Medium)) (path : Text) (wait : ℕ)
         (given : Option BlockFunction) (o : Outputs)
@@ -181,10 +180,9 @@ pub fn sound_law<H: OfficeFile>()
         → EndsSound H.Medium.Disk (H.image file path) (lets_go_giving H.OfficeFile back) given o }
 {}
 
-/// What `audit` tells of files that stand for an office that requests lead to, whatever lives it is
-/// of, where these had the transform that is given, if one is, as long as the disk returned what
-/// was written: what it counted, or that they were not read. So of files that nothing else wrote it
-/// tells no row that breaks a rule.
+/// `audit` finds no broken row in files that stand for an office that lives lead to, if the disk
+/// returned what was written and, with a transform, these lives had it: it counts, or could not
+/// read the files. So of a file that nothing else wrote it never prints `broken`.
 pub fn broken_law<H: OfficeFile>()
     ensures { (image : Image) (back : Option (H.Medium × H.Medium)) (given : Option BlockFunction)
         (answer : Result Audited AuditFault) (lives : List Life) (office : Office)

@@ -103,7 +103,8 @@ pub fn run<M: Machine, O: Write, E: Write>(
     status(ran.end, failed)
 }
 
-/// The exit status, where the output failed or not.
+/// The exit status (`docs/COMMANDS.md`): 1 if the output failed, whatever the command did, and
+/// otherwise that of the command's end: 0 done, 1 refused, 2 invalid arguments.
 pub fn status(end: CommandEnd, failed: bool) -> u8
     ensures { result ≡ status_of end failed }
 {
@@ -113,8 +114,9 @@ pub fn status(end: CommandEnd, failed: bool) -> u8
     end.status()
 }
 
-/// Does what the words ask for with what some ports give, or says why not. Where it found the files
-/// of an office, it lets them go, and hands on what is given back of them.
+/// Runs the command that the arguments give over these ports, prints on `out` what it prints and on
+/// `err` why it stopped, and gives how it ended. If it opened an office's files and closed them
+/// whole, it also hands on what the port gave back of them.
 pub fn run_over<M: Machine, O: Write, E: Write>(
     alloc: Global,
     ports: Ports<M>,

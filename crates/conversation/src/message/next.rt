@@ -23,7 +23,8 @@ pub enum Next<'b> {
     NeedBody(usize),
 }
 
-/// What stands at the front of an input, of which more may come.
+/// Reads the front of an input of which more may come: a whole message, or why there can be none
+/// whatever follows, or what is missing yet: a head, or so many bytes of a body.
 pub fn next_of(input: &[u8]) -> Next<'_>
     ensures next { BeginsAs input.now result }
     ensures finds { FindsNext input.now result }
@@ -36,8 +37,9 @@ pub fn next_of(input: &[u8]) -> Next<'_>
     }
 }
 
-/// Two readings of one input are one: it has the same messages however it is read, and they end
-/// alike. Where its reader failed before a head, and none could have followed, either may be told.
+/// An input is read in one way: whatever pieces it comes in, it has the same messages and the same
+/// end. There is one exception: if the reader failed within bytes that can begin no head, the end
+/// may be either the failed read or the bad head.
 pub fn message_law()
     ensures { (stop : Stop) (input : List ℕ) (ms ns : List Message) (e f : Ending)
         → Messages stop input ms e → Messages stop input ns f → (ms ≡ ns) × AgreeBy stop e f }

@@ -13,8 +13,9 @@ use std::alloc::{AllocError, Global};
 use std::io::Write;
 use vend_ports::Watched;
 
-/// Prints a page, and answers the list behind it: none where it is not full, and none where the
-/// output did not take it.
+/// Prints a page of a list, and gives what to ask for next: the list after its last member. `None`
+/// if the page was not full, so that the list ends here, or if the output failed. The error is want
+/// of memory: then nothing is printed.
 pub fn put_page<O: Write>(
     alloc: Global,
     page: &Found,

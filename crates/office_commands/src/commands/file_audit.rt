@@ -18,9 +18,9 @@ use std::alloc::Global;
 use std::io::Write;
 use vend_ports::{CommandEnd, Watched, put_line};
 
-/// Looks at the file of the words, where it is there, closes it as it was, and prints what it
-/// keeps, or the first row that is no office's. It tells that the file is open, and which parts
-/// have passed.
+/// Audits the named file, if it exists, and leaves its rows as they were. It prints `sound` and the
+/// counts, or `broken` with the first row that breaks a rule, and tells `progress` when the file is
+/// open and which parts have passed.
 pub fn run<H: OfficeFile, P: Progress, O: Write, E: Write>(
     words: &AuditWords,
     alloc: Global,

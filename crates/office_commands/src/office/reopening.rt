@@ -21,10 +21,12 @@ use sqlite_disk::Disk;
 use std::alloc::Global;
 use sts_token::BlockTransform;
 
-/// Opens the office of stopped books again, with a salt that is drawn anew, or lets its files go.
+/// Opens the office of stopped books again, with a salt that is drawn anew. The books begin a new
+/// life with an office that the stopped ones may have left.
 ///
 /// # Errors
-/// As those of `reopen`.
+/// `Store` if no salt could be drawn, or the files cannot be used any more, as after a sync that
+/// failed; `Memory`; `NotAnOffice`. The files are given up then.
 pub fn open_again<H: OfficeFile>(
     alloc: Global,
     salts: &H::Salts,

@@ -12,7 +12,7 @@ const PAUSE: u64 = 1;
 /// Whom a command that takes long tells how far it is, and an audit which parts have passed. No
 /// contract says what becomes of it.
 pub trait Progress: Follows + Drop {
-    /// So many of all sales are printed.
+    /// Called after each page of an export: `printed` of `all` sales are printed.
     fn tell(&mut self, printed: u64, all: u64);
 
     /// The file of an audit is open, and is looked at.

@@ -32,7 +32,8 @@ pub fn put_line<W: Write>(words: &[&[u8]], out: &mut Watched<'_, W>)
     put_joined(b' ', words, out);
 }
 
-/// The same of fields, with a tab between them.
+/// Prints fields on a line of their own, with a tab between them, as a row of a table. Like
+/// `put_line` by one write, where the writer takes the line whole.
 pub fn put_row<W: Write>(fields: &[&[u8]], out: &mut Watched<'_, W>)
     ensures { Takes out.old out.new (table_row_of (map (λ field. field.now) fields.now)) }
 {

@@ -47,7 +47,8 @@ impl<'a, W: Write> Watched<'a, W> {
         self.failed
     }
 
-    /// Gives the writer back.
+    /// Ends the watch and gives the writer back, with all that was put there. Whether a write has
+    /// failed is lost: ask `has_failed` first.
     pub fn into_inner(self) -> &'a mut W
         ensures held { W.contents result.now ≡ self.entry.held }
         ensures same_reference { result.ghost_name ≡ self.entry.name }
