@@ -225,6 +225,8 @@ answered_ends : (texts : Texts) (calls : Calls) (uncalled : Type 0) (desk : Addr
     (end : CommandEnd) → IsAnswered texts calls uncalled desk question o end → exit_status_of end ≤ 1
 answered_ends texts calls uncalled desk (desk_asks.Import kind csv) o end done =
     asked_once_ends texts calls uncalled desk (desk_asks.Import kind csv) o end done
+answered_ends texts calls uncalled desk (desk_asks.SetTariff meter tariff) o end done =
+    asked_once_ends texts calls uncalled desk (desk_asks.SetTariff meter tariff) o end done
 answered_ends texts calls uncalled desk (desk_asks.MoveBase meter base) o end done =
     asked_once_ends texts calls uncalled desk (desk_asks.MoveBase meter base) o end done
 answered_ends texts calls uncalled desk (desk_asks.OpenShift operator) o end done =

@@ -178,6 +178,8 @@ answered_same : (texts : Texts) (calls : Calls) (uncalled : Type 0) (desk : Addr
     (end : CommandEnd) → IsAnswered texts calls uncalled desk question o end → AreSame o
 answered_same texts calls uncalled desk (desk_asks.Import kind csv) o end done =
     asked_once_same texts calls uncalled desk (desk_asks.Import kind csv) o end done
+answered_same texts calls uncalled desk (desk_asks.SetTariff meter tariff) o end done =
+    asked_once_same texts calls uncalled desk (desk_asks.SetTariff meter tariff) o end done
 answered_same texts calls uncalled desk (desk_asks.MoveBase meter base) o end done =
     asked_once_same texts calls uncalled desk (desk_asks.MoveBase meter base) o end done
 answered_same texts calls uncalled desk (desk_asks.OpenShift operator) o end done =
