@@ -31,6 +31,7 @@ IsDeskName name = T (pointwise eqb (take 5 name) (codes "desk-"))
 -- each question to a desk is asked by such a command
 pub desk_named : (name : Text) (rows : List Row) (q : DeskQuestion) → SaysDeskQuestion name rows q → IsDeskName name
 desk_named name rows (desk.Import kind csv) says = subst IsDeskName (sym says.0) tt
+desk_named name rows (desk.SetTariff meter tariff) says = subst IsDeskName (sym says.0) tt
 desk_named name rows (desk.MoveBase meter base) says = subst IsDeskName (sym says.0) tt
 desk_named name rows (desk.OpenShift operator) says = subst IsDeskName (sym says.0) tt
 desk_named name rows (desk.CloseShift operator) says = subst IsDeskName (sym says.0) tt

@@ -53,6 +53,13 @@ use Rattle.std.specs.Borrow.{Bor}
 abbrev pub IsAnswered : Question → Result Answer Refusal → Type 0
 IsAnswered q r = Answers q (told_reply forms.Json r)
 
+-- that of setting a tariff
+pub answers_tariff : (number name : List ℕ) (r : Result Answer Refusal) → MayReplyTo (requests.SetTariff number name) r
+    → IsAnswered (questions.SetTariff number name) r
+answers_tariff number name (Ok answers.Done) h = tt
+answers_tariff number name (Ok answer) h = absurd h
+answers_tariff number name (Err refusal) h = h
+
 -- that of moving a base
 pub answers_base : (number : List ℕ) (base : Base) (r : Result Answer Refusal) → MayReplyTo (requests.MoveBase number base) r
     → IsAnswered (questions.MoveBase number base) r

@@ -385,6 +385,9 @@ module _ (laws : DeskLaws) where
     prints : (q : Question) → IsAskedByOne json q → IsAskable q → Came q (pos moment) old new came → IsReply (wanted_by q) came t → TellsTold json q t o end
         → PrintsAsOnFile json q moment old.0 new.0 o end
     prints (questions.Import kind csv) one askable c is told = import_prints kind csv c is told
+    prints (questions.SetTariff meter tariff) one askable c is told =
+        let q = questions.SetTariff meter tariff in
+        request_prints q (requests.SetTariff meter tariff) (laws.means q moment askable is_moment) tt refl (λ s. refl) (λ s none. none) c is told
     prints (questions.MoveBase meter base) one askable c is told =
         let q = questions.MoveBase meter base in
         request_prints q (requests.MoveBase meter base) (laws.means q moment askable is_moment) tt refl (λ s. refl) (λ s none. none) c is told

@@ -155,6 +155,7 @@ RefusesRows most refusal = ⊥
 -- what an office with its rules may answer to a request that a command asks of a desk
 abbrev pub MayAnswer : Request → Answer → Type 0
 MayAnswer (requests.Import rows) (answers.Imported count) = count ≤ length rows
+MayAnswer (requests.SetTariff number name) answers.Done = ⊤
 MayAnswer (requests.MoveBase number base) answers.Done = ⊤
 MayAnswer (requests.OpenShift operator) (answers.Opened number) = IsTargetNumber number
 MayAnswer (requests.CloseShift operator) (answers.Closed number) = IsTargetNumber number
@@ -166,6 +167,7 @@ MayAnswer request answer = ⊥
 -- what an office with its rules may refuse such a request for
 abbrev pub MayRefuseSo : Request → Refusal → Type 0
 MayRefuseSo (requests.Import rows) refusal = RefusesRows (length rows) refusal
+MayRefuseSo (requests.SetTariff number name) refusal = MayRefuse refusal (questions.SetTariff number name)
 MayRefuseSo (requests.MoveBase number base) refusal = MayRefuse refusal (questions.MoveBase number base)
 MayRefuseSo (requests.OpenShift operator) refusal = MayRefuse refusal (questions.OpenShift operator)
 MayRefuseSo (requests.CloseShift operator) refusal = MayRefuse refusal (questions.CloseShift operator)
@@ -179,7 +181,6 @@ abbrev pub IsOfDesk : Request → Type 0
 IsOfDesk (requests.AddTariff name steps) = ⊥
 IsOfDesk (requests.AddSteps name day steps) = ⊥
 IsOfDesk (requests.AddMeter number m) = ⊥
-IsOfDesk (requests.SetTariff number name) = ⊥
 IsOfDesk request = ⊤
 
 -- what an office with its rules may reply to it
@@ -213,6 +214,16 @@ room_plain : (request : Request) (count : ℕ) (b : Bool) (f : ℕ → Result Ch
     → (count < greatest_count → MayDecide request (f (count + 1))) → MayDecide request ((if b then Ok (count + 1) else Err refusals.OfficeFull) >>= f)
 room_plain request count true f full is rest = rest (grind (arith, nat_tests))
 room_plain request count false f full is rest = full
+
+may_set : (number name : List ℕ) (same : Bool)
+    → MayDecide (requests.SetTariff number name) (if same then unchanged answers.Done else changed (edits.SetTariff number name) answers.Done)
+may_set number name true = tt
+may_set number name false = tt
+
+may_tariff : (number name : List ℕ) (there : Option Meter) (has : Bool) → MayDecide (requests.SetTariff number name) (set_tariff number name there has)
+may_tariff number name None has = tt
+may_tariff number name (Some m) false = tt
+may_tariff number name (Some m) true = may_set number name (bytes_eq m.tariff name)
 
 may_move : (number : List ℕ) (base : Base) (same earlier before : Bool)
     → MayDecide (requests.MoveBase number base)
@@ -372,7 +383,7 @@ unable : (why : Refusal) → ((q : Question) → MayRefuse why q) → ((most : �
 unable why any rows_any (requests.AddTariff name steps) = tt
 unable why any rows_any (requests.AddSteps name day steps) = tt
 unable why any rows_any (requests.AddMeter number m) = tt
-unable why any rows_any (requests.SetTariff number name) = tt
+unable why any rows_any (requests.SetTariff number name) = any (questions.SetTariff number name)
 unable why any rows_any (requests.Import rows) = rows_any (length rows)
 unable why any rows_any (requests.MoveBase number base) = any (questions.MoveBase number base)
 unable why any rows_any (requests.OpenShift operator) = any (questions.OpenShift operator)
@@ -386,7 +397,7 @@ may_decide : (forward : BlockFunction) (o : Office) → IsOffice o → (moment n
 may_decide forward o office moment nibble (requests.AddTariff name steps) of_desk = absurd of_desk
 may_decide forward o office moment nibble (requests.AddSteps name day steps) of_desk = absurd of_desk
 may_decide forward o office moment nibble (requests.AddMeter number m) of_desk = absurd of_desk
-may_decide forward o office moment nibble (requests.SetTariff number name) of_desk = absurd of_desk
+may_decide forward o office moment nibble (requests.SetTariff number name) of_desk = may_tariff number name (o.meters number) (is_some (o.tariffs name))
 may_decide forward o office moment nibble (requests.Import rows) of_desk = may_import o (day_at moment) rows
 may_decide forward o office moment nibble (requests.MoveBase number base) of_desk = may_base number base moment (o.meters number)
 may_decide forward o office moment nibble (requests.OpenShift operator) of_desk = may_open moment operator (open_shift o operator) (length o.shifts)

@@ -39,6 +39,10 @@ says_tender : (text : Option Text) (tender : ℕ) → IsArgument SaysTender text
 says_tender None tender says = absurd says
 says_tender (Some text) tender says = says.1
 
+says_tariff : (text : Option Text) (name : Text) → IsArgument SaysTariff text name → IsName name
+says_tariff None name says = absurd says
+says_tariff (Some text) name says = says.1
+
 says_item : (text : Option Text) (number : ℕ) → IsArgument SaysItem text number → IsTargetNumber number
 says_item None number says = absurd says
 says_item (Some text) number says = record { from_one = says.1; most = omega (arith, says.2) }
@@ -83,6 +87,7 @@ pub says_askable : (name : Text) (words : List Row) (asked : DeskQuestion) (rows
     → length rows.now ≤ longest_body
     → IsAskable (question_of asked rows)
 says_askable name words (asks.Import kind csv) rows says few = few
+says_askable name words (asks.SetTariff meter tariff) rows says few = (says_meter _ meter says.1, says_tariff _ tariff says.2)
 says_askable name words (asks.MoveBase meter base) rows says few = says_meter _ meter says.1
 says_askable name words (asks.OpenShift operator) rows says few = says_operator _ operator says.2
 says_askable name words (asks.CloseShift operator) rows says few = says_operator _ operator says.2
@@ -110,6 +115,7 @@ pub says_by_one : (name : Text) (words : List Row) (asked : DeskQuestion) (rows 
     → ((list : Listed) (json : Bool) → asked ≢ asks.List list json)
     → IsAskedByOne (is_json asked) (question_of asked rows)
 says_by_one name words (asks.Import kind csv) rows says other = tt
+says_by_one name words (asks.SetTariff meter tariff) rows says other = tt
 says_by_one name words (asks.MoveBase meter base) rows says other = tt
 says_by_one name words (asks.OpenShift operator) rows says other = tt
 says_by_one name words (asks.CloseShift operator) rows says other = tt

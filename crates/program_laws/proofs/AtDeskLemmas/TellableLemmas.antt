@@ -201,6 +201,12 @@ tellable_refusal q refusal none h = tt
 
 -- ---- replies
 
+tellable_tariff : (number name : List ℕ) (r : Result Answer Refusal) → MayReplyTo (requests.SetTariff number name) r
+    → IsTellable wanted.Done (told_reply forms.Json r)
+tellable_tariff number name (Ok answers.Done) h = (tt, refl)
+tellable_tariff number name (Ok answer) h = absurd h
+tellable_tariff number name (Err refusal) h = tellable_refusal (questions.SetTariff number name) refusal (λ row cause no. no) h
+
 tellable_base : (number : List ℕ) (base : Base) (r : Result Answer Refusal) → MayReplyTo (requests.MoveBase number base) r
     → IsTellable wanted.Done (told_reply forms.Json r)
 tellable_base number base (Ok answers.Done) h = (tt, refl)
@@ -259,7 +265,6 @@ abbrev pub MayAsk : Request → Type 0
 MayAsk (requests.AddTariff name steps) = ⊥
 MayAsk (requests.AddSteps name day steps) = ⊥
 MayAsk (requests.AddMeter number m) = ⊥
-MayAsk (requests.SetTariff number name) = ⊥
 MayAsk (requests.Import rows) = length rows ≤ 10000
 MayAsk request = ⊤
 
@@ -269,7 +274,7 @@ pub tellable_reply : (q : Request) (r : Result Answer Refusal) → MayAsk q → 
 tellable_reply (requests.AddTariff name steps) r ask sales h = absurd ask
 tellable_reply (requests.AddSteps name day steps) r ask sales h = absurd ask
 tellable_reply (requests.AddMeter number m) r ask sales h = absurd ask
-tellable_reply (requests.SetTariff number name) r ask sales h = absurd ask
+tellable_reply (requests.SetTariff number name) r ask sales h = tellable_tariff number name r (h tt)
 tellable_reply (requests.Import rows) r ask sales h = tellable_import rows r ask (h tt)
 tellable_reply (requests.MoveBase number base) r ask sales h = tellable_base number base r (h tt)
 tellable_reply (requests.OpenShift operator) r ask sales h = tellable_open operator r (h tt)

@@ -38,7 +38,7 @@ is_order rows order (requests.AddTariff name steps) one says = absurd says
 is_order rows order (requests.AddSteps name day steps) one says = absurd says
 is_order rows order (requests.AddMeter number meter) one says = absurd says
 is_order rows order (requests.Import imported) one says = absurd says
-is_order rows order (requests.SetTariff number name) one says = absurd says
+is_order rows order (requests.SetTariff number name) one says = absurd (subst IsSell says.0 tt)
 is_order rows order (requests.Reprint number) one says = absurd says
 is_order rows order (requests.ShiftReport number) one says = absurd says
 

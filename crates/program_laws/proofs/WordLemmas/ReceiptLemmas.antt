@@ -45,7 +45,7 @@ requests_nothing rows (requests.AddTariff name steps) says = says
 requests_nothing rows (requests.AddSteps name day steps) says = says
 requests_nothing rows (requests.AddMeter number meter) says = says
 requests_nothing rows (requests.Import imported) says = says
-requests_nothing rows (requests.SetTariff number name) says = says
+requests_nothing rows (requests.SetTariff number name) says = subst IsReport says.0 tt
 requests_nothing rows (requests.Reprint number) says = says
 requests_nothing rows (requests.ShiftReport number) says = says
 
