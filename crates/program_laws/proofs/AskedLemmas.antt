@@ -2,6 +2,7 @@
 pub mod LifeLemmas
 pub mod TalkLemmas
 pub mod SaysLemmas
+pub mod PageSaysLemmas
 pub mod PrintsLemmas
 pub mod CommandLemmas
 pub mod ServedLemmas

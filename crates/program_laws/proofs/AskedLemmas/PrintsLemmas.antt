@@ -40,7 +40,8 @@ use Rattle.program_laws.proofs.AtDeskLemmas.PageLemmas.{CanAsk}
 use Rattle.program_laws.proofs.AtDeskLemmas.PrintedLemmas.{tell_alike}
 use Rattle.program_laws.proofs.AtDeskLemmas.RoundLemmas.{cut_reply}
 use Rattle.program_laws.proofs.AskedLemmas.LifeLemmas.{GoesFrom, exchanged_goes, goes_through, life_from}
-use Rattle.program_laws.proofs.AskedLemmas.SaysLemmas.{Sells, exchange_says, page_says, sells_later}
+use Rattle.program_laws.proofs.AskedLemmas.PageSaysLemmas.{page_says}
+use Rattle.program_laws.proofs.AskedLemmas.SaysLemmas.{Sells, exchange_says, sells_later}
 use Rattle.program_laws.proofs.AskedLemmas.TalkLemmas.{Reads, Stops, Talk}
 use Rattle.program_laws.proofs.AskedLemmas.TalkLemmas.Stops.{cut_short, no_more, unsaid}
 

@@ -1,6 +1,6 @@
 -- What a desk's answer to a question says, and that what is printed of it has no other sales.
 use Rattle.std.proofs.Common.{◌≡◌, ◌≢◌, ◌⊎◌, ◌∙◌, ℕ, ℤ, pos, Bool, false, List, [], Option, None, Some, Result, Ok, Err, inl, inr, refl, sym, ap, subst, arith}
-use Rattle.std.specs.Prelude.{⊤, Contains, IfSome}
+use Rattle.std.specs.Prelude.{⊤, Contains}
 use Rattle.std.proofs.lemmas.List.Elements.{Contains-append_left, Contains-push}
 use Rattle.std.specs.Borrow.{Bor}
 use Rattle.sts_fields.specs.Moment.{IsMoment}
@@ -36,26 +36,19 @@ use Rattle.desk_messages.specs.declared.reply.form.Form.TheVariants as forms
 use Rattle.desk_messages.specs.declared.reply.outcome.Outcome.{Outcome}
 use Rattle.desk_messages.specs.declared.reply.outcome.Outcome.TheVariants as outcomes
 use Rattle.desk_messages.specs.reply.Text.{reply_bytes_of}
-use Rattle.desk_client.specs.Alike.{TellAlike}
 use Rattle.desk_client.specs.Asks.{IsAskable, question_message}
-use Rattle.desk_client.specs.Page.{IsToldPage, page_as_read}
 use Rattle.desk_client.specs.Question.{wanted_by}
 use Rattle.desk_client.specs.Reply.{reply_text}
 use Rattle.desk_client.specs.Told.{IsTellable}
 use Rattle.desk_client.specs.declared.question.Question.{Question}
 use Rattle.desk_client.specs.declared.question.Question.TheVariants as questions
-use Rattle.desk_client.specs.declared.told.Granted.TheVariants as granted
 use Rattle.desk_client.specs.declared.told.Told.{Told}
 use Rattle.desk_client.specs.declared.told.Told.TheVariants as told
 use Rattle.desk_client.specs.declared.told.Wanted.{Wanted}
 use Rattle.desk_client.specs.declared.told.Wanted.TheVariants as wants
 use Rattle.desk_client.proofs.TellsLemmas.{says}
-use Rattle.command_line.specs.declared.commands.list.Listed.{Listed}
 use Rattle.desk_commands.specs.AskedOfDesk.{SaleNeedsRoom, TellsTold, told_sale_text}
-use Rattle.desk_commands.specs.ListedAtDesk.{page_kind, page_question}
-use Rattle.desk_commands.specs.print.Pages.{list_behind, page_lookup}
 use Rattle.office_commands.specs.commands.LookedUp.{TellsFound}
-use Rattle.office_commands.proofs.ListingLemmas.{page_found}
 use Rattle.vend_ports.specs.print.Printed.{clock_line, refusal_line}
 use Rattle.office_commands.specs.office.Served.{TellsReply}
 use Rattle.vend_ports.specs.print.Told.{IsTold, Outputs}
@@ -67,10 +60,8 @@ use Rattle.program_laws.specs.runs.Asked.{PrintsOfDesk, PrintsSaleOrWhy}
 use Rattle.program_laws.specs.runs.Asked.PrintsOfDesk.{a_find, a_reply, nothing, totals}
 use Rattle.program_laws.proofs.AskedLemmas.LifeLemmas.{GoesFrom}
 use Rattle.program_laws.proofs.AtDeskLemmas.LineLemmas.{clock_read}
-use Rattle.program_laws.proofs.AtDeskLemmas.ListLemmas.{OnePage, page_looks, page_of, page_tellable}
 use Rattle.program_laws.proofs.AtDeskLemmas.MeaningLemmas.{ComesOfRows, IsRead, came_rows, looked, replied}
 use Rattle.program_laws.proofs.AtDeskLemmas.OneLemmas.{Came, DeskLaws, few_rows, import_for, may_be, row_tellable}
-use Rattle.program_laws.proofs.AtDeskLemmas.PageLemmas.{CanAsk, IsSamePage, behind_askable, page_as_told, page_told, same_page, told_text}
 use Rattle.program_laws.proofs.AtDeskLemmas.PrintedLemmas.{prints_last, prints_meter, prints_quote, prints_reply, prints_sale_of_ref, prints_totals}
 use Rattle.program_laws.proofs.AtDeskLemmas.RuleLemmas.{IsOfDesk, MayReplyTo, present_is}
 use Rattle.program_laws.proofs.AtDeskLemmas.TellableLemmas.{MayAsk, MayLook, look_tells, no_count, reply_tells, tellable_look, tellable_reply, told_look, told_reply, wanted_for, wanted_look}
@@ -132,25 +123,9 @@ pub record DeskSays (q : Question) (old new : Life) (x : MessageExchange) : Type
   pub prints : (json : Bool) (o : Outputs) (end : CommandEnd) → IsAskedByOne json q → TellsTold json q said o end
       → PrintsOfDesk (ExchangeTells old x new) o end × Sells q new o end
 
--- What it says where a page of a list is asked for: whatever page is read of that is one that was
--- found, whose sales the exchange told, and the office is as it was.
-pub record PageThere (list : Listed) (page : Found) (old new : Life) (x : MessageExchange) : Type 0 where
-  pub there : Found
-  pub alike : IsSamePage page there
-  pub behind : IfSome (list_behind page) CanAsk
-  pub same : new ≡ old
-  pub tells : (s : Sale) → Contains (sales_found (Ok there)) s → ExchangeTells old x new s
-
-pub record PageSays (list : Listed) (old new : Life) (x : MessageExchange) : Type 0 where
-  pub said : Told
-  pub text : x.reply ≡ reply_text said
-  pub tellable : IsTellable wants.Page said
-  pub page : (body : Bor (List ℕ)) (page : Found) → TellAlike (told.Granted (granted.Page body)) said → IsToldPage (page_kind list) page
-      → body.now ≡ page_as_read page → PageThere list page old new x
-
 module _ (laws : DeskLaws) (old new : Timed Life) (x : MessageExchange) (opening : IsOffice old.0.opening) (life : IsLife new.0) where
   -- its message was the question's, and it closes nothing
-  told_open : (q : Question) (outcome : Outcome) → x.message ≡ question_message q → x.reply ≡ reply_bytes_of outcome false
+  pub told_open : (q : Question) (outcome : Outcome) → x.message ≡ question_message q → x.reply ≡ reply_bytes_of outcome false
       → x.reply ≡ reply_bytes_of outcome x.message.closes
   told_open q outcome asked text =
       let closes : x.message.closes ≡ false = ap (λ (m : Message). m.closes) asked in
@@ -167,7 +142,8 @@ module _ (laws : DeskLaws) (old new : Timed Life) (x : MessageExchange) (opening
         (subst (λ (now : Option ℤ). MessageAsks x.message now form moment request) (sym given)
         (subst (λ (m : Message). MessageAsks m (Some (pos moment)) form moment request) (sym asked) asks)))
 
-    looks_so : (q : Question) (form : Form) (lookup : Lookup) → x.message ≡ question_message q
+    -- so it looked up what the question does
+    pub looks_so : (q : Question) (form : Form) (lookup : Lookup) → x.message ≡ question_message q
         → MessageLooks (question_message q) (Some (pos moment)) form moment lookup → MessageLooks x.message x.now form moment lookup
     looks_so q form lookup asked looks =
         subst (λ (now : Option ℤ). MessageLooks x.message now form moment lookup) (sym given)
@@ -370,59 +346,6 @@ module _ (laws : DeskLaws) (old new : Timed Life) (x : MessageExchange) (opening
         look_says q (lookups.Sales after) asked (laws.means q moment askable is_moment) tt refl (λ e. absurd cc)
         (λ json o end r one found is sales. absurd one) (λ o end. tt) c
 
-    -- a page of a list
-    page_says_at : OnePage → (list : Listed) → CanAsk list → x.message ≡ question_message (page_question list)
-        → Came laws (page_question list) (pos moment) old new x.reply → PageSays list old.0 new.0 x
-    page_says_at one list askable asked c =
-        let m = question_message (page_question list) in
-        let now = Some (pos moment) in
-        let looks = page_looks laws moment is_moment list askable in
-        let r = looked m now (laws.meaning m now) forms.Json moment (page_lookup list) looks c.outcome old.0 new.0 c.comes in
-        let office : IsOffice (present old.0) = present_is laws.along old.0 (subst IsLife r.3 life) opening in
-        let u = told_look forms.Json r.0 in
-        let keeps = page_tellable laws old.0 office moment list r.0 r.2 in
-        let text : x.reply ≡ reply_bytes_of (outcomes.Found forms.Json r.0) false = c.text ∙ ap (λ (x : Outcome). reply_bytes_of x false) r.1 in
-        record {
-          said = u;
-          text =
-              text ∙ says laws.texts wants.Page (outcomes.Found forms.Json r.0) u keeps
-              (look_tells forms.Json r.0 (no_count forms.Json wants.Page r.0 (λ e. absurd cc) keeps));
-          tellable = keeps;
-          page = λ body page alike is_told as_read.
-              let it = page_of body r.0 alike in
-              let found : IsFoundAt old.0 moment (page_lookup list) (Ok it.0) =
-              subst (λ (x : Result Found Refusal). IsFoundAt old.0 moment (page_lookup list) x) it.1 r.2 in
-              let finds = page_found old.0 moment (page_lookup list) it.0 found in
-              let same_text = sym as_read ∙ it.2 in
-              let pages_alike =
-              one (page_kind list) page (page_as_told it.0) is_told (page_told laws.ranges (present old.0) office moment list it.0 finds)
-              (same_text ∙ sym (told_text it.0)) in
-              let alike = same_page (page_kind list) page it.0 is_told pages_alike same_text in
-              record {
-                there = it.0;
-                alike = alike;
-                behind =
-                    subst (λ (next : Option Listed). IfSome next CanAsk) (sym alike.behind)
-                    (behind_askable (present old.0) office moment list it.0 finds);
-                same = r.3;
-                tells = λ s there. inr (
-                  Ok it.0,
-                  record {
-                    form = forms.Json;
-                    moment = moment;
-                    lookup = page_lookup list;
-                    looks = looks_so (page_question list) forms.Json (page_lookup list) asked looks;
-                    told =
-                        told_open (page_question list) (outcomes.Found forms.Json (Ok it.0)) asked
-                        (text ∙ ap (λ (x : Result Found Refusal). reply_bytes_of (outcomes.Found forms.Json x) false) it.1);
-                  },
-                  found,
-                  r.3,
-                  there,
-                );
-              };
-        }
-
   -- ---- at whatever second
 
   -- a moment, or the desk's clock has none
@@ -451,7 +374,7 @@ module _ (laws : DeskLaws) (old new : Timed Life) (x : MessageExchange) (opening
 
   module _ (q : Question) (askable : IsAskable q) (asked : x.message ≡ question_message q) (answered : timed (answers_by life_serves) old x new) where
     -- the exchange was at a moment, and this came of it; or the desk's clock had none
-    dated : ((moment : ℕ) × IsMoment moment × (x.now ≡ Some (pos moment)) × Came laws q (pos moment) old new x.reply)
+    pub dated : ((moment : ℕ) × IsMoment moment × (x.now ≡ Some (pos moment)) × Came laws q (pos moment) old new x.reply)
         ⊎ (x.reply ≡ reply_bytes_of (outcomes.Faulty faults.Clock) false)
     dated = by_now x.now refl
       where
@@ -494,16 +417,3 @@ module _ (laws : DeskLaws) (old new : Timed Life) (x : MessageExchange) (opening
         prints = λ json o end one is. (nothing clock_line is, none_sells q new.0 o end clock_line is);
       }
     ]
-
-  -- what it says of a page
-  pub page_says : OnePage → (list : Listed) → CanAsk list → x.message ≡ question_message (page_question list) → timed (answers_by life_serves) old x new
-      → PageSays list old.0 new.0 x
-  page_says one list askable asked answered = elim (dated (page_question list) askable asked answered) [
-    | inl (moment, is_moment, given, c) ↦ page_says_at moment is_moment given one list askable asked c
-    | inr none ↦ record {
-      said = told.NoMoment;
-      text = none ∙ says laws.texts wants.Page (outcomes.Faulty faults.Clock) told.NoMoment tt refl;
-      tellable = tt;
-      page = λ body page alike is_told as_read. absurd alike;
-    }
-  ]
