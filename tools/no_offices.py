@@ -1,6 +1,9 @@
 """Databases that are no office, or have more than one: a part of tools/check_program. It is no script of
 its own."""
+import contextlib
+import os
 import shutil
+import sqlite3
 import subprocess
 
 from program import METER, RECEIPT, change, expect, prepare, query, sell_words, vend
@@ -123,8 +126,99 @@ def check_beside(folder):
         wrong(f"beside an office are {found}")
 
 
+def looks(file):
+    """Each command that only looks, on this file."""
+    at = ["--file", str(file)]
+    yield from (["report", *at, "--kind", kind] for kind in ("shift", "receipt", "totals", "sales"))
+    yield ["show", *at, "meter", "--meter", METER]
+    yield ["show", *at, "last", "--meter", METER]
+    yield ["show", *at, "sale", "--operator", "ann", "--ref", "A-1"]
+    for what in ("tariffs", "meters", "shifts", "sales"):
+        yield ["list", *at, what]
+        yield ["list", *at, what, "--json"]
+    yield ["offer", *at, "--meter", METER, "10"]
+    yield ["quote", *at, "--meter", METER, "10"]
+
+
+def bytes_in(folder):
+    """The bytes of each file of a folder, its rights, and when it was written."""
+    return {it.name: (it.read_bytes(), it.stat().st_mode, it.stat().st_mtime_ns)
+            for it in sorted(folder.iterdir())}
+
+
+def strangers(folder):
+    """Files that have none of an office's tables, each in a folder of its own: an empty one, a database
+    with rows, one whose last rows are in its log alone, one with an empty log, and one behind a link."""
+    for name in ("empty", "rows", "log", "emptied", "link"):
+        (folder / name).mkdir()
+        file = folder / name / "notes.db"
+        if name == "empty":
+            file.touch()
+        elif name == "log":
+            with contextlib.closing(sqlite3.connect(folder / "live.db", isolation_level=None)) as live:
+                live.executescript("PRAGMA journal_mode = WAL;" + BESIDE)
+                for end in ("", "-wal"):
+                    shutil.copy(folder / f"live.db{end}", f"{file}{end}")
+        elif name == "link":
+            change(folder / name / "real.db", BESIDE)
+            file.symlink_to("real.db")
+        else:
+            change(file, BESIDE)
+            if name == "emptied":
+                (folder / name / "notes.db-wal").touch()
+        yield file
+
+
+def check_strangers(folder):
+    """What only looks answers of a file without tables of an office as of an office without sales, leaves
+    every byte, and makes no file. An audit says that there is no office."""
+    folder = folder / "strangers"
+    folder.mkdir()
+    bare = folder / "bare.db"
+    expect(vend("shift", "--file", str(bare), "--operator", "ann", "close"), 1, b"", b"refused 2 NoShift\n")
+    count = 0
+    for file in strangers(folder):
+        before = bytes_in(file.parent)
+        for words, known in zip(looks(file), looks(bare)):
+            ran = vend(*words)
+            as_known = vend(*known)
+            expect(ran, as_known.returncode, as_known.stdout, as_known.stderr)
+            if bytes_in(file.parent) != before:
+                wrong(f"{words} changed {sorted(before)} to {sorted(bytes_in(file.parent))}")
+            count += 1
+        for words in ([], ["--transform", "demo"]):
+            expect(vend("audit", "--file", str(file), *words), 1, b"no office\n", b"")
+        if bytes_in(file.parent) != before:
+            wrong(f"an audit changed {sorted(before)} to {sorted(bytes_in(file.parent))}")
+    print(f"strangers: {count} looks at files without an office, each left as it was")
+
+
+def check_private(folder):
+    """A file that is made is its owner's alone, whatever the umask, and one that is there keeps its rights."""
+    folder = folder / "private"
+    folder.mkdir()
+    file = folder / "office.db"
+    for mask in (0o000, 0o022, 0o077):
+        file.unlink(missing_ok=True)
+        (folder / "office.db-wal").unlink(missing_ok=True)
+        was = os.umask(mask)
+        try:
+            vend("shift", "--file", str(file), "--operator", "ann", "close")
+        finally:
+            os.umask(was)
+        for it in folder.iterdir():
+            if it.stat().st_mode & 0o777 != 0o600:
+                wrong(f"{it.name} has mode {it.stat().st_mode:o} under umask {mask:o}")
+    file.chmod(0o640)
+    vend("shift", "--file", str(file), "--operator", "ann", "close")
+    if file.stat().st_mode & 0o777 != 0o640:
+        wrong(f"the rights of {file.name} have changed to {file.stat().st_mode:o}")
+
+
 def check_no_offices(folder):
     """What is no office is refused, and left as it was."""
+    check_strangers(folder)
+    check_private(folder)
     folder = folder / "none"
     folder.mkdir()
     file = folder / "office.db"

@@ -143,7 +143,7 @@ def check_waits(shop, newest, safe):
 def check_put_back(shop):
     """Where the copy is none, everything is as before: the file, its log, and the desk."""
     before = shop.rows()
-    for file, said in (("broken", "broken "), ("other", "sound format 0 "), ("empty", "sound format 0 "), ("text", "")):
+    for file, said in (("broken", "broken "), ("other", "no office"), ("empty", "no office"), ("text", "")):
         out = shop.ask("vend-restore", "--start", f"/srv/others/{file}.db", status=1)
         same(out.startswith(said), True, f"vend-restore of {file}.db: {out}")
         same((shop.rows(), shop.rights(OFFICE), moment_of(shop)), (before, ["vend:vend 600"], None),

@@ -82,6 +82,10 @@ impl<L> OfficeFile for KeptFile<L> {
         Nothing
     }
 
+    fn new_log(&self, _path: &str) -> Option<String> {
+        None
+    }
+
     fn find(self, _path: &str, _wait: u32) -> Result<(Memory, Memory), OpenFault> {
         let KeptFile { log, db, .. } = self;
         Ok((log, db))
@@ -99,6 +103,13 @@ impl<L> OfficeFile for KeptFile<L> {
         ensures back { IfSome result (λ it. it ≡ (log, db)) }
     {
         Some((log, db))
+    }
+
+    fn let_go_looked<D: Drop>(log: D, db: D, _salts: &Nothing, _new_log: &Option<String>)
+        ensures { ⊤ }
+    {
+        drop(log);
+        drop(db);
     }
 
     fn leave<T: Drop>(it: T)

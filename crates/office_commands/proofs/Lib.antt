@@ -4,6 +4,7 @@ pub mod ExportLemmas
 pub mod FileAuditLemmas
 pub mod ListingLemmas
 pub mod LostLemmas
+pub mod MeetingLemmas
 pub mod OnlyReadLemmas
 pub mod RefusedLemmas
 pub mod ReopeningLemmas

@@ -1,9 +1,11 @@
 pub mod Audits
 pub mod Closed
 pub mod Lost
+pub mod Met
 pub mod OnlyRead
 pub mod Opened
 pub mod Refused
 pub mod Reopened
 pub mod Served
+pub mod Vacant
 pub mod Visited

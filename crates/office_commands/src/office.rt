@@ -2,8 +2,11 @@
 
 pub(crate) mod asking;
 pub(crate) mod auditing;
+pub(crate) mod empty;
 pub(crate) mod listing;
 pub(crate) mod looking;
+pub(crate) mod meeting;
+pub(crate) mod met;
 pub(crate) mod opening;
 pub(crate) mod reopening;
 pub(crate) mod wanted;

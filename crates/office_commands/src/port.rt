@@ -2,6 +2,7 @@
 
 pub(crate) mod ended;
 pub(crate) mod machine;
+pub(crate) mod new_log;
 pub(crate) mod openings;
 pub(crate) mod ports;
 pub(crate) mod progress;

@@ -4,5 +4,6 @@ pub mod KeptLemmas
 pub mod LeftLemmas
 pub mod MadeLemmas
 pub mod ServedLemmas
+pub mod VacantLemmas
 pub mod VisitLemmas
 pub mod WalkLemmas

@@ -1,6 +1,7 @@
 -- How a run ends.
 use Rattle.std.proofs.Common.{◌≡◌, ◌≢◌, ◌⊎◌, ℕ, ◌≤◌, Bool, true, false, List, [], Option, Some, None, Result, Ok, Err, inl, inr, subst, sym, arith}
-use Rattle.std.specs.Prelude.{⊤, option_map}
+use Rattle.std.specs.Prelude.{⊤, ◌==◌, option_map}
+use Rattle.std.specs.Bool.{MatchBool}
 use Rattle.clap.specs.Kinds.{HasKind, IsAmong}
 use Rattle.clap.specs.Values.{kind_of}
 use Rattle.clap.specs.declared.error.Error.{Error}
@@ -19,6 +20,7 @@ use Rattle.office_rules.specs.declared.decision.answer.Answer as core
 use Rattle.office_rules.specs.declared.decision.refusal.Refusal.{Refusal}
 use Rattle.office_rules.specs.declared.decision.refusal.Refusal.TheVariants.{Memory}
 use Rattle.office_rules.specs.declared.decision.request.Request.{Request}
+use Rattle.office_rules.specs.declared.decision.request.Request.TheVariants.{Reprint, ShiftReport}
 use Rattle.office_rules.specs.declared.office.row.Row.{Row}
 use Rattle.command_line.specs.Transform.{forward_of}
 use Rattle.sts_token.specs.Token.{BlockFunction}
@@ -39,11 +41,12 @@ use Rattle.command_line.specs.declared.address.Address.{Address}
 use Rattle.command_line.specs.declared.commands.at_desk.DeskQuestion.{DeskQuestion}
 use Rattle.command_line.specs.declared.commands.at_desk.DeskQuestion.TheVariants as desk_asks
 use Rattle.office_commands.specs.commands.Audited.{IsAudited, TellsAudit}
-use Rattle.office_commands.specs.commands.Audited.IsAudited.{absent, looked, unopened as audits_unopened}
+use Rattle.office_commands.specs.commands.Audited.IsAudited.{absent, looked, unopened as audits_unopened, vacant as audits_vacant}
 use Rattle.office_commands.specs.print.Exported.{export_stop_end}
+use Rattle.office_commands.specs.print.AuditLines.{no_office_line, sound_line}
 use Rattle.office_commands.specs.commands.Imported.{AreAdded, IsFileImported}
-use Rattle.office_commands.specs.commands.LookedUp.{IsRead, IsShownAt, TellsFound}
-use Rattle.office_commands.specs.commands.LookedUp.IsShownAt.{absent as shown_absent, present as shown_present}
+use Rattle.office_commands.specs.commands.LookedUp.{IsRead, IsShownAt, ReadsEmpty, TellsFound, TellsPage}
+use Rattle.office_commands.specs.commands.LookedUp.IsShownAt.{absent as shown_absent, present as shown_present, vacant as shown_vacant}
 use Rattle.command_line.specs.Line.{faults_in}
 use Rattle.vend_commands.specs.serving.Listening.{IsServing, serving_end}
 use Rattle.vend_commands.specs.serving.Listening.IsServing.{unheard, unopened as serves_unopened, was_open}
@@ -53,8 +56,8 @@ use Rattle.vend_ports.specs.port.Texts.{Texts}
 use Rattle.office_commands.specs.port.Places.{Place, Places}
 use Rattle.vend_commands.specs.port.Machines.{Machine, Way, IsMachineIdle}
 use Rattle.vend_ports.specs.print.Printed.{refusal_line}
-use Rattle.office_commands.specs.commands.Reported.{IsReported, PrintsPaper}
-use Rattle.office_commands.specs.commands.Reported.IsReported.{absent as no_file, present}
+use Rattle.office_commands.specs.commands.Reported.{IsReported, PrintsEmpty, PrintsPaper, empty_reply}
+use Rattle.office_commands.specs.commands.Reported.IsReported.{absent as no_file, present, vacant}
 use Rattle.vend_commands.specs.Run.{IsCarriedOut, IsExplained, IsProgramRun}
 use Rattle.vend_commands.specs.Run.IsProgramRun.{answered, bad_word, explained, no_room}
 use Rattle.vend_commands.specs.commands.Selfchecked.IsSelfchecked.{agreed, failed}
@@ -166,8 +169,13 @@ serving_ends store way at door clock words err_old err_new end (unheard old open
 serving_ends store way at door clock words err_old err_new end (was_open old opens finds were) =
     end_low (serving_end were.served) end (served_low were.served) were.ends
 
+counted_ends : (none : Bool) (audited : Audited) (o : Outputs) (end : CommandEnd)
+    → MatchBool none (IsTold o no_office_line [] how.Refused end) (IsTold o (sound_line audited) [] how.Done end) → exit_status_of end ≤ 1
+counted_ends true audited o end told = told_ends o _ _ how.Refused end (omega arith) told
+counted_ends false audited o end told = told_ends o _ _ how.Done end (omega arith) told
+
 answer_told_ends : (answer : Result Audited AuditFault) (o : Outputs) (end : CommandEnd) → TellsAudit answer o end → exit_status_of end ≤ 1
-answer_told_ends (Ok audited) o end told = told_ends o _ _ how.Done end (omega arith) told
+answer_told_ends (Ok audited) o end told = counted_ends (audited.format == 0) audited o end told
 answer_told_ends (Err (Found finding)) o end (row, tells, told) = told_ends o _ _ how.Refused end (omega arith) told
 answer_told_ends (Err NoOffice) o end told = told_ends o _ _ how.Refused end (omega arith) told
 answer_told_ends (Err (Failed error)) o end told = told_ends o _ _ how.Refused end (omega arith) told
@@ -175,11 +183,20 @@ answer_told_ends (Err (Failed error)) o end told = told_ends o _ _ how.Refused e
 audit_ends : (place : Place) (given : Option BlockFunction) (o : Outputs) (end : CommandEnd) → IsAudited place given o end → exit_status_of end ≤ 1
 audit_ends place given o end (absent misses told) = told_ends o _ _ how.Refused end (omega arith) told
 audit_ends place given o end (audits_unopened fault refuses told) = told_ends o _ _ how.Refused end (omega arith) told
+audit_ends place given o end (audits_vacant vacant told) = told_ends o _ _ how.Refused end (omega arith) told
 audit_ends place given o end (looked answer meets audits told) = answer_told_ends answer o end told
+
+empty_paper_ends : (paper : Paper) (o : Outputs) (end : CommandEnd) → PrintsEmpty paper o end → exit_status_of end ≤ 1
+empty_paper_ends (papers.Shift number) o end told = reply_ends (empty_reply (ShiftReport number)) o end told
+empty_paper_ends (papers.Receipt number) o end told = reply_ends (empty_reply (Reprint number)) o end told
+empty_paper_ends (papers.Totals number) o end told = totals_ends number _ o end told
+empty_paper_ends papers.Sales o end (inl told) = told_ends o _ _ how.Done end (omega arith) told
+empty_paper_ends papers.Sales o end (inr told) = told_ends o _ _ how.Refused end (omega arith) told
 
 report_ends : {S : Type 0} (store : Ghosts S) (at : Places) (words : ReportWords) (o : Outputs) (end : CommandEnd)
     → IsReported store at words o end → exit_status_of end ≤ 1
 report_ends store at words o end (no_file misses told) = told_ends o _ _ how.Refused end (omega arith) told
+report_ends store at words o end (vacant is printed) = empty_paper_ends words.paper o end printed
 report_ends store at words o end (present printed) = visit_ends store _ _ _ o end (λ old new prints. paper_ends words.paper old new o end prints) printed
 
 found_ends : (json : Bool) (lookup : Lookup) (found : Result WhatIsFound Refusal) (o : Outputs) (end : CommandEnd)
@@ -192,9 +209,19 @@ read_ends : (moment : ℕ) (wanted : Wanted) (old new : Seen) (o : Outputs) (end
 read_ends moment (One lookup json) old new o end done = found_ends json lookup done.found o end done.told
 read_ends moment (Listing list json) old new o end done = told_ends o _ _ (export_stop_end done.stop) end (stop_low done.stop) done.told
 
+page_ends : (json : Bool) (page : Result WhatIsFound Refusal) (o : Outputs) (end : CommandEnd) → TellsPage json page o end → exit_status_of end ≤ 1
+page_ends json (Ok page) o end (inl told) = told_ends o _ _ how.Done end (omega arith) told
+page_ends json (Ok page) o end (inr told) = told_ends o _ _ how.Refused end (omega arith) told
+page_ends json (Err refusal) o end told = told_ends o _ _ how.Refused end (omega arith) told
+
+empty_read_ends : (moment : ℕ) (wanted : Wanted) (o : Outputs) (end : CommandEnd) → ReadsEmpty moment wanted o end → exit_status_of end ≤ 1
+empty_read_ends moment (One lookup json) o end (found, finds, told) = found_ends json lookup found o end told
+empty_read_ends moment (Listing list json) o end (found, finds, told) = page_ends json found o end told
+
 shown_ends : {S : Type 0} (store : Ghosts S) (at : Places) (file : Text) (wait moment : ℕ) (wanted : Wanted) (o : Outputs)
     (end : CommandEnd) → IsShownAt store at file wait moment wanted o end → exit_status_of end ≤ 1
 shown_ends store at file wait moment wanted o end (shown_absent misses told) = told_ends o _ _ how.Refused end (omega arith) told
+shown_ends store at file wait moment wanted o end (shown_vacant is read) = empty_read_ends moment wanted o end read
 shown_ends store at file wait moment wanted o end (shown_present visit) =
     visit_ends store _ _ _ o end (λ old new done. read_ends moment wanted old new o end done) visit
 

@@ -1,6 +1,7 @@
 -- A run ends with the writers that it began with.
-use Rattle.std.proofs.Common.{◌≡◌, ◌∙◌, ℕ, Bool, List, [], Option, Some, None, Result, Ok, Err, ap, inl, inr}
-use Rattle.std.specs.Prelude.{⊤, option_map}
+use Rattle.std.proofs.Common.{◌≡◌, ◌∙◌, ℕ, Bool, true, false, List, [], Option, Some, None, Result, Ok, Err, ap, inl, inr}
+use Rattle.std.specs.Prelude.{⊤, ◌==◌, option_map}
+use Rattle.std.specs.Bool.{MatchBool}
 use Rattle.clap.specs.declared.error.kind.ErrorKind.{ErrorKind}
 use Rattle.clap.specs.declared.error.kind.ErrorKind.TheVariants.{DisplayHelp, DisplayVersion, OutOfMemory}
 use Rattle.sqlite_trees.specs.declared.store.Store.{Ghosts}
@@ -15,6 +16,7 @@ use Rattle.sts_fields.specs.Text.{Text}
 use Rattle.office_rules.specs.declared.decision.answer.Answer as core
 use Rattle.office_rules.specs.declared.decision.refusal.Refusal.{Refusal}
 use Rattle.office_rules.specs.declared.decision.request.Request.{Request}
+use Rattle.office_rules.specs.declared.decision.request.Request.TheVariants.{Reprint, ShiftReport}
 use Rattle.office_rules.specs.declared.office.row.Row.{Row}
 use Rattle.command_line.specs.Transform.{forward_of}
 use Rattle.sts_token.specs.Token.{BlockFunction}
@@ -39,10 +41,11 @@ use Rattle.desk_client.specs.declared.told.Told.TheVariants as tells
 use Rattle.command_line.specs.declared.commands.at_desk.DeskQuestion.{DeskQuestion}
 use Rattle.command_line.specs.declared.commands.at_desk.DeskQuestion.TheVariants as desk_asks
 use Rattle.office_commands.specs.commands.Audited.{IsAudited, TellsAudit}
-use Rattle.office_commands.specs.commands.Audited.IsAudited.{absent, looked, unopened as audits_unopened}
+use Rattle.office_commands.specs.commands.Audited.IsAudited.{absent, looked, unopened as audits_unopened, vacant as audits_vacant}
+use Rattle.office_commands.specs.print.AuditLines.{no_office_line, sound_line}
 use Rattle.office_commands.specs.commands.Imported.{AreAdded, IsFileImported}
-use Rattle.office_commands.specs.commands.LookedUp.{IsRead, IsShownAt, TellsFound}
-use Rattle.office_commands.specs.commands.LookedUp.IsShownAt.{absent as shown_absent, present as shown_present}
+use Rattle.office_commands.specs.commands.LookedUp.{IsRead, IsShownAt, ReadsEmpty, TellsFound, TellsPage}
+use Rattle.office_commands.specs.commands.LookedUp.IsShownAt.{absent as shown_absent, present as shown_present, vacant as shown_vacant}
 use Rattle.vend_commands.specs.serving.Listening.{IsDeaf, IsServing}
 use Rattle.vend_commands.specs.serving.Listening.IsDeaf.{no_listener, no_room as deaf_for_room, no_text, not_told}
 use Rattle.vend_commands.specs.serving.Listening.IsServing.{unheard, unopened as serves_unopened, was_open}
@@ -50,8 +53,8 @@ use Rattle.vend_ports.specs.port.Dial.{Dial}
 use Rattle.vend_ports.specs.port.Texts.{Texts}
 use Rattle.office_commands.specs.port.Places.{Place, Places}
 use Rattle.vend_commands.specs.port.Machines.{Machine, Way}
-use Rattle.office_commands.specs.commands.Reported.{IsReported, PrintsPaper}
-use Rattle.office_commands.specs.commands.Reported.IsReported.{absent as no_file, present}
+use Rattle.office_commands.specs.commands.Reported.{IsReported, PrintsEmpty, PrintsPaper, empty_reply}
+use Rattle.office_commands.specs.commands.Reported.IsReported.{absent as no_file, present, vacant}
 use Rattle.vend_commands.specs.Run.{IsCarriedOut, IsExplained, IsProgramRun}
 use Rattle.vend_commands.specs.Run.IsProgramRun.{answered, bad_word, explained, no_room}
 use Rattle.vend_commands.specs.commands.Selfchecked.IsSelfchecked.{agreed, failed}
@@ -125,8 +128,13 @@ serving_same store way at door clock words old new end (unheard books opens find
     deaf_same way words.listen door last old new deaf
 serving_same store way at door clock words old new end (was_open books opens finds were) = were.told.same ∙ were.listens.told.same
 
+counted_same : (none : Bool) (audited : Audited) (o : Outputs) (end : CommandEnd)
+    → MatchBool none (IsTold o no_office_line [] how.Refused end) (IsTold o (sound_line audited) [] how.Done end) → AreSame o
+counted_same true audited o end told = told_same o _ _ _ end told
+counted_same false audited o end told = told_same o _ _ _ end told
+
 answer_told_same : (answer : Result Audited AuditFault) (o : Outputs) (end : CommandEnd) → TellsAudit answer o end → AreSame o
-answer_told_same (Ok audited) o end told = told_same o _ _ _ end told
+answer_told_same (Ok audited) o end told = counted_same (audited.format == 0) audited o end told
 answer_told_same (Err (Found finding)) o end (row, tells, told) = told_same o _ _ _ end told
 answer_told_same (Err NoOffice) o end told = told_same o _ _ _ end told
 answer_told_same (Err (Failed error)) o end told = told_same o _ _ _ end told
@@ -134,10 +142,19 @@ answer_told_same (Err (Failed error)) o end told = told_same o _ _ _ end told
 audit_same : (place : Place) (given : Option BlockFunction) (o : Outputs) (end : CommandEnd) → IsAudited place given o end → AreSame o
 audit_same place given o end (absent misses told) = told_same o _ _ _ end told
 audit_same place given o end (audits_unopened fault refuses told) = told_same o _ _ _ end told
+audit_same place given o end (audits_vacant vacant told) = told_same o _ _ _ end told
 audit_same place given o end (looked answer meets audits told) = answer_told_same answer o end told
+
+empty_paper_same : (paper : Paper) (o : Outputs) (end : CommandEnd) → PrintsEmpty paper o end → AreSame o
+empty_paper_same (papers.Shift number) o end told = reply_same (empty_reply (ShiftReport number)) o end told
+empty_paper_same (papers.Receipt number) o end told = reply_same (empty_reply (Reprint number)) o end told
+empty_paper_same (papers.Totals number) o end told = totals_same number _ o end told
+empty_paper_same papers.Sales o end (inl told) = told_same o _ _ _ end told
+empty_paper_same papers.Sales o end (inr told) = told_same o _ _ _ end told
 
 report_same : {S : Type 0} (store : Ghosts S) (at : Places) (words : ReportWords) (o : Outputs) (end : CommandEnd) → IsReported store at words o end → AreSame o
 report_same store at words o end (no_file misses told) = told_same o _ _ _ end told
+report_same store at words o end (vacant is printed) = empty_paper_same words.paper o end printed
 report_same store at words o end (present printed) = visit_same store _ _ _ o end (λ old new prints. paper_same words.paper old new o end prints) printed
 
 found_same : (json : Bool) (lookup : Lookup) (found : Result WhatIsFound Refusal) (o : Outputs) (end : CommandEnd)
@@ -150,9 +167,19 @@ read_same : (moment : ℕ) (wanted : Wanted) (old new : Seen) (o : Outputs) (end
 read_same moment (One lookup json) old new o end done = found_same json lookup done.found o end done.told
 read_same moment (Listing list json) old new o end done = told_same o _ _ _ end done.told
 
+page_same : (json : Bool) (page : Result WhatIsFound Refusal) (o : Outputs) (end : CommandEnd) → TellsPage json page o end → AreSame o
+page_same json (Ok page) o end (inl told) = told_same o _ _ _ end told
+page_same json (Ok page) o end (inr told) = told_same o _ _ _ end told
+page_same json (Err refusal) o end told = told_same o _ _ _ end told
+
+empty_read_same : (moment : ℕ) (wanted : Wanted) (o : Outputs) (end : CommandEnd) → ReadsEmpty moment wanted o end → AreSame o
+empty_read_same moment (One lookup json) o end (found, finds, told) = found_same json lookup found o end told
+empty_read_same moment (Listing list json) o end (found, finds, told) = page_same json found o end told
+
 shown_same : {S : Type 0} (store : Ghosts S) (at : Places) (file : Text) (wait moment : ℕ) (wanted : Wanted) (o : Outputs)
     (end : CommandEnd) → IsShownAt store at file wait moment wanted o end → AreSame o
 shown_same store at file wait moment wanted o end (shown_absent misses told) = told_same o _ _ _ end told
+shown_same store at file wait moment wanted o end (shown_vacant is read) = empty_read_same moment wanted o end read
 shown_same store at file wait moment wanted o end (shown_present visit) =
     visit_same store _ _ _ o end (λ old new done. read_same moment wanted old new o end done) visit
 

@@ -87,6 +87,10 @@ impl OfficeFile for LapsingOffice {
         OneSalt
     }
 
+    fn new_log(&self, _path: &str) -> Option<String> {
+        None
+    }
+
     fn find(self, _path: &str, _wait: u32) -> Result<(Lapse<Memory>, Lapse<Memory>), OpenFault> {
         let Trouble {
             is_log,
@@ -116,6 +120,13 @@ impl OfficeFile for LapsingOffice {
         ensures { IfSome result (λ it. it ≡ (log, db)) }
     {
         Some((log, db))
+    }
+
+    fn let_go_looked<D: Drop>(log: D, db: D, _salts: &OneSalt, _new_log: &Option<String>)
+        ensures { ⊤ }
+    {
+        drop(log);
+        drop(db);
     }
 
     fn leave<T: Drop>(it: T)

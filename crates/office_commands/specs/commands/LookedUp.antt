@@ -1,7 +1,8 @@
 -- What `show` and `list` print, and `quote` of a file: what is looked up in the office there.
-use Rattle.std.specs.Prelude.{◌≡◌, ◌⊎◌, ℕ, Bool, [], Option, Some, Result, Ok, Err}
+use Rattle.std.specs.Prelude.{◌≡◌, ◌⊎◌, ℕ, Bool, true, [], Option, Some, Result, Ok, Err}
 use Rattle.sqlite.specs.State.{HasCleanDisk}
 use Rattle.sqlite_trees.specs.declared.store.Store.{Ghosts}
+use Rattle.book_facts.specs.Lookups.{Finds}
 use Rattle.book_states.specs.declared.lookup.Found.{Found}
 use Rattle.book_states.specs.declared.lookup.Lookup.{Lookup}
 use Rattle.book_states.specs.declared.lookup.Lookup.TheVariants as lookups
@@ -15,7 +16,7 @@ use Rattle.sts_fields.specs.Text.{Text}
 use Rattle.tariff.specs.Purchase.{purchase_of}
 use Rattle.office_rules.specs.Decision.{MeterAccount, account_of}
 use Rattle.vend_core.specs.Law.Life.{Life}
-use Rattle.office_rules.specs.Office.{Office}
+use Rattle.office_rules.specs.Office.{Office, empty_office}
 use Rattle.office_rules.specs.declared.decision.refusal.Refusal.{Refusal}
 use Rattle.office_rules.specs.declared.decision.refusal.Refusal.TheVariants.{Memory}
 use Rattle.vend_ports.specs.commands.Timed.{IsTimed}
@@ -23,6 +24,8 @@ use Rattle.office_commands.specs.office.Visited.{IsVisited}
 use Rattle.vend_ports.specs.port.Dial.{Dial}
 use Rattle.office_commands.specs.port.Places.{Places, where_present}
 use Rattle.desk_commands.specs.print.FoundTexts.{IsMadeWhole, found_text, purchase_in}
+use Rattle.desk_commands.specs.print.ListTexts.{page_text}
+use Rattle.desk_commands.specs.print.Pages.{page_lookup}
 use Rattle.office_commands.specs.print.Listing.{IsListed}
 use Rattle.vend_ports.specs.print.Printed.{file_line, refusal_line}
 use Rattle.vend_ports.specs.print.Told.{IsTold, Outputs}
@@ -64,11 +67,30 @@ abbrev pub IsRead : (moment : ℕ) → Wanted → (old new : Seen) → Outputs �
 IsRead moment (One lookup json) old new o end = IsLookedUp moment lookup json old new o end
 IsRead moment (Listing list json) old new o end = IsListed moment list json old new o end
 
--- The file is not there, and is not made, and that is told; or what is wanted is looked up at this
--- moment in the office there, where no token is written.
+-- the first page of a list is told, or there is no room for its text
+abbrev pub TellsPage : (json : Bool) → Result Found Refusal → Outputs → CommandEnd → Type 0
+TellsPage json (Ok page) o end =
+    IsTold o (page_text json true page) [] Done end
+    ⊎ IsTold o [] (refusal_line Memory) Refused end
+TellsPage json (Err refusal) o end = IsTold o [] (refusal_line refusal) Refused end
+
+-- where a file has no office: what the empty one has at this moment, of which a list is one page
+abbrev pub ReadsEmpty : (moment : ℕ) → Wanted → Outputs → CommandEnd → Type 0
+ReadsEmpty moment (One lookup json) o end =
+    (found : Result Found Refusal) × Finds empty_office moment lookup found
+    × TellsFound json lookup found o end
+ReadsEmpty moment (Listing list json) o end =
+    (found : Result Found Refusal) × Finds empty_office moment (page_lookup list) found
+    × TellsPage json found o end
+
+-- The file is not there, and is not made, and that is told; or it has none of the office's tables,
+-- and is left as it was, and what is wanted is looked up in the empty office; or it is in the
+-- office there, where no token is written.
 pub data IsShownAt {S : Type 0} (store : Ghosts S) (at : Places) (file : Text) (wait moment : ℕ)
     (wanted : Wanted) (o : Outputs) (end : CommandEnd) : Type 0 where
   absent : (at file wait).misses → IsTold o [] file_line Refused end
+      → IsShownAt store at file wait moment wanted o end
+  vacant : (at file wait).vacant → ReadsEmpty moment wanted o end
       → IsShownAt store at file wait moment wanted o end
   present : IsVisited store (where_present (at file wait)) Plain
       (λ old new. IsRead moment wanted old new o end) o end

@@ -10,7 +10,7 @@ use Rattle.command_line.specs.Transform.{forward_of, shipped}
 use Rattle.command_line.specs.declared.transform.Shipped.{Shipped}
 use Rattle.vend_core.specs.Law.LifeLaws.{opened}
 use Rattle.office_rules.specs.Office.{Office}
-use Rattle.office_commands.specs.port.Places.{Place}
+use Rattle.office_commands.specs.port.Places.{Place, where_present}
 use Rattle.office_commands.specs.print.Opening.{opening_line}
 use Rattle.vend_ports.specs.print.Told.{Outputs, IsTold}
 use Rattle.vend_ports.specs.declared.command_end.CommandEnd.{CommandEnd}
@@ -34,6 +34,12 @@ pub record IsOpened {S : Type 0} {store : Ghosts S} (image : Image) (Opens : See
 abbrev pub IsOpenedAt : {S : Type 0} → {store : Ghosts S} → Place → Shipped
     → Books S Shipped store shipped → Type 0
 IsOpenedAt place transform books = IsOpened place.image place.opens transform books
+
+-- the same, in a file that was there
+abbrev pub IsOpenedThere : {S : Type 0} → {store : Ghosts S} → Place → Shipped
+    → Books S Shipped store shipped → Type 0
+IsOpenedThere place transform books =
+    IsOpenedAt (where_present place) transform books × place.meets
 
 -- The file is not opened, and that is told, before anything is printed; or books are opened in it,
 -- what is to be done is done there, and the file is closed as it was left.

@@ -1,5 +1,6 @@
 -- The files that keep offices, each at its path.
 use Rattle.std.specs.Prelude.{◌≡◌, ℕ, false, Option, None, Result}
+use Rattle.sqlite_disk.specs.Disk.{MoreFaults}
 use Rattle.sqlite_disk.specs.declared.Disk as disk
 use Rattle.sqlite_disk.specs.declared.Files.{Files}
 use Rattle.sqlite_wal.specs.Recovery.{Image}
@@ -15,16 +16,19 @@ use Rattle.sts_token.specs.Token.{BlockFunction}
 use Rattle.office_commands.specs.office.Audits.{AuditsIn}
 use Rattle.office_commands.specs.office.Closed.{IsClosed}
 use Rattle.office_commands.specs.office.Lost.{IsUnreopened}
-use Rattle.office_commands.specs.office.Opened.{OpensIn}
+use Rattle.office_commands.specs.office.Opened.{OpensIn, OpensThere}
+use Rattle.office_commands.specs.office.Vacant.{AreMeasured, IsVacant}
 use Rattle.office_commands.specs.port.Back.{lets_go_giving}
 use Rattle.office_commands.specs.declared.port.ports.OfficeFile as file
 use Rattle.office_commands.specs.declared.port.ports.SaltSource as source
 
--- No office was opened in two files: there was no salt for a new log, and they were let go as they
--- were found; or the office was refused. Then the files are taken from what the refusal gave back,
--- which says what they hold, and let go.
+-- No office was opened in two files: a call of the database file failed, or there was no salt for a
+-- new log, and they were let go as they were found; or the office was refused. Then the files are
+-- taken from what the refusal gave back, which says what they hold, and let go.
 pub data IsUnopenedIn {D S : Type 0} (disk : disk.Ghosts D) (salts : source.Ghosts S)
     (lets_go : D → D → Type 0) (found : Files D) (fault : OpenFault) : Type 0 where
+  unread : (before : D) → MoreFaults (disk.faults before) (disk.faults found.db)
+      → fault ≡ Store → lets_go found.log found.db → IsUnopenedIn disk salts lets_go found fault
   unsalted : (it : S) → salts.lacks it → fault ≡ Store → lets_go found.log found.db
       → IsUnopenedIn disk salts lets_go found fault
   refused : (left : Files D) → (refused : RefusedFiles D disk) → RefusesFiles found fault refused
@@ -41,7 +45,8 @@ pub data IsUnopened {D S : Type 0} (disk : disk.Ghosts D) (salts : source.Ghosts
 
 -- a file at a path: what it holds, that it was found, how an office was opened there and why none
 -- was, how it is closed, and why it is not opened again; and where it is looked for and is not
--- made: that it was there, or that it was not, why no connection was made to it, and what its audit
+-- made: that it was there, or that it was not, that it had none of the office's tables and was left
+-- as it was, how an office was opened there, why no connection was made to it, and what its audit
 -- answered, by the transform that was given, where one was
 pub record Place : Type 1 where
   pub image : Image
@@ -52,6 +57,8 @@ pub record Place : Type 1 where
   pub loses : Seen → OpenFault → Type 0
   pub meets : Type 0
   pub misses : Type 0
+  pub vacant : Type 0
+  pub opens_there : Seen → Type 0
   pub refuses : OpenFault → Type 0
   pub audits : (given : Option BlockFunction) → Result Audited AuditFault → Type 0
 
@@ -62,7 +69,11 @@ Places = Text → (wait : ℕ) → Place
 
 -- the same file, where it is looked for and is not made
 abbrev pub where_present : Place → Place
-where_present place = record place { finds = place.meets; fails = place.refuses }
+where_present place = record place {
+  finds = place.meets;
+  opens = place.opens_there;
+  fails = place.refuses;
+}
 
 -- what keeps offices has a file at each path, and this was given back of it
 abbrev pub places_of : {H D S : Type 0} → (disk : disk.Ghosts D) → source.Ghosts S
@@ -78,7 +89,11 @@ places_of {D = D} disk salts of office back path wait = record {
   loses = IsUnreopened disk salts (lets_go_giving of back false);
   meets = (log : D) × (db : D) × of.meets office path wait log db;
   misses = of.misses office path wait × (back ≡ None);
-  refuses = IsUnopened disk salts (of.meets office path wait) (lets_go_giving of back false)
+  vacant = ((log : D) × (db : D) × of.meets office path wait log db)
+      × IsVacant disk (of.image office path) (lets_go_giving of back false);
+  opens_there = OpensThere disk (of.image office path);
+  refuses = IsUnopened disk salts (AreMeasured disk (of.meets office path wait))
+      (lets_go_giving of back false)
       (λ fault. of.fails office path wait fault × (back ≡ None));
   audits = AuditsIn disk (of.image office path) (lets_go_giving of back);
 }

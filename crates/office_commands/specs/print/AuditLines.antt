@@ -25,6 +25,10 @@ sound_line a = line_of (codes "sound" ∷ codes "format" ∷ decimal a.format
     ∷ codes "tariffs" ∷ decimal a.tariffs ∷ codes "meters" ∷ decimal a.meters
     ∷ codes "shifts" ∷ decimal a.shifts ∷ codes "sales" ∷ decimal a.sales ∷ [])
 
+-- the file has none of the office's tables
+abbrev pub no_office_line : Text
+no_office_line = line_of (codes "no" ∷ codes "office" ∷ [])
+
 -- the part of an audit that has passed, in a word: each row by itself, the rows together and the
 -- totals, and the requests that may have led to them
 abbrev pub part_text : Part → Text

@@ -4,11 +4,13 @@ ghost use Rattle.office_commands.specs.commands.Audited.{IsAudited, TellsAudit};
 ghost use Rattle.office_commands.specs.port.Places.{places_of};
 ghost use Rattle.vend_ports.specs.print.Told.{outputs};
 
-use crate::office::auditing::{audit_files, connect, end_audit};
+use crate::office::auditing::{audit_files, end_audit};
+use crate::office::meeting::meet;
+use crate::office::met::Met;
 use crate::port::ended::Ended;
 use crate::port::ports::OfficeFile;
 use crate::port::progress::Progress;
-use crate::print::audit_lines::{put_broken, put_sound};
+use crate::print::audit_lines::{put_broken, put_no_office, put_sound};
 use crate::print::opening::put_opening;
 use audit::{AuditFault, Audited};
 use book_opening::fault_of;
@@ -19,8 +21,8 @@ use std::io::Write;
 use vend_ports::{CommandEnd, Watched, put_line};
 
 /// Audits the named file, if it exists, and leaves its rows as they were. It prints `sound` and the
-/// counts, or `broken` with the first row that breaks a rule, and tells `progress` when the file is
-/// open and which parts have passed.
+/// counts, or `broken` with the first row that breaks a rule, or `no office`, and tells `progress`
+/// when the file is open and which parts have passed.
 pub fn run<H: OfficeFile, P: Progress, O: Write, E: Write>(
     words: &AuditWords,
     alloc: Global,
@@ -35,15 +37,22 @@ pub fn run<H: OfficeFile, P: Progress, O: Write, E: Write>(
         (outputs out.old out.new err.old err.new) result.end }
 {
     let salts = office.salts();
-    match connect(alloc, office, &salts, words.file, words.wait) {
-        Ok(Some(mut conn)) => {
+    match meet(alloc, office, &salts, words.file, words.wait) {
+        Ok(Met::There(mut conn)) => {
             progress.tell_opened();
             let found = audit_files(alloc, &mut conn, words.transform, progress);
             let (answer, back) = end_audit::<H>(alloc, found, conn);
             let end = tell(answer, out, err);
             Ended { end, back }
         }
-        Ok(None) => {
+        Ok(Met::NoOffice) => {
+            put_no_office(out);
+            Ended {
+                end: CommandEnd::Refused,
+                back: None,
+            }
+        }
+        Ok(Met::Nothing) => {
             put_line(&[b"file"], err);
             Ended {
                 end: CommandEnd::Refused,
@@ -70,6 +79,10 @@ fn tell<O: Write, E: Write>(
 {
     match answer {
         Ok(audited) => {
+            if audited.format == 0 {
+                put_no_office(out);
+                return CommandEnd::Refused;
+            }
             put_sound(audited, out);
             CommandEnd::Done
         }

@@ -6,7 +6,9 @@ ghost use Rattle.office_commands.specs.port.Places.{places_of};
 ghost use Rattle.office_commands.specs.port.Back.{is_untouched};
 ghost use Rattle.vend_ports.specs.print.Told.{outputs};
 
+use crate::office::empty::read_empty;
 use crate::office::looking::read;
+use crate::office::met::Met;
 use crate::office::opening::{close_office, open_present_office};
 use crate::office::wanted::Wanted;
 use crate::port::ended::Ended;
@@ -62,7 +64,8 @@ pub(crate) fn run<H: OfficeFile, C: Clock, O: Write, E: Write>(
 }
 
 // Opens the office where its file is there, looks something up at a moment, prints what is found,
-// and closes its file; or tells why it is not opened. No token is written, so any transform serves.
+// and closes its file; or tells why it is not opened. Where the file has no office, it is left as it
+// was, and the empty one is looked at. No token is written, so any transform serves.
 fn run_at<H: OfficeFile, O: Write, E: Write>(
     asked: &FileLookup,
     alloc: Global,
@@ -85,12 +88,16 @@ fn run_at<H: OfficeFile, O: Write, E: Write>(
         asked.wait,
         Shipped::Plain,
     ) {
-        Ok(Some(mut books)) => {
+        Ok(Met::There(mut books)) => {
             let end = read(alloc, &mut books, moment, &asked.wanted, out, err);
             let back = close_office::<H>(books);
             Ended { end, back }
         }
-        Ok(None) => {
+        Ok(Met::NoOffice) => {
+            let end = read_empty(alloc, moment, &asked.wanted, out, err);
+            Ended { end, back: None }
+        }
+        Ok(Met::Nothing) => {
             put_line(&[b"file"], err);
             Ended {
                 end: CommandEnd::Refused,

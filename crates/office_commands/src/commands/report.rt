@@ -6,6 +6,8 @@ ghost use Rattle.vend_ports.specs.print.Told.{outputs};
 ghost use Rattle.office_commands.specs.office.Visited.{seen_in};
 
 use crate::office::asking::ask;
+use crate::office::empty::print_empty;
+use crate::office::met::Met;
 use crate::office::opening::{close_office, open_present_office};
 use crate::port::ended::Ended;
 use crate::port::ports::OfficeFile;
@@ -24,7 +26,8 @@ use sts_fields::Moment;
 use vend_ports::{CommandEnd, Watched, put_line};
 
 /// Opens the office where its file is there, prints a paper of it, and closes its file; or tells
-/// why it is not opened. No token is written, so any transform serves.
+/// why it is not opened. A file that has no office is left as it was, and the paper is that of the
+/// empty one. No token is written, so any transform serves.
 pub fn run<H: OfficeFile, P: Progress, O: Write, E: Write>(
     words: &ReportWords,
     alloc: Global,
@@ -46,12 +49,16 @@ pub fn run<H: OfficeFile, P: Progress, O: Write, E: Write>(
         words.wait,
         Shipped::Plain,
     ) {
-        Ok(Some(mut books)) => {
+        Ok(Met::There(mut books)) => {
             let end = print(alloc, &mut books, words.paper, progress, out, err);
             let back = close_office::<H>(books);
             Ended { end, back }
         }
-        Ok(None) => {
+        Ok(Met::NoOffice) => {
+            let end = print_empty(alloc, words.paper, out, err);
+            Ended { end, back: None }
+        }
+        Ok(Met::Nothing) => {
             put_line(&[b"file"], err);
             Ended {
                 end: CommandEnd::Refused,

@@ -1,81 +1,28 @@
-//! A file that is looked at where it is there: it is not made, and no office is opened in it.
+//! The audit of a database in a file that was met: no office is opened in it.
 
-ghost use Rattle.std.specs.Prelude.{◌≡◌, false, IfErr, IfNone, IfOk, IfSome, None, option_map};
+ghost use Rattle.std.specs.Prelude.{◌≡◌, option_map};
 ghost use Rattle.sqlite.specs.Files.{file_state};
-ghost use Rattle.sqlite.specs.State.{HasCleanDisk};
 ghost use Rattle.one_table.specs.Standing.{tree_in};
 ghost use Rattle.book_tables.specs.Kept.{shifts_kept};
 ghost use Rattle.audit.specs.Audited.{IsAuditOf};
-ghost use Rattle.books.specs.Path.{IsConnected};
 ghost use Rattle.command_line.specs.Transform.{forward_of};
 ghost use Rattle.office_commands.specs.port.Back.{lets_go_giving};
 ghost use Rattle.office_commands.specs.office.Audits.{EndsAudit, told_of};
-ghost use Rattle.office_commands.specs.port.Places.{places_of};
 
-use crate::office::opening::{close_connection, let_go_ended, options_of};
+use crate::office::opening::{close_connection, let_go_ended};
 use crate::port::ended::Back;
-use crate::port::ports::{OfficeFile, SaltSource};
+use crate::port::ports::OfficeFile;
 use crate::port::progress::Progress;
 use audit::{AuditFault, Audited, Finding, RowKey, Rule, TableName, audit};
-use book_opening::fault_of;
-use books::{OpenFault, RefusedFiles, found_law};
 use command_line::Shipped;
 use sqlite::{Connection, Error, FileStore};
-use sqlite_disk::{Disk, Files};
+use sqlite_disk::Disk;
 use sqlite_schema::schema::Schema;
 use std::alloc::Global;
 use whole_rows::end_looking;
 
 // A row of a shift is stored with so many values: its number, and those of its columns.
 const SHIFT_WIDTH: usize = 5;
-
-/// Connects with the database in the file at a path, where there is a file. No table is made. Waits
-/// up to so many seconds while another program has the file.
-///
-/// # Errors
-/// `Store` where it cannot be opened, and `Memory`.
-pub(crate) fn connect<H: OfficeFile>(
-    alloc: Global,
-    office: H,
-    salts: &H::Salts,
-    path: &str,
-    wait: u32,
-) -> Result<Option<Connection<FileStore<H::Medium>>>, OpenFault>
-    ensures connected { IfOk result (λ found. IfSome found (λ conn. HasCleanDisk (file_state conn)
-        → IsConnected (H.image office path.now) (file_state conn))) }
-    ensures rests { IfOk result
-        (λ found. IfSome found (λ conn. conn.in_transaction ≡ false)) }
-    ensures meets { IfOk result (λ found. IfSome found
-        (λ _. (places_of H.Medium.Disk H.Salts.SaltSource H.OfficeFile office None path.now
-        wait).meets)) }
-    ensures misses { IfOk result (λ found. IfNone found
-        (places_of H.Medium.Disk H.Salts.SaltSource H.OfficeFile office None path.now
-        wait).misses) }
-    ensures refuses { IfErr result
-        (places_of H.Medium.Disk H.Salts.SaltSource H.OfficeFile office None path.now
-        wait).refuses }
-{
-    found_law::<FileStore<H::Medium>>();
-    let found = match office.find_present(path, wait) {
-        Ok(found) => found,
-        Err(fault) => return Err(fault),
-    };
-    let Some((log, db)) = found else {
-        return Ok(None);
-    };
-    let Some(salt) = salts.draw() else {
-        H::let_go(log, db);
-        return Err(OpenFault::Store);
-    };
-    match Connection::open_files(alloc, Files { log, db }, options_of(salt)) {
-        Ok(conn) => Ok(Some(conn)),
-        Err((error, left)) => {
-            let files = RefusedFiles::Unconnected(left).into_files();
-            H::let_go(files.log, files.db);
-            Err(fault_of(error))
-        }
-    }
-}
 
 /// Looks at all rows of a database in two files, and tests the tokens by a transform, where one is
 /// given. It tells which parts have passed.

@@ -71,8 +71,8 @@ fn print_page<S: Alter, T: BlockTransform, O: Write>(
     }
 }
 
-// What is looked up for the first page of a list.
-fn page_lookup(list: Listed) -> Lookup
+/// What is looked up for the first page of a list.
+pub(crate) fn page_lookup(list: Listed) -> Lookup
     ensures { result ≡ page_lookup list }
 {
     match list {

@@ -55,8 +55,8 @@ fn look_up<S: Alter, T: BlockTransform, O: Write, E: Write>(
     }
 }
 
-// Prints what was found, or tells that there was no room for its text.
-fn tell_found<O: Write, E: Write>(
+/// Prints what was found, or tells that there was no room for its text.
+pub(crate) fn tell_found<O: Write, E: Write>(
     alloc: Global,
     lookup: &Lookup,
     found: &Found,

@@ -10,11 +10,14 @@ ghost use Rattle.office_commands.specs.port.Back.{lets_go_giving};
 ghost use Rattle.office_commands.specs.office.Closed.{AreClosed, IsClosed};
 ghost use Rattle.office_commands.specs.office.Opened.{OpensIn};
 ghost use Rattle.office_commands.specs.port.Places.{IsUnopenedIn, places_of};
-ghost use Rattle.office_commands.specs.office.Visited.{IsOpened, seen_in};
+ghost use Rattle.office_commands.specs.office.Met.{IsMet};
+ghost use Rattle.office_commands.specs.office.Visited.{IsOpened, IsOpenedThere, seen_in};
 
+use crate::office::meeting::meet;
+use crate::office::met::Met;
 use crate::port::ended::Back;
 use crate::port::ports::{OfficeFile, SaltSource};
-use books::{Books, OpenFault, RefusedFiles};
+use books::{Books, OpenFault, RefusedFiles, found_law};
 use command_line::Shipped;
 use sqlite::{Connection, Error, FileStore, Options};
 use sqlite_disk::Files;
@@ -69,8 +72,8 @@ pub fn open_office<H: OfficeFile>(
     }
 }
 
-/// Opens the office at a path where there is a file, and begins none where there is not. Waits as
-/// `open_office` does.
+/// Opens the office at a path where there is a file with tables of one, and begins none where there
+/// is not. Waits as `open_office` does.
 ///
 /// # Errors
 /// As those of `open_office`.
@@ -81,29 +84,28 @@ pub(crate) fn open_present_office<H: OfficeFile>(
     path: &str,
     wait: u32,
     transform: Shipped,
-) -> Result<Option<Books<FileStore<H::Medium>, Shipped>>, OpenFault>
-    ensures opened { IfOk result (λ found. IfSome found (IsOpened (H.image office path.now)
-        (OpensIn H.Medium.Disk (H.image office path.now)) transform)) }
-    ensures meets { IfOk result (λ found. IfSome found (λ _.
-        (places_of H.Medium.Disk H.Salts.SaltSource H.OfficeFile office None path.now
-        wait).meets)) }
-    ensures misses { IfOk result (λ found. IfNone found
-        (places_of H.Medium.Disk H.Salts.SaltSource H.OfficeFile office None path.now
-        wait).misses) }
+) -> Result<Met<Books<FileStore<H::Medium>, Shipped>>, OpenFault>
+    ensures met { IfOk result (IsMet
+        (places_of H.Medium.Disk H.Salts.SaltSource H.OfficeFile office None path.now wait)
+        (IsOpenedThere (places_of H.Medium.Disk H.Salts.SaltSource H.OfficeFile office None
+        path.now wait) transform)) }
     ensures refuses { IfErr result
         (places_of H.Medium.Disk H.Salts.SaltSource H.OfficeFile office None path.now
         wait).refuses }
 {
-    let found = match office.find_present(path, wait) {
-        Ok(found) => found,
+    found_law::<FileStore<H::Medium>>();
+    let conn = match meet(alloc, office, salts, path, wait) {
+        Ok(Met::There(conn)) => conn,
+        Ok(Met::NoOffice) => return Ok(Met::NoOffice),
+        Ok(Met::Nothing) => return Ok(Met::Nothing),
         Err(fault) => return Err(fault),
     };
-    let Some((log, db)) = found else {
-        return Ok(None);
-    };
-    match open_in::<H>(alloc, salts, Files { log, db }, transform) {
-        Ok(books) => Ok(Some(books)),
-        Err(fault) => Err(fault),
+    match Books::open_from(alloc, conn, transform) {
+        Ok(books) => Ok(Met::There(books)),
+        Err((fault, conn)) => {
+            let_refused_go::<H>(RefusedFiles::Connected(conn));
+            Err(fault)
+        }
     }
 }
 

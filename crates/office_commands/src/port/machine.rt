@@ -5,7 +5,8 @@ ghost use Rattle.sqlite_wal.specs.Files.{image_at};
 ghost use Rattle.office_commands.specs.port.Found.{AreFresh, HoldWhatWasFound, IsUnopenable};
 
 use crate::port::ended::Back;
-use crate::port::openings::{EachTry, Openings, Pair, PresentOpenings};
+use crate::port::new_log::{absent_log, remove_log};
+use crate::port::openings::{EachTry, Openings, Pair, PresentOpenings, make_private};
 use crate::port::ports::{OfficeFile, SaltSource};
 use crate::port::tries::try_for;
 use books::OpenFault;
@@ -66,7 +67,12 @@ impl<'a, B: Start> OfficeFile for MachineFile<'a, B> {
         MachineSalts { rt: self.rt }
     }
 
+    fn new_log(&self, path: &str) -> Option<String> {
+        absent_log(self.rt, path)
+    }
+
     fn find(self, path: &str, wait: u32) -> Result<Pair<B>, OpenFault> {
+        make_private(self.rt, path);
         let mut openings = Openings::<B>::new(self.rt, path);
         match try_for(&mut openings, wait) {
             Some(outcome) => outcome,
@@ -89,6 +95,17 @@ impl<'a, B: Start> OfficeFile for MachineFile<'a, B> {
         drop(log);
         drop(db);
         None
+    }
+
+    // The log goes while the database file is still open, so that no other program has either.
+    fn let_go_looked<D: Drop>(log: D, db: D, salts: &MachineSalts<'a>, new_log: &Option<String>)
+        ensures { ⊤ }
+    {
+        if let Some(name) = new_log {
+            remove_log(salts.rt, name);
+        }
+        drop(log);
+        drop(db);
     }
 
     fn leave<T: Drop>(it: T)

@@ -8,13 +8,17 @@ use crate::port::tries::Tries;
 use books::OpenFault;
 use sqlite::{FileFrom, Start};
 use sqlite_std_file::OpenError;
-use std::fs;
+use std::fs::{self, OpenOptions};
 use std::io::ErrorKind;
 use std::marker::PhantomData;
+use std::os::unix::fs::OpenOptionsExt;
 use std::time::{Clock, Duration};
 
 // So many milliseconds.
 const PAUSE: u64 = 10;
+
+// Its owner may read and write a file, and nobody else.
+const PRIVATE: u32 = 0o600;
 
 /// Stands for what the files hold as `B` does, at each try. A try that fails opens none, so that
 /// one pair of files is opened for one `B`.
@@ -117,6 +121,20 @@ impl<B: Start> Tries for PresentOpenings<'_, B> {
     fn pause(&mut self) {
         self.openings.pause();
     }
+}
+
+/// Makes an empty file where there is nothing of the name, which its owner alone may read and write:
+/// the database has the keys of the meters. Its log gets the same rights. Where it cannot be made,
+/// what opens it tells why.
+pub(crate) fn make_private(rt: &HostRuntime, path: &str) {
+    if is_address(path) || !matches!(fs::exists(rt, path), Ok(false)) {
+        return;
+    }
+    let _ = OpenOptions::new()
+        .write(true)
+        .create_new(true)
+        .mode(PRIVATE)
+        .open(rt, path);
 }
 
 // Whether SQLite takes a path for a database in memory, or for the address of one: such a path is

@@ -62,6 +62,9 @@ pub trait OfficeFile: Drop {
     /// What the salts of its log are drawn from.
     fn salts(&self) -> Self::Salts;
 
+    /// The name of the log that opening the file at a path would make, if it is there and has none.
+    fn new_log(&self, path: &str) -> Option<String>;
+
     /// Opens the log and the database file at a path, or makes them where there is none. Waits up
     /// to so many seconds while another program has them.
     fn find(self, path: &str, wait: u32) -> Result<(Self::Medium, Self::Medium), OpenFault>
@@ -95,6 +98,11 @@ pub trait OfficeFile: Drop {
     fn let_go<D: Drop>(log: D, db: D) -> Back<D>
         ensures lets_go { lets_go D log db }
         ensures back { IfSome result (λ it. it ≡ (log, db)) };
+
+    /// Lets the log and the database file go, which were only looked at, and removes a log of this name
+    /// that the look has made. Whatever this is given, it can do nothing else with it.
+    fn let_go_looked<D: Drop>(log: D, db: D, salts: &Self::Salts, new_log: &Option<String>)
+        ensures { lets_go D log db };
 
     /// Leaves it as it is. Then no files can be opened any more. Whatever this is given, it can do
     /// nothing with it.

@@ -5,8 +5,8 @@ ghost use Rattle.sqlite_value.specs.Order.{column};
 ghost use Rattle.sqlite_value.specs.Value.{owned};
 ghost use Rattle.sts_fields.specs.Text.{Text};
 ghost use Rattle.office_commands.specs.print.AuditLines.{TellsRow, TellsValue, broken_line};
-ghost use Rattle.office_commands.specs.print.AuditLines.{part_text, passed_line, rule_text};
-ghost use Rattle.office_commands.specs.print.AuditLines.{sound_line};
+ghost use Rattle.office_commands.specs.print.AuditLines.{no_office_line, part_text, passed_line};
+ghost use Rattle.office_commands.specs.print.AuditLines.{rule_text, sound_line};
 ghost use Rattle.vend_ports.specs.print.Told.{Takes};
 
 use audit::{Audited, Finding, Part, RowKey, Rule};
@@ -38,6 +38,13 @@ pub(crate) fn put_sound<W: Write>(audited: Audited, out: &mut Watched<'_, W>)
         ],
         out,
     );
+}
+
+/// Prints that a file has no office.
+pub(crate) fn put_no_office<W: Write>(out: &mut Watched<'_, W>)
+    ensures { Takes out.old out.new no_office_line }
+{
+    put_line(&[b"no", b"office"], out);
 }
 
 /// Prints which part of an audit has passed.

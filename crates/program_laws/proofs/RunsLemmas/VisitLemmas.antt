@@ -31,7 +31,7 @@ use Rattle.office_commands.specs.office.Visited.{IsOpenedAt, IsVisited, seen_in}
 use Rattle.office_commands.specs.office.Visited.IsVisited.{unopened as visit_unopened, visited as visit_opened}
 use Rattle.office_commands.specs.port.Places.{IsUnopened, Place}
 use Rattle.office_commands.specs.port.Places.IsUnopened.{unfound, unopened as found_unopened}
-use Rattle.office_commands.specs.port.Places.IsUnopenedIn.{refused, unsalted}
+use Rattle.office_commands.specs.port.Places.IsUnopenedIn.{refused, unread, unsalted}
 use Rattle.office_commands.specs.declared.office.wanted.Wanted.{Wanted}
 use Rattle.office_commands.specs.declared.office.wanted.Wanted.TheVariants.{One, Listing}
 use Rattle.office_commands.specs.declared.port.ports.SaltSource as source
@@ -169,6 +169,8 @@ module _ {start : Office} (laws : Laws start) (Before : Image → Type 0) (lives
       → ((fault : OpenFault) → fails fault → back ≡ None) → ((log db : M) → lets_go log db → back ≡ None)
       → (fault : OpenFault) (why : IsUnopened disk salts finds lets_go fails fault) → Made (use_refused fault why)
   refused_made held unmade ungiven fault (unfound none) = unseen_made start Before lives Holds back Wants o end (unmade fault none)
+  refused_made held unmade ungiven fault (found_unopened files finds (unread before more is gone)) =
+      unseen_made start Before lives Holds back Wants o end (ungiven files.log files.db gone)
   refused_made held unmade ungiven fault (found_unopened files finds (unsalted it lacks is gone)) =
       unseen_made start Before lives Holds back Wants o end (ungiven files.log files.db gone)
   refused_made held unmade ungiven fault (found_unopened files finds (refused left (Connected last) why taken gone)) = record {

@@ -32,12 +32,12 @@ use Rattle.vend_commands.specs.Run.{IsCarriedOut, IsProgramRun}
 use Rattle.vend_commands.specs.Run.IsProgramRun.{answered, bad_word, explained, no_room}
 use Rattle.office_commands.specs.commands.Asked.{IsAskedAt}
 use Rattle.office_commands.specs.commands.Audited.{IsAudited}
-use Rattle.office_commands.specs.commands.Audited.IsAudited.{absent as audit_absent, looked as audit_looked, unopened as audit_unopened}
+use Rattle.office_commands.specs.commands.Audited.IsAudited.{absent as audit_absent, looked as audit_looked, unopened as audit_unopened, vacant as audit_vacant}
 use Rattle.office_commands.specs.commands.Imported.{AreAdded, IsFileImported}
 use Rattle.office_commands.specs.commands.LookedUp.{IsShownAt, lookup_of}
-use Rattle.office_commands.specs.commands.LookedUp.IsShownAt.{absent as shown_absent, present as shown_present}
+use Rattle.office_commands.specs.commands.LookedUp.IsShownAt.{absent as shown_absent, present as shown_present, vacant as shown_vacant}
 use Rattle.office_commands.specs.commands.Reported.{IsReported}
-use Rattle.office_commands.specs.commands.Reported.IsReported.{absent as report_absent, present as report_present}
+use Rattle.office_commands.specs.commands.Reported.IsReported.{absent as report_absent, present as report_present, vacant as report_vacant}
 use Rattle.office_commands.specs.office.Closed.{IsClosed}
 use Rattle.office_commands.specs.office.Lost.{LosesNothing}
 use Rattle.office_commands.specs.office.Visited.{seen_in}
@@ -57,14 +57,15 @@ use Rattle.vend_ports.specs.print.Told.{Outputs}
 use Rattle.vend_ports.specs.declared.command_end.CommandEnd.{CommandEnd}
 use Rattle.program_laws.specs.runs.Files.{IsLeftBy}
 use Rattle.program_laws.specs.runs.Here.{HoldsSo}
-use Rattle.program_laws.specs.runs.Readings.{reading_of}
+use Rattle.program_laws.specs.runs.Readings.{empty_reading, reading_of}
 use Rattle.program_laws.specs.runs.Words.{Reports, Requests, WordsRequest}
-use Rattle.program_laws.specs.runs.Uses.{RunUse, ends_lost, lives_asking, lives_printing, reading_life, use_added, use_asked, use_audited, use_carried, use_imported, use_refused, use_reported, use_run, use_serving, use_shown, use_timed, unseen, with_file}
+use Rattle.program_laws.specs.runs.Uses.{RunUse, ends_lost, lives_asking, lives_empty, lives_printing, no_life, reading_life, use_added, use_asked, use_audited, use_carried, use_imported, use_refused, use_reported, use_run, use_serving, use_shown, use_timed, unseen, with_file}
 use Rattle.program_laws.proofs.RunsLemmas.CleanLemmas.{clean_connection}
 use Rattle.program_laws.proofs.RunsLemmas.KeptLemmas.{Laws, none_more}
 use Rattle.program_laws.proofs.RunsLemmas.LeftLemmas.{lost_none, lost_state}
 use Rattle.program_laws.proofs.RunsLemmas.MadeLemmas.{GivesBack, IsMade, closed_gives, unseen_made}
 use Rattle.program_laws.proofs.RunsLemmas.ServedLemmas.{served_made}
+use Rattle.program_laws.proofs.RunsLemmas.VacantLemmas.{empty_tells, measured_so, not_lived, paper_empty, reading_empty, vacant_made}
 use Rattle.program_laws.proofs.RunsLemmas.VisitLemmas.{asked_on, asked_tells, idle_on, looked_on, printed_on, printed_tells, refused_made, visited_made}
 
 module _ {start : Office} (laws : Laws start) (Before : Image → Type 0) (lives : List Life) {M S H D R W : Type 0} (disk : disk.Ghosts M)
@@ -99,7 +100,8 @@ module _ {start : Office} (laws : Laws start) (Before : Image → Type 0) (lives
     unmet_made : (path : Text) (wait : ℕ) (fault : OpenFault) (why : (here.at path wait).refuses fault) (o : Outputs) (end : CommandEnd)
         → Made o end (use_refused fault why)
     unmet_made path wait fault why o end = refused_made laws Before lives Holds back Wants o end
-        (λ holds found meets. (holds path wait found (inr meets)).0) (λ fault fails. fails.1) (λ log db gone. gone.1) fault why
+        (λ holds files measured. measured_so disk Before (of.meets office path wait) (λ found meets. (holds path wait found (inr meets)).0) files measured)
+        (λ fault fails. fails.1) (λ log db gone. gone.1) fault why
 
     -- the file holds at its path what its ports can find, or meet
     found_image : (path : Text) (wait : ℕ) → Holds → (here.at path wait).finds → Before (of.image office path)
@@ -132,6 +134,11 @@ module _ {start : Office} (laws : Laws start) (Before : Image → Type 0) (lives
     reporting_made : (words : ReportWords) → ((r : Request) → Reports words.paper r → Wants r) → (o : Outputs) (end : CommandEnd) (reported : IsReported (over_files {g = disk}) here.at words o end)
         → Made o end (use_reported disk salts of office back m words o end reported)
     reporting_made words wants o end (report_absent misses told) = nothing_made o end misses.1
+    reporting_made words wants o end (report_vacant (meets, vacant) printed) =
+        let path = words.file.now in
+        vacant_made laws Before lives opens Holds back Wants o end (of.image office path) (λ holds. met_image path words.wait holds meets)
+        (λ log db gone. gone.1) (lives_empty words.paper o end printed) (paper_empty laws lives words.paper o end printed)
+        (empty_tells Wants words.paper wants o end printed) vacant
     reporting_made words wants o end (report_present visit) =
         let path = words.file.now in
         visited_made laws Before lives Holds back Wants o end (where_present (here.at path words.wait)) _ use_refused
@@ -143,6 +150,10 @@ module _ {start : Office} (laws : Laws start) (Before : Image → Type 0) (lives
         (shown : IsShownAt (over_files {g = disk}) here.at path wait moment wanted o end)
         → Made o end (use_shown disk salts of office back m path wait moment wanted o end shown)
     showing_made path wait moment wanted o end (shown_absent misses told) = nothing_made o end misses.1
+    showing_made path wait moment wanted o end (shown_vacant (meets, vacant) read) =
+        vacant_made laws Before lives opens Holds back Wants o end (of.image office path) (λ holds. met_image path wait holds meets)
+        (λ log db gone. gone.1) (reading_life moment (empty_reading moment wanted o end read)) (reading_empty laws lives moment wanted o end read)
+        (λ q asks. absurd asks) vacant
     showing_made path wait moment wanted o end (shown_present visit) =
         visited_made laws Before lives Holds back Wants o end (where_present (here.at path wait)) _ use_refused
         (λ old new done. reading_life moment (reading_of moment wanted old new o end done))
@@ -160,6 +171,9 @@ module _ {start : Office} (laws : Laws start) (Before : Image → Type 0) (lives
         → Made o end (use_audited disk salts of office back m words o end audited)
     audited_made words o end (audit_absent misses told) = nothing_made o end misses.1
     audited_made words o end (audit_unopened fault why told) = unmet_made words.file.now words.wait fault why o end
+    audited_made words o end (audit_vacant (meets, vacant) told) =
+        vacant_made laws Before lives opens Holds back Wants o end (of.image office words.file.now)
+        (λ holds. met_image words.file.now words.wait holds meets) (λ log db gone. gone.1) no_life (not_lived laws lives) (λ q asks. absurd asks) vacant
     audited_made words o end (audit_looked answer meets audit told) =
         let last = file_state audit.last in
         record {

@@ -22,8 +22,9 @@ use Rattle.vend_commands.specs.Run.{IsCarriedOut, IsProgramRun}
 use Rattle.vend_commands.specs.Run.IsProgramRun.{answered, bad_word, explained, no_room as room_lacks}
 use Rattle.vend_commands.specs.port.Machines.{Machine}
 use Rattle.office_commands.specs.commands.Asked.{IsAskedAt}
-use Rattle.office_commands.specs.commands.Reported.{IsReported, PrintsPaper}
-use Rattle.office_commands.specs.commands.Reported.IsReported.{absent as report_absent, present as report_present}
+use Rattle.office_commands.specs.commands.Reported.{IsReported, PrintsEmpty, PrintsPaper}
+use Rattle.office_commands.specs.commands.Reported.IsReported.{absent as report_absent, present as report_present, vacant as report_vacant}
+use Rattle.office_commands.specs.office.Vacant.IsVacant.{blank as vacant_blank, without as vacant_without}
 use Rattle.office_commands.specs.office.Visited.{seen_in}
 use Rattle.office_commands.specs.office.Visited.IsVisited.{unopened as visit_unopened, visited as visit_opened}
 use Rattle.office_commands.specs.declared.port.ports.OfficeFile as file
@@ -33,7 +34,7 @@ use Rattle.vend_ports.specs.print.Told.{Outputs}
 use Rattle.vend_ports.specs.declared.command_end.CommandEnd.{CommandEnd}
 use Rattle.program_laws.specs.runs.Steps.{AsksIn, AsksSo, TellsNoRequest}
 use Rattle.program_laws.specs.runs.Steps.TellsNoRequest.{no_file, no_moment, no_office, no_room}
-use Rattle.program_laws.specs.runs.Uses.{RunQuestion, RunUse, lives_printing, use_asked, use_carried, use_reported, use_run, use_timed, with_file}
+use Rattle.program_laws.specs.runs.Uses.{RunQuestion, RunUse, empty_question, lives_empty, lives_printing, use_asked, use_carried, use_reported, use_run, use_timed, with_file}
 use Rattle.program_laws.specs.runs.Words.{Reports, Requests}
 
 module _ {M S H D R W : Type 0} (disk : disk.Ghosts M) (salts : source.Ghosts S) (of : file.Ghosts H M S) (office : H) (back : Option (M × M))
@@ -69,9 +70,19 @@ module _ {M S H D R W : Type 0} (disk : disk.Ghosts M) (salts : source.Ghosts S)
   printed_asks (Totals number) o end old new is does = absurd is
   printed_asks Sales o end old new is does = absurd is
 
+  -- so did one of the empty office
+  empty_asks : (paper : Paper) (o : Outputs) (end : CommandEnd) → Reports paper r → (done : PrintsEmpty paper o end)
+      → (q : RunQuestion) × AsksSo (lives_empty paper o end done) q × (q.request ≡ r)
+  empty_asks (Shift number) o end is done = (empty_question (requests.ShiftReport number), refl, sym is)
+  empty_asks (Receipt number) o end is done = (empty_question (requests.Reprint number), refl, sym is)
+  empty_asks (Totals number) o end is done = absurd is
+  empty_asks Sales o end is done = absurd is
+
   reporting_answers : (words : ReportWords) (o : Outputs) (end : CommandEnd) → Reports words.paper r
       → (reported : IsReported (over_files {g = disk}) here.at words o end) → Answers (use_reported disk salts of office back m words o end reported) o end
   reporting_answers words o end is (report_absent misses told) = inr (no_file told)
+  reporting_answers words o end is (report_vacant (meets, vacant_blank left at gone) printed) = inl (empty_asks words.paper o end is printed)
+  reporting_answers words o end is (report_vacant (meets, vacant_without conn left at taken gone) printed) = inl (empty_asks words.paper o end is printed)
   reporting_answers words o end is (report_present (visit_unopened fault fails told)) = inr (no_office fault told)
   reporting_answers words o end is (report_present (visit_opened old new begins finds does closes)) =
       inl (printed_asks words.paper o end (seen_in old) (seen_in new) is does)

@@ -12,8 +12,8 @@ use Rattle.sqlite_wal.specs.Files.{outcomes}
 use Rattle.sqlite_wal.specs.Reads.{AreClean}
 use Rattle.sqlite_trees.specs.Tree.{Trees}
 use Rattle.sqlite_wal.specs.Recovery.{Image}
-use Rattle.program_laws.specs.runs.Uses.{RunEnding, RunUse, connected, cut_off, let_go, unconnected}
-use Rattle.program_laws.specs.runs.Uses.{unseen}
+use Rattle.program_laws.specs.runs.Uses.{RunEnding, RunUse, connected, cut_off, left_blank, let_go}
+use Rattle.program_laws.specs.runs.Uses.{unconnected, unseen}
 
 -- a database that a connection may leave in this state
 abbrev pub IsLeftBy : State → Image → Type 0
@@ -43,8 +43,10 @@ module _ {M : Type 0} {g : disk.Ghosts M} where
       ∥ ((trees : Trees) × recovers now trees × HoldsDatabase image trees) ∥₁
 
   -- What the file may hold after the last connection, stopped wherever it was: a database that this
-  -- may leave, or what may be left of an attempt to make another.
+  -- may leave, or what may be left of an attempt to make another; or where none was made, what a
+  -- crash may leave of files in which nothing was ever written.
   abbrev pub MayHoldAfter : RunEnding g → Image → Type 0
+  MayHoldAfter (left_blank files) image = outcomes g files.log files.db image
   MayHoldAfter (let_go s) image = IsLeftBy s image
   MayHoldAfter (cut_off s found left) image = IsLeftBy s image ⊎ MayLeaveOf found left image
 
@@ -57,6 +59,7 @@ module _ {M : Type 0} {g : disk.Ghosts M} where
 
   -- the disk returned what was written, also as the files were found again
   abbrev pub EndsClean : RunEnding g → Type 0
+  EndsClean (left_blank files) = AreClean g files.log files.db
   EndsClean (let_go s) = HasCleanDisk s
   EndsClean (cut_off s found left) =
       HasCleanDisk s × AreClean g found.log found.db × IsCleanLeft left

@@ -1,5 +1,5 @@
 -- What a run read of an office, and the sales in it.
-use Rattle.std.specs.Prelude.{◌≡◌, ℕ, true, List, [], ◌∷◌, ◌++◌, Option, Some, Result, Ok, Contains}
+use Rattle.std.specs.Prelude.{◌≡◌, ℕ, true, List, [], ◌∷◌, ◌++◌, Option, Some, Result, Ok, Err, Contains}
 use Rattle.std.specs.List.{flat_map}
 use Rattle.book_states.specs.declared.lookup.Found.{Found}
 use Rattle.book_states.specs.declared.lookup.Lookup.{Lookup}
@@ -11,8 +11,8 @@ use Rattle.sts_fields.specs.Text.{Text}
 use Rattle.vend_core.specs.Law.Life.{Life, present}
 use Rattle.office_rules.specs.declared.decision.refusal.Refusal.{Refusal}
 use Rattle.office_rules.specs.declared.office.sale.Sale.{Sale}
-use Rattle.office_commands.specs.commands.LookedUp.{IsRead}
-use Rattle.desk_commands.specs.print.Pages.{ArePages}
+use Rattle.office_commands.specs.commands.LookedUp.{IsRead, ReadsEmpty}
+use Rattle.desk_commands.specs.print.Pages.{ArePages, list_behind}
 use Rattle.vend_ports.specs.print.Told.{Outputs}
 use Rattle.program_laws.specs.SalesTold.{sales_found}
 use Rattle.office_commands.specs.declared.office.wanted.Wanted.{Wanted}
@@ -51,3 +51,13 @@ abbrev pub reading_of : (moment : ℕ) → (wanted : Wanted) → (old new : Seen
     → (end : CommandEnd) → IsRead moment wanted old new o end → Reading
 reading_of moment (One lookup json) old new o end done = one_found lookup done.found
 reading_of moment (Listing list json) old new o end done = pages_found list done.pages done.left
+
+-- what a command read of the empty office, of which a list has one page
+abbrev pub empty_page : Listed → Result Found Refusal → Reading
+empty_page list (Ok page) = pages_found list (page ∷ []) (list_behind page)
+empty_page list (Err refusal) = pages_found list [] (Some list)
+
+abbrev pub empty_reading : (moment : ℕ) → (wanted : Wanted) → (o : Outputs) → (end : CommandEnd)
+    → ReadsEmpty moment wanted o end → Reading
+empty_reading moment (One lookup json) o end (found, finds, told) = one_found lookup found
+empty_reading moment (Listing list json) o end (found, finds, told) = empty_page list found

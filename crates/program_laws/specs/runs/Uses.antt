@@ -14,7 +14,7 @@ use Rattle.sts_fields.specs.Text.{Text}
 use Rattle.sts_token.specs.Token.{BlockFunction}
 use Rattle.vend_core.specs.Law.Life.{Life}
 use Rattle.vend_core.specs.Law.LifeLaws.{extended_by, opened}
-use Rattle.office_rules.specs.Office.{Office}
+use Rattle.office_rules.specs.Office.{Office, empty_office}
 use Rattle.office_rules.specs.declared.decision.answer.Answer.{Answer}
 use Rattle.office_rules.specs.declared.decision.refusal.Refusal.{Refusal}
 use Rattle.office_rules.specs.declared.decision.refusal.Refusal.TheVariants.{Stopped}
@@ -23,6 +23,7 @@ use Rattle.office_rules.specs.declared.decision.request.Request.TheVariants as r
 use Rattle.office_rules.specs.declared.decision.request.Stamped.{Stamped}
 use Rattle.office_rules.specs.declared.office.row.Row.{Row}
 use Rattle.office_rules.specs.declared.office.sale.Sale.{Sale}
+use Rattle.papers.specs.Export.{export_of}
 use Rattle.papers.specs.declared.row_fault.RowFault.{RowFault}
 use Rattle.book_states.specs.declared.lookup.Lookup.TheVariants as lookups
 use Rattle.book_opening.specs.declared.fault.OpenFault.{OpenFault}
@@ -48,15 +49,21 @@ use Rattle.office_commands.specs.commands.Audited.{IsAudited}
 use Rattle.office_commands.specs.commands.Audited.IsAudited.{absent as audit_absent}
 use Rattle.office_commands.specs.commands.Audited.IsAudited.{looked as audit_looked}
 use Rattle.office_commands.specs.commands.Audited.IsAudited.{unopened as audit_unopened}
+use Rattle.office_commands.specs.commands.Audited.IsAudited.{vacant as audit_vacant}
 use Rattle.office_commands.specs.commands.Imported.{AreAdded, IsFileImported}
 use Rattle.office_commands.specs.commands.LookedUp.{IsShownAt, lookup_of}
 use Rattle.office_commands.specs.commands.LookedUp.IsShownAt.{absent as shown_absent}
 use Rattle.office_commands.specs.commands.LookedUp.IsShownAt.{present as shown_present}
-use Rattle.office_commands.specs.commands.Reported.{IsReported, PrintsPaper}
+use Rattle.office_commands.specs.commands.LookedUp.IsShownAt.{vacant as shown_vacant}
+use Rattle.office_commands.specs.commands.Reported.{IsReported, PrintsEmpty, PrintsPaper, empty_reply}
 use Rattle.office_commands.specs.commands.Reported.IsReported.{absent as report_absent}
 use Rattle.office_commands.specs.commands.Reported.IsReported.{present as report_present}
+use Rattle.office_commands.specs.commands.Reported.IsReported.{vacant as report_vacant}
 use Rattle.vend_ports.specs.commands.Timed.{IsDoneAt}
 use Rattle.office_commands.specs.office.Served.{IsServedAndTold}
+use Rattle.office_commands.specs.office.Vacant.{IsVacant}
+use Rattle.office_commands.specs.office.Vacant.IsVacant.{blank as vacant_blank}
+use Rattle.office_commands.specs.office.Vacant.IsVacant.{without as vacant_without}
 use Rattle.office_commands.specs.office.Visited.{IsVisited, seen_in}
 use Rattle.office_commands.specs.office.Visited.IsVisited.{unopened as visit_unopened}
 use Rattle.office_commands.specs.office.Visited.IsVisited.{visited as visit_opened}
@@ -67,10 +74,11 @@ use Rattle.office_commands.specs.port.Back.{is_untouched}
 use Rattle.office_commands.specs.port.Places.{IsUnopened, Place, places_of, where_present}
 use Rattle.vend_commands.specs.port.Machines.{Machine, Way}
 use Rattle.office_commands.specs.port.Places.IsUnopened.{unfound, unopened as found_unopened}
-use Rattle.office_commands.specs.port.Places.IsUnopenedIn.{refused, unsalted}
+use Rattle.office_commands.specs.port.Places.IsUnopenedIn.{refused, unread, unsalted}
 use Rattle.vend_ports.specs.print.Sink.{Sink}
 use Rattle.vend_ports.specs.print.Told.{Outputs}
-use Rattle.program_laws.specs.runs.Readings.{IsReadIn, IsSaleRead, Reading, exported, reading_of}
+use Rattle.program_laws.specs.runs.Readings.{IsReadIn, IsSaleRead, Reading, empty_reading, exported}
+use Rattle.program_laws.specs.runs.Readings.{reading_of}
 use Rattle.vend_commands.specs.serving.Connections.{AreServed, Service, service}
 use Rattle.program_laws.specs.Courses.{AreLived, Course, IsNext, course}
 use Rattle.vend_commands.specs.serving.Listening.{IsServing}
@@ -151,15 +159,17 @@ TellsSo (many_lives way forward count door answers last_door left) before lives
 
 -- ---- what a run made of the file
 
--- how the last connection ended: in this state it was let go; or then its files were found again,
--- no connection could be made to them, and this is what was left of them
+-- how the file was left: no connection was made to these files, in which nothing was ever written;
+-- or in this state the last one was let go; or then its files were found again, no connection could
+-- be made to them, and this is what was left of them
 pub data RunEnding {M : Type 0} (g : disk.Ghosts M) : Type 1 where
+  left_blank : (files : Files M) → RunEnding g
   let_go : State → RunEnding g
   cut_off : State → (found : Files M) → (left : Leftover M g) → RunEnding g
 
 -- Nothing of the file was seen: none was found, or it was not looked into. Or it was found as these
--- files, and no connection could be made to them: then this is what was left of them. Or one was
--- made while the file held this, the office lived so, and the last one ended so.
+-- files, and no connection could be made to them: then this is what was left of them. Or the file
+-- held this, the office lived so, the empty one where the file had none, and it was left so.
 pub data RunUse {M : Type 0} (g : disk.Ghosts M) : Type 1 where
   unseen : RunUse g
   unconnected : (found : Files M) → (left : Leftover M g) → RunUse g
@@ -170,6 +180,7 @@ abbrev pub use_refused : {M S : Type 0} → {disk : disk.Ghosts M} → {salts : 
     → {finds lets_go : M → M → Type 0} → {fails : OpenFault → Type 0} → (fault : OpenFault)
     → IsUnopened disk salts finds lets_go fails fault → RunUse disk
 use_refused fault (unfound none) = unseen
+use_refused fault (found_unopened found finds (unread before more is gone)) = unseen
 use_refused fault (found_unopened found finds (unsalted it lacks is gone)) = unseen
 use_refused {disk = disk} fault
     (found_unopened found finds (refused left (Connected last) why taken gone)) =
@@ -188,6 +199,13 @@ use_visited if_refused lives (visit_unopened fault fails told) = if_refused faul
 use_visited {place = place} if_refused lives (visit_opened old new opens finds does closes) =
     connected place.image (lives (seen_in old) (seen_in new) does) (let_go (seen_in new).state)
 
+-- a file that has none of the office's tables: the empty office lived so, and the file is as it was
+abbrev pub use_vacant : {M : Type 0} → {disk : disk.Ghosts M} → (image : Image)
+    → {lets_go : M → M → Type 0} → Living → IsVacant disk image lets_go → RunUse disk
+use_vacant image living (vacant_blank left is gone) = connected image living (left_blank left)
+use_vacant image living (vacant_without conn left is taken gone) =
+    connected image living (let_go (file_state conn))
+
 -- a request that was served, and a paper that was printed
 abbrev pub lives_asking : (transform : Shipped) → (moment : ℕ) → (request : Request)
     → (o : Outputs) → (end : CommandEnd) → (old new : Seen)
@@ -199,6 +217,15 @@ lives_asking transform moment request o end old new done = asking_life (record {
   reply = done.reply;
 })
 
+-- what was asked of the empty office
+abbrev pub empty_question : Request → RunQuestion
+empty_question request = record {
+  transform = Plain;
+  moment = first_moment;
+  request = request;
+  reply = empty_reply request;
+}
+
 abbrev pub lives_printing : (paper : Paper) → (o : Outputs) → (end : CommandEnd)
     → (old new : Seen) → PrintsPaper paper old new o end → Living
 lives_printing (Shift number) o end old new done =
@@ -207,6 +234,16 @@ lives_printing (Receipt number) o end old new done =
     lives_asking Plain first_moment (requests.Reprint number) o end old new done
 lives_printing (Totals number) o end old new done = idle_life Plain
 lives_printing Sales o end old new done = reading_life first_moment (exported done.text)
+
+-- the same of a paper of the empty office
+abbrev pub lives_empty : (paper : Paper) → (o : Outputs) → (end : CommandEnd)
+    → PrintsEmpty paper o end → Living
+lives_empty (Shift number) o end done = asking_life (empty_question (requests.ShiftReport number))
+lives_empty (Receipt number) o end done = asking_life (empty_question (requests.Reprint number))
+lives_empty (Totals number) o end done = idle_life Plain
+lives_empty Sales o end (inl told) =
+    reading_life first_moment (exported (export_of true empty_office.sales))
+lives_empty Sales o end (inr told) = reading_life first_moment (exported [])
 
 -- what is done at a moment, if there is one
 abbrev pub use_timed : {M : Type 0} → {disk : disk.Ghosts M} → (Idle : Type 0)
@@ -284,6 +321,8 @@ module _ {M S H D R W : Type 0} (disk : disk.Ghosts M) (salts : source.Ghosts S)
   abbrev pub use_reported : (words : ReportWords) → (o : Outputs) → (end : CommandEnd)
       → IsReported (over_files {g = disk}) with_file.at words o end → RunUse disk
   use_reported words o end (report_absent misses told) = unseen
+  use_reported words o end (report_vacant (meets, vacant) printed) =
+      use_vacant (of.image office words.file.now) (lives_empty words.paper o end printed) vacant
   use_reported words o end (report_present visit) =
       use_visited {place = where_present (with_file.at words.file.now words.wait)} use_refused
       (lives_printing words.paper o end) visit
@@ -293,6 +332,9 @@ module _ {M S H D R W : Type 0} (disk : disk.Ghosts M) (salts : source.Ghosts S)
       → (end : CommandEnd)
       → IsShownAt (over_files {g = disk}) with_file.at path wait moment wanted o end → RunUse disk
   use_shown path wait moment wanted o end (shown_absent misses told) = unseen
+  use_shown path wait moment wanted o end (shown_vacant (meets, vacant) read) =
+      use_vacant (of.image office path)
+      (reading_life moment (empty_reading moment wanted o end read)) vacant
   use_shown path wait moment wanted o end (shown_present visit) =
       use_visited {place = where_present (with_file.at path wait)} use_refused
       (λ old new done. reading_life moment (reading_of moment wanted old new o end done)) visit
@@ -317,6 +359,8 @@ module _ {M S H D R W : Type 0} (disk : disk.Ghosts M) (salts : source.Ghosts S)
       o end → RunUse disk
   use_audited words o end (audit_absent misses told) = unseen
   use_audited words o end (audit_unopened fault why told) = use_refused fault why
+  use_audited words o end (audit_vacant (meets, vacant) told) =
+      use_vacant (of.image office words.file.now) no_life vacant
   use_audited words o end (audit_looked answer meets audit told) =
       connected (of.image office words.file.now) no_life (let_go (file_state audit.last))
 
