@@ -183,13 +183,13 @@ answer_told_ends (Err (Failed error)) o end told = told_ends o _ _ how.Refused e
 audit_ends : (place : Place) (given : Option BlockFunction) (o : Outputs) (end : CommandEnd) → IsAudited place given o end → exit_status_of end ≤ 1
 audit_ends place given o end (absent misses told) = told_ends o _ _ how.Refused end (omega arith) told
 audit_ends place given o end (audits_unopened fault refuses told) = told_ends o _ _ how.Refused end (omega arith) told
-audit_ends place given o end (audits_vacant vacant told) = told_ends o _ _ how.Refused end (omega arith) told
+audit_ends place given o end (audits_vacant is told) = told_ends o _ _ how.Refused end (omega arith) told
 audit_ends place given o end (looked answer meets audits told) = answer_told_ends answer o end told
 
 empty_paper_ends : (paper : Paper) (o : Outputs) (end : CommandEnd) → PrintsEmpty paper o end → exit_status_of end ≤ 1
 empty_paper_ends (papers.Shift number) o end told = reply_ends (empty_reply (ShiftReport number)) o end told
 empty_paper_ends (papers.Receipt number) o end told = reply_ends (empty_reply (Reprint number)) o end told
-empty_paper_ends (papers.Totals number) o end told = totals_ends number _ o end told
+empty_paper_ends (papers.Totals number) o end told = told_ends o _ _ how.Refused end (omega arith) told
 empty_paper_ends papers.Sales o end (inl told) = told_ends o _ _ how.Done end (omega arith) told
 empty_paper_ends papers.Sales o end (inr told) = told_ends o _ _ how.Refused end (omega arith) told
 

@@ -142,13 +142,13 @@ answer_told_same (Err (Failed error)) o end told = told_same o _ _ _ end told
 audit_same : (place : Place) (given : Option BlockFunction) (o : Outputs) (end : CommandEnd) → IsAudited place given o end → AreSame o
 audit_same place given o end (absent misses told) = told_same o _ _ _ end told
 audit_same place given o end (audits_unopened fault refuses told) = told_same o _ _ _ end told
-audit_same place given o end (audits_vacant vacant told) = told_same o _ _ _ end told
+audit_same place given o end (audits_vacant is told) = told_same o _ _ _ end told
 audit_same place given o end (looked answer meets audits told) = answer_told_same answer o end told
 
 empty_paper_same : (paper : Paper) (o : Outputs) (end : CommandEnd) → PrintsEmpty paper o end → AreSame o
 empty_paper_same (papers.Shift number) o end told = reply_same (empty_reply (ShiftReport number)) o end told
 empty_paper_same (papers.Receipt number) o end told = reply_same (empty_reply (Reprint number)) o end told
-empty_paper_same (papers.Totals number) o end told = totals_same number _ o end told
+empty_paper_same (papers.Totals number) o end told = told_same o _ _ _ end told
 empty_paper_same papers.Sales o end (inl told) = told_same o _ _ _ end told
 empty_paper_same papers.Sales o end (inr told) = told_same o _ _ _ end told
 
