@@ -79,6 +79,7 @@ module _ {D : Type 0} {g : Ghosts D} (image : Image) (conn : Held (FileStore D g
     survives = record { clean = omega arith; shield = λ k. k; counts = omega arith; limit = refl; closes = λ _ k. inl k; crash = λ _ db k. inl k };
   }
 
+  -- want of memory refuses it: the look wrote nothing
   pub memory_refused : (fault : OpenFault) → fault ≡ Memory → RefusesConnection image fault conn
   memory_refused fault is = subst (λ (f : OpenFault). RefusesConnection image f conn) (sym is) refuses_memory
 
@@ -129,6 +130,7 @@ zero_told : (found : Option ℕ) → option_eq nat_eq found (Some 0) ≡ true �
 zero_told None h = absurd (let e = h in cc)
 zero_told (Some m) h = (let e : m ≡ 0 = grind (arith, nat_tests) in ap Some e)
 
+-- the test of the format tells whether a schema has none of the tables
 pub untaken_told : (schema : Schema) (found : Option ℕ) → ((n : ℕ) → n ≤ present_format → (found ≡ Some n) ↔ HasOfficeOf n schema)
     → (test : Bool) → test ≡ option_eq nat_eq found (Some 0) → IsTrue test ↔ IsUntaken schema
 untaken_told schema found exact test is = (
@@ -149,5 +151,6 @@ module _ {D : Type 0} {g : Ghosts D} (image : Image) (meets : D → D → Type 0
 
   module _ (opens : (c : Held (FileStore D g)) (o : Office) → Opens (file_state c) → IsLive (file_state c)
       → FindsOffice (file_state c).committed.trees o → StoreStandsFor (file_state c) o) where
+    -- none of the tables is there, so the file stands for no office but the empty one
     pub is_without : IsUntaken conn.schema × ((n : ℕ) → n ≤ present_format → HasOfficeOf n conn.schema → n ≡ 0) → IsWithout g image conn
     is_without (untaken, none) = record { made = made_so; untaken = untaken; only = only_empty image conn made_so opens none }
