@@ -1,6 +1,5 @@
 -- What an audit shows where it ends as done.
-use Rattle.std.proofs.Common.{◌≡◌, ◌==◌, Bool, true, false, [], Option, Result, Ok, Err, arith, refl, subst, sym}
-use Rattle.std.proofs.lemmas.Bool.Decides.{nat_tests}
+use Rattle.std.proofs.Common.{◌≡◌, ◌==◌, ◌≤◌, ℕ, zero, suc, Bool, true, false, [], Option, Result, Ok, Err, arith, refl, subst, sym}
 use Rattle.std.specs.Bool.{MatchBool}
 use Rattle.audit.specs.declared.audited.Audited.{Audited}
 use Rattle.audit_rows.specs.declared.finding.AuditFault.{AuditFault}
@@ -19,6 +18,11 @@ use Rattle.office_commands.specs.port.Places.{Place}
 use Rattle.vend_ports.specs.declared.command_end.CommandEnd.TheVariants as how
 use Rattle.office_commands.specs.print.AuditLines.{no_office_line, sound_line}
 use Rattle.vend_ports.specs.print.Told.{IsTold, Outputs, Takes}
+
+-- a format that is not 0 has tables
+has_tables : (format : ℕ) → (format == 0) ≡ false → 1 ≤ format
+has_tables zero is = absurd (cc)
+has_tables (suc n) is = omega arith
 
 -- what was counted was told as sound, of tables of some format
 counted_sound : (none : Bool) (audited : Audited) (o : Outputs)
@@ -42,7 +46,7 @@ ends_sound g image LetsGo given place o so (looked (Ok audited) meets audits tol
     let counted = counted_sound (audited.format == 0) audited o told in
     record {
       audited = audited;
-      some = let is = counted.0 in grind (arith, nat_tests);
+      some = has_tables audited.format counted.0;
       printed = counted.1;
       last = it.last;
       closed = it.closed;

@@ -1,5 +1,5 @@
 -- What a run made of a file that has none of the office's tables.
-use Rattle.std.proofs.Common.{◌≡◌, List, [], ◌∷◌, ◌++◌, Option, Some, None, Ok, Err, inl, inr, refl, sym, subst, append-nil, arith}
+use Rattle.std.proofs.Common.{◌≡◌, true, List, [], ◌∷◌, ◌++◌, Option, Some, None, Ok, Err, inl, inr, refl, sym, subst, append-nil, arith}
 use Rattle.std.proofs.Math.Logic.{∥∥₁_map}
 use Rattle.std.proofs.lemmas.List.Elements.{All-cons, All-nil}
 use Rattle.std.specs.Prelude.{ℕ}
@@ -11,9 +11,10 @@ use Rattle.sqlite_disk.specs.declared.Files.{Files}
 use Rattle.sqlite_store.specs.declared.store.FileStore.{FileStore}
 use Rattle.sqlite_wal.specs.Recovery.{Image}
 use Rattle.papers.specs.Export.{export_of}
-use Rattle.vend_core.specs.Law.Life.{IsLife, LeadTo, Life, present}
+use Rattle.vend_core.specs.Law.Life.{Exchange, IsLife, LeadTo, Life, present}
 use Rattle.vend_core.specs.Law.LifeLaws.{extended_by, opened}
 use Rattle.office_rules.proofs.OfficeLemmas.RowLemmas.{both_true}
+use Rattle.office_rules.specs.Decision.Requests.{IsStamped}
 use Rattle.office_rules.specs.Decision.Fold.{after, replies_to}
 use Rattle.office_rules.specs.Office.{Office, empty_office}
 use Rattle.office_rules.specs.declared.decision.request.Request.{Request}
@@ -50,9 +51,12 @@ use Rattle.program_laws.proofs.RunsLemmas.MadeLemmas.{IsMade, none_given}
 abbrev idle : Life
 idle = opened (forward_of Plain) empty_office
 
+abbrev IsStampedAt : Exchange → Type 0
+IsStampedAt e = IsStamped e.request
+
 idle_life : IsLife idle
 unfolding replies_to
-idle_life = record { range = forward_range Plain; stamped = All-nil _; replies = refl; stops = tt }
+idle_life = record { range = forward_range Plain; stamped = All-nil IsStampedAt; replies = refl; stops = tt }
 
 idle_empty : present idle ≡ empty_office
 unfolding after
@@ -69,7 +73,8 @@ shift_life : (number : ℕ) → IsLife (asked (requests.ShiftReport number))
 unfolding replies_to
 shift_life number = record {
   range = forward_range Plain;
-  stamped = All-cons _ _ [] (record { moment = (omega arith, omega arith); request = tt }) (All-nil _);
+  stamped = All-cons IsStampedAt (record { request = first_asked (requests.ShiftReport number); reply = empty_reply (requests.ShiftReport number) }) []
+      (record { moment = (omega arith, omega arith); request = tt }) (All-nil IsStampedAt);
   replies = refl;
   stops = tt;
 }
@@ -78,7 +83,8 @@ sale_life : (number : ℕ) → IsLife (asked (requests.Reprint number))
 unfolding replies_to
 sale_life number = record {
   range = forward_range Plain;
-  stamped = All-cons _ _ [] (record { moment = (omega arith, omega arith); request = tt }) (All-nil _);
+  stamped = All-cons IsStampedAt (record { request = first_asked (requests.Reprint number); reply = empty_reply (requests.Reprint number) }) []
+      (record { moment = (omega arith, omega arith); request = tt }) (All-nil IsStampedAt);
   replies = refl;
   stops = tt;
 }

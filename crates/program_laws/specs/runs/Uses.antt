@@ -74,7 +74,7 @@ use Rattle.office_commands.specs.port.Back.{is_untouched}
 use Rattle.office_commands.specs.port.Places.{IsUnopened, Place, places_of, where_present}
 use Rattle.vend_commands.specs.port.Machines.{Machine, Way}
 use Rattle.office_commands.specs.port.Places.IsUnopened.{unfound, unopened as found_unopened}
-use Rattle.office_commands.specs.port.Places.IsUnopenedIn.{refused, unread, unsalted}
+use Rattle.office_commands.specs.port.Places.IsUnopenedIn.{refused, unread as not_read, unsalted}
 use Rattle.vend_ports.specs.print.Sink.{Sink}
 use Rattle.vend_ports.specs.print.Told.{Outputs}
 use Rattle.program_laws.specs.runs.Readings.{IsReadIn, IsSaleRead, Reading, empty_reading, exported}
@@ -180,7 +180,7 @@ abbrev pub use_refused : {M S : Type 0} → {disk : disk.Ghosts M} → {salts : 
     → {finds lets_go : M → M → Type 0} → {fails : OpenFault → Type 0} → (fault : OpenFault)
     → IsUnopened disk salts finds lets_go fails fault → RunUse disk
 use_refused fault (unfound none) = unseen
-use_refused fault (found_unopened found finds (unread before more is gone)) = unseen
+use_refused fault (found_unopened found finds (not_read before more is gone)) = unseen
 use_refused fault (found_unopened found finds (unsalted it lacks is gone)) = unseen
 use_refused {disk = disk} fault
     (found_unopened found finds (refused left (Connected last) why taken gone)) =
