@@ -288,6 +288,7 @@ body_fits (Sales after) is = refl
 target_path : (q : Question) → path_of (concat (target_pieces q)) ≡ concat (target_pieces q)
 target_path (Import files.Meters csv) = refl
 target_path (Import files.Tariffs csv) = refl
+target_path (SetTariff meter tariff) = refl
 target_path (MoveBase meter base) = refl
 target_path (OpenShift operator) = refl
 target_path (CloseShift operator) = refl
