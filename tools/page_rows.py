@@ -317,18 +317,13 @@ def check_spreadsheets(offices):
 
 def order_of_page():
     """The places of the page's order: sets of a table and a rule that are looked at together."""
-    text = (TOP / "docs" / PAGE).read_text(encoding="utf-8")
-    steps = dict(re.findall(r"^(\d)\. (.*)$", text.partition("## What an audit prints")[2], re.MULTILINE))
-    alone = [{(table, "value"), (table, "month")} for table in quoted(steps["1"])[2:]]
-    together = []
-    for part in steps["2"].split(";"):
-        table, *rules = quoted(part)
-        together += [{(table, rule)} for rule in rules]
-    words = quoted(steps["3"])
-    totals = [{(table, rule)} for table in words[:3] for rule in words[3:]]
-    words = quoted(steps["4"])
-    requests = [{(words[0], words[1])}, {("sales", rule) for rule in words[2:]}]
-    return alone + together + totals + requests + [{tuple(quoted(steps["5"])[1:])}, {tuple(quoted(steps["6"])[:2])}]
+    places = []
+    for step, tables, rules in rows_of_page(PAGE, "Step", "Tables", "Rules"):
+        if step in ("each row alone", "requests, sale by sale"):
+            places += [{(table, rule) for rule in quoted(rules)} for table in quoted(tables)]
+        else:
+            places += [{(table, rule)} for table in quoted(tables) for rule in quoted(rules)]
+    return places
 
 
 def check_audits(offices):
@@ -400,8 +395,14 @@ def check_limits(offices):
     same(limits.pop("shifts, and sales, in one file"), "10^9", "the shifts and sales of a file")  # as 11, above
     megabytes = lambda what: float(limits.pop(f"log beside the file: {what}").split()[0]) * 1e6
     file = str(offices.new())
-    is_at_most(megabytes("a command"), watched(file, "import", "--file", file, "tariffs",
-                                               str(TOP / "examples" / "tariffs.csv")), "a command")
+    sold = offices.copy()
+    is_at_most(megabytes("a command that is no import"), watched(sold, *sell(sold, "A-2")), "a command")
+    # The longest names, ends and prices.
+    rows = "".join(f"{number:032},{';'.join([*(f'{4294967280 + it}:1000000' for it in range(7)), ':1000000'])}\n"
+                   for number in range(10000))
+    tariffs = offices.text(f"name,steps\n{rows}")
+    is_at_most(megabytes("an import of 10,000 tariffs of eight steps"),
+               watched(file, "import", "--file", file, "--at", AT, "tariffs", tariffs), "an import of tariffs")
     rows = "".join(f"{audited_offices.meter_of(f'{number:010}')},2014,flat,{KEY}\n" for number in range(10000))
     file, meters = offices.copy(), offices.text(f"meter,base,tariff,key\n{rows}")
     is_at_most(megabytes("an import of 10,000 meters"),
