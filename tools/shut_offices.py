@@ -137,6 +137,12 @@ def check_shut(folder):
             trial.renew()
             change(trial.file, "DROP TABLE last_ids;")
             trial.is_shut(line)
+        elif what.startswith("the last sale has a column outside"):
+            trial.renew()
+            change(trial.file, "UPDATE sales SET tid = 16777216 WHERE number = 2;")
+            expect(trial.audit(trial.file), 1, b"broken sales 2 value\n", b"")
+            expect(vend("report", "--file", str(trial.file), "--kind", "totals"), 1, b"", f"{line}\n".encode())
+            trial.count += 1
         elif what != "the user cannot write the file or its folder":  # root always can
             wrong(f"docs/COMMANDS.md has a row that is not tried: {what}")
     for text in LEAVE_OPEN:
