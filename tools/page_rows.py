@@ -192,7 +192,8 @@ def check_statuses(offices):
             [["audit", "--file", file], ["sell", "--help"], ["meter", "--key", KEY, "00000000000000000000"]], b""),
         "refused; or a file, the clock or a connection failed": (
             [["report", "--file", file, "--kind", "receipt", "--number", "7"], ["audit", "--file", "none.db"]], None),
-        "`audit` found a row that breaks a rule; or standard output failed": ([["audit", "--file", broken]], b""),
+        "`audit` found no office, or a row that breaks a rule; or standard output failed": (
+            [["audit", "--file", broken]], b""),
         "an argument is missing or unknown": ([["sell"], ["audit", "--file", file, "--more"]], None),
         "a value is outside its rule, or any argument is not UTF-8": (
             [["quote", ":0", "0", "1"], ["quote", ":100", "0", b"\xff"], [b"\xff"], ["audit", "--file", b"\xff.db"]],
