@@ -1,45 +1,62 @@
--- Audits of files whose disk never lies, and what they print.
-use Rattle.std.proofs.Common.{◌≡◌, Bool, false, [], Option, Some, subst}
-use Rattle.std.specs.Prelude.{IsTrue}
+-- What audits print.
+use Rattle.std.proofs.Common.{◌≡◌, Bool, true, false, [], length, Option, Result, Ok, Err, ap, subst}
+use Rattle.std.specs.Prelude.{◌≢◌, ◌==◌, IfErr, IsTrue}
+use Rattle.std.proofs.Math.Logic.{∥∥₁_elim}
+use denote.Struct.Props.{props}
 use Rattle.sqlite_disk.specs.declared.Disk.{Ghosts}
 use Rattle.sqlite_wal.specs.Recovery.{Image}
+use Rattle.audit.specs.Fails.{IsFailure}
 use Rattle.audit.specs.declared.audited.Audited.{Audited}
+use Rattle.audit_rows.specs.declared.finding.AuditFault.{AuditFault}
+use Rattle.audit_rows.specs.declared.finding.AuditFault.TheVariants.{Failed, Found, NoOffice}
 use Rattle.sts_fields.specs.Text.{Text}
 use Rattle.sts_token.specs.Token.{BlockFunction}
-use Rattle.office_commands.specs.commands.Audited.{IsAudited}
+use Rattle.office_commands.specs.commands.Audited.{IsAudited, TellsAudit}
+use Rattle.office_commands.specs.commands.Audited.IsAudited.{absent, looked, unopened}
 use Rattle.office_commands.specs.port.Places.{Place}
 use Rattle.office_commands.specs.print.AuditLines.{sound_line}
 use Rattle.program_laws.specs.Sound.{EndsSound}
 use Rattle.vend_ports.specs.declared.command_end.CommandEnd.{CommandEnd}
 use Rattle.vend_ports.specs.declared.command_end.CommandEnd.TheVariants.{Done}
-use Rattle.vend_ports.specs.print.Sink.{Held, Sink}
-use Rattle.vend_ports.specs.print.Told.{IsTaken, Outputs, Takes}
-use Rattle.law_witnesses.specs.Printed.{IsCounted}
+use Rattle.vend_ports.specs.print.Told.{Outputs}
+use Rattle.law_witnesses.specs.Printed.{HasPrinted, IsCounted}
 use Rattle.law_witnesses.proofs.FileLemmas.{clean_files}
+use Rattle.law_witnesses.proofs.PrintLemmas.{printed_is}
 
 -- an audit that ended as done
 pub at_end : {place : Place} {given : Option BlockFunction} {o : Outputs} {end : CommandEnd} → IsAudited place given o end → end ≡ Done
     → IsAudited place given o Done
 at_end {place} {given} {o} {end} audited is = let Ends : CommandEnd → Type 0 = λ e. IsAudited place given o e in subst Ends is audited
 
--- where no write failed, an empty writer holds the text that it was given
-taken_whole : (old new : Sink) (text printed : Text) → Takes old new text → old.held ≡ Some [] → old.failed ≡ false → new.failed ≡ false
-    → new.held ≡ Some printed → printed ≡ text
-taken_whole old new text printed takes empty sound whole held =
-    let Was : Bool → Type 0 = λ was. IsTaken was new.failed old.held new.held text in
-    let Is : Bool → Type 0 = λ is. IsTaken false is old.held new.held text in
-    let Old : Held → Type 0 = λ before. IsTaken false false before new.held text in
-    let New : Held → Type 0 = λ after. IsTaken false false (Some []) after text in
-    subst New held (subst Old empty (subst Is whole (subst Was sound takes.taken)))
-
 -- what it printed is what it counted
 pub counted_text : {D : Type 0} {g : Ghosts D} {image : Image} {LetsGo : (whole : Bool) → D → D → Type 0} {given : Option BlockFunction}
-    {o : Outputs} (printed : Text) → EndsSound g image LetsGo given o → ((it : D) → IsTrue (g.is_clean it)) → o.old.held ≡ Some []
-    → o.old.failed ≡ false → o.new.failed ≡ false → o.new.held ≡ Some printed
-    → (audited : Audited) × IsCounted image given audited × (printed ≡ sound_line audited)
-counted_text {o = o} printed ends all empty fresh whole held =
+    {Did : Outputs → Type 0} (printed : Text) (it : HasPrinted Did printed) → EndsSound g image LetsGo given it.o
+    → ((file : D) → IsTrue (g.is_clean file)) → (audited : Audited) × IsCounted image given audited × (printed ≡ sound_line audited)
+counted_text printed it ends all =
     let passes = ends.passes (clean_files all ends.last) in (
       ends.audited,
       record { db = passes.0; found = passes.1; sound = passes.3; stands = passes.4 },
-      taken_whole o.old o.new (sound_line ends.audited) printed ends.printed empty fresh whole held,
+      printed_is printed (sound_line ends.audited) it ends.printed,
     )
+
+-- a text that is not empty is some text
+pub some_text : (empty : Bool) (text : Text) → empty ≡ (length text == 0) → empty ≡ false → text ≢ []
+some_text empty text is some none = let zero : (length text == 0) ≡ true = ap (λ (t : Text). length t == 0) none in absurd (cc)
+
+module _ {Did : Outputs → Type 0} {Of : Type 0} (printed : Text) (it : HasPrinted Did printed) (end : CommandEnd) (of : ∥ Of ∥₁)
+    (some : printed ≢ []) where
+  -- an audit that found nothing broken printed what it counted, if anything
+  told_count : (answer : Result Audited AuditFault) → TellsAudit answer it.o end → (Of → IfErr answer IsFailure)
+      → (audited : Audited) × (printed ≡ sound_line audited)
+  told_count (Ok audited) told honest = (audited, printed_is printed (sound_line audited) it told.0)
+  told_count (Err (Found f)) told honest = let no : IsProp ⊥ = hlevel props in absurd (∥∥₁_elim of no honest)
+  told_count (Err NoOffice) told honest = absurd (some (printed_is printed [] it told.0))
+  told_count (Err (Failed e)) told honest = absurd (some (printed_is printed [] it told.0))
+
+  -- so does one of files whose answer tells nothing of an office
+  pub count_of : {place : Place} {given : Option BlockFunction} → IsAudited place given it.o end
+      → ((answer : Result Audited AuditFault) → place.audits given answer → Of → IfErr answer IsFailure)
+      → (audited : Audited) × (printed ≡ sound_line audited)
+  count_of (absent misses told) honest = absurd (some (printed_is printed [] it told.0))
+  count_of (unopened fault refuses told) honest = absurd (some (printed_is printed [] it told.0))
+  count_of (looked answer meets audits told) honest = told_count answer told (honest answer audits)

@@ -16,11 +16,13 @@ same_files {M} found files logs dbs =
 abbrev pub held_by : (log db : Memory) → Image
 held_by log db = record { log = memory_bytes log; db = memory_bytes db }
 
+-- they hold what those hold that they are
+pub same_image : (log db : Memory) (files : Files Memory) → log ≡ files.log → db ≡ files.db → held_by log db ≡ held_by files.log files.db
+same_image log db files logs dbs = ap (λ (l : Memory). held_by l db) logs ∙ ap (λ (d : Memory). held_by files.log d) dbs
+
 -- the files that such a machine finds are those that it has
 pub these_files : (log db : Memory) (files found : Files Memory) → log ≡ files.log → db ≡ files.db
     → ((found.log ≡ log) × (found.db ≡ db)) ⊎ ((found.log ≡ log) × (found.db ≡ db))
     → (found ≡ files) × (held_by log db ≡ held_by files.log files.db)
-these_files log db files found logs dbs (inl is) =
-    (same_files found files (is.0 ∙ logs) (is.1 ∙ dbs), ap (λ (l : Memory). held_by l db) logs ∙ ap (λ (d : Memory). held_by files.log d) dbs)
-these_files log db files found logs dbs (inr is) =
-    (same_files found files (is.0 ∙ logs) (is.1 ∙ dbs), ap (λ (l : Memory). held_by l db) logs ∙ ap (λ (d : Memory). held_by files.log d) dbs)
+these_files log db files found logs dbs (inl is) = (same_files found files (is.0 ∙ logs) (is.1 ∙ dbs), same_image log db files logs dbs)
+these_files log db files found logs dbs (inr is) = (same_files found files (is.0 ∙ logs) (is.1 ∙ dbs), same_image log db files logs dbs)

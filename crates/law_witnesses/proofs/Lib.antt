@@ -1,10 +1,14 @@
 mod AuditLemmas
 mod FileLemmas
 mod KeptLemmas
+mod LineLemmas
 mod OfficeLemmas
 mod PrintLemmas
 mod QuoteLemmas
 mod ReadingLemmas
 mod RunLemmas
+mod SellLemmas
+mod ServingLemmas
+mod StandingLemmas
 mod TalkLemmas
 mod ToldLemmas

@@ -1,5 +1,5 @@
 -- Runs on files that lives left.
-use Rattle.std.proofs.Common.{◌≡◌, ◌∙◌, ◌⊎◌, ◌++◌, ℕ, Bool, false, List, [], ◌∷◌, Option, Some, Result, Ok, Err, inl, inr, refl, sym, subst, append-nil, arith}
+use Rattle.std.proofs.Common.{◌≡◌, ◌∙◌, ◌⊎◌, ◌++◌, ℕ, List, [], ◌∷◌, Option, Some, Result, Ok, Err, inl, inr, refl, sym, subst, append-nil, arith}
 use Rattle.std.specs.Prelude.{Contains}
 use Rattle.std.proofs.lemmas.List.Elements.{Contains-append_left, Contains-push}
 use Rattle.std.proofs.Math.Logic.{∥∥₁_map}
@@ -35,9 +35,9 @@ use Rattle.vend_core.specs.Law.Life.{Exchange, LeadTo, Life}
 use Rattle.vend_core.specs.Law.LifeLaws.{extended_by}
 use Rattle.vend_ports.specs.declared.command_end.CommandEnd.{CommandEnd}
 use Rattle.vend_ports.specs.declared.command_end.CommandEnd.TheVariants.{Done, Refused}
-use Rattle.vend_ports.specs.print.Sink.{Held}
-use Rattle.vend_ports.specs.print.Told.{IsTaken, Outputs}
+use Rattle.vend_ports.specs.print.Told.{Outputs}
 use Rattle.law_witnesses.specs.Runs.{IsRunOf}
+use Rattle.law_witnesses.proofs.PrintLemmas.{taken_whole}
 
 -- files that hold a database of an office are of the lives that lead to it
 pub is_of : ((trees : Trees) (o : Office) → RecoversTo trees o → FindsOffice trees o) → (image : Image) (db : Trees) (lives : List Life) (o : Office)
@@ -103,13 +103,7 @@ module _ {P D R W : Type 0} (here : Here P D R W) (law : KeepsEachRun here) wher
 
     -- what was told of a sale is what was printed
     printed_of : (s : Sale) → PrintsSale s it.run.o it.run.end → printed ≡ receipt_of s
-    printed_of s prints =
-        let Taken : Bool → Bool → Held → Held → Type 0 = λ was is old new. IsTaken was is old new (receipt_of s) in
-        let Was : Bool → Type 0 = λ was. Taken was it.run.o.new.failed it.run.o.old.held it.run.o.new.held in
-        let Is : Bool → Type 0 = λ is. Taken false is it.run.o.old.held it.run.o.new.held in
-        let Old : Held → Type 0 = λ old. Taken false false old it.run.o.new.held in
-        let New : Held → Type 0 = λ new. Taken false false (Some []) new in
-        subst New it.after (subst Old it.before (subst Is it.whole (subst Was it.sound prints.0.taken)))
+    printed_of s prints = taken_whole it.run.o.old it.run.o.new (receipt_of s) printed prints.0 it.before it.sound it.whole it.after
 
     -- where words say an order that was sold, a run by them that ends as done asks it and gets that sale
     pub sells_so : (start : Office) (lives more : List Life) (order : Order) (s : Sale) → Goes here start it.run lives more

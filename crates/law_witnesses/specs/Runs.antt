@@ -2,6 +2,8 @@
 use Rattle.std.specs.Prelude.{◌≡◌, ℕ, false, List, [], ◌∷◌, Option, Some}
 use Rattle.sqlite_disk.specs.declared.Disk as disk
 use Rattle.sqlite_disk.specs.declared.Files.{Files}
+use Rattle.command_line.specs.Transform.{forward_of}
+use Rattle.command_line.specs.declared.transform.Shipped.TheVariants.{Plain}
 use Rattle.sts_fields.specs.Text.{Text}
 use Rattle.office_rules.specs.Office.{empty_office}
 use Rattle.office_rules.specs.declared.decision.request.Order.{Order}
@@ -12,11 +14,12 @@ use Rattle.program_laws.specs.runs.Steps.{AreSoldFor, IsOf}
 use Rattle.vend_core.specs.Law.Life.{LeadTo, Life, present}
 use Rattle.vend_ports.specs.declared.command_end.CommandEnd.{CommandEnd}
 
--- A life sold this for an order, from the empty office on, and these files hold what it left: so do
--- they after a crash.
+-- A life sold this for an order, from the empty office on, with the plain transform, and these files
+-- hold what it left: so do they after a crash.
 pub record HasLeft {M : Type 0} (g : disk.Ghosts M) (order : Order) (s : Sale) (files : Files M)
     : Type 0 where
   pub life : Life
+  pub plain : life.forward ≡ forward_of Plain
   pub lead : LeadTo empty_office (life ∷ []) (present life)
   pub sold : AreSoldFor (life ∷ []) order s
   pub found : AreFoundSo g files (IsOf empty_office (life ∷ []))

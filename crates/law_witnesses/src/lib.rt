@@ -3,11 +3,19 @@
 #![tactic(auto)]
 
 #[cfg(test)]
+mod callers;
+#[cfg(test)]
+mod commands;
+#[cfg(test)]
+mod computers;
+#[cfg(test)]
 mod desks;
 #[cfg(test)]
 mod files;
 #[cfg(test)]
 mod kept;
+#[cfg(test)]
+mod lines;
 #[cfg(test)]
 mod messages;
 #[cfg(test)]
@@ -20,3 +28,5 @@ mod questions;
 mod routes;
 #[cfg(test)]
 mod runs;
+#[cfg(test)]
+mod serving;

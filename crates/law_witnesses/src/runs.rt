@@ -56,7 +56,7 @@ fn order_said(alloc: Global, words: &[&str]) -> Option<Order>
 }
 
 // The text that was written.
-fn written(alloc: Global, watched: Watched<'_, Vec<u8>>) -> Option<Vec<u8>>
+pub(crate) fn written(alloc: Global, watched: Watched<'_, Vec<u8>>) -> Option<Vec<u8>>
     ensures { IfSome result (λ text. watched.entry.held ≡ Some text.items) }
 {
     let out = watched.into_inner();
@@ -96,7 +96,7 @@ fn ran<M: Machine>(
 
 // Books on two files in memory that serve some requests and sell an order: the sale, and the files
 // as they were closed.
-fn sold_on_files(
+pub(crate) fn sold_on_files(
     alloc: Global,
     ats: &[Stamped],
     moment: Moment,

@@ -33,6 +33,7 @@ returns-in-Some-closed-clause-left c =
     (c.is_autocommit-settled.ensures.settled rests copied.was_open) holds in
     record {
       life = _;
+      plain = represented.forward;
       lead = lead;
       sold = sold_last _ at c.ask-reply.result c.args.order.now sale asked.1.for_request sold;
       found = (

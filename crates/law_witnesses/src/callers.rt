@@ -1,0 +1,71 @@
+//! A door at which one connection comes in.
+ghost use Rattle.std.specs.Prelude.{◌≡◌, ⊤, false, true};
+
+use command_line::Address;
+use std::alloc::Global;
+use vend_commands::Door;
+
+/// Somebody who sends a text, once.
+#[derive(Drop)]
+pub(crate) struct OneCaller<'a> {
+    alloc: Global,
+    text: &'a [u8],
+    has_come: bool,
+}
+
+impl<'a> OneCaller<'a> {
+    pub(crate) fn new(alloc: Global, text: &'a [u8]) -> OneCaller<'a>
+        ensures text { result.text.now ≡ text.now }
+        ensures has_come { result.has_come ≡ false }
+    {
+        OneCaller {
+            alloc,
+            text,
+            has_come: false,
+        }
+    }
+}
+
+impl<'a> Door for OneCaller<'a> {
+    type Reader = &'a [u8];
+
+    type Writer = Vec<u8>;
+
+    ghost listens = { λ _ _ _ _. ⊤ };
+
+    ghost fails = { λ _ _ _. ⊤ };
+
+    ghost accepts = { λ old reader _ new. (reader.now ≡ old.text.now)
+        × (old.has_come ≡ false) × (new.has_come ≡ true) };
+
+    ghost refuses = { λ _ _. ⊤ };
+
+    ghost ends = { λ _ _ _ _. ⊤ };
+
+    ghost leaves = { λ _ _. ⊤ };
+
+    fn listen(&mut self, _address: Address) -> Option<u16> {
+        None
+    }
+
+    fn accept(&mut self) -> Option<(&'a [u8], Vec<u8>)> {
+        if self.has_come {
+            return None;
+        }
+        self.has_come = true;
+        Some((self.text, Vec::new(self.alloc)))
+    }
+
+    fn end<R: Drop, W: Drop>(reader: R, writer: W)
+        ensures { ⊤ }
+    {
+        drop(reader);
+        drop(writer);
+    }
+
+    fn leave<T: Drop>(it: T)
+        ensures { ⊤ }
+    {
+        drop(it);
+    }
+}
