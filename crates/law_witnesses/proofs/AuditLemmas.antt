@@ -1,5 +1,5 @@
 -- What audits print.
-use Rattle.std.proofs.Common.{◌≡◌, Bool, true, false, [], length, Option, Result, Ok, Err, ap, subst}
+use Rattle.std.proofs.Common.{◌≡◌, Bool, true, false, [], length, Option, Result, Ok, Err, ap}
 use Rattle.std.specs.Prelude.{◌≢◌, ◌==◌, IfErr, IsTrue}
 use Rattle.std.proofs.Math.Logic.{∥∥₁_elim}
 use denote.Struct.Props.{props}
@@ -17,16 +17,10 @@ use Rattle.office_commands.specs.port.Places.{Place}
 use Rattle.office_commands.specs.print.AuditLines.{sound_line}
 use Rattle.program_laws.specs.Sound.{EndsSound}
 use Rattle.vend_ports.specs.declared.command_end.CommandEnd.{CommandEnd}
-use Rattle.vend_ports.specs.declared.command_end.CommandEnd.TheVariants.{Done}
 use Rattle.vend_ports.specs.print.Told.{Outputs}
 use Rattle.law_witnesses.specs.Printed.{HasPrinted, IsCounted}
 use Rattle.law_witnesses.proofs.FileLemmas.{clean_files}
 use Rattle.law_witnesses.proofs.PrintLemmas.{printed_is}
-
--- an audit that ended as done
-pub at_end : {place : Place} {given : Option BlockFunction} {o : Outputs} {end : CommandEnd} → IsAudited place given o end → end ≡ Done
-    → IsAudited place given o Done
-at_end {place} {given} {o} {end} audited is = let Ends : CommandEnd → Type 0 = λ e. IsAudited place given o e in subst Ends is audited
 
 -- what it printed is what it counted
 pub counted_text : {D : Type 0} {g : Ghosts D} {image : Image} {LetsGo : (whole : Bool) → D → D → Type 0} {given : Option BlockFunction}

@@ -33,6 +33,7 @@ said old new sent came input ending all s =
     let Of : Text → Text → Type 0 = λ read told. Conversation (timed (answers_by life_serves)) message_refusal_of ended read old told ending new in
     subst (λ read. Of read came) (sym all) (subst (λ told. Of input told) (sym s.written) s.conversation)
 
+-- a run whose line was closed is the conversation of what came
 pub line_of : (old new : Timed Life) (sent came : Text) (left : Option Text)
     → IsRun (answers_by life_serves) message_refusal_of old new (Some sent) left (Some []) (Some came) Closed
     → (ending : Ending) × Conversation (timed (answers_by life_serves)) message_refusal_of ended sent old came ending new

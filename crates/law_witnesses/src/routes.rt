@@ -1,5 +1,6 @@
 //! The laws of what messages ask, and of what they are told.
-ghost use Rattle.std.specs.Prelude.{◌≡◌, codes, map, IfSome};
+ghost use Rattle.std.specs.Prelude.{◌≡◌, ◌++◌, codes, map, IfSome};
+ghost use Rattle.desk_messages.specs.reply.Body.{body_of};
 ghost use Rattle.desk_messages.specs.reply.Lists.{list_text, listed_meter_text};
 ghost use Rattle.desk_messages.specs.reply.SaleText.{IsTellableSale, sale_text};
 
@@ -7,8 +8,8 @@ use book_states::{Found, ListedMeter};
 use conversation::Method;
 use desk_client::{Granted, PageKind, Reading, Told, Wanted, page_in, reply_in};
 use desk_messages::{
-    DeskFault, JsonKind, Route, Routes, asking_law, found_json, list_law, put_day, reply_law,
-    request_of, route_law,
+    DeskFault, Form, JsonKind, Outcome, Route, Routes, asking_law, found_json, head_law, list_law,
+    put_day, reply_law, reply_to, request_of, route_law,
 };
 use office_rules::{Request, Sale};
 use std::alloc::Global;
@@ -63,6 +64,31 @@ fn a_body_asks_one_request(rt: HostRuntime) -> Result<(), Fail> {
     assert_eq!(rt; again, first);
     Ok(())
 }
+
+// The replies of one outcome, to GET and to HEAD.
+fn replied_to_both(alloc: Global, outcome: &Outcome) -> Option<(Vec<u8>, Vec<u8>)>
+    ensures { IfSome result (λ both. both.0.items ≡ both.1.items ++ body_of outcome.now) }
+{
+    head_law();
+    let whole = reply_to(alloc, Method::Get, outcome, false).ok()?;
+    let head = reply_to(alloc, Method::Head, outcome, false).ok()?;
+    Some((whole, head))
+}
+
+#[test]
+fn a_head_lacks_the_body_alone(rt: HostRuntime) -> Result<(), Fail> {
+    let outcome = Outcome::Found(Form::Json, Ok(Found::SaleCount(0)));
+    let (whole, head) = replied_to_both(rt.alloc(), &outcome).ok_or("no reply")?;
+    assert_eq!(rt; head.as_slice(), HEALTH_HEAD);
+    assert_eq!(rt;
+        &whole[head.len()..],
+        b"{\"format\":4,\"sales\":0}".as_slice()
+    );
+    Ok(())
+}
+
+const HEALTH_HEAD: &[u8] = b"HTTP/1.1 200 OK\r\nContent-Type: application/json\r\n\
+    Content-Length: 22\r\n\r\n";
 
 // The text that a desk writes of a sale.
 fn text_of(alloc: Global, sale: &Sale) -> Option<Vec<u8>>
