@@ -1,7 +1,6 @@
 mod AuditLemmas
 mod FileLemmas
 mod KeptLemmas
-mod LineLemmas
 mod OfficeLemmas
 mod PrintLemmas
 mod QuoteLemmas

@@ -1,5 +1,5 @@
 //! The laws of single commands on the file of an office.
-ghost use Rattle.std.specs.Prelude.{◌≡◌, codes, IfSome, IsTrue, Option};
+ghost use Rattle.std.specs.Prelude.{◌≡◌, ◌⊎◌, codes, IfSome, IsTrue, Option};
 ghost use Rattle.std.specs.Prelude.{Some, option_map};
 ghost use Rattle.audit.specs.declared.audited.Audited.{Audited};
 ghost use Rattle.command_line.specs.Transform.{forward_of};
@@ -8,7 +8,7 @@ ghost use Rattle.desk_client.specs.Answers.{IsSaleFor};
 ghost use Rattle.office_commands.specs.commands.Asked.{IsAskedAt};
 ghost use Rattle.office_commands.specs.commands.Audited.{IsAudited};
 ghost use Rattle.office_commands.specs.port.Places.{places_of};
-ghost use Rattle.office_commands.specs.print.AuditLines.{sound_line};
+ghost use Rattle.office_commands.specs.print.AuditLines.{no_office_line, sound_line};
 ghost use Rattle.office_rules.specs.declared.decision.request.Request.{Request as WhatIsAsked};
 ghost use Rattle.papers.specs.Receipt.{receipt_of};
 ghost use Rattle.vend_ports.specs.declared.command_end.CommandEnd.{CommandEnd as HowItEnds};
@@ -140,14 +140,15 @@ pub(crate) fn printed_by_audit<H: OfficeFile>(
 }
 
 // What an audit prints of files on which books sold, by the transform that wrote their tokens: if
-// anything, what it counted, and no row that breaks a rule.
+// anything, what it counted, or that it found no office, and no row that breaks a rule.
 fn audited_after_books(
     alloc: Global,
     ats: &[Stamped],
     moment: Moment,
     order: &Order,
 ) -> Option<Vec<u8>>
-    ensures { IfSome result (λ text. (audited : Audited) × (text.items ≡ sound_line audited)) }
+    ensures { IfSome result (λ text. ((audited : Audited) × (text.items ≡ sound_line audited))
+        ⊎ (text.items ≡ no_office_line)) }
 {
     broken_law::<KeptFile<()>>();
     let Some((_sale, files)) = sold_on_files(alloc, ats, moment, order) else {

@@ -15,8 +15,6 @@ mod files;
 #[cfg(test)]
 mod kept;
 #[cfg(test)]
-mod lines;
-#[cfg(test)]
 mod messages;
 #[cfg(test)]
 mod offices;

@@ -19,9 +19,8 @@ ghost use Rattle.vend_core.specs.Lists.{office_of};
 ghost use Rattle.law_witnesses.specs.Offices.{life_of};
 ghost use Rattle.law_witnesses.specs.Printed.{IsCounted};
 
-use crate::commands::printed_by_audit;
 use crate::files::closed;
-use crate::kept::KeptFile;
+use crate::kept::{KeptFile, Nothing};
 use crate::offices::{day, quote_of, sale_of, served};
 use book_states::{Found, Lookup, Quote};
 use book_tables::PRESENT_FORMAT;
@@ -29,6 +28,7 @@ use books::Books;
 use command_line::AuditWords;
 use desk_commands::put_page;
 use office_commands::OfficeFile;
+use office_commands::commands::file_audit::run as run_audit;
 use office_lines::values::{FIRST_DAY, METER, meter_no, moment};
 use office_rules::{MeterNo, Moment, Reply, Sale, Stamped, Tender};
 use papers::receipt;
@@ -209,8 +209,27 @@ fn audit_printed<H: OfficeFile>(alloc: Global, office: H, words: &AuditWords) ->
         audited × (text.items ≡ sound_line audited)) }
 {
     sound_law::<H>();
-    match printed_by_audit(alloc, office, words) {
-        Some((CommandEnd::Done, text)) => Some(text),
+    let mut out = Vec::new(alloc);
+    let mut err = Vec::new(alloc);
+    let mut watched = Watched::new(&mut out);
+    let mut errors = Watched::new(&mut err);
+    let mut progress = Nothing;
+    let ended = run_audit(
+        words,
+        alloc,
+        office,
+        &mut progress,
+        &mut watched,
+        &mut errors,
+    );
+    let failed = watched.has_failed();
+    watched.into_inner();
+    errors.into_inner();
+    if failed {
+        return None;
+    }
+    match ended.end {
+        CommandEnd::Done => Some(out),
         _ => None,
     }
 }

@@ -29,7 +29,7 @@ GET /sales HTTP/1.1~Host: d~~
 405 Method Not Allowed, 18, Allow: POST~ = {'error':'Method'}
 > Closed 1388534430
 POST /sales/1 HTTP/1.1~Host: d~~
-405 Method Not Allowed, 18, Allow: GET~ = {'error':'Method'}
+405 Method Not Allowed, 18, Allow: GET, HEAD~ = {'error':'Method'}
 > Closed 1388534430
 GET /meters/12345678903/base HTTP/1.1~Host: d~~
 405 Method Not Allowed, 18, Allow: POST~ = {'error':'Method'}
