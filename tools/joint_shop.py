@@ -66,6 +66,7 @@ class Shop:
         self.room = room
         self.stack = stack
         self.sold = []
+        self.tills = []
         self.tag = 0
         self.meters = [luhn(1_000_000_000 + 7 * it) for it in range(METERS)]
         self.network = machines.Network()
@@ -166,7 +167,13 @@ class Shop:
 
     def till(self, operator, places, pause=0.0):
         self.tag += 1
-        return Till(operator, places, self.meters, f"R{self.tag}", pause)
+        self.tills.append(Till(operator, places, self.meters, f"R{self.tag}", pause))
+        return self.tills[-1]
+
+    def leave_tills(self):
+        for it in self.tills:
+            it.leave()
+        self.tills.clear()
 
     def keep(self, tills):
         """Ends tills, and keeps what they were told."""

@@ -33,12 +33,16 @@ def enter(space):
         raise OSError(ctypes.get_errno(), "setns")
 
 
+class Late(SystemExit):
+    """Something that had to come did not."""
+
+
 def wait_until(holds, why, seconds=PATIENCE, pause=0.05):
     """Waits for something that has to come, and gives what it is."""
     until = time.monotonic() + seconds
     while not (found := holds()):
         if time.monotonic() > until:
-            wrong(f"{why}: not within {seconds} seconds")
+            raise Late(f"wrong: {why}: not within {seconds} seconds")
         time.sleep(pause)
     return found
 

@@ -129,8 +129,8 @@ class Takeover:
         self.late = sum(it.place == name and it.asked > self.failed for it in mine)
         if self.is_control:
             # What the file has, and not what its desk remembers.
-            self.b.ask("systemctl", "restart", "vend")
-            wait_until(lambda: answers(self.at_b), "the desk")
+            self.b.run("systemctl", "restart", "vend")
+            wait_until(lambda: answers(self.at_b), "a desk that opens what the control left")
             self.found = shop.compare(self.b)
             return
         last = sorted((it for it in mine if it.told <= self.begun), key=lambda it: it.told)[-40:]

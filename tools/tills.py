@@ -88,6 +88,7 @@ class Till(threading.Thread):
         self.operator, self.places, self.meters, self.tag, self.pause = operator, places, meters, tag, pause
         self.sold, self.refused, self.lost = [], [], 0
         self.halted = threading.Event()
+        self.has_left = False
         self.begun = self.done = 0
         self.start()
 
@@ -97,6 +98,8 @@ class Till(threading.Thread):
             order = {"operator": self.operator, "ref": f"{self.tag}-{self.begun}",
                      "meter": random.choice(self.meters), "tender": random.randrange(10, 2000)}
             while not self.is_settled(order):
+                if self.has_left:
+                    return
                 time.sleep(PAUSE)
             self.done += 1
             time.sleep(self.pause)
@@ -119,6 +122,11 @@ class Till(threading.Thread):
                 return True
             self.lost += 1
         return False
+
+    def leave(self):
+        """Sells nothing more, even if an order that is on its way never has an answer."""
+        self.has_left = True
+        self.halted.set()
 
     def halt(self):
         """Sells nothing more, once the order that is on its way has its answer."""
