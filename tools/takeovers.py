@@ -128,8 +128,9 @@ class Takeover:
         name = self.name_of_a()
         self.late = sum(it.place == name and it.asked > self.failed for it in mine)
         if self.is_control:
-            # What the file has, and not what its desk remembers.
-            self.b.run("systemctl", "restart", "vend")
+            # What the file has, and not what its desk remembers. systemd starts it again a second later.
+            self.b.ask("systemctl", "kill", "vend")
+            time.sleep(1)
             wait_until(lambda: answers(self.at_b), "a desk that opens what the control left")
             self.found = shop.compare(self.b)
             return
