@@ -9,6 +9,7 @@ from machines import wait_until
 from shared import same, wrong
 from tills import PAUSE, AtDesk
 
+LOG = "/var/lib/vend/office.db-wal"
 PAUSES = (0, 0.005, 0.02, 0.05)  # seconds between the power of one machine and of the next
 
 
@@ -128,6 +129,7 @@ class Takeover:
         name = self.name_of_a()
         self.late = sum(it.place == name and it.asked > self.failed for it in mine)
         if self.is_control:
+            say("  vend-compare:", self.b.run("vend-compare", "--log", LOG).stdout.strip())
             # What the file has, and not what its desk remembers. systemd starts it again a second later.
             self.b.ask("systemctl", "kill", "vend")
             time.sleep(1)
