@@ -35,7 +35,7 @@ use Rattle.desk_messages.specs.declared.reply.form.Form.{Form}
 use Rattle.desk_messages.specs.declared.reply.form.Form.TheVariants as forms
 use Rattle.desk_messages.specs.declared.reply.outcome.Outcome.{Outcome}
 use Rattle.desk_messages.specs.declared.reply.outcome.Outcome.TheVariants as outcomes
-use Rattle.desk_messages.specs.reply.Text.{reply_bytes_of}
+use Rattle.desk_messages.specs.reply.Text.{reply_bytes_of, reply_to}
 use Rattle.desk_client.specs.Asks.{IsAskable, question_message}
 use Rattle.desk_client.specs.Question.{wanted_by}
 use Rattle.desk_client.specs.Reply.{reply_text}
@@ -61,7 +61,7 @@ use Rattle.program_laws.specs.runs.Asked.PrintsOfDesk.{a_find, a_reply, nothing,
 use Rattle.program_laws.proofs.AskedLemmas.LifeLemmas.{GoesFrom}
 use Rattle.program_laws.proofs.AtDeskLemmas.LineLemmas.{clock_read}
 use Rattle.program_laws.proofs.AtDeskLemmas.MeaningLemmas.{ComesOfRows, IsRead, came_rows, looked, replied}
-use Rattle.program_laws.proofs.AtDeskLemmas.OneLemmas.{Came, DeskLaws, few_rows, import_for, may_be, row_tellable}
+use Rattle.program_laws.proofs.AtDeskLemmas.OneLemmas.{Came, DeskLaws, few_rows, has_body, import_for, may_be, row_tellable}
 use Rattle.program_laws.proofs.AtDeskLemmas.PrintedLemmas.{prints_last, prints_meter, prints_quote, prints_reply, prints_sale_of_ref, prints_totals}
 use Rattle.program_laws.proofs.AtDeskLemmas.RuleLemmas.{IsOfDesk, MayReplyTo, present_is}
 use Rattle.program_laws.proofs.AtDeskLemmas.TellableLemmas.{MayAsk, MayLook, look_tells, no_count, reply_tells, tellable_look, tellable_reply, told_look, told_reply, wanted_for, wanted_look}
@@ -124,12 +124,11 @@ pub record DeskSays (q : Question) (old new : Life) (x : MessageExchange) : Type
       → PrintsOfDesk (ExchangeTells old x new) o end × Sells q new o end
 
 module _ (laws : DeskLaws) (old new : Timed Life) (x : MessageExchange) (opening : IsOffice old.0.opening) (life : IsLife new.0) where
-  -- its message was the question's, and it closes nothing
+  -- its message was the question's, which is none of HEAD and closes nothing
   pub told_open : (q : Question) (outcome : Outcome) → x.message ≡ question_message q → x.reply ≡ reply_bytes_of outcome false
-      → x.reply ≡ reply_bytes_of outcome x.message.closes
+      → x.reply ≡ reply_to x.message.method outcome x.message.closes
   told_open q outcome asked text =
-      let closes : x.message.closes ≡ false = ap (λ (m : Message). m.closes) asked in
-      text ∙ ap (λ (b : Bool). reply_bytes_of outcome b) (sym closes)
+      text ∙ sym (has_body laws q outcome) ∙ ap (λ (m : Message). reply_to m.method outcome m.closes) (sym asked)
 
   -- ---- at a moment
   module _ (moment : ℕ) (is_moment : IsMoment moment) (given : x.now ≡ Some (pos moment)) where
@@ -283,6 +282,10 @@ module _ (laws : DeskLaws) (old new : Timed Life) (x : MessageExchange) (opening
     -- each question
     question_says : (q : Question) → IsAskable q → x.message ≡ question_message q → Came laws q (pos moment) old new x.reply → DeskSays q old.0 new.0 x
     question_says (questions.Import kind csv) askable asked c = import_says kind csv c
+    question_says (questions.SetTariff meter tariff) askable asked c =
+        let q = questions.SetTariff meter tariff in
+        request_says q (requests.SetTariff meter tariff) asked (laws.means q moment askable is_moment) tt refl (λ json s. refl) (λ json s none. none) tt
+        (λ o end r at asks goes may told. tt) c
     question_says (questions.MoveBase meter base) askable asked c =
         let q = questions.MoveBase meter base in
         request_says q (requests.MoveBase meter base) asked (laws.means q moment askable is_moment) tt refl (λ json s. refl) (λ json s none. none) tt
@@ -391,7 +394,7 @@ module _ (laws : DeskLaws) (old new : Timed Life) (x : MessageExchange) (opening
             subst (λ (m : Message). Comes life_serves m (Some second) answered.0.0 old.0 new.0) asked
             (subst (λ (now : Option ℤ). Comes life_serves x.message now answered.0.0 old.0 new.0) is answered.0.1) in
             let text : x.reply ≡ reply_bytes_of answered.0.0 false =
-            answered.0.2 ∙ ap (λ (m : Message). reply_bytes_of answered.0.0 m.closes) asked in
+            answered.0.2 ∙ ap (λ (m : Message). reply_to m.method answered.0.0 m.closes) asked ∙ has_body laws q answered.0.0 in
             elim (at_moment m second answered.0.0 comes text) [
               | inl (moment, is_moment, same) ↦ inl (
                 moment,

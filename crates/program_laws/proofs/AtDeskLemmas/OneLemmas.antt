@@ -175,8 +175,9 @@ module _ (laws : DeskLaws) where
   -- ---- the message
 
   -- no question is asked by HEAD, so its reply has its body
-  has_body : (question : Question) (outcome : Outcome) → reply_to (question_method question) outcome false ≡ reply_bytes_of outcome false
+  pub has_body : (question : Question) (outcome : Outcome) → reply_to (question_method question) outcome false ≡ reply_bytes_of outcome false
   has_body (questions.Import kind csv) outcome = refl
+  has_body (questions.SetTariff meter tariff) outcome = refl
   has_body (questions.MoveBase meter base) outcome = refl
   has_body (questions.OpenShift operator) outcome = refl
   has_body (questions.CloseShift operator) outcome = refl

@@ -39,6 +39,7 @@ SellsAtDesk order it = ⊥
 is_order : (rows : List Row) (order : Order) (q : DeskQuestion) → SaysOrder rows order → SaysDeskQuestion (codes "desk-sell") rows q → questions.Sell order ≡ q
 is_order rows order (questions.Sell other) one says = ap questions.Sell (one_order rows order other one says.1)
 is_order rows order (questions.Import kind csv) one says = absurd (subst IsSell says.0 tt)
+is_order rows order (questions.SetTariff meter tariff) one says = absurd (subst IsSell says.0 tt)
 is_order rows order (questions.MoveBase meter base) one says = absurd (subst IsSell says.0 tt)
 is_order rows order (questions.OpenShift operator) one says = absurd (subst IsSell says.0 tt)
 is_order rows order (questions.CloseShift operator) one says = absurd (subst IsSell says.0 tt)
@@ -53,6 +54,7 @@ is_order rows order (questions.List members json) one (inr says) = absurd (subst
 -- no request is made to a file by them
 no_request : (rows : List Row) (r : Request) → ¬ SaysRequest (codes "desk-sell") rows r
 no_request rows (requests.Sell order) says = absurd (subst IsSell says.0 tt)
+no_request rows (requests.SetTariff meter tariff) says = absurd (subst IsSell says.0 tt)
 no_request rows (requests.MoveBase meter base) says = absurd (subst IsSell says.0 tt)
 no_request rows (requests.OpenShift operator) says = absurd (subst IsSell says.0 tt)
 no_request rows (requests.CloseShift operator) says = absurd (subst IsSell says.0 tt)
