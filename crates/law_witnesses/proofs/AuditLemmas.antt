@@ -48,7 +48,7 @@ some_text empty text is some none = let zero : (length text == 0) ≡ true = ap 
 module _ {Did : Outputs → Type 0} {Of : Type 0} (printed : Text) (it : HasPrinted Did printed) (end : CommandEnd) (of : ∥ Of ∥₁)
     (some : printed ≢ []) where
   -- what an audit that found nothing broken prints, if anything
-  PrintsCount : Type 0
+  abbrev PrintsCount : Type 0
   PrintsCount = ((audited : Audited) × (printed ≡ sound_line audited)) ⊎ (printed ≡ no_office_line)
 
   told_counted : (none : Bool) (audited : Audited)
