@@ -36,6 +36,8 @@ REFUSED = {"import": {14}, "tariff": {4, 5}, "base": {4, 7, 18}, "shift": {3, 11
            "show last": {4, 12}, "show meter": {4}, "quote": {4, 7, 8, 9, 10, 11}, "list": set()}
 UNABLE = {15, 16, 17}
 OF_A_SALE = {"sell", "show sale", "receipt"}
+# Their replies say no more than that it is done.
+DONE = {"tariff", "base"}
 
 
 class Pretender:
@@ -121,11 +123,11 @@ def statuses_of():
 
 def check_told():
     """What a desk grants and refuses is printed, each refusal under its status alone, and only of a command that it is had
-    for; and one command's reply is no other's, but that all that tell a sale tell the same one."""
+    for; and one command's reply is no other's, but that all that tell a sale tell the same one, and that two are done."""
     kinds, count = granted(), 0
     for name, (words, _, _, printed) in kinds.items():
         for other, (_, body, media, _) in kinds.items():
-            alike = {name, other} <= OF_A_SALE or name == other
+            alike = {name, other} <= OF_A_SALE or {name, other} <= DONE or name == other
             same(asked_of(reply(200, body, media), *words), Ran(0, printed, b"") if alike else NET,
                  f"the reply to {other} after {name}")
     refusals = [*statuses_of(), (503, fault("Clock"), "refused clock\n")]
