@@ -114,9 +114,8 @@ def claims():
         [1e7 / 604800, 1e6 / (1e7 / 604800) / 3600, 100 / WEEKS * 12]
     yield "README.md", r"on a disk that syncs in 3 ms \| (\d+) a second \| (\d+) in Python, (\d+) in C", \
         [number(slow["3 ms"][side]) for side in ("vend", "Python", "C")]
-    part = {2: "half", 3: "a third", 4: "a quarter"}[round(number(slow["0 ms"]["vend to Python"]))]
-    yield "README.md", rf"at a desk, in memory \| (\d+) a second \| in Python {part} of that, in C (\S+) times that", \
-        [number(slow["0 ms"]["vend"]), 1 / number(slow["0 ms"]["vend to C"])]
+    yield "README.md", r"at a desk, in memory \| (\d+) a second \| (\d+) in Python, (\d+) in C", \
+        [number(slow["0 ms"][side]) for side in ("vend", "Python", "C")]
     yield "CHANGELOG.md", r"takes (\S+) to (\S+) times as long as a later one", \
         [min(migrations), max(migrations)]
 
