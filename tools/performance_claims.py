@@ -96,7 +96,7 @@ def claims():
         [number(all_tables[audit][-1]["audit, MiB at most"])]
     yield "docs/FAQ.md", r"a `sell` takes (\S+) s\. .*`sell --desk` takes (\S+) ms", \
         [number(sells["100000"]["vend"]) / 1000, max(at_desk[0])]
-    yield "docs/FAQ.md", r"and (\d+) times at 100,000", [1 / number(sells["100000"]["vend to Python"])]
+    yield "docs/FAQ.md", r"and (\d+) times as fast at 100,000", [1 / number(sells["100000"]["vend to Python"])]
     # Between two sizes of a file the ratio is taken as a line over logarithms.
     faster, slower = (math.log(number(sells[count]["vend to Python"])) for count in ("1000", "10000"))
     yield "docs/FAQ.md", r"from some (\d+),000 sales on", [10 ** (faster / (faster - slower))]
