@@ -2,23 +2,23 @@
 
 /** Each error of the desk by its name: what it means, and what to do. */
 export const WORDS = {
-  RefReused: "This order number belongs to another sale. Nothing was sold now. Enter the sale again.",
-  NoShift: "You have no open shift, so nothing was sold. Open your shift, and enter the sale again.",
-  ShiftOpen: "Your shift is open already. Go on selling, or close it first.",
+  RefReused: "This order number belongs to another sale. Nothing was sold now. Enter the sale again, under a new number.",
+  NoShift: "The operator has no open shift. Nothing was done. Open the shift, and enter it again.",
+  ShiftOpen: "The operator's shift is open already. Go on selling, or close it first.",
   NoMeter: "The office has no meter with this number. Compare it with the number on the meter, or have the meter added.",
   NoTariff: "There is no tariff of this name. Correct the name, or add the tariff first.",
   Differs: "Something else is stored under this name, number or day. It was left as it is. Take another name, or compare what you entered.",
   BeforeBase: "By the office's clock this base date has not come yet. Have the clock set right, or wait for the day.",
-  IdentifiersSpent: "This meter has used up its token identifiers. A manager has to move it to a later base date, and the meter has to be cleared.",
+  IdentifiersSpent: "This meter has used up its token identifiers. A manager has to move it to a later base date, and have the meter cleared.",
   IdentifierAhead: "This meter's identifiers are more than a day ahead of the office's clock. Have the clock set right. If it is right, sell again tomorrow.",
   TooLittle: "This does not pay for 0.1 kWh. Ask for more money.",
   OfficeFull: "The office is full. Whoever runs it has to begin a new file.",
-  NoSale: "There is no sale of this number. Correct the number.",
+  NoSale: "There is no sale of this number or ref. Correct what you entered.",
   NoSuchShift: "There is no shift of this number. Correct the number.",
   ImportRow: "A row of the file was refused, and nothing was added.",
-  Memory: "The office's computer is out of memory. Nothing was done.",
-  Store: "The office's disk failed. Have somebody look whether it is full.",
-  Stopped: "The office has stopped after its disk failed. Have somebody look whether it is full.",
+  Memory: "The office's computer is out of memory. Nothing was done. Try again later.",
+  Store: "The office's disk failed or is full, or a row of its file is damaged. Make room, and try again. If that does not help, audit the file.",
+  Stopped: "The office has stopped after its disk failed. Have somebody look whether it is full, and try again.",
   NotLater: "This meter has a later base date already, and sells under it. There is nothing to do.",
   DayPast: "That day has begun (UTC). Take a later day.",
   Body: "The desk cannot take what was entered. Correct it.",
@@ -27,13 +27,13 @@ export const WORDS = {
 
 /** Why a row of a file was refused. */
 export const CAUSES = {
-  Header: "The first line has to be the names of the columns.",
-  Columns: "It has too many fields or too few.",
-  Field: "This field of it is outside its rule: number",
-  TooManyRows: "A file has at most 10000 rows. Divide it.",
-  Differs: "Something else is stored under its name, number or day.",
-  NoTariff: "There is no tariff of this name. Import the tariffs first.",
-  DayPast: "Its day has begun (UTC).",
+  Header: "The first line has to be the names of the columns. Correct it, and send the file again.",
+  Columns: "The row has too many fields or too few. Correct it, and send the file again.",
+  Field: "A field of the row is outside its rule. Correct it, and send the file again.",
+  TooManyRows: "A file has at most 10000 rows. Divide it, and send each part.",
+  Differs: "Something else is stored under the row's name, number or day. Correct it, and send the file again.",
+  NoTariff: "There is no tariff of the row's name. Import the tariffs first, or correct it, and send the file again.",
+  DayPast: "The day of the row has begun (UTC). Correct it, and send the file again.",
 };
 
 /** What the proxy may answer in the desk's place. */
@@ -52,7 +52,7 @@ export function inWords(said) {
   const words = WORDS[said.error] ?? `The desk answered ${said.error}. Tell whoever runs the office.`;
   if (said.error !== "ImportRow") return words;
   const [cause, field] = said.cause.split(" ");
-  return `${words} Row ${said.row}: ${CAUSES[cause]}${field ? ` ${field}.` : ""} Correct it, and send the file again.`;
+  return `${words} Row ${said.row}${field ? `, field number ${field}` : ""}: ${CAUSES[cause]}`;
 }
 
 function parsed(text) {
@@ -108,6 +108,6 @@ export async function askAgain(method, target, body) {
 }
 
 /** What is said of an outcome that is neither done nor refused. */
-export const unanswered = ({ unsent, unknown }) => unsent ?? `${unknown} Try again.`;
+export const unanswered = ({ unsent, unknown }) => unsent ?? (/try again/i.test(unknown) ? unknown : `${unknown} Try again.`);
 
 export const wait = (pause) => new Promise((go) => setTimeout(go, pause));

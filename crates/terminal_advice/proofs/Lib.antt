@@ -1,0 +1,3 @@
+mod AdvisedLemmas
+mod LastLineLemmas
+mod RemembersLemmas

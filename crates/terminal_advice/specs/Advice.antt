@@ -1,0 +1,444 @@
+-- What is said of a line by which the program refuses, in the order of docs/COMMANDS.md.
+use Rattle.std.specs.Prelude.{codes}
+use Rattle.sts_fields.specs.Text.{Text}
+use Rattle.terminal_advice.specs.declared.advice.Advice.{Advice}
+use Rattle.terminal_advice.specs.declared.advice.Advice.TheVariants.{RefReused, NoShift}
+use Rattle.terminal_advice.specs.declared.advice.Advice.TheVariants.{ShiftOpen, NoMeter, NoTariff}
+use Rattle.terminal_advice.specs.declared.advice.Advice.TheVariants.{Differs, BeforeBase}
+use Rattle.terminal_advice.specs.declared.advice.Advice.TheVariants.{IdentifiersSpent}
+use Rattle.terminal_advice.specs.declared.advice.Advice.TheVariants.{IdentifierAhead, TooLittle}
+use Rattle.terminal_advice.specs.declared.advice.Advice.TheVariants.{OfficeFull, NoSale}
+use Rattle.terminal_advice.specs.declared.advice.Advice.TheVariants.{NoSuchShift, Memory, Store}
+use Rattle.terminal_advice.specs.declared.advice.Advice.TheVariants.{Stopped, NotLater, DayPast}
+use Rattle.terminal_advice.specs.declared.advice.Advice.TheVariants.{Amount, Clock, Value, File}
+use Rattle.terminal_advice.specs.declared.advice.Advice.TheVariants.{Net, NotAnOffice, OpenStore}
+use Rattle.terminal_advice.specs.declared.advice.Advice.TheVariants.{OpenMemory, DeskStopped}
+use Rattle.terminal_advice.specs.declared.advice.Advice.TheVariants.{RowHeader, RowColumns}
+use Rattle.terminal_advice.specs.declared.advice.Advice.TheVariants.{RowField, RowTooMany}
+use Rattle.terminal_advice.specs.declared.advice.Advice.TheVariants.{RowDiffers, RowNoTariff}
+use Rattle.terminal_advice.specs.declared.advice.Advice.TheVariants.{RowDayPast, WordTransform}
+use Rattle.terminal_advice.specs.declared.advice.Advice.TheVariants.{WordAt, WordWait, WordDesk}
+use Rattle.terminal_advice.specs.declared.advice.Advice.TheVariants.{WordListen, WordOperator}
+use Rattle.terminal_advice.specs.declared.advice.Advice.TheVariants.{WordRef, WordMeter, WordBase}
+use Rattle.terminal_advice.specs.declared.advice.Advice.TheVariants.{WordKey, WordTariff}
+use Rattle.terminal_advice.specs.declared.advice.Advice.TheVariants.{WordTender, WordRows}
+use Rattle.terminal_advice.specs.declared.advice.Advice.TheVariants.{WordPaper, WordNumber}
+use Rattle.terminal_advice.specs.declared.advice.Advice.TheVariants.{WordAct, WordShown}
+use Rattle.terminal_advice.specs.declared.advice.Advice.TheVariants.{WordListed, WordAfter}
+use Rattle.terminal_advice.specs.declared.advice.Advice.TheVariants.{WordJson, LacksMeter}
+use Rattle.terminal_advice.specs.declared.advice.Advice.TheVariants.{LacksOrder, WordSteps}
+use Rattle.terminal_advice.specs.declared.advice.Advice.TheVariants.{WordPrior, WordAmount}
+use Rattle.terminal_advice.specs.declared.advice.Advice.TheVariants.{WordSync, WordConnections}
+use Rattle.terminal_advice.specs.declared.advice.Advice.TheVariants.{NoText, FileMissing}
+use Rattle.terminal_advice.specs.declared.advice.Advice.TheVariants.{FileBarred, FileFolder}
+use Rattle.terminal_advice.specs.declared.advice.Advice.TheVariants.{FileTooLong, NetTaken}
+use Rattle.terminal_advice.specs.declared.advice.Advice.TheVariants.{NetNotHere, NetNobody}
+use Rattle.terminal_advice.specs.declared.advice.Advice.TheVariants.{NetSilent, ShutInUse}
+use Rattle.terminal_advice.specs.declared.advice.Advice.TheVariants.{ShutBarred, ShutNoFolder}
+use Rattle.terminal_advice.specs.declared.advice.Advice.TheVariants.{ShutFolder, ShutNoDatabase}
+use Rattle.terminal_advice.specs.declared.advice.Advice.TheVariants.{ShutLinked, ShutJournal}
+use Rattle.terminal_advice.specs.declared.advice.Advice.TheVariants.{ShutVacuum, ColumnMeter}
+use Rattle.terminal_advice.specs.declared.advice.Advice.TheVariants.{ColumnBase, ColumnTariff}
+use Rattle.terminal_advice.specs.declared.advice.Advice.TheVariants.{ColumnKey, ColumnName}
+use Rattle.terminal_advice.specs.declared.advice.Advice.TheVariants.{ColumnSteps, ColumnFrom}
+
+-- why it was refused
+abbrev pub reason_of : Advice → Text
+reason_of RefReused =
+    codes "This order number belongs to another sale. Nothing was sold now."
+reason_of NoShift =
+    codes "The operator has no open shift. Nothing was done."
+reason_of ShiftOpen =
+    codes "The operator's shift is open already."
+reason_of NoMeter =
+    codes "The office has no meter with this number."
+reason_of NoTariff =
+    codes "There is no tariff of this name."
+reason_of Differs =
+    codes "Something else is stored under this name, number or day. It was left as it is."
+reason_of BeforeBase =
+    codes "By the office's clock this base date has not come yet."
+reason_of IdentifiersSpent =
+    codes "This meter has used up its token identifiers."
+reason_of IdentifierAhead =
+    codes "This meter's identifiers are more than a day ahead of the office's clock."
+reason_of TooLittle =
+    codes "This does not pay for 0.1 kWh."
+reason_of OfficeFull =
+    codes "The office is full."
+reason_of NoSale =
+    codes "There is no sale of this number or ref."
+reason_of NoSuchShift =
+    codes "There is no shift of this number."
+reason_of Memory =
+    codes "The office's computer is out of memory. Nothing was done."
+reason_of Store =
+    codes "The office's disk failed or is full, or a row of its file is damaged."
+reason_of Stopped =
+    codes "The office has stopped after its disk failed."
+reason_of NotLater =
+    codes "This meter has a later base date already, and sells under it."
+reason_of DayPast =
+    codes "That day has begun (UTC)."
+reason_of Amount =
+    codes "No token carries this amount, or it is 0."
+reason_of Clock =
+    codes "The computer's clock is outside the years 1993 to 2099."
+reason_of Value =
+    codes "A value is outside its rule."
+reason_of File =
+    codes "The file cannot be read."
+reason_of Net =
+    codes "The connection failed, or no whole answer came."
+reason_of NotAnOffice =
+    codes "A newer program wrote the file, or its tables were changed from outside."
+reason_of OpenStore =
+    codes "The file is no database, is in use, or cannot be read or written."
+reason_of OpenMemory =
+    codes "The office's computer is out of memory. Nothing was done."
+reason_of DeskStopped =
+    codes "The office's disk failed or is full, so the desk stopped."
+reason_of RowHeader =
+    codes "The first line has to be the names of the columns."
+reason_of RowColumns =
+    codes "The row has too many fields or too few."
+reason_of RowField =
+    codes "A field of the row is outside its rule."
+reason_of RowTooMany =
+    codes "A file has at most 10000 rows."
+reason_of RowDiffers =
+    codes "Something else is stored under the row's name, number or day."
+reason_of RowNoTariff =
+    codes "There is no tariff of the row's name."
+reason_of RowDayPast =
+    codes "The day of the row has begun (UTC)."
+reason_of WordTransform =
+    codes "--transform has to be plain or demo."
+reason_of WordAt =
+    codes "--at has to be Unix seconds from 725846400 to 4102444799 (1993 to 2099)."
+reason_of WordWait =
+    codes "--wait has to be a number from 0 to 3600."
+reason_of WordDesk =
+    codes "--desk has to be four numbers and a port, as 127.0.0.1:8080."
+reason_of WordListen =
+    codes "--listen has to be four numbers and a port, as 127.0.0.1:8080."
+reason_of WordOperator =
+    codes "--operator has to be 1 to 16 ASCII letters or digits."
+reason_of WordRef =
+    codes "--ref has to be 1 to 32 ASCII letters, digits or hyphens."
+reason_of WordMeter =
+    codes "--meter has to be eleven digits, of which the last is the check digit."
+reason_of WordBase =
+    codes "--base has to be 1993, 2014 or 2035."
+reason_of WordKey =
+    codes "--key has to be sixteen lower-case hexadecimal digits."
+reason_of WordTariff =
+    codes "--tariff has to be 1 to 32 ASCII letters, digits or hyphens."
+reason_of WordTender =
+    codes "The tender has to be whole cents from 1 to 100000000."
+reason_of WordRows =
+    codes "The rows of a file have to be tariffs or meters."
+reason_of WordPaper =
+    codes "--kind has to be shift, receipt, totals or sales."
+reason_of WordNumber =
+    codes "--number has to be a number from 1 to 1000000000."
+reason_of WordAct =
+    codes "A shift can be opened or closed."
+reason_of WordShown =
+    codes "Only a meter, a sale and a last receipt can be shown."
+reason_of WordListed =
+    codes "Only tariffs, meters, shifts and sales can be listed."
+reason_of WordAfter =
+    codes "--after has to be a whole key: a name, a meter's number, or 0 to 1000000000."
+reason_of WordJson =
+    codes "A receipt is no JSON."
+reason_of LacksMeter =
+    codes "Here --meter is needed."
+reason_of LacksOrder =
+    codes "A sale is shown by --operator and --ref."
+reason_of WordSteps =
+    codes "The steps have to be as 500:10,:15, one to eight, with the last open."
+reason_of WordPrior =
+    codes "--prior has to be tenths of a kWh from 0 to 100000000000000000."
+reason_of WordAmount =
+    codes "Each amount has to be tenths of a kWh, a number below 4294967296."
+reason_of WordSync =
+    codes "--sync has to be twice or full."
+reason_of WordConnections =
+    codes "--connections has to be a number from 1 to 1000000."
+reason_of NoText =
+    codes "An argument is no UTF-8."
+reason_of FileMissing =
+    codes "The file does not exist."
+reason_of FileBarred =
+    codes "You have no right to read the file."
+reason_of FileFolder =
+    codes "It is a folder."
+reason_of FileTooLong =
+    codes "With --desk a file has at most 1048576 bytes."
+reason_of NetTaken =
+    codes "Another program listens at this address."
+reason_of NetNotHere =
+    codes "The desk cannot listen at this address."
+reason_of NetNobody =
+    codes "Nobody listens at this address."
+reason_of NetSilent =
+    codes "No whole answer came. The request may have been done."
+reason_of ShutInUse =
+    codes "Another program has the file: a desk, a command or sqlite3."
+reason_of ShutBarred =
+    codes "You have no right to read and write the file and its folder."
+reason_of ShutNoFolder =
+    codes "The folder of the file does not exist."
+reason_of ShutFolder =
+    codes "It is a folder."
+reason_of ShutNoDatabase =
+    codes "The file is no database."
+reason_of ShutLinked =
+    codes "The file has a second hard link."
+reason_of ShutJournal =
+    codes "A journal is beside the file, which a killed sqlite3 left."
+reason_of ShutVacuum =
+    codes "The file has auto_vacuum."
+reason_of ColumnMeter =
+    codes "The column meter has to be eleven digits, the last the check digit."
+reason_of ColumnBase =
+    codes "The column base has to be 1993, 2014 or 2035."
+reason_of ColumnTariff =
+    codes "The column tariff has to be 1 to 32 ASCII letters, digits or hyphens."
+reason_of ColumnKey =
+    codes "The column key has to be sixteen lower-case hexadecimal digits."
+reason_of ColumnName =
+    codes "The column name has to be 1 to 32 ASCII letters, digits or hyphens."
+reason_of ColumnSteps =
+    codes "The column steps has to be as 500:10,:15, one to eight, with the last open."
+reason_of ColumnFrom =
+    codes "The column from has to be a day as 2026-07-01, or empty."
+
+-- what to do about it
+abbrev pub remedy_of : Advice → Text
+remedy_of RefReused =
+    codes "Enter the sale again, under a new number."
+remedy_of NoShift =
+    codes "Open the shift, and enter it again."
+remedy_of ShiftOpen =
+    codes "Go on selling, or close it first."
+remedy_of NoMeter =
+    codes "Compare it with the number on the meter, or have the meter added."
+remedy_of NoTariff =
+    codes "Correct the name, or add the tariff first."
+remedy_of Differs =
+    codes "Take another name, or compare what you entered."
+remedy_of BeforeBase =
+    codes "Have the clock set right, or wait for the day."
+remedy_of IdentifiersSpent =
+    codes "A manager has to move it to a later base date, and have the meter cleared."
+remedy_of IdentifierAhead =
+    codes "Have the clock set right. If it is right, sell again tomorrow."
+remedy_of TooLittle =
+    codes "Ask for more money."
+remedy_of OfficeFull =
+    codes "Whoever runs it has to begin a new file."
+remedy_of NoSale =
+    codes "Correct what you entered."
+remedy_of NoSuchShift =
+    codes "Correct the number."
+remedy_of Memory =
+    codes "Try again later."
+remedy_of Store =
+    codes "Make room, and try again. If that does not help, audit the file."
+remedy_of Stopped =
+    codes "Have somebody look whether it is full, and try again."
+remedy_of NotLater =
+    codes "There is nothing to do."
+remedy_of DayPast =
+    codes "Take a later day."
+remedy_of Amount =
+    codes "Choose another."
+remedy_of Clock =
+    codes "Set it right, or give --at."
+remedy_of Value =
+    codes "The command's --help has the rules."
+remedy_of File =
+    codes "Correct its name or its rights."
+remedy_of Net =
+    codes "Give the same command again, with the same --ref."
+remedy_of NotAnOffice =
+    codes "Name another file, or undo the change."
+remedy_of OpenStore =
+    codes "Correct the name or the rights, or try again."
+remedy_of OpenMemory =
+    codes "Try again later."
+remedy_of DeskStopped =
+    codes "Make room. The next connection opens the file again."
+remedy_of RowHeader =
+    codes "Correct it, and send the file again."
+remedy_of RowColumns =
+    codes "Correct it, and send the file again."
+remedy_of RowField =
+    codes "Correct it, and send the file again."
+remedy_of RowTooMany =
+    codes "Divide it, and send each part."
+remedy_of RowDiffers =
+    codes "Correct it, and send the file again."
+remedy_of RowNoTariff =
+    codes "Import the tariffs first, or correct it, and send the file again."
+remedy_of RowDayPast =
+    codes "Correct it, and send the file again."
+remedy_of WordTransform =
+    codes "Correct this value."
+remedy_of WordAt =
+    codes "Correct this value."
+remedy_of WordWait =
+    codes "Correct this value."
+remedy_of WordDesk =
+    codes "Correct this value."
+remedy_of WordListen =
+    codes "Correct this value."
+remedy_of WordOperator =
+    codes "Correct this value."
+remedy_of WordRef =
+    codes "Correct this value."
+remedy_of WordMeter =
+    codes "Correct this value."
+remedy_of WordBase =
+    codes "Correct this value."
+remedy_of WordKey =
+    codes "Correct this value."
+remedy_of WordTariff =
+    codes "Correct this value."
+remedy_of WordTender =
+    codes "Correct this value."
+remedy_of WordRows =
+    codes "Give one of these words before the file."
+remedy_of WordPaper =
+    codes "Correct this value."
+remedy_of WordNumber =
+    codes "Correct this value."
+remedy_of WordAct =
+    codes "Give open or close."
+remedy_of WordShown =
+    codes "Give meter, sale or last."
+remedy_of WordListed =
+    codes "Give one of these words."
+remedy_of WordAfter =
+    codes "Correct this value."
+remedy_of WordJson =
+    codes "Leave out --json."
+remedy_of LacksMeter =
+    codes "Add it, with the meter's number."
+remedy_of LacksOrder =
+    codes "Give both."
+remedy_of WordSteps =
+    codes "Correct this value."
+remedy_of WordPrior =
+    codes "Correct this value."
+remedy_of WordAmount =
+    codes "Correct this value."
+remedy_of WordSync =
+    codes "Correct this value."
+remedy_of WordConnections =
+    codes "Correct this value."
+remedy_of NoText =
+    codes "Correct it."
+remedy_of FileMissing =
+    codes "Correct its name."
+remedy_of FileBarred =
+    codes "Give it to your user, or ask another to do this."
+remedy_of FileFolder =
+    codes "Name a file."
+remedy_of FileTooLong =
+    codes "Divide it, and send each part."
+remedy_of NetTaken =
+    codes "End it, or take another port."
+remedy_of NetNotHere =
+    codes "Take an address of this computer, and a port that you may use."
+remedy_of NetNobody =
+    codes "Start the desk, or correct the address."
+remedy_of NetSilent =
+    codes "Give the same command again, with the same --ref."
+remedy_of ShutInUse =
+    codes "End it, or give a longer --wait."
+remedy_of ShutBarred =
+    codes "Give both to your user."
+remedy_of ShutNoFolder =
+    codes "Correct the name, or make the folder."
+remedy_of ShutFolder =
+    codes "Name a file."
+remedy_of ShutNoDatabase =
+    codes "Correct its name."
+remedy_of ShutLinked =
+    codes "Remove the link."
+remedy_of ShutJournal =
+    codes "Let sqlite3 read the file: SELECT count(*) FROM sales;"
+remedy_of ShutVacuum =
+    codes "Undo it in sqlite3: PRAGMA auto_vacuum=0; VACUUM;"
+remedy_of ColumnMeter =
+    codes "Correct it, and send the file again."
+remedy_of ColumnBase =
+    codes "Correct it, and send the file again."
+remedy_of ColumnTariff =
+    codes "Correct it, and send the file again."
+remedy_of ColumnKey =
+    codes "Correct it, and send the file again."
+remedy_of ColumnName =
+    codes "Correct it, and send the file again."
+remedy_of ColumnSteps =
+    codes "Correct it, and send the file again."
+remedy_of ColumnFrom =
+    codes "Correct it, and send the file again."
+
+-- the advice of which this one is a closer form: it is for the same lines
+unfoldable pub general_of : Advice → Advice
+general_of WordTransform = Value
+general_of WordAt = Value
+general_of WordWait = Value
+general_of WordDesk = Value
+general_of WordListen = Value
+general_of WordOperator = Value
+general_of WordRef = Value
+general_of WordMeter = Value
+general_of WordBase = Value
+general_of WordKey = Value
+general_of WordTariff = Value
+general_of WordTender = Value
+general_of WordRows = Value
+general_of WordPaper = Value
+general_of WordNumber = Value
+general_of WordAct = Value
+general_of WordShown = Value
+general_of WordListed = Value
+general_of WordAfter = Value
+general_of WordJson = Value
+general_of LacksMeter = Value
+general_of LacksOrder = Value
+general_of WordSteps = Value
+general_of WordPrior = Value
+general_of WordAmount = Value
+general_of WordSync = Value
+general_of WordConnections = Value
+general_of NoText = Value
+general_of FileMissing = File
+general_of FileBarred = File
+general_of FileFolder = File
+general_of FileTooLong = File
+general_of NetTaken = Net
+general_of NetNotHere = Net
+general_of NetNobody = Net
+general_of NetSilent = Net
+general_of ShutInUse = OpenStore
+general_of ShutBarred = OpenStore
+general_of ShutNoFolder = OpenStore
+general_of ShutFolder = OpenStore
+general_of ShutNoDatabase = OpenStore
+general_of ShutLinked = OpenStore
+general_of ShutJournal = OpenStore
+general_of ShutVacuum = OpenStore
+general_of ColumnMeter = RowField
+general_of ColumnBase = RowField
+general_of ColumnTariff = RowField
+general_of ColumnKey = RowField
+general_of ColumnName = RowField
+general_of ColumnSteps = RowField
+general_of ColumnFrom = RowField
+general_of advice = advice

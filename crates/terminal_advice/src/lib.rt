@@ -1,0 +1,18 @@
+//! What the program says at a terminal of a line by which it refused: why, and what to do.
+#![tactic(auto)]
+
+mod advice;
+mod begun;
+mod closer;
+mod last_line;
+mod lines;
+mod look;
+mod misread;
+mod remembering;
+mod second_line;
+mod value_rules;
+
+pub use advice::Advice;
+pub use begun::{Begun, Unseen};
+pub use lines::advice_of;
+pub use look::Look;
