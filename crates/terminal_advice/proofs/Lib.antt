@@ -1,3 +1,4 @@
 mod AdvisedLemmas
 mod LastLineLemmas
 mod RemembersLemmas
+mod RunLemmas

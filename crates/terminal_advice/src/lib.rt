@@ -2,6 +2,7 @@
 #![tactic(auto)]
 
 mod advice;
+mod advised;
 mod begun;
 mod closer;
 mod last_line;
@@ -13,6 +14,7 @@ mod second_line;
 mod value_rules;
 
 pub use advice::Advice;
+pub use advised::{refuse_advised, run_advised};
 pub use begun::{Begun, Unseen};
 pub use lines::advice_of;
 pub use look::Look;

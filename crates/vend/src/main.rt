@@ -1,13 +1,16 @@
 //! Vends credit tokens for prepayment electricity meters: reads the words of a command line and
-//! prints. What each does is in `vend_commands`.
+//! prints. What each does is in `vend_commands`, and what is said of a refusal at a terminal in
+//! `terminal_advice`.
 #![tactic(auto)]
 
 use command_line::{BadWords, Syncs, syncs_asked};
 use sqlite::{Start, Unknown, Wary};
+use std::io::IsTerminal;
 use std::process::ExitCode;
 use std::rt::Env;
 use std::{env, io};
-use vend_commands::{Computer, Watched, refuse, run};
+use terminal_advice::{Unseen, refuse_advised, run_advised};
+use vend_commands::Computer;
 
 fn main(rt: HostRuntime) -> ExitCode {
     let status = match words_given(&rt) {
@@ -51,9 +54,22 @@ fn run_given(rt: &HostRuntime, given: &[String]) -> u8 {
 // Runs on this computer. `start` stands for what the office's file holds.
 fn run_from<B: Start>(rt: &HostRuntime, start: B, words: &[&str]) -> u8 {
     let ports = Computer::ports(rt, rt, start);
-    run(rt.alloc(), ports, words, &mut rt.stdout(), &mut rt.stderr())
+    let (mut out, err) = (rt.stdout(), rt.stderr());
+    let at_terminal = err.is_terminal();
+    let (status, _) = run_advised::<Unseen, _, _, _, _>(
+        rt.alloc(),
+        ports,
+        words,
+        &rt,
+        at_terminal,
+        &mut out,
+        err,
+    );
+    status
 }
 
 fn refuse_words(rt: &HostRuntime, fault: BadWords) -> u8 {
-    refuse(fault, &mut Watched::new(&mut rt.stderr())).status()
+    let mut err = rt.stderr();
+    let at_terminal = err.is_terminal();
+    refuse_advised(fault, at_terminal, &mut err)
 }
