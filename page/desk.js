@@ -2,18 +2,18 @@
 
 /** Each error of the desk by its name: what it means, and what to do. */
 export const WORDS = {
-  RefReused: "This order number belongs to another sale. Nothing was sold now. Enter the sale again, under a new number.",
-  NoShift: "The operator has no open shift. Nothing was done. Open the shift, and enter it again.",
+  RefReused: "This order number belongs to another sale. Nothing was sold now. Take a new number for another sale.",
+  NoShift: "The operator has no open shift. Nothing was done. Open one, or correct the operator.",
   ShiftOpen: "The operator's shift is open already. Go on selling, or close it first.",
   NoMeter: "The office has no meter with this number. Compare it with the number on the meter, or have the meter added.",
   NoTariff: "There is no tariff of this name. Correct the name, or add the tariff first.",
   Differs: "Something else is stored under this name, number or day. It was left as it is. Take another name, or compare what you entered.",
   BeforeBase: "By the office's clock this base date has not come yet. Have the clock set right, or wait for the day.",
   IdentifiersSpent: "This meter has used up its token identifiers. A manager has to move it to a later base date, and have the meter cleared.",
-  IdentifierAhead: "This meter's identifiers are more than a day ahead of the office's clock. Have the clock set right. If it is right, sell again tomorrow.",
+  IdentifierAhead: "This meter's identifiers are more than a day ahead of the office's clock. Have the clock set right. If it is right, wait, or move the meter to a later base date.",
   TooLittle: "This does not pay for 0.1 kWh. Ask for more money.",
   OfficeFull: "The office is full. Whoever runs it has to begin a new file.",
-  NoSale: "There is no sale of this number or ref. Correct what you entered.",
+  NoSale: "There is no such sale. Correct what you entered.",
   NoSuchShift: "There is no shift of this number. Correct the number.",
   ImportRow: "A row of the file was refused, and nothing was added.",
   Memory: "The office's computer is out of memory. Nothing was done. Try again later.",
@@ -32,7 +32,7 @@ export const CAUSES = {
   Field: "A field of the row is outside its rule. Correct it, and send the file again.",
   TooManyRows: "A file has at most 10000 rows. Divide it, and send each part.",
   Differs: "Something else is stored under the row's name, number or day. Correct it, and send the file again.",
-  NoTariff: "There is no tariff of the row's name. Import the tariffs first, or correct it, and send the file again.",
+  NoTariff: "The row names a tariff that there is not. Import the tariffs first, or correct it, and send the file again.",
   DayPast: "The day of the row has begun (UTC). Correct it, and send the file again.",
 };
 

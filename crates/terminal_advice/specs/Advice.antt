@@ -67,7 +67,7 @@ reason_of TooLittle =
 reason_of OfficeFull =
     codes "The office is full."
 reason_of NoSale =
-    codes "There is no sale of this number or ref."
+    codes "There is no such sale."
 reason_of NoSuchShift =
     codes "There is no shift of this number."
 reason_of Memory =
@@ -91,7 +91,7 @@ reason_of File =
 reason_of Net =
     codes "The connection failed, or no whole answer came."
 reason_of NotAnOffice =
-    codes "A newer program wrote the file, or its tables were changed from outside."
+    codes "The file is another program's or a newer one's, or its tables were changed from outside."
 reason_of OpenStore =
     codes "The file is no database, is in use, or cannot be read or written."
 reason_of OpenMemory =
@@ -109,7 +109,7 @@ reason_of RowTooMany =
 reason_of RowDiffers =
     codes "Something else is stored under the row's name, number or day."
 reason_of RowNoTariff =
-    codes "There is no tariff of the row's name."
+    codes "The row names a tariff that there is not."
 reason_of RowDayPast =
     codes "The day of the row has begun (UTC)."
 reason_of WordTransform =
@@ -157,7 +157,7 @@ reason_of LacksMeter =
 reason_of LacksOrder =
     codes "A sale is shown by --operator and --ref."
 reason_of WordSteps =
-    codes "The steps have to be as 500:10,:15, one to eight, with the last open."
+    codes "The steps have to be as 500:10;:15, one to eight, with the last open."
 reason_of WordPrior =
     codes "--prior has to be tenths of a kWh from 0 to 100000000000000000."
 reason_of WordAmount =
@@ -167,7 +167,7 @@ reason_of WordSync =
 reason_of WordConnections =
     codes "--connections has to be a number from 1 to 1000000."
 reason_of NoText =
-    codes "An argument is no UTF-8."
+    codes "An argument is not UTF-8 text."
 reason_of FileMissing =
     codes "The file does not exist."
 reason_of FileBarred =
@@ -197,7 +197,7 @@ reason_of ShutNoDatabase =
 reason_of ShutLinked =
     codes "The file has a second hard link."
 reason_of ShutJournal =
-    codes "A journal is beside the file, which a killed sqlite3 left."
+    codes "A journal is beside the file: another program writes to it, or was killed."
 reason_of ShutVacuum =
     codes "The file has auto_vacuum."
 reason_of ColumnMeter =
@@ -211,16 +211,16 @@ reason_of ColumnKey =
 reason_of ColumnName =
     codes "The column name has to be 1 to 32 ASCII letters, digits or hyphens."
 reason_of ColumnSteps =
-    codes "The column steps has to be as 500:10,:15, one to eight, with the last open."
+    codes "The column steps has to be as 500:10;:15, one to eight, with the last open."
 reason_of ColumnFrom =
     codes "The column from has to be a day as 2026-07-01, or empty."
 
 -- what to do about it
 abbrev pub remedy_of : Advice → Text
 remedy_of RefReused =
-    codes "Enter the sale again, under a new number."
+    codes "Take a new number for another sale."
 remedy_of NoShift =
-    codes "Open the shift, and enter it again."
+    codes "Open one, or correct the operator."
 remedy_of ShiftOpen =
     codes "Go on selling, or close it first."
 remedy_of NoMeter =
@@ -234,7 +234,7 @@ remedy_of BeforeBase =
 remedy_of IdentifiersSpent =
     codes "A manager has to move it to a later base date, and have the meter cleared."
 remedy_of IdentifierAhead =
-    codes "Have the clock set right. If it is right, sell again tomorrow."
+    codes "Have the clock set right. If it is right, wait, or move the meter to a later base date."
 remedy_of TooLittle =
     codes "Ask for more money."
 remedy_of OfficeFull =
@@ -256,7 +256,7 @@ remedy_of DayPast =
 remedy_of Amount =
     codes "Choose another."
 remedy_of Clock =
-    codes "Set it right, or give --at."
+    codes "Set it right. With --file you can give --at instead."
 remedy_of Value =
     codes "The command's --help has the rules."
 remedy_of File =
@@ -270,7 +270,7 @@ remedy_of OpenStore =
 remedy_of OpenMemory =
     codes "Try again later."
 remedy_of DeskStopped =
-    codes "Make room. The next connection opens the file again."
+    codes "Make room. The next connection, or the next start, opens the file again."
 remedy_of RowHeader =
     codes "Correct it, and send the file again."
 remedy_of RowColumns =
@@ -354,7 +354,7 @@ remedy_of NetTaken =
 remedy_of NetNotHere =
     codes "Take an address of this computer, and a port that you may use."
 remedy_of NetNobody =
-    codes "Start the desk, or correct the address."
+    codes "Start the desk, or correct the address. Give the same command again, with the same --ref."
 remedy_of NetSilent =
     codes "Give the same command again, with the same --ref."
 remedy_of ShutInUse =
@@ -370,7 +370,7 @@ remedy_of ShutNoDatabase =
 remedy_of ShutLinked =
     codes "Remove the link."
 remedy_of ShutJournal =
-    codes "Let sqlite3 read the file: SELECT count(*) FROM sales;"
+    codes "End that program. If the journal stays, let sqlite3 read the file: SELECT count(*) FROM sales;"
 remedy_of ShutVacuum =
     codes "Undo it in sqlite3: PRAGMA auto_vacuum=0; VACUUM;"
 remedy_of ColumnMeter =

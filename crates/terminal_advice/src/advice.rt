@@ -112,7 +112,7 @@ impl Advice {
             }
             Advice::TooLittle => "This does not pay for 0.1 kWh.",
             Advice::OfficeFull => "The office is full.",
-            Advice::NoSale => "There is no sale of this number or ref.",
+            Advice::NoSale => "There is no such sale.",
             Advice::NoSuchShift => "There is no shift of this number.",
             Advice::Memory => "The office's computer is out of memory. Nothing was done.",
             Advice::Store => {
@@ -127,7 +127,7 @@ impl Advice {
             Advice::File => "The file cannot be read.",
             Advice::Net => "The connection failed, or no whole answer came.",
             Advice::NotAnOffice => {
-                "A newer program wrote the file, or its tables were changed from outside."
+                "The file is another program's or a newer one's, or its tables were changed from outside."
             }
             Advice::OpenStore => {
                 "The file is no database, is in use, or cannot be read or written."
@@ -139,7 +139,7 @@ impl Advice {
             Advice::RowField => "A field of the row is outside its rule.",
             Advice::RowTooMany => "A file has at most 10000 rows.",
             Advice::RowDiffers => "Something else is stored under the row's name, number or day.",
-            Advice::RowNoTariff => "There is no tariff of the row's name.",
+            Advice::RowNoTariff => "The row names a tariff that there is not.",
             Advice::RowDayPast => "The day of the row has begun (UTC).",
             Advice::WordTransform => "--transform has to be plain or demo.",
             Advice::WordAt => {
@@ -170,7 +170,7 @@ impl Advice {
             Advice::LacksMeter => "Here --meter is needed.",
             Advice::LacksOrder => "A sale is shown by --operator and --ref.",
             Advice::WordSteps => {
-                "The steps have to be as 500:10,:15, one to eight, with the last open."
+                "The steps have to be as 500:10;:15, one to eight, with the last open."
             }
             Advice::WordPrior => "--prior has to be tenths of a kWh from 0 to 100000000000000000.",
             Advice::WordAmount => {
@@ -178,7 +178,7 @@ impl Advice {
             }
             Advice::WordSync => "--sync has to be twice or full.",
             Advice::WordConnections => "--connections has to be a number from 1 to 1000000.",
-            Advice::NoText => "An argument is no UTF-8.",
+            Advice::NoText => "An argument is not UTF-8 text.",
             Advice::FileMissing => "The file does not exist.",
             Advice::FileBarred => "You have no right to read the file.",
             Advice::FileFolder => "It is a folder.",
@@ -193,7 +193,8 @@ impl Advice {
             Advice::ShutFolder => "It is a folder.",
             Advice::ShutNoDatabase => "The file is no database.",
             Advice::ShutLinked => "The file has a second hard link.",
-            Advice::ShutJournal => "A journal is beside the file, which a killed sqlite3 left.",
+            Advice::ShutJournal =>
+                "A journal is beside the file: another program writes to it, or was killed.",
             Advice::ShutVacuum => "The file has auto_vacuum.",
             Advice::ColumnMeter => {
                 "The column meter has to be eleven digits, the last the check digit."
@@ -207,7 +208,7 @@ impl Advice {
                 "The column name has to be 1 to 32 ASCII letters, digits or hyphens."
             }
             Advice::ColumnSteps => {
-                "The column steps has to be as 500:10,:15, one to eight, with the last open."
+                "The column steps has to be as 500:10;:15, one to eight, with the last open."
             }
             Advice::ColumnFrom => "The column from has to be a day as 2026-07-01, or empty.",
         }
@@ -218,8 +219,8 @@ impl Advice {
         ensures { result.now ≡ remedy_of self }
     {
         match self {
-            Advice::RefReused => "Enter the sale again, under a new number.",
-            Advice::NoShift => "Open the shift, and enter it again.",
+            Advice::RefReused => "Take a new number for another sale.",
+            Advice::NoShift => "Open one, or correct the operator.",
             Advice::ShiftOpen => "Go on selling, or close it first.",
             Advice::NoMeter => "Compare it with the number on the meter, or have the meter added.",
             Advice::NoTariff => "Correct the name, or add the tariff first.",
@@ -229,7 +230,7 @@ impl Advice {
                 "A manager has to move it to a later base date, and have the meter cleared."
             }
             Advice::IdentifierAhead => {
-                "Have the clock set right. If it is right, sell again tomorrow."
+                "Have the clock set right. If it is right, wait, or move the meter to a later base date."
             }
             Advice::TooLittle => "Ask for more money.",
             Advice::OfficeFull => "Whoever runs it has to begin a new file.",
@@ -241,14 +242,15 @@ impl Advice {
             Advice::NotLater => "There is nothing to do.",
             Advice::DayPast => "Take a later day.",
             Advice::Amount => "Choose another.",
-            Advice::Clock => "Set it right, or give --at.",
+            Advice::Clock => "Set it right. With --file you can give --at instead.",
             Advice::Value => "The command's --help has the rules.",
             Advice::File => "Correct its name or its rights.",
             Advice::Net => "Give the same command again, with the same --ref.",
             Advice::NotAnOffice => "Name another file, or undo the change.",
             Advice::OpenStore => "Correct the name or the rights, or try again.",
             Advice::OpenMemory => "Try again later.",
-            Advice::DeskStopped => "Make room. The next connection opens the file again.",
+            Advice::DeskStopped =>
+                "Make room. The next connection, or the next start, opens the file again.",
             Advice::RowHeader => "Correct it, and send the file again.",
             Advice::RowColumns => "Correct it, and send the file again.",
             Advice::RowField => "Correct it, and send the file again.",
@@ -292,7 +294,8 @@ impl Advice {
             Advice::FileTooLong => "Divide it, and send each part.",
             Advice::NetTaken => "End it, or take another port.",
             Advice::NetNotHere => "Take an address of this computer, and a port that you may use.",
-            Advice::NetNobody => "Start the desk, or correct the address.",
+            Advice::NetNobody =>
+                "Start the desk, or correct the address. Give the same command again, with the same --ref.",
             Advice::NetSilent => "Give the same command again, with the same --ref.",
             Advice::ShutInUse => "End it, or give a longer --wait.",
             Advice::ShutBarred => "Give both to your user.",
@@ -300,7 +303,8 @@ impl Advice {
             Advice::ShutFolder => "Name a file.",
             Advice::ShutNoDatabase => "Correct its name.",
             Advice::ShutLinked => "Remove the link.",
-            Advice::ShutJournal => "Let sqlite3 read the file: SELECT count(*) FROM sales;",
+            Advice::ShutJournal =>
+                "End that program. If the journal stays, let sqlite3 read the file: SELECT count(*) FROM sales;",
             Advice::ShutVacuum => "Undo it in sqlite3: PRAGMA auto_vacuum=0; VACUUM;",
             Advice::ColumnMeter => "Correct it, and send the file again.",
             Advice::ColumnBase => "Correct it, and send the file again.",
