@@ -32,7 +32,7 @@ export const CAUSES = {
   Field: "A field of the row is outside its rule. Correct it, and send the file again.",
   TooManyRows: "A file has at most 10000 rows. Divide it, and send each part.",
   Differs: "Something else is stored under the row's name, number or day. Correct it, and send the file again.",
-  NoTariff: "The row names a tariff that there is not. Import the tariffs first, or correct it, and send the file again.",
+  NoTariff: "There is no tariff of the name in the row. Import the tariffs first, or correct it, and send the file again.",
   DayPast: "The day of the row has begun (UTC). Correct it, and send the file again.",
 };
 

@@ -109,7 +109,7 @@ reason_of RowTooMany =
 reason_of RowDiffers =
     codes "Something else is stored under the row's name, number or day."
 reason_of RowNoTariff =
-    codes "The row names a tariff that there is not."
+    codes "There is no tariff of the name in the row."
 reason_of RowDayPast =
     codes "The day of the row has begun (UTC)."
 reason_of WordTransform =

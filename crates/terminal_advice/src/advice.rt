@@ -139,7 +139,7 @@ impl Advice {
             Advice::RowField => "A field of the row is outside its rule.",
             Advice::RowTooMany => "A file has at most 10000 rows.",
             Advice::RowDiffers => "Something else is stored under the row's name, number or day.",
-            Advice::RowNoTariff => "The row names a tariff that there is not.",
+            Advice::RowNoTariff => "There is no tariff of the name in the row.",
             Advice::RowDayPast => "The day of the row has begun (UTC).",
             Advice::WordTransform => "--transform has to be plain or demo.",
             Advice::WordAt => {
