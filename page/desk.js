@@ -1,4 +1,5 @@
 // How the desk is asked, and its refusals in words.
+import { hearClock } from "./clock.js";
 
 /** Each error of the desk by its name: what it means, and what to do. */
 export const WORDS = {
@@ -84,6 +85,7 @@ export async function ask(method, target, body, stop = new AbortController()) {
   let status, text;
   try {
     const reply = await fetch(request);
+    hearClock(reply);
     status = reply.status;
     text = await reply.text();
   } catch {

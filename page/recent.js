@@ -1,4 +1,5 @@
 // The shift's last sales, below the receipt, and who sold lately. A sale never waits for them.
+import { hearSale } from "./clock.js";
 import { find } from "./forms.js";
 import { pending, shift } from "./kept.js";
 import { lookUp } from "./looks.js";
@@ -22,6 +23,7 @@ async function lastSales(isWanted, most) {
     const after = Math.max(end - PAGE, 0);
     const { done } = await lookUp(`/sales?after=${after}`);
     if (!done?.sales) return null;
+    if (pages === 0) hearSale(done.sales.at(-1)?.moment);
     const until = end;
     found = [...found, ...done.sales.filter((it) => isWanted(it) && it.number <= until).reverse()];
     end = after;
@@ -54,6 +56,7 @@ function fill(number, found) {
 
 /** Puts a sale that this till has just made on top, before the office is asked for the list. */
 export function addRecent(sale) {
+  hearSale(sale.moment);
   if (sale.shift !== shift()?.number) return;
   const others = shown === sale.shift ? sales.filter((it) => it.number !== sale.number) : [];
   fill(sale.shift, [...others, sale].sort((one, other) => other.number - one.number).slice(0, MOST));

@@ -1,5 +1,6 @@
 // The cashier's page. A sale is kept in this browser before it is sent, and stays until the desk has said what
 // became of it: so a lost reply, a reload, a double click and a second tab lead to one sale and its receipt.
+import { clockDoubt } from "./clock.js";
 import { PAUSES, ask, askAgain, inWords, unanswered, wait } from "./desk.js";
 import { MOST, Wrong, act, cents, find, hush, meterIn, numberIn, onSubmit, replyTo, say } from "./forms.js";
 import { PENDING, SHIFT, keep, kept, pending, shift } from "./kept.js";
@@ -24,7 +25,7 @@ const UNANSWERED = `This sale has no answer yet. Another tab of this page may be
 const FIELDS = { NoMeter: "meter", BeforeBase: "meter", IdentifiersSpent: "meter", IdentifierAhead: "meter", TooLittle: "tender" };
 
 let closing = null; // the shift that the cashier was asked about, whether to close it
-let large = null; // the money of a sale that the cashier was asked about, whether it is right
+let asked = null; // the money of a sale that the cashier was asked about
 let taken = null; // the name that the cashier was asked about, whether it is not another's
 
 /** 128 random bits in 32 hexadecimal digits: no other order of any till has this ref. */
@@ -53,8 +54,8 @@ function show() {
   find("order").textContent = order ? `Meter ${order.meter}, ${money(order.tender)} paid` : "";
   find("start").hidden = Boolean(who || order);
   find("sale").hidden = !who || Boolean(order) || !find("paper").hidden;
-  find("sure-form").hidden = large === null;
-  find("order-form").hidden = large !== null;
+  find("sure-form").hidden = asked === null;
+  find("order-form").hidden = asked !== null;
   find("more").hidden = Boolean(order);
   find("end").hidden = !who || Boolean(closing);
   find("end-form").hidden = !closing;
@@ -244,16 +245,24 @@ async function openShiftOf(name, sale) {
   return typeof done === "string" && /^CLOSED -$/m.test(done) ? sale.shift : null;
 }
 
-/** Asks whether so much money is right, above the sum that whoever runs the office has set. */
-function askWhetherRight(amount) {
-  large = amount;
-  find("sure-question").textContent = `Did the customer pay ${money(amount)}?`;
+/** What is asked before a sale: whether so much money is right, above the sum that whoever runs the office has set, and
+ * whether the office's clock is. Empty where nothing is asked. */
+async function questionOf(amount) {
+  const doubt = clockDoubt();
+  const questions = doubt ? [`${doubt} Have the clock looked at before you sell. Is it right?`] : [];
+  if (amount > await askAbove()) questions.push(`Did the customer pay ${money(amount)}?`);
+  return questions.join(" ");
+}
+
+function askFirst(amount, question) {
+  asked = amount;
+  find("sure-question").textContent = question;
   find("sure").textContent = `Sell for ${money(amount)}`;
   showAt("unsure");
 }
 
 function correct() {
-  large = null;
+  asked = null;
   showAt("tender");
   find("tender").select();
 }
@@ -263,8 +272,9 @@ async function sell({ meter, tender }, lock, isSure) {
   const amount = cents(tender.value);
   const order = { meter: meterIn(meter), operator: shift().operator, ref: newRef(), tender: amount };
   if (!amount || amount > MOST) throw new Wrong("Write the money as 12 or 12.50, up to 1000000.00.", tender);
-  if (!isSure && amount > await askAbove()) return askWhetherRight(amount);
-  large = null;
+  const question = isSure ? "" : await questionOf(amount);
+  if (question) return askFirst(amount, question);
+  asked = null;
   if (!lock) throw new Error("Another tab of this page is selling. Nothing was sold here. Try again when it has ended.");
   if (pending()[0]) return show();
   keep(PENDING + order.ref, JSON.stringify(order)); // before it is sent: from here on it can be asked for again

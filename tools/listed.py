@@ -1,5 +1,6 @@
-"""The parts of tools/check_page about lists: the last sales of a shift at the counter, which no sale waits for, and the
-manager's lists of tariffs, meters and shifts. It is no script of its own."""
+"""The parts of tools/check_page about lists: the last sales of a shift at the counter, which no sale waits for, and what
+they say of the office's clock; and the manager's lists of tariffs, meters and shifts. It is no script of its own."""
+import json
 import time
 
 from browser import COUNT_REQUESTS
@@ -11,6 +12,7 @@ from shared import same, wrong
 PAGE = 100  # members of a page of a list
 SHOWN = 10  # sales of a shift that the counter shows
 REACHED = 300  # of the last sales so many are looked through for them
+DAY = 86400
 QUIET = 0.8  # seconds within which a look-up that is wanted would have been sent
 # Sales of another cashier: the pages that are asked for then overlap, and then they reach no further.
 OTHERS = (95, 200)
@@ -144,6 +146,41 @@ def check_recent(counter):
     counter.has_sold(0, 0, "lists")
     same(relay.lists, [], "plans")
     print(f"the last sales of a shift: after each sale, of {REACHED} sales at most, and no sale waits for them")
+
+
+def moved(apart):
+    """What moves the last sale of a page by so many seconds."""
+    def move(reply):
+        page = json.loads(reply.partition(b"\r\n\r\n")[2])
+        page["sales"][-1]["moment"] += apart
+        return said(200, **page)
+    return move
+
+
+def check_clock(counter):
+    """Where the last sale is later than the office's clock, or long before it, the page asks before it sells."""
+    browser = counter.browser
+    for apart, words, press in ((30 * DAY, "later than", "unsure"), (-8 * DAY, "long before", "sure")):
+        page = Plan(after=moved(apart))
+        counter.relay.lists += [Plan(), page]
+        browser.open()
+        until(page.ended.is_set, "the last sales")
+        browser.when("by('recent').ariaBusy !== 'true'", "a page that is loaded")
+        browser.sell("15")
+        browser.shows("sure-form", "a question about the clock")
+        question = browser.text("sure-question")
+        same((words in question, "Is it right?" in question), (True, True), question)
+        browser.press(press)
+        if press == "sure":
+            counter.is_first_receipt_after(browser.receipt("15.00"), "a sale after a question about the clock")
+            browser.next()
+        else:
+            browser.shows("order-form", "a sale that is not made")
+            counter.has_sold(0, 0, "a question about the clock")
+    # That sale is the last one, so nothing is asked.
+    browser.sell("16")
+    counter.is_first_receipt_after(browser.receipt("16.00"), "a sale under a clock that is right")
+    browser.next()
 
 
 def check_lists(counter):

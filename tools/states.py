@@ -8,6 +8,7 @@ from program import METER
 from shared import same, wrong
 from shop import BACKUPS, CASHIER, NAME, OFFICE
 
+DAY = 86400
 MOST_EXPOSED = {"vend": 1.4, "vend-backup": 1.6}  # of 10, as systemd counts; the second one runs as root
 AT_DESK = ("runuser", "-u", "www-data", "--", "vend", "report", "--desk", "127.0.0.1:8080", "--kind", "sales")
 
@@ -98,13 +99,23 @@ def check_states(shop):
     # An office without a sale.
     shop.shell("systemctl start vend")
     expect("sale", "ok", "there is none yet")
+    # A last sale that was made later than now, or long ago.
+    for apart, words in ((2 * DAY, "later than now"), (-10 * DAY, "10 days ago")):
+        at = int(time.time()) + apart
+        shop.shell(f"""systemctl stop vend; rm {OFFICE}*
+            vend import --file {OFFICE} tariffs examples/tariffs.csv
+            vend import --file {OFFICE} meters examples/meters.csv
+            vend shift --file {OFFICE} --at {at} --operator ann open
+            vend sell --file {OFFICE} --at {at} --operator ann --ref A-1 --meter {METER} --tender 10
+            chown vend: {OFFICE}*; systemctl start vend""")
+        expect("sale", "warning", words)
     shop.shell(f"systemctl stop vend; rm {OFFICE}*; mv /srv/others/put/office.db {OFFICE}; systemctl start vend")
     same([state for state, _ in shop.status_lines().values()], ["ok"] * 5, "a desk that is well again")
     for words in (["--other"], ["--room"], ["--room", "much"], ["--office", "none"]):
         shop.ask("vend-status", *words, status=3)
-    print("vend-status: a desk that is well, is stopped, cannot open its file, waits; no sale; copies that are old or "
-          "none; room that is little or none; a certificate that ends soon, has ended, signs any name or is missing; as "
-          "metrics", flush=True)
+    print("vend-status: a desk that is well, is stopped, cannot open its file, waits; no sale, one that is "
+          "later than now or long ago; copies that are old or none; room that is little or none; a certificate that ends "
+          "soon, has ended, signs any name or is missing; as metrics", flush=True)
 
 
 def check_metrics(shop, wanted, status=0):
