@@ -14,7 +14,7 @@ export const WORDS = {
   IdentifierAhead: "This meter's identifiers are more than a day ahead of the office's clock. Have the clock set right. If it is right, wait, or move the meter to a later base date.",
   TooLittle: "This does not pay for 0.1 kWh. Ask for more money.",
   OfficeFull: "The office is full. Whoever runs it has to begin a new file.",
-  NoSale: "There is no such sale. Correct what you entered.",
+  NoSale: "There is no sale of this number or ref, or none to the meter. Correct what you entered.",
   NoSuchShift: "There is no shift of this number. Correct the number.",
   ImportRow: "A row of the file was refused, and nothing was added.",
   Memory: "The office's computer is out of memory. Nothing was done. Try again later.",

@@ -67,7 +67,7 @@ reason_of TooLittle =
 reason_of OfficeFull =
     codes "The office is full."
 reason_of NoSale =
-    codes "There is no such sale."
+    codes "There is no sale of this number or ref, or none to the meter."
 reason_of NoSuchShift =
     codes "There is no shift of this number."
 reason_of Memory =

@@ -112,7 +112,7 @@ impl Advice {
             }
             Advice::TooLittle => "This does not pay for 0.1 kWh.",
             Advice::OfficeFull => "The office is full.",
-            Advice::NoSale => "There is no such sale.",
+            Advice::NoSale => "There is no sale of this number or ref, or none to the meter.",
             Advice::NoSuchShift => "There is no shift of this number.",
             Advice::Memory => "The office's computer is out of memory. Nothing was done.",
             Advice::Store => {
