@@ -18,7 +18,7 @@ export const WORDS = {
   NoSuchShift: "There is no shift of this number. Correct the number.",
   ImportRow: "A row of the file was refused, and nothing was added.",
   Memory: "The office's computer is out of memory. Nothing was done. Try again later.",
-  Store: "The office's disk failed or is full, or a row of its file is damaged. Make room, and try again. If that does not help, audit the file.",
+  Store: "The office's disk failed, or a row is damaged. Make room and try again, or audit the file.",
   Stopped: "The office has stopped after its disk failed. Have somebody look whether it is full, and try again.",
   NotLater: "This meter has a later base date already, and sells under it. There is nothing to do.",
   DayPast: "That day has begun (UTC). Take a later day.",

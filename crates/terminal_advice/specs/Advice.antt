@@ -73,7 +73,7 @@ reason_of NoSuchShift =
 reason_of Memory =
     codes "The office's computer is out of memory. Nothing was done."
 reason_of Store =
-    codes "The office's disk failed or is full, or a row of its file is damaged."
+    codes "The office's disk failed, or a row is damaged."
 reason_of Stopped =
     codes "The office has stopped after its disk failed."
 reason_of NotLater =
@@ -246,7 +246,7 @@ remedy_of NoSuchShift =
 remedy_of Memory =
     codes "Try again later."
 remedy_of Store =
-    codes "Make room, and try again. If that does not help, audit the file."
+    codes "Make room and try again, or audit the file."
 remedy_of Stopped =
     codes "Have somebody look whether it is full, and try again."
 remedy_of NotLater =

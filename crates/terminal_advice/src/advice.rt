@@ -115,9 +115,7 @@ impl Advice {
             Advice::NoSale => "There is no sale of this number or ref, or none to the meter.",
             Advice::NoSuchShift => "There is no shift of this number.",
             Advice::Memory => "The office's computer is out of memory. Nothing was done.",
-            Advice::Store => {
-                "The office's disk failed or is full, or a row of its file is damaged."
-            }
+            Advice::Store => { "The office's disk failed, or a row is damaged." }
             Advice::Stopped => "The office has stopped after its disk failed.",
             Advice::NotLater => "This meter has a later base date already, and sells under it.",
             Advice::DayPast => "That day has begun (UTC).",
@@ -237,7 +235,7 @@ impl Advice {
             Advice::NoSale => "Correct what you entered.",
             Advice::NoSuchShift => "Correct the number.",
             Advice::Memory => "Try again later.",
-            Advice::Store => "Make room, and try again. If that does not help, audit the file.",
+            Advice::Store => "Make room and try again, or audit the file.",
             Advice::Stopped => "Have somebody look whether it is full, and try again.",
             Advice::NotLater => "There is nothing to do.",
             Advice::DayPast => "Take a later day.",
