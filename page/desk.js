@@ -9,7 +9,7 @@ export const WORDS = {
   NoMeter: "The office has no meter with this number. Compare it with the number on the meter, or have the meter added.",
   NoTariff: "There is no tariff of this name. Correct the name, or add the tariff first.",
   Differs: "Something else is stored under this name, number or day. It was left as it is. Take another name, or compare what you entered.",
-  BeforeBase: "By the office's clock this base date has not come yet. Have the clock set right, or wait for the day.",
+  BeforeBase: "At this moment the base date has not come yet. Have the clock set right, or wait for the day.",
   IdentifiersSpent: "This meter has used up its token identifiers. A manager has to move it to a later base date, and have the meter cleared.",
   IdentifierAhead: "This meter's identifiers are more than a day ahead of the office's clock. Have the clock set right. If it is right, wait, or move the meter to a later base date.",
   TooLittle: "This does not pay for 0.1 kWh. Ask for more money.",
@@ -18,7 +18,7 @@ export const WORDS = {
   NoSuchShift: "There is no shift of this number. Correct the number.",
   ImportRow: "A row of the file was refused, and nothing was added.",
   Memory: "The office's computer is out of memory. Nothing was done. Try again later.",
-  Store: "The office's disk failed, or a row is damaged. Make room and try again, or audit the file.",
+  Store: "The office's disk failed, or a row is damaged. Make room and try the same again, or audit the file.",
   Stopped: "The office has stopped after its disk failed. Have somebody look whether it is full, and try again.",
   NotLater: "This meter has a later base date already, and sells under it. There is nothing to do.",
   DayPast: "That day has begun (UTC). Take a later day.",
@@ -110,6 +110,6 @@ export async function askAgain(method, target, body) {
 }
 
 /** What is said of an outcome that is neither done nor refused. */
-export const unanswered = ({ unsent, unknown }) => unsent ?? (/try again/i.test(unknown) ? unknown : `${unknown} Try again.`);
+export const unanswered = ({ unsent, unknown }) => unsent ?? (/try (the same )?again/i.test(unknown) ? unknown : `${unknown} Try again.`);
 
 export const wait = (pause) => new Promise((go) => setTimeout(go, pause));

@@ -57,7 +57,7 @@ reason_of NoTariff =
 reason_of Differs =
     codes "Something else is stored under this name, number or day. It was left as it is."
 reason_of BeforeBase =
-    codes "By the office's clock this base date has not come yet."
+    codes "At this moment the base date has not come yet."
 reason_of IdentifiersSpent =
     codes "This meter has used up its token identifiers."
 reason_of IdentifierAhead =
@@ -91,9 +91,9 @@ reason_of File =
 reason_of Net =
     codes "The connection failed, or no whole answer came."
 reason_of NotAnOffice =
-    codes "The file is another program's or a newer one's, or its tables were changed from outside."
+    codes "Another program or a newer vend made the file, or its tables were changed from outside."
 reason_of OpenStore =
-    codes "The file is no database, is in use, or cannot be read or written."
+    codes "The file is no database, is in use, cannot be read or written, or was changed from outside."
 reason_of OpenMemory =
     codes "The office's computer is out of memory. Nothing was done."
 reason_of DeskStopped =
@@ -159,7 +159,7 @@ reason_of LacksOrder =
 reason_of WordSteps =
     codes "The steps have to be as 500:10;:15, one to eight, with the last open."
 reason_of WordPrior =
-    codes "--prior has to be tenths of a kWh from 0 to 100000000000000000."
+    codes "The tenths of a kWh bought before have to be from 0 to 100000000000000000."
 reason_of WordAmount =
     codes "Each amount has to be tenths of a kWh, a number below 4294967296."
 reason_of WordSync =
@@ -189,7 +189,7 @@ reason_of ShutInUse =
 reason_of ShutBarred =
     codes "You have no right to read and write the file and its folder."
 reason_of ShutNoFolder =
-    codes "The folder of the file does not exist."
+    codes "The folder of the file does not exist, or you have no right to write there."
 reason_of ShutFolder =
     codes "It is a folder."
 reason_of ShutNoDatabase =
@@ -246,7 +246,7 @@ remedy_of NoSuchShift =
 remedy_of Memory =
     codes "Try again later."
 remedy_of Store =
-    codes "Make room and try again, or audit the file."
+    codes "Make room and try the same again, or audit the file."
 remedy_of Stopped =
     codes "Have somebody look whether it is full, and try again."
 remedy_of NotLater =
@@ -266,7 +266,7 @@ remedy_of Net =
 remedy_of NotAnOffice =
     codes "Name another file, or undo the change."
 remedy_of OpenStore =
-    codes "Correct the name or the rights, or try again."
+    codes "Correct the name or the rights, undo the change, or try again."
 remedy_of OpenMemory =
     codes "Try again later."
 remedy_of DeskStopped =
@@ -358,11 +358,11 @@ remedy_of NetNobody =
 remedy_of NetSilent =
     codes "Give the same command again, with the same --ref."
 remedy_of ShutInUse =
-    codes "End it, or give a longer --wait."
+    codes "Ask a desk by --desk. End another program, or give a longer --wait."
 remedy_of ShutBarred =
-    codes "Give both to your user."
+    codes "Use a user who has both."
 remedy_of ShutNoFolder =
-    codes "Correct the name, or make the folder."
+    codes "Correct the name, or make the folder, or use a user who has the right."
 remedy_of ShutFolder =
     codes "Name a file."
 remedy_of ShutNoDatabase =

@@ -105,7 +105,7 @@ impl Advice {
             Advice::Differs => {
                 "Something else is stored under this name, number or day. It was left as it is."
             }
-            Advice::BeforeBase => "By the office's clock this base date has not come yet.",
+            Advice::BeforeBase => "At this moment the base date has not come yet.",
             Advice::IdentifiersSpent => "This meter has used up its token identifiers.",
             Advice::IdentifierAhead => {
                 "This meter's identifiers are more than a day ahead of the office's clock."
@@ -125,10 +125,10 @@ impl Advice {
             Advice::File => "The file cannot be read.",
             Advice::Net => "The connection failed, or no whole answer came.",
             Advice::NotAnOffice => {
-                "The file is another program's or a newer one's, or its tables were changed from outside."
+                "Another program or a newer vend made the file, or its tables were changed from outside."
             }
             Advice::OpenStore => {
-                "The file is no database, is in use, or cannot be read or written."
+                "The file is no database, is in use, cannot be read or written, or was changed from outside."
             }
             Advice::OpenMemory => "The office's computer is out of memory. Nothing was done.",
             Advice::DeskStopped => "The office's disk failed or is full, so the desk stopped.",
@@ -170,7 +170,8 @@ impl Advice {
             Advice::WordSteps => {
                 "The steps have to be as 500:10;:15, one to eight, with the last open."
             }
-            Advice::WordPrior => "--prior has to be tenths of a kWh from 0 to 100000000000000000.",
+            Advice::WordPrior =>
+                "The tenths of a kWh bought before have to be from 0 to 100000000000000000.",
             Advice::WordAmount => {
                 "Each amount has to be tenths of a kWh, a number below 4294967296."
             }
@@ -187,7 +188,8 @@ impl Advice {
             Advice::NetSilent => "No whole answer came. The request may have been done.",
             Advice::ShutInUse => "Another program has the file: a desk, a command or sqlite3.",
             Advice::ShutBarred => "You have no right to read and write the file and its folder.",
-            Advice::ShutNoFolder => "The folder of the file does not exist.",
+            Advice::ShutNoFolder =>
+                "The folder of the file does not exist, or you have no right to write there.",
             Advice::ShutFolder => "It is a folder.",
             Advice::ShutNoDatabase => "The file is no database.",
             Advice::ShutLinked => "The file has a second hard link.",
@@ -235,7 +237,7 @@ impl Advice {
             Advice::NoSale => "Correct what you entered.",
             Advice::NoSuchShift => "Correct the number.",
             Advice::Memory => "Try again later.",
-            Advice::Store => "Make room and try again, or audit the file.",
+            Advice::Store => "Make room and try the same again, or audit the file.",
             Advice::Stopped => "Have somebody look whether it is full, and try again.",
             Advice::NotLater => "There is nothing to do.",
             Advice::DayPast => "Take a later day.",
@@ -245,7 +247,7 @@ impl Advice {
             Advice::File => "Correct its name or its rights.",
             Advice::Net => "Give the same command again, with the same --ref.",
             Advice::NotAnOffice => "Name another file, or undo the change.",
-            Advice::OpenStore => "Correct the name or the rights, or try again.",
+            Advice::OpenStore => "Correct the name or the rights, undo the change, or try again.",
             Advice::OpenMemory => "Try again later.",
             Advice::DeskStopped =>
                 "Make room. The next connection, or the next start, opens the file again.",
@@ -295,9 +297,11 @@ impl Advice {
             Advice::NetNobody =>
                 "Start the desk, or correct the address. Give the same command again, with the same --ref.",
             Advice::NetSilent => "Give the same command again, with the same --ref.",
-            Advice::ShutInUse => "End it, or give a longer --wait.",
-            Advice::ShutBarred => "Give both to your user.",
-            Advice::ShutNoFolder => "Correct the name, or make the folder.",
+            Advice::ShutInUse =>
+                "Ask a desk by --desk. End another program, or give a longer --wait.",
+            Advice::ShutBarred => "Use a user who has both.",
+            Advice::ShutNoFolder =>
+                "Correct the name, or make the folder, or use a user who has the right.",
             Advice::ShutFolder => "Name a file.",
             Advice::ShutNoDatabase => "Correct its name.",
             Advice::ShutLinked => "Remove the link.",
