@@ -6,7 +6,7 @@ use Rattle.sqlite_disk.specs.declared.memory.Memory.{Memory}
 use Rattle.sqlite_wal.specs.Recovery.{Image}
 
 -- two files are those that they are one by one
-same_files : {M : Type 0} (found files : Files M) → found.log ≡ files.log → found.db ≡ files.db → found ≡ files
+pub same_files : {M : Type 0} (found files : Files M) → found.log ≡ files.log → found.db ≡ files.db → found ≡ files
 same_files {M} found files logs dbs =
     let with_log : M → Files M = λ log. record found { log = log } in
     let with_db : M → Files M = λ db. record files { db = db } in

@@ -1,7 +1,10 @@
 mod AuditLemmas
+mod CrashLemmas
 mod FileLemmas
+mod FirstLemmas
 mod KeptLemmas
 mod OfficeLemmas
+mod OlderLemmas
 mod PrintLemmas
 mod QuoteLemmas
 mod ReadingLemmas

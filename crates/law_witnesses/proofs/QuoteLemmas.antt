@@ -71,7 +71,7 @@ mapped_last f [] x = refl
 mapped_last f (first ∷ xs) x = ap (λ rest. f first ∷ rest) (mapped_last f xs x)
 
 -- an answer that a life gave last is the one that the rules give
-by_rules : (old : Life) (at : Stamped) (answer : Answer) → IsLife (extended_by old at (Ok answer))
+pub by_rules : (old : Life) (at : Stamped) (answer : Answer) → IsLife (extended_by old at (Ok answer))
     → Ok answer ≡ reply old.forward (present old) at
 by_rules old at answer is =
     let r : Reply = Ok answer in
@@ -100,7 +100,7 @@ abbrev with_change : Change → Result Change Refusal
 with_change change = Ok change
 
 -- a new sale is added and answered, and its operator has an open shift
-sold_new : (forward : BlockFunction) (moment nibble : ℕ) (order : Order) (shift : Option Shift) (account : Option MeterAccount) (count : ℕ)
+pub sold_new : (forward : BlockFunction) (moment nibble : ℕ) (order : Order) (shift : Option Shift) (account : Option MeterAccount) (count : ℕ)
     (change : Change) → sell forward moment nibble order shift account count ≡ Ok change
     → IsSome shift × ((s : Sale) × (change.edit ≡ Some (edits.AddSale s)) × (change.answer ≡ answers.Sold s))
 sold_new forward moment nibble order None account count change is = absurd (cc)
@@ -116,7 +116,8 @@ sold_new forward moment nibble order (Some shift) account count change is =
     same_change : (a b : Change) → with_change a ≡ with_change b → a ≡ b
     same_change a b is = cc
 
-granted : (d : Result Change Refusal) (a : Answer) → Ok a ≡ reply_of d → (change : Change) × (d ≡ Ok change) × (change.answer ≡ a)
+-- what was answered was granted
+pub granted : (d : Result Change Refusal) (a : Answer) → Ok a ≡ reply_of d → (change : Change) × (d ≡ Ok change) × (change.answer ≡ a)
 granted (Ok change) a is = (change, refl, cc)
 granted (Err why) a is = absurd (cc)
 

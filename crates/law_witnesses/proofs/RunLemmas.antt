@@ -66,7 +66,7 @@ pub sold_before : (lives more : List Life) (order : Order) (s : Sale) → AreSol
 sold_before lives more order s (life, there, at, is, sold) = (life, Contains-append_left lives more life there, at, is, sold)
 
 -- a command that told why it asked nothing was refused
-refused : (o : Outputs) (end : CommandEnd) → TellsNoRequest o end → end ≡ Refused
+pub refused : (o : Outputs) (end : CommandEnd) → TellsNoRequest o end → end ≡ Refused
 refused o end (no_room told) = told.2
 refused o end (no_moment told) = told.2
 refused o end (no_file told) = told.2

@@ -1,5 +1,6 @@
 -- What the witnesses conclude, and what they make values of.
 pub mod Offices
+pub mod Older
 pub mod Printed
 pub mod Readings
 pub mod Runs

@@ -37,3 +37,8 @@ pub record IsRunOf {P D R W : Type 0} (here : Here P D R W) (ports : P) (words :
   pub sound : run.o.old.failed ≡ false
   pub after : run.o.new.held ≡ Some printed
   pub whole : run.o.new.failed ≡ false
+
+-- a crash has left a file so, and leaves no more of it than it could before
+pub record IsLeftOf {M : Type 0} (g : disk.Ghosts M) (old new : M) : Type 0 where
+  pub left : g.may_leave old (g.seen new)
+  pub no_more : (c : List ℕ) → g.may_leave new c → g.may_leave old c

@@ -19,7 +19,7 @@ use std::test::Fail;
 use sts_token::Plain;
 
 // Says that the values of an order keep their rules, as its types see to.
-fn keeps_rules(order: &Order)
+pub(crate) fn keeps_rules(order: &Order)
     ensures { IsAskableOrder order.now }
 {
     let _meter = order.meter.as_bytes();

@@ -3,11 +3,15 @@
 #![tactic(auto)]
 
 #[cfg(test)]
+mod breaking;
+#[cfg(test)]
 mod callers;
 #[cfg(test)]
 mod commands;
 #[cfg(test)]
 mod computers;
+#[cfg(test)]
+mod crashes;
 #[cfg(test)]
 mod desks;
 #[cfg(test)]
@@ -18,6 +22,8 @@ mod kept;
 mod messages;
 #[cfg(test)]
 mod offices;
+#[cfg(test)]
+mod older;
 #[cfg(test)]
 mod programs;
 #[cfg(test)]

@@ -235,7 +235,7 @@ fn audit_printed<H: OfficeFile>(alloc: Global, office: H, words: &AuditWords) ->
 }
 
 // Files in memory on which books served these requests, as they were closed.
-fn files_left(alloc: Global, ats: &[Stamped]) -> Option<Files<Memory>>
+pub(crate) fn files_left(alloc: Global, ats: &[Stamped]) -> Option<Files<Memory>>
     ensures log { IfSome result (λ files. IsTrue (memory_is_usable files.log)) }
     ensures db { IfSome result (λ files. IsTrue (memory_is_usable files.db)) }
 {

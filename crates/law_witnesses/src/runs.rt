@@ -36,7 +36,7 @@ fn ordered(request: &Request) -> Option<Order>
 }
 
 // The order that some words say.
-fn order_said(alloc: Global, words: &[&str]) -> Option<Order>
+pub(crate) fn order_said(alloc: Global, words: &[&str]) -> Option<Order>
     ensures { IfSome result
         (λ order. WordsRequest (map (λ w. w.now) words.now) (Request.Sell order)) }
 {
@@ -67,7 +67,7 @@ pub(crate) fn written(alloc: Global, watched: Watched<'_, Vec<u8>>) -> Option<Ve
 }
 
 // A run of the program by some words, where no write failed: how it ended, and what it printed.
-fn ran<M: Machine>(
+pub(crate) fn ran<M: Machine>(
     alloc: Global,
     ports: Ports<M>,
     words: &[&str],
@@ -132,7 +132,7 @@ pub(crate) fn sold_on_files(
 }
 
 // The ports of a machine in memory with these files.
-fn ports_on<L>(files: Files<Memory>, second: i64) -> Ports<Kept<L>>
+pub(crate) fn ports_on<L>(files: Files<Memory>, second: i64) -> Ports<Kept<L>>
     requires log { IsTrue (memory_is_usable files.log) }
     requires db { IsTrue (memory_is_usable files.db) }
     ensures log { result.office.log ≡ files.log }
@@ -149,16 +149,16 @@ fn ports_on<L>(files: Files<Memory>, second: i64) -> Ports<Kept<L>>
 }
 
 // What a run gave back.
-fn back_of(ended: Ended<Memory>) -> Back<Memory>
+pub(crate) fn back_of<D>(ended: Ended<D>) -> Back<D>
     ensures { result ≡ ended.back }
 {
     ended.back
 }
 
 // The machine as it was, and as it is later.
-struct Then;
+pub(crate) struct Then;
 
-struct Later;
+pub(crate) struct Later;
 
 // Books sell an order, and a run of the program by words that say it comes after them: what it
 // prints, where it ends as done, is the receipt of that sale.
@@ -229,7 +229,7 @@ fn receipt_of_two_runs(
     }
 }
 
-const WORDS: [&str; 11] = [
+pub(crate) const WORDS: [&str; 11] = [
     "sell",
     "--file",
     "office.db",
