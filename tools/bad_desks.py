@@ -25,10 +25,16 @@ REPORT = (b"SHIFT 1 ann\nOPENED 2014-01-01T00:00:00Z\nCLOSED -\n"
           b"SALES 1\nTENTHS 1\nCASH 10\n")
 TARIFFS = str(TOP / "examples" / "tariffs.csv")
 SELL = ("sell", "--operator", "ann", "--ref", "A-1", "--meter", METER, "--tender", "10")
+# Dates that other servers send, and texts in their place that HTTP has no more, or never had.
+DATES = ("Sun, 06 Nov 1994 08:49:37 GMT", "Wed, 01 Jan 2014 00:00:30 GMT", "Thu, 29 Feb 2024 23:59:59 GMT",
+         "Fri, 31 Dec 9999 23:59:59 GMT", "Thu, 01 Jan 1970 00:00:00 GMT")
+NO_DATES = ("", "Sunday, 06-Nov-94 08:49:37 GMT", "Sun Nov  6 08:49:37 1994", "Mon, 06 Nov 1994 08:49:37 GMT",
+            "Sun, 06 Nov 1994 08:49:37 UTC", "Sun, 6 Nov 1994 08:49:37 GMT", "Thu, 30 Feb 2024 23:59:59 GMT",
+            "Sun, 06 Nov 1994 24:00:00 GMT", "sun, 06 nov 1994 08:49:37 GMT", "Sun, 06 Nov 1994 08:49:37 GMT ",
+            "x" * 29, "x" * 5000)
 TOKENS = (f"{2**66:020}", "9" * 20, f"{2**27:020}")  # too large, or of another class
 MOST_BODY = 2**26  # bytes of a body, at most
 MOST_MEMORY = 2**28  # bytes of memory that a command takes for it, at most
-PATIENCE = 10  # seconds
 LAST_NUMBER = 10**9  # of a shift or a sale
 # The refusals that an office has for each kind of command, by their numbers, and those that it may have for any.
 REFUSED = {"import": {14}, "tariff": {4, 5}, "base": {4, 7, 18}, "shift": {3, 11},
@@ -130,12 +136,18 @@ def check_told():
             alike = {name, other} <= OF_A_SALE or {name, other} <= DONE or name == other
             same(asked_of(reply(200, body, media), *words), Ran(0, printed, b"") if alike else NET,
                  f"the reply to {other} after {name}")
+        for date in DATES:
+            same(asked_of(reply(200, kinds[name][1], kinds[name][2], date=date), *words), Ran(0, printed, b""),
+                 f"the reply to {name} of {date}")
     refusals = [*statuses_of(), (503, fault("Clock"), "refused clock\n")]
     for status, body, line in refusals:
         number = numbers(line)[:1]
         for name, (words, *_) in kinds.items():
             had = not number or number[0] in REFUSED[name] | UNABLE
             same(asked_of(reply(status, body), *words), Ran(1, b"", line.encode()) if had else NET, f"{name}: {line}")
+        for date in DATES[:2]:
+            same(asked_of(reply(status, body, date=date), *SELL),
+                 Ran(1, b"", line.encode()) if not number or number[0] in REFUSED["sell"] | UNABLE else NET, f"{line} of {date}")
         for other in (200, 404, 409, 422, 503):
             if other != status:
                 same(asked_of(reply(other, body), *SELL), NET, f"{line} under {other}")
@@ -295,7 +307,15 @@ def spoilt_heads():
                      (length, b"Content-Length: %d" % (2**64 + len(body))), (length, b"Content-Length: 99999999999999999999"),
                      (length, b"Content-Length: %d" % (len(body) - 1)), (length, b"Content-Length: %d" % (len(body) + 1))):
         yield whole.replace(old, new, 1)
-    yield from (whole[:cut] for cut in range(0, len(whole), 7))
+    dated = reply(200, body, date=DATES[0])
+    line = f"Date: {DATES[0]}\r\n".encode()
+    yield from (reply(200, body, date=date or " ") for date in NO_DATES)
+    for new in (line + line, line.replace(b"Date", b"date"), line.replace(b": ", b":"), line.replace(b"\r\n", b"\n"),
+                b"X: 1\r\n" + line, line + b"X: 1\r\n", line + b"Connection: close\r\n"):
+        yield dated.replace(line, new)
+    yield dated.replace(length + b"\r\n" + line, line + length + b"\r\n")
+    for text in (whole, dated):
+        yield from (text[:cut] for cut in range(0, len(text), 7))
     yield from (b"\r\n" + whole, b"rubbish\n", b"\x16\x03\x01\x02\x00\x01\x00\x01\xfc\x03\x03", b"x" * 100000, b"\0" * 100)
     yield from (reply(400, fault("Head"), closes=True), reply(413, fault("Body"), closes=True), reply(404, fault("NoRoute")),
                 reply(405, fault("Method"), allow="POST"), reply(422, fault("Body")), reply(501, fault("Method"), closes=True))

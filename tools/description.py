@@ -3,7 +3,7 @@ tools/check_desk. It is no script of its own."""
 import json
 import re
 
-from desk_client import SEEN, STATUSES, fault
+from desk_client import REFUSED, SEEN, STATUSES, fault
 from shared import numbers, quoted, rows_of_page, same, wrong
 
 KINDS = {"array": list, "object": dict, "string": str, "integer": int, "boolean": bool}
@@ -124,6 +124,7 @@ def check_reply(document, method, target, sent, status, fields, body):
     described = resolve(document, operation["responses"][str(status)])
     same([fields["Content-Type"]], list(described["content"]), where)
     parts = []
+    same("Date" in described.get("headers", {}), status not in REFUSED, f"{where}: Date")
     for name in ("Allow", "Connection"):
         same(name in fields, name in described.get("headers", {}), f"{where}: {name}")
         if name in fields:

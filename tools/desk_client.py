@@ -1,9 +1,11 @@
 """A client of `vend serve`: a desk that is started, the messages that are sent to it, and the replies that it has to
 give, byte for byte. It is no script of its own."""
 import contextlib
+import email.utils
 import errno
 import http.client
 import json
+import re
 import select
 import socket
 import subprocess
@@ -13,6 +15,8 @@ from program import METER, WAIT, begin_desk
 from shared import rows_of_page, same, wrong
 
 PAUSE = 0.005  # seconds between two pieces of a message
+REFUSED = (400, 413, 501)  # the status of a reply to a message that is refused: it has no date
+HEAD = re.compile(rb"(HTTP/1\.1 (\d{3}) [^\r]+\r\nContent-Type: [^\r]+\r\nContent-Length: \d+\r\n)(?:Date: ([^\r]*)\r\n)?")
 BASE_2014 = 1388534400
 # What each status of a reply is called, and what it is for.
 STATUSES = {int(status[:3]): (status[4:], said)
@@ -71,13 +75,30 @@ def message(method, target, body=b"", fields=""):
     return f"{method} {target} HTTP/1.1\r\nHost: d\r\n{length}{fields}\r\n".encode() + body
 
 
-def reply(status, body, media="application/json", allow=None, closes=False):
-    """The bytes of a reply."""
+def reply(status, body, media="application/json", allow=None, closes=False, date=None):
+    """The bytes of a reply, with a date or without."""
     fields = [f"HTTP/1.1 {status} {STATUSES[status][0]}", f"Content-Type: {media}",
               f"Content-Length: {len(body)}"]
+    fields += [f"Date: {date}"] if date else []
     fields += [f"Allow: {allow}"] if allow else []
     fields += ["Connection: close"] if closes else []
     return "".join(f"{field}\r\n" for field in [*fields, ""]).encode() + body
+
+
+def undated(text, begun):
+    """The replies without their dates. Each that is whole has one, between this second and now, but those to messages that
+    are refused, and those that a clock outside the moments gets."""
+    def check(head):
+        status, date = int(head[2]), head[3]
+        if date is not None:
+            seconds = email.utils.parsedate_to_datetime(date.decode()).timestamp()
+            same(date.decode(), email.utils.formatdate(seconds, usegmt=True), "the form of a date")
+            if not int(begun) <= seconds <= time.time():
+                wrong(f"a reply of now has the date {date.decode()}")
+        if status in REFUSED and date is not None or status not in (*REFUSED, 503) and date is None:
+            wrong(f"a reply with the status {status} has {'a' if date else 'no'} date")
+        return head[1]
+    return HEAD.sub(check, text)
 
 
 def fault(word):
@@ -148,7 +169,8 @@ def all_of(client):
 
 def talk(desk, *pieces, ends=True):
     """What the desk writes on a connection of these pieces until it closes it. The client ends its
-    side first, or leaves that to the desk."""
+    side first, or leaves that to the desk. The dates of its replies are looked at, and left out."""
+    begun = time.time()
     with desk.connect() as client:
         client.setsockopt(socket.IPPROTO_TCP, socket.TCP_NODELAY, 1)
         with until_reset():
@@ -157,18 +179,19 @@ def talk(desk, *pieces, ends=True):
                 client.sendall(piece)
             if ends:
                 client.shutdown(socket.SHUT_WR)
-        return all_of(client)
+        return undated(all_of(client), begun)
 
 
 def by_curl(desk, method, target, body):
-    """The bytes of the reply that curl has."""
+    """The bytes of the reply that curl has, but for its date."""
     desk.used += 1
+    begun = time.time()
     words = ["curl", "--silent", "--show-error", "--include", "--max-time", str(WAIT)]
     words += ["--data-binary", "@-"] if method == "POST" else []
     ran = subprocess.run([*words, f"http://127.0.0.1:{desk.port}{target}"], input=body,
                          capture_output=True, timeout=2 * WAIT)
     same((ran.returncode, ran.stderr), (0, b""), f"curl at {target}")
-    return ran.stdout
+    return undated(ran.stdout, begun)
 
 
 class Kept:
@@ -181,14 +204,15 @@ class Kept:
         self.socket = self.client.sock
 
     def ask(self, method, target, body):
-        """The bytes of the reply that http.client has."""
+        """The bytes of the reply that http.client has, but for its date."""
+        begun = time.time()
         self.client.request(method, target, body or None)
         got = self.client.getresponse()
         text = got.read()
         if self.client.sock is not self.socket:
             wrong(f"the connection was closed after {method} {target}")
         fields = "".join(f"{name}: {value}\r\n" for name, value in got.getheaders())
-        return f"HTTP/1.1 {got.status} {got.reason}\r\n{fields}\r\n".encode() + text
+        return undated(f"HTTP/1.1 {got.status} {got.reason}\r\n{fields}\r\n".encode() + text, begun)
 
     def close(self):
         self.client.close()

@@ -135,8 +135,6 @@ def completions(program):
                 cases.append(f"        '{name} {option}') files=yes ;;")
             elif value:
                 cases.append(f"        '{name} {option}') return ;;")
-        if "--desk" in option_names(it):
-            cases.append(f"        '{name} --desk') return ;;")
         closed = [value for _, words in it.lists["Arguments"] for value in values_of(words)]
         if closed:
             places.append(f"        {name}) values='{' '.join(closed)}' ;;")
@@ -183,7 +181,5 @@ complete -F _vend vend
 
 
 def option_names(it):
-    named = [name.split(" ")[0] for names, _ in it.lists["Options"] for name in names.split(", ")
-             if name.startswith("--")]
-    # What is said of `--file` names the option that takes its place.
-    return [*named, "--desk"] if any("--desk " in words for _, words in it.lists["Options"]) else named
+    return [name.split(" ")[0] for names, _ in it.lists["Options"] for name in names.split(", ")
+            if name.startswith("--")]

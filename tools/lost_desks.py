@@ -7,17 +7,20 @@ import subprocess
 import threading
 import time
 
-from bad_desks import NET, PATIENCE, SALE, SELL, Pretender, meters_page
+from bad_desks import NET, SALE, SELL, Pretender, meters_page
 from clocked_desk import Ran, frozen, run
 from desk_client import Desk, all_of, message, order, reply, talk
 from lookups import in_json
-from program import METER, RECEIPT, VEND, WAIT, prepare, rows_in
+from program import METER, RECEIPT, VEND, WAIT, at_terminal, prepare, rows_in
 from servers import message_from
 from shared import same, wrong
 
 KILLED = 60  # desks
 CAUGHT = 8  # desks that are frozen while they sell
-EARLY, LATE = 0.5, 6  # seconds before and after its patience between which a command has said so
+CONNECTING, WHOLE = 10, 120  # seconds of a command: for the connection, and for all that it does at a desk
+QUIET = 2  # seconds of a wait of which nothing is said at a terminal
+WAITING = b"waiting for the desk\n"
+EARLY, LATE = 0.5, 6  # seconds before and after these between which a command has said so
 MIB = 2**20
 
 
@@ -32,7 +35,7 @@ def begun(address, words):
 
 
 def ended(process):
-    out, err = process.communicate(timeout=2 * WAIT)
+    out, err = process.communicate(timeout=WHOLE + WAIT)
     return Ran(process.returncode, out, err)
 
 
@@ -140,18 +143,18 @@ class Side:
             self.failed = failed
 
     def end(self):
-        self.thread.join(4 * WAIT)
+        self.thread.join(2 * WHOLE + WAIT)
         if self.failed or self.thread.is_alive():
             raise self.failed or SystemExit("wrong: what waits for a desk has not ended")
         return self.found
 
 
-def is_given_up(address, words, out=b""):
-    """A command gives a desk up that is silent for ten seconds; for as many more if it took a part of a long message."""
+def is_given_up(address, words, out=b"", most=WHOLE):
+    """A command gives a desk up once its time is over, however much of it came."""
     since = time.monotonic()
     same(ended(begun(address, words)), Ran(1, out, b"net\n"), f"a desk that is silent: {words}")
-    waited, most = time.monotonic() - since, PATIENCE * (1 + (words[0] == "import"))
-    if not PATIENCE - EARLY <= waited < most + LATE:
+    waited = time.monotonic() - since
+    if not most - EARLY <= waited < most + LATE:
         wrong(f"a command that asks a silent desk has waited {waited} seconds: {words}")
 
 
@@ -198,7 +201,7 @@ def full_queue():
             client.setblocking(False)
             client.connect_ex(at)
         time.sleep(0.2)
-        is_given_up(f"127.0.0.1:{at[1]}", sell("Q-1"))
+        is_given_up(f"127.0.0.1:{at[1]}", sell("Q-1"), most=CONNECTING)
 
 
 def silent(text):
@@ -206,7 +209,7 @@ def silent(text):
     def answer(_, client):
         message_from(client)
         client.sendall(text)
-        time.sleep(2 * PATIENCE)
+        time.sleep(2 * WHOLE)
     return answer
 
 
@@ -240,7 +243,7 @@ def slow(pieces, pause):
 
 
 def taken_slowly(pieces, pause, words, out):
-    """However slowly a reply comes, it is a reply, as long as none of its bytes is late."""
+    """However slowly a reply comes, it is a reply, as long as it is whole in time."""
     with Pretender(slow(pieces, pause)) as it:
         since = time.monotonic()
         same(ended(begun(it.address, words)), Ran(0, out, b""), f"a slow desk: {words}")
@@ -248,31 +251,65 @@ def taken_slowly(pieces, pause, words, out):
             wrong(f"a slow desk was quick: {words}")
 
 
-def check_waits(folder):
-    """Desks that are frozen, silent or slow, side by side."""
+def never_whole(pieces, pause, words, out):
+    """A reply, or a list of them, that never ends is given up, though some of it always comes."""
+    with Pretender(slow(pieces, pause)) as it:
+        is_given_up(it.address, words, out)
+
+
+def pages_late(pages, pause, out):
+    """The pages of a list have one time together."""
+    def answer(_, client):
+        for page in pages:
+            message_from(client)
+            time.sleep(pause)
+            client.sendall(page)
+    with Pretender(answer) as it:
+        is_given_up(it.address, ["list", "meters"], out)
+
+
+def is_told(pieces, pause, status, out, told):
+    """At a terminal a command says once that it waits, and elsewhere nothing."""
+    with Pretender(slow(pieces, pause)) as it:
+        words = [SELL[0], "--desk", it.address, *SELL[1:]]
+        found = at_terminal(words, WHOLE + WAIT)
+        same((found[0], found[1], found[2][:len(told) or None]), (status, out, told), f"told after {pause} seconds each")
+        same(found[2].count(WAITING), told.count(WAITING), "how often it is told")
+
+
+def begin_waits(folder):
+    """Desks that are frozen, silent or slow, side by side and beside what comes next."""
     sale, paper = reply(200, in_json(SALE)), reply(200, RECEIPT, "text/plain")
-    page, lines = meters_page(0)
+    pages, lines = zip(*(meters_page(100 * number) for number in range(3)))
     listed, receipt = ["list", "meters"], ["report", "--kind", "receipt"]
     head = b"meter\tbase\ttariff\n"
     third = len(sale) // 3
+    thirds = [sale[:third], sale[third:-1], sale[-1:]]
     sides = [
         Side(frozen_desk, folder), Side(full_queue), Side(reads_nothing, folder),
         *(Side(given_up_behind, sale[:cut], SELL) for cut in (0, 1, 40, len(sale) - 1)),
         Side(given_up_behind, sale[:-1], receipt), Side(given_up_behind, paper[:-1], ["show", "last", "--meter", METER]),
-        Side(given_up_behind, page, listed, head + lines),
-        Side(given_up_behind, page + page[:99], listed, head + lines), Side(given_up_behind, b"", listed),
-        Side(taken_slowly, [sale[:third], sale[third:-1], sale[-1:]], PATIENCE - 3, SELL, RECEIPT),
-        Side(taken_slowly, [bytes([it]) for it in sale], 0.03, SELL, RECEIPT)]
-    caught = [Side(caught_desk, folder, place) for place in range(CAUGHT)]
+        Side(given_up_behind, pages[0], listed, head + lines[0]),
+        Side(given_up_behind, pages[0] + pages[0][:99], listed, head + lines[0]), Side(given_up_behind, b"", listed),
+        Side(pages_late, pages, 0.45 * WHOLE, head + lines[0] + lines[1]),
+        Side(never_whole, [bytes([it]) for it in sale[:60]], WHOLE / 50, SELL, b""),
+        Side(taken_slowly, thirds, 0.3 * WHOLE, SELL, RECEIPT),
+        Side(taken_slowly, [bytes([it]) for it in sale], 0.03, SELL, RECEIPT),
+        Side(is_told, [sale], QUIET / 2, 0, RECEIPT, b""), Side(is_told, thirds, 2 * QUIET, 0, RECEIPT, WAITING),
+        Side(is_told, [b""], 2 * WHOLE, 1, b"", WAITING + b"net\n")]
+    return sides, [Side(caught_desk, folder, place) for place in range(CAUGHT)]
+
+
+def end_waits(sides, caught):
+    """What is wrong at the desks that were frozen, silent or slow."""
     for it in sides:
         it.end()
     lost = sum(it.end() for it in caught)
-    print(f"frozen desks: each command gives up after {PATIENCE} seconds, and again prints the receipt of its one sale, at "
+    print(f"frozen desks: each command gives up after {WHOLE} seconds, and again prints the receipt of its one sale, at "
           f"{CAUGHT} desks too that were frozen while they sold, {lost} of them before a reply; {len(sides) - 3} silent or "
-          "slow ones, a queue that is full, and one that reads nothing")
+          "slow ones, a queue that is full, and one that reads nothing; a terminal is told of a wait")
 
 
 def check_lost_desks(folder):
     check_kills(folder)
     check_lost(folder)
-    check_waits(folder)

@@ -166,13 +166,17 @@ def is_left(before, after):
 
 
 def strangers(folder):
-    """Files that have none of an office's tables, each in a folder of its own: an empty one, a database
-    with rows, one whose last rows are in its log alone, one with an empty log, and one behind a link."""
-    for name in ("empty", "rows", "log", "emptied", "link"):
+    """Files that have none of an office's tables, each in a folder of its own: an empty one, two of one byte,
+    which SQLite takes for empty, one of them beside the beginning of a log, a database with rows, one whose last rows are in its log alone, one with an empty log, and one behind a link."""
+    for name in ("empty", "byte", "begun", "rows", "log", "emptied", "link"):
         (folder / name).mkdir()
         file = folder / name / "notes.db"
         if name == "empty":
             file.touch()
+        elif name in ("byte", "begun"):
+            file.write_bytes(b"S")
+            if name == "begun":
+                (folder / name / "notes.db-wal").write_bytes(bytes(LOG_HEAD))
         elif name == "log":
             with contextlib.closing(sqlite3.connect(folder / "live.db", isolation_level=None)) as live:
                 live.executescript("PRAGMA journal_mode = WAL;" + BESIDE)
@@ -209,6 +213,15 @@ def check_strangers(folder):
             expect(vend("audit", "--file", str(file), *words), 1, b"no office\n", b"")
         if not is_left(before, bytes_in(file.parent)):
             wrong(f"an audit changed {sorted(before)} to {sorted(bytes_in(file.parent))}")
+    for length in (2, 15):
+        (folder / f"short-{length}").mkdir()
+        file = folder / f"short-{length}" / "notes.db"
+        file.write_bytes(b"SQLite format 3"[:length])
+        before = bytes_in(file.parent)
+        for words in (*looks(file), ["audit", "--file", str(file)]):
+            expect(vend(*words), 1, b"", b"open 3 Store\n")
+            if bytes_in(file.parent) != before:
+                wrong(f"{words} changed a file of {length} bytes")
     print(f"strangers: {count} looks at files without an office, each left as it was")
 
 

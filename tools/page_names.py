@@ -5,7 +5,10 @@ A small name in square brackets is a clause; behind the name of a law it is a cl
 record that the law's contract names. A small name in round brackets is a definition, a function, a field, a lemma or
 a crate. A capitalised name is a definition or a type of this repository, a module of definitions or lemmas, or one of
 the toolchain, and then the page says so. A pair `CRATE/EDIT` is an edit, and so is each name under 'Wrong bodies' on
-a crate's page."""
+a crate's page.
+
+CONTRIBUTING.md shows a whole change, and docs/DEVELOPING.md lists the files of such a change and the idioms of proofs:
+each line stands in its file, each file is in the list, and each idiom has its example."""
 import re
 from collections import defaultdict
 
@@ -92,7 +95,7 @@ def wrong_names(texts):
             if law not in sources.contracts:
                 yield f"{page}: {law} is no function of the crates"
         for before, inside in re.findall(r"([^\[\n]{0,60})\[(`[^\]]*)\](?!\()", text):
-            own = re.search(rf"`{LAW}`\)?[ ,]*$", before)
+            own = re.search(rf"`{LAW}`(?:\]\(\))?\)?[ ,]*$", before)
             allowed = sources.clauses_of(own[1]) if own else every
             for clause in re.findall(r"`([a-z_]+)`", inside):
                 count += 1
@@ -121,6 +124,8 @@ def wrong_names(texts):
                 yield f"{page}: {edit} is no edit"
     yield from wrong_witnesses()
     yield from missing_files()
+    yield from wrong_change(texts["CONTRIBUTING.md"], texts["docs/DEVELOPING.md"])
+    yield from missing_examples()
     print(f"pages: {count} names of laws, clauses, definitions and edits")
 
 
@@ -143,8 +148,65 @@ def missing_files():
 def wrong_witnesses():
     """The witnesses in the table of promises are those of PROVED.md."""
     known = {quoted(witness)[0] for _, witness in rows_of_page("PROVED.md", "Law", "Witness") if quoted(witness)}
-    for promise, *_, witness, _ in rows_of_page("PROMISE.md", "The promise", "Law [clauses], in", "Witness",
-                                                "A wrong program to be refused"):
+    for promise, *_, witness, _ in rows_of_page("PROMISE.md", "The promise", "Law [clauses]", "Witness",
+                                                "A wrong program that was refused"):
         for name in quoted(witness):
             if name not in known:
                 yield f"docs/PROMISE.md: {name} is no witness in PROVED.md: {promise}"
+
+
+def change_shown(text):
+    """The files of the change that a page shows, each with the lines that go into it."""
+    shown, file = defaultdict(list), None
+    for block in re.findall(r"^```diff\n(.*?)^```$", text, re.DOTALL | re.MULTILINE):
+        for line in block.splitlines():
+            if line.startswith("+++ "):
+                file = shown[line.removeprefix("+++ ")]
+            else:
+                file.append(line.removeprefix("+").strip())
+    return shown
+
+
+def stands_in(line, lines):
+    """A line of the change is one of the file; with ` ..` at its end it is the front of one."""
+    return line in lines or line.endswith(" ..") and any(it.startswith(line[:-3]) for it in lines)
+
+
+def plain(path):
+    """`specs/commands/LookedUp.antt` and `commands/looked_up` are one file in a list."""
+    return re.sub(r"^(src|specs|proofs)/|\.\w+$|_", "", path).lower()
+
+
+def wrong_change(page, developing):
+    """CONTRIBUTING.md shows a look-up: its lines are in the tree, and its files are those of a look-up."""
+    listed = {}
+    section = re.search(r"^### A look-up\n(.*?)^##", developing, re.DOTALL | re.MULTILINE)[1]
+    crate = None
+    for crates, files in re.findall(r"^\|([^|]*)\|([^|]*)\|$", section, re.MULTILINE):
+        crate = (quoted(crates) or [crate])[0]
+        listed |= {(crate, plain(name)): not files.startswith("if ") for name in quoted(files)}
+    named = set()
+    for path, lines in change_shown(page).items():
+        if not (TOP / path).is_file():
+            yield f"CONTRIBUTING.md: there is no {path}"
+            continue
+        there = {line.strip() for line in (TOP / path).read_text(encoding="utf-8").splitlines()}
+        yield from (f"CONTRIBUTING.md: {path} has no line {line}" for line in lines if not stands_in(line, there))
+        own = re.fullmatch(r"crates/(\w+)/((?:src|specs|proofs)/.*)", path)
+        if own and not re.fullmatch(r"proofs/.*/Answers\.antt", own[2]):
+            fits = {(crate, name) for crate, name in listed
+                    if crate == own[1] and f"/{plain(own[2])}".endswith(f"/{name}")}
+            named |= fits
+            if not fits:
+                yield f"docs/DEVELOPING.md: a look-up has no {path}, and CONTRIBUTING.md has it"
+    for crate, name in sorted(place for place, always in listed.items() if always and place not in named):
+        yield f"CONTRIBUTING.md: the change has no {name} of {crate}, and docs/DEVELOPING.md has it for a look-up"
+
+
+def missing_examples():
+    """Each idiom of proofs on docs/DEVELOPING.md has its example: a file, and names that stand in it."""
+    for idiom, _, example in rows_of_page("DEVELOPING.md", "Idiom", "What it is for", "A good example"):
+        path, *names = quoted(example)
+        text = (TOP / "crates" / path).read_text(encoding="utf-8") if (TOP / "crates" / path).is_file() else ""
+        yield from (f"docs/DEVELOPING.md: {idiom}: crates/{path} has no {name}"
+                    for name in names or [path] if name not in text)

@@ -95,10 +95,12 @@ def check_commands(offices):
         name = quoted(cell)[0]
         if name not in WORDS:
             wrong(f"tools/page_rows.py runs no command {name}: add it there")
-        files = [said for option, said in helps[name].lists["Options"] if option.startswith("--file ")]
-        same("--desk" in "".join(files), desk == "yes", f"docs/{PAGE}: {name} with --desk")
-        asked = [name, "--desk", "127.0.0.1:1", *(it for it in WORDS[name][1:] if it not in ("--at", AT))]
-        expect(vend(*asked), *((1, b"", b"net\n") if desk == "yes" else (2, b"")))
+        options = [option.partition(" ")[0] for option, _ in helps[name].lists["Options"]]
+        files = [option for option in options if option == "--file"]
+        same("--desk" in options, desk == "yes", f"docs/{PAGE}: {name} with --desk")
+        words = [it for it in WORDS[name][1:] if it not in ("--at", AT)]
+        for asked in (["--desk", "127.0.0.1:1", *words], [*words, "--desk=127.0.0.1:1"]):
+            expect(vend(name, *asked), *((1, b"", b"net\n") if desk == "yes" else (2, b"")))
         same(not files, missing == "needs none", f"docs/{PAGE}: the file of {name}")
         has_file = bool(files)
         if name == "serve":
@@ -120,7 +122,7 @@ def check_commands(offices):
     for kind, first in (("shift", "SHIFT 1 ann"), ("receipt", "SALE 1"), ("sales", EXPORT)):
         ran = vend("report", "--file", offices.copy(), "--kind", kind)
         same(ran.stdout.decode().partition("\n")[0], first, f"report --kind {kind}")
-    expect(vend("quote", *WORDS["offer"][1:3], "--file", offices.copy(), *WORDS["offer"][3:]), 2)
+    expect(vend("quote", *WORDS["offer"][1:3], "--file", offices.copy(), *WORDS["offer"][3:]), 0, b"1 10 5\n")
     expect(vend("quote", "--file", offices.copy(), *WORDS["offer"][1:]), 0, b"1 10 5\n")
     expect(vend("sell", "--base", "2014", *WORDS["trial"][3:]), 0, b"00072057602627981690\n")
     return len(rows)
@@ -195,6 +197,10 @@ def check_statuses(offices):
         "`audit` found no office, or a row that breaks a rule; or standard output failed": (
             [["audit", "--file", broken]], b""),
         "an argument is missing or unknown": ([["sell"], ["audit", "--file", file, "--more"]], None),
+        "a command that takes `--file` or `--desk` ('yes' in [the table](#what-each-command-prints)) has neither, or both, "
+        "or `--desk` with an option that only a file has": (
+            [["list", "meters"], ["list", "--file", file, "--desk", "127.0.0.1:1", "meters"],
+             ["list", "meters", "--wait", "1", "--desk", "127.0.0.1:1"]], b"give --file or --desk\n"),
         "a value is outside its rule, or any argument is not UTF-8": (
             [["quote", ":0", "0", "1"], ["quote", ":100", "0", b"\xff"], [b"\xff"], ["audit", "--file", b"\xff.db"]],
             b"bad word\n"),

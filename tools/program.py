@@ -2,6 +2,7 @@
 that try the program share. It is no script of its own."""
 import contextlib
 import os
+import pty
 import re
 import resource
 import shutil
@@ -9,6 +10,7 @@ import signal
 import sqlite3
 import subprocess
 import tempfile
+import tty
 from pathlib import Path
 
 from shared import wrong
@@ -38,6 +40,24 @@ def expect(ran, status, out=None, err=None):
     """Compares how a run ended, where an output is given that too."""
     if ran.returncode != status or out not in (None, ran.stdout) or err not in (None, ran.stderr):
         wrong(f"{ran}\nexpected status {status}, output {out}, errors {err}")
+
+
+def at_terminal(words, most=WAIT, **options):
+    """Runs the program with its standard error at a terminal: its status, output and errors."""
+    ours, theirs = pty.openpty()
+    try:
+        tty.setraw(theirs)
+        ran = subprocess.Popen([VEND, *words], stdin=subprocess.DEVNULL, stdout=subprocess.PIPE, stderr=theirs, **options)
+    finally:
+        os.close(theirs)
+    said = b""
+    with contextlib.suppress(OSError):  # Linux ends a terminal that nobody has so.
+        while piece := os.read(ours, 65536):
+            said += piece
+    os.close(ours)
+    out = ran.stdout.read()
+    ran.stdout.close()
+    return ran.wait(most), out, said
 
 
 def begin_desk(file, connections, listen="127.0.0.1:0", more=(), program=VEND, **options):

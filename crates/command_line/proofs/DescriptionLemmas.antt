@@ -11,7 +11,7 @@ use Rattle.clap.specs.declared.builder.command.Command.{Command}
 use Rattle.sts_fields.specs.Text.{Text}
 use Rattle.command_line.specs.Description.{rule_of_argument, shape_of_description}
 use Rattle.command_line.specs.Line.{IsDescribed, command_named, line_of_commands, vend_line}
-use Rattle.command_line.specs.Line.{care_commands, desk_care_commands, desk_reading_commands, desk_shop_commands, officeless_commands, reading_commands, shop_commands}
+use Rattle.command_line.specs.Line.{care_commands, officeless_commands, reading_commands, shop_commands}
 use Rattle.command_line.specs.declared.argument.Argument.{Argument}
 use Rattle.command_line.specs.declared.description.Description.{Description}
 
@@ -47,15 +47,14 @@ one_description_more before descriptions i description line sub new within is de
     ∙ ap (λ (more : List Shape). line_of_commands (before ++ more)) (sym (map_more shape_of_description descriptions i description within))
 
 -- the groups of the line, added one after another, are its commands
-in_order_joined : (a b c d e f g : List Shape) → (((((a ++ b) ++ c) ++ d) ++ e) ++ f) ++ g ≡ a ++ (b ++ (c ++ (d ++ (e ++ (f ++ g)))))
-in_order_joined a b c d e f g = simp append_assoc
+in_order_joined : (a b c d : List Shape) → ((a ++ b) ++ c) ++ d ≡ a ++ (b ++ (c ++ d))
+in_order_joined a b c d = simp append_assoc
 
--- the seven groups of commands stand in the line in the order in which they were added
-pub in_order : (a b c d e f g : List Shape) (r : Result Command AllocError) → a ≡ shop_commands → b ≡ reading_commands → c ≡ care_commands
-    → d ≡ officeless_commands → e ≡ desk_shop_commands → f ≡ desk_reading_commands → g ≡ desk_care_commands
-    → IfOk r (λ line. app_of line ≡ line_of_commands ((((((([] ++ a) ++ b) ++ c) ++ d) ++ e) ++ f) ++ g))
+-- the four groups of commands stand in the line in the order in which they were added
+pub in_order : (a b c d : List Shape) (r : Result Command AllocError) → a ≡ shop_commands → b ≡ reading_commands → c ≡ care_commands
+    → d ≡ officeless_commands → IfOk r (λ line. app_of line ≡ line_of_commands (((([] ++ a) ++ b) ++ c) ++ d))
     → IfOk r (λ line. app_of line ≡ vend_line)
-in_order a b c d e f g r is_a is_b is_c is_d is_e is_f is_g is =
+in_order a b c d r is_a is_b is_c is_d is =
     let both : List Shape → List Shape → List Shape = λ x y. x ++ y in
-    let same = in_order_joined a b c d e f g ∙ ap₂ both is_a (ap₂ both is_b (ap₂ both is_c (ap₂ both is_d (ap₂ both is_e (ap₂ both is_f is_g))))) in
+    let same = in_order_joined a b c d ∙ ap₂ both is_a (ap₂ both is_b (ap₂ both is_c is_d)) in
     subst (λ (shapes : List Shape). IfOk r (λ line. app_of line ≡ line_of_commands shapes)) same is

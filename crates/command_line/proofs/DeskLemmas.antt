@@ -12,11 +12,11 @@ use Rattle.command_line.specs.declared.commands.report.Paper.TheVariants.{Shift,
 
 -- the name is that of the command
 abbrev IsReport : Text → Type 0
-IsReport name = T (pointwise eqb name (codes "desk-report"))
+IsReport name = T (pointwise eqb name (codes "report"))
 
 -- words that name no paper ask nothing of a desk
 pub no_paper : (rows : List Row) → ReadsWhat None (SaysPaper (parsed_argument (codes "kind") rows) (parsed_argument (codes "number") rows))
-    → (q : DeskQuestion) → SaysDeskQuestion (codes "desk-report") rows q → ⊥
+    → (q : DeskQuestion) → SaysDeskQuestion (codes "report") rows q → ⊥
 no_paper rows none (desk.Import kind csv) says = subst IsReport says.0 tt
 no_paper rows none (desk.SetTariff meter tariff) says = subst IsReport says.0 tt
 no_paper rows none (desk.MoveBase meter base) says = subst IsReport says.0 tt

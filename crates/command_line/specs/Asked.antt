@@ -1,5 +1,6 @@
 -- What words ask for.
-use Rattle.std.specs.Prelude.{◌≡◌, List, [], Option, Some, None, codes}
+use Rattle.std.specs.Prelude.{◌≡◌, ⊤, true, false, List, [], Option, Some, None, Result, Ok, Err}
+use Rattle.std.specs.Prelude.{codes}
 use Rattle.clap.specs.Walk.{Row}
 use Rattle.sts_fields.specs.Text.{Text}
 use Rattle.command_line.specs.Commands.{SaysAudit, SaysDeskWords, SaysImport, SaysList}
@@ -7,11 +8,14 @@ use Rattle.command_line.specs.Commands.{SaysMeterCommand, SaysOffer, SaysQuote, 
 use Rattle.command_line.specs.Commands.{SaysRequestWords, SaysSelfcheck, SaysServe, SaysShow}
 use Rattle.command_line.specs.Commands.{SaysTrial}
 use Rattle.command_line.specs.Line.{command_in, faults_in}
+use Rattle.command_line.specs.Place.{command_lacks_place, lacks_place}
 use Rattle.command_line.specs.declared.asked.Asked.{Asked}
 use Rattle.command_line.specs.declared.asked.Asked.TheVariants.{Trial, Import, Request, Report}
 use Rattle.command_line.specs.declared.asked.Asked.TheVariants.{Show, Meter, Quote, Offer, Serve}
 use Rattle.command_line.specs.declared.asked.Asked.TheVariants.{Selfcheck, Audit}
 use Rattle.command_line.specs.declared.asked.Asked.TheVariants as variants
+use Rattle.command_line.specs.declared.words.BadWords.{BadWords}
+use Rattle.command_line.specs.declared.words.BadWords.TheVariants.{Value, Place, Memory}
 use Rattle.command_line.specs.declared.syncs.Syncs.{Syncs}
 use Rattle.command_line.specs.declared.syncs.Syncs.TheVariants.{Twice}
 
@@ -31,10 +35,20 @@ ArgumentsSay name rows (Selfcheck words) = (name ≡ codes "selfcheck") × SaysS
 ArgumentsSay name rows (Audit words) = (name ≡ codes "audit") × SaysAudit rows words
 ArgumentsSay name rows (variants.Desk words) = SaysDeskWords name rows words
 
--- the same of a command, where there is one
+-- the same of a command, where there is one, which does not lack its place
 abbrev pub CommandAsks : Option (Text × List Row) → Asked → Type 0
 CommandAsks None asked = ⊥
-CommandAsks (Some (name, rows)) asked = ArgumentsSay name rows asked
+CommandAsks (Some (name, rows)) asked =
+    (lacks_place name rows ≡ false) × ArgumentsSay name rows asked
+
+-- what is read of a command: what it asks for; or else it lacks its place, or has a value that is
+-- outside its rule, and asks for nothing; or there was no room
+abbrev pub ReadsAsked : Result Asked BadWords → Option (Text × List Row) → Type 0
+ReadsAsked (Ok asked) command = CommandAsks command asked
+ReadsAsked (Err Place) command = command_lacks_place command ≡ true
+ReadsAsked (Err Value) command =
+    (command_lacks_place command ≡ false) × ((asked : Asked) → ¬ CommandAsks command asked)
+ReadsAsked (Err Memory) command = ⊤
 
 -- the words ask for this: they are those of its command, and say each value
 pub record AskFor (words : List Text) (asked : Asked) : Type 0 where

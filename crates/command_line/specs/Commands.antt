@@ -5,13 +5,13 @@ use Rattle.papers.specs.declared.file_kind.FileKind.{FileKind}
 use Rattle.papers.specs.declared.file_kind.FileKind.TheVariants.{Meters, Tariffs}
 use Rattle.sts_fields.specs.Text.{Text}
 use Rattle.command_line.specs.Address.{SaysAddress}
-use Rattle.command_line.specs.Said.{IsArgument, IsOptionalArgument, parsed_arguments}
-use Rattle.command_line.specs.Said.{parsed_argument}
+use Rattle.command_line.specs.Said.{IsArgument, IsArgumentOr, IsOptionalArgument, parsed_argument}
+use Rattle.command_line.specs.Said.{parsed_arguments}
 use Rattle.command_line.specs.Values.{SayEach, SaysAfter, SaysAmount, SaysBase, SaysConnections}
 use Rattle.command_line.specs.Values.{SaysFlag, SaysItem, SaysKey, SaysMeterNo, SaysMoment}
 use Rattle.command_line.specs.Values.{SaysOperator, SaysPrior, SaysRef, SaysSteps, SaysTariff}
 use Rattle.command_line.specs.Values.{SaysSyncs, SaysTender, SaysText, SaysTransform}
-use Rattle.command_line.specs.Values.{SaysWait}
+use Rattle.command_line.specs.Values.{SaysWait, default_transform, default_wait}
 use Rattle.command_line.specs.declared.commands.at_desk.DeskQuestion.{DeskQuestion}
 use Rattle.command_line.specs.declared.commands.at_desk.DeskQuestion.TheVariants as desk
 use Rattle.command_line.specs.declared.commands.at_desk.DeskWords.{DeskWords}
@@ -41,7 +41,7 @@ use Rattle.office_rules.specs.declared.decision.request.Request.TheVariants.{Ope
 use Rattle.office_rules.specs.declared.decision.request.Request.TheVariants.{Sell}
 
 pub record SaysTrial (rows : List Row) (words : TrialWords) : Type 0 where
-  pub transform : IsArgument SaysTransform
+  pub transform : IsArgumentOr SaysTransform default_transform
       (parsed_argument (codes "transform") rows) words.transform
   pub base : IsArgument SaysBase (parsed_argument (codes "base") rows) words.base
   pub key : IsArgument SaysKey (parsed_argument (codes "key") rows) words.key
@@ -51,26 +51,26 @@ pub record SaysTrial (rows : List Row) (words : TrialWords) : Type 0 where
 
 -- tokens are any texts
 pub record SaysMeterCommand (rows : List Row) (words : MeterWords) : Type 0 where
-  pub transform : IsArgument SaysTransform
+  pub transform : IsArgumentOr SaysTransform default_transform
       (parsed_argument (codes "transform") rows) words.transform
   pub key : IsArgument SaysKey (parsed_argument (codes "key") rows) words.key
   pub tokens : IsArgument (SayEach SaysText)
       (parsed_arguments (codes "tokens") rows) words.tokens.now
 
 pub record SaysQuote (rows : List Row) (words : QuoteWords) : Type 0 where
-  pub transform : IsArgument SaysTransform
+  pub transform : IsArgumentOr SaysTransform default_transform
       (parsed_argument (codes "transform") rows) words.transform
   pub steps : IsArgument SaysSteps (parsed_argument (codes "steps") rows) words.steps
   pub prior : IsArgument SaysPrior (parsed_argument (codes "prior") rows) words.prior
   pub tender : IsArgument SaysTender (parsed_argument (codes "tender") rows) words.tender
 
 pub record SaysSelfcheck (rows : List Row) (words : SelfcheckWords) : Type 0 where
-  pub transform : IsArgument SaysTransform
+  pub transform : IsArgumentOr SaysTransform default_transform
       (parsed_argument (codes "transform") rows) words.transform
 
 pub record SaysAudit (rows : List Row) (words : AuditWords) : Type 0 where
   pub file : IsArgument SaysText (parsed_argument (codes "file") rows) words.file
-  pub wait : IsArgument SaysWait (parsed_argument (codes "wait") rows) words.wait
+  pub wait : IsArgumentOr SaysWait default_wait (parsed_argument (codes "wait") rows) words.wait
   pub transform : IsOptionalArgument SaysTransform
       (parsed_argument (codes "transform") rows) words.transform
 
@@ -83,10 +83,10 @@ abbrev pub SaysKind : Text → FileKind → Type 0
 SaysKind text kind = text ≡ kind_name kind
 
 pub record SaysImport (rows : List Row) (words : ImportWords) : Type 0 where
-  pub transform : IsArgument SaysTransform
+  pub transform : IsArgumentOr SaysTransform default_transform
       (parsed_argument (codes "transform") rows) words.transform
   pub file : IsArgument SaysText (parsed_argument (codes "file") rows) words.file
-  pub wait : IsArgument SaysWait (parsed_argument (codes "wait") rows) words.wait
+  pub wait : IsArgumentOr SaysWait default_wait (parsed_argument (codes "wait") rows) words.wait
   pub at : IsOptionalArgument SaysMoment (parsed_argument (codes "at") rows) words.at
   pub kind : IsArgument SaysKind (parsed_argument (codes "kind") rows) words.kind
   pub csv : IsArgument SaysText (parsed_argument (codes "csv") rows) words.csv
@@ -117,10 +117,10 @@ SaysRequest name rows request = ⊥
 
 -- a request, made to the office in a file
 pub record SaysRequestWords (name : Text) (rows : List Row) (words : RequestWords) : Type 0 where
-  pub transform : IsArgument SaysTransform
+  pub transform : IsArgumentOr SaysTransform default_transform
       (parsed_argument (codes "transform") rows) words.transform
   pub file : IsArgument SaysText (parsed_argument (codes "file") rows) words.file
-  pub wait : IsArgument SaysWait (parsed_argument (codes "wait") rows) words.wait
+  pub wait : IsArgumentOr SaysWait default_wait (parsed_argument (codes "wait") rows) words.wait
   pub at : IsOptionalArgument SaysMoment (parsed_argument (codes "at") rows) words.at
   pub request : SaysRequest name rows words.request
 
@@ -133,7 +133,7 @@ SaysPaper kind number Sales = kind ≡ Some (codes "sales")
 
 pub record SaysReport (rows : List Row) (words : ReportWords) : Type 0 where
   pub file : IsArgument SaysText (parsed_argument (codes "file") rows) words.file
-  pub wait : IsArgument SaysWait (parsed_argument (codes "wait") rows) words.wait
+  pub wait : IsArgumentOr SaysWait default_wait (parsed_argument (codes "wait") rows) words.wait
   pub paper : SaysPaper (parsed_argument (codes "kind") rows)
       (parsed_argument (codes "number") rows) words.paper
 
@@ -152,7 +152,7 @@ SaysShown rows (shown.Sale operator order_ref) =
 
 pub record SaysShow (rows : List Row) (words : ShowWords) : Type 0 where
   pub file : IsArgument SaysText (parsed_argument (codes "file") rows) words.file
-  pub wait : IsArgument SaysWait (parsed_argument (codes "wait") rows) words.wait
+  pub wait : IsArgumentOr SaysWait default_wait (parsed_argument (codes "wait") rows) words.wait
   pub at : IsOptionalArgument SaysMoment (parsed_argument (codes "at") rows) words.at
   pub shown : SaysShown rows words.shown
   pub json : IsArgument SaysFlag (parsed_argument (codes "json") rows) words.json
@@ -179,24 +179,24 @@ SaysListed rows (listed.Sales after) =
 
 pub record SaysList (rows : List Row) (words : ListWords) : Type 0 where
   pub file : IsArgument SaysText (parsed_argument (codes "file") rows) words.file
-  pub wait : IsArgument SaysWait (parsed_argument (codes "wait") rows) words.wait
+  pub wait : IsArgumentOr SaysWait default_wait (parsed_argument (codes "wait") rows) words.wait
   pub at : IsOptionalArgument SaysMoment (parsed_argument (codes "at") rows) words.at
   pub listed : SaysListed rows words.listed
   pub json : IsArgument SaysFlag (parsed_argument (codes "json") rows) words.json
 
 pub record SaysOffer (rows : List Row) (words : OfferWords) : Type 0 where
   pub file : IsArgument SaysText (parsed_argument (codes "file") rows) words.file
-  pub wait : IsArgument SaysWait (parsed_argument (codes "wait") rows) words.wait
+  pub wait : IsArgumentOr SaysWait default_wait (parsed_argument (codes "wait") rows) words.wait
   pub at : IsOptionalArgument SaysMoment (parsed_argument (codes "at") rows) words.at
   pub meter : IsArgument SaysMeterNo (parsed_argument (codes "meter") rows) words.meter
   pub tender : IsArgument SaysTender (parsed_argument (codes "tender") rows) words.tender
   pub json : IsArgument SaysFlag (parsed_argument (codes "json") rows) words.json
 
 pub record SaysServe (rows : List Row) (words : ServeWords) : Type 0 where
-  pub transform : IsArgument SaysTransform
+  pub transform : IsArgumentOr SaysTransform default_transform
       (parsed_argument (codes "transform") rows) words.transform
   pub file : IsArgument SaysText (parsed_argument (codes "file") rows) words.file
-  pub wait : IsArgument SaysWait (parsed_argument (codes "wait") rows) words.wait
+  pub wait : IsArgumentOr SaysWait default_wait (parsed_argument (codes "wait") rows) words.wait
   pub syncs : IsArgument SaysSyncs (parsed_argument (codes "sync") rows) words.syncs
   pub listen : IsArgument SaysAddress (parsed_argument (codes "listen") rows) words.listen
   pub connections : IsArgument SaysConnections
@@ -205,40 +205,40 @@ pub record SaysServe (rows : List Row) (words : ServeWords) : Type 0 where
 -- the question of a command of this name; the export that `report` prints of all sales is their
 -- list
 abbrev pub SaysDeskQuestion : (name : Text) → List Row → DeskQuestion → Type 0
-SaysDeskQuestion name rows (desk.Import kind csv) = (name ≡ codes "desk-import")
+SaysDeskQuestion name rows (desk.Import kind csv) = (name ≡ codes "import")
     × IsArgument SaysKind (parsed_argument (codes "kind") rows) kind
     × IsArgument SaysText (parsed_argument (codes "csv") rows) csv
-SaysDeskQuestion name rows (desk.SetTariff meter tariff) = (name ≡ codes "desk-tariff")
+SaysDeskQuestion name rows (desk.SetTariff meter tariff) = (name ≡ codes "tariff")
     × IsArgument SaysMeterNo (parsed_argument (codes "meter") rows) meter
     × IsArgument SaysTariff (parsed_argument (codes "tariff") rows) tariff
-SaysDeskQuestion name rows (desk.MoveBase meter base) = (name ≡ codes "desk-base")
+SaysDeskQuestion name rows (desk.MoveBase meter base) = (name ≡ codes "base")
     × IsArgument SaysMeterNo (parsed_argument (codes "meter") rows) meter
     × IsArgument SaysBase (parsed_argument (codes "base") rows) base
-SaysDeskQuestion name rows (desk.OpenShift operator) = (name ≡ codes "desk-shift")
+SaysDeskQuestion name rows (desk.OpenShift operator) = (name ≡ codes "shift")
     × (parsed_argument (codes "act") rows ≡ Some (codes "open"))
     × IsArgument SaysOperator (parsed_argument (codes "operator") rows) operator
-SaysDeskQuestion name rows (desk.CloseShift operator) = (name ≡ codes "desk-shift")
+SaysDeskQuestion name rows (desk.CloseShift operator) = (name ≡ codes "shift")
     × (parsed_argument (codes "act") rows ≡ Some (codes "close"))
     × IsArgument SaysOperator (parsed_argument (codes "operator") rows) operator
-SaysDeskQuestion name rows (desk.Sell order) = (name ≡ codes "desk-sell") × SaysOrder rows order
-SaysDeskQuestion name rows (desk.ShiftReport number) = (name ≡ codes "desk-report")
+SaysDeskQuestion name rows (desk.Sell order) = (name ≡ codes "sell") × SaysOrder rows order
+SaysDeskQuestion name rows (desk.ShiftReport number) = (name ≡ codes "report")
     × SaysPaper (parsed_argument (codes "kind") rows) (parsed_argument (codes "number") rows)
     (Shift number)
-SaysDeskQuestion name rows (desk.Receipt number) = (name ≡ codes "desk-report")
+SaysDeskQuestion name rows (desk.Receipt number) = (name ≡ codes "report")
     × SaysPaper (parsed_argument (codes "kind") rows) (parsed_argument (codes "number") rows)
     (Receipt number)
-SaysDeskQuestion name rows (desk.ShiftTotals number) = (name ≡ codes "desk-report")
+SaysDeskQuestion name rows (desk.ShiftTotals number) = (name ≡ codes "report")
     × SaysPaper (parsed_argument (codes "kind") rows) (parsed_argument (codes "number") rows)
     (Totals number)
-SaysDeskQuestion name rows (desk.Show what json) = (name ≡ codes "desk-show") × SaysShown rows what
+SaysDeskQuestion name rows (desk.Show what json) = (name ≡ codes "show") × SaysShown rows what
     × IsArgument SaysFlag (parsed_argument (codes "json") rows) json
-SaysDeskQuestion name rows (desk.Offer meter tender json) = (name ≡ codes "desk-quote")
+SaysDeskQuestion name rows (desk.Offer meter tender json) = (name ≡ codes "offer")
     × IsArgument SaysMeterNo (parsed_argument (codes "meter") rows) meter
     × IsArgument SaysTender (parsed_argument (codes "tender") rows) tender
     × IsArgument SaysFlag (parsed_argument (codes "json") rows) json
-SaysDeskQuestion name rows (desk.List members json) = ((name ≡ codes "desk-list")
+SaysDeskQuestion name rows (desk.List members json) = ((name ≡ codes "list")
     × SaysListed rows members × IsArgument SaysFlag (parsed_argument (codes "json") rows) json)
-    ⊎ ((name ≡ codes "desk-report") × SaysPaper (parsed_argument (codes "kind") rows)
+    ⊎ ((name ≡ codes "report") × SaysPaper (parsed_argument (codes "kind") rows)
     (parsed_argument (codes "number") rows) Sales × (members ≡ listed.Sales 0) × (json ≡ false))
 
 -- a desk, and what it is asked

@@ -3,6 +3,7 @@ pub mod Asked
 pub mod Commands
 pub mod Description
 pub mod Line
+pub mod Place
 pub mod Said
 pub mod Transform
 pub mod Values

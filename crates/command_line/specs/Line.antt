@@ -42,18 +42,20 @@ words_named name = record (word_named name) {
 }
 
 abbrev pub transform_option : Rule
-transform_option = with_default (codes "transform") (codes "plain")
-
--- where it is left out no token is tested
-abbrev pub tested_transform_option : Rule
-tested_transform_option = option_named (codes "transform")
+transform_option = option_named (codes "transform")
 
 abbrev pub at_option : Rule
 at_option = option_named (codes "at")
 
--- where it is left out a command waits for the file for five seconds
 abbrev pub wait_option : Rule
-wait_option = with_default (codes "wait") (codes "5")
+wait_option = option_named (codes "wait")
+
+-- which office is asked: one of the two
+abbrev pub file_option : Rule
+file_option = option_named (codes "file")
+
+abbrev pub desk_option : Rule
+desk_option = option_named (codes "desk")
 
 -- where it is left out a change is synced twice
 abbrev pub sync_option : Rule
@@ -72,41 +74,41 @@ trial_command = command_named (codes "trial") (transform_option ∷ needed (code
     ∷ needed (codes "key") ∷ at_option ∷ words_named (codes "amounts") ∷ [])
 
 unfoldable pub import_command : Shape
-import_command = command_named (codes "import") (transform_option ∷ needed (codes "file")
+import_command = command_named (codes "import") (transform_option ∷ file_option ∷ desk_option
     ∷ wait_option ∷ at_option ∷ word_named (codes "kind") ∷ word_named (codes "csv") ∷ [])
 
 unfoldable pub tariff_command : Shape
-tariff_command = command_named (codes "tariff") (transform_option ∷ needed (codes "file")
+tariff_command = command_named (codes "tariff") (transform_option ∷ file_option ∷ desk_option
     ∷ wait_option ∷ needed (codes "meter") ∷ needed (codes "tariff") ∷ at_option ∷ [])
 
 unfoldable pub base_command : Shape
-base_command = command_named (codes "base") (transform_option ∷ needed (codes "file")
+base_command = command_named (codes "base") (transform_option ∷ file_option ∷ desk_option
     ∷ wait_option ∷ needed (codes "meter") ∷ needed (codes "base") ∷ at_option ∷ [])
 
 unfoldable pub shift_command : Shape
-shift_command = command_named (codes "shift") (transform_option ∷ needed (codes "file")
+shift_command = command_named (codes "shift") (transform_option ∷ file_option ∷ desk_option
     ∷ wait_option ∷ needed (codes "operator") ∷ at_option ∷ word_named (codes "act") ∷ [])
 
 unfoldable pub sell_command : Shape
-sell_command = command_named (codes "sell") (transform_option ∷ needed (codes "file")
+sell_command = command_named (codes "sell") (transform_option ∷ file_option ∷ desk_option
     ∷ wait_option ∷ needed (codes "operator") ∷ needed (codes "ref") ∷ needed (codes "meter")
     ∷ needed (codes "tender") ∷ at_option ∷ [])
 
 unfoldable pub report_command : Shape
-report_command = command_named (codes "report") (needed (codes "file") ∷ wait_option
+report_command = command_named (codes "report") (file_option ∷ desk_option ∷ wait_option
     ∷ needed (codes "kind") ∷ with_default (codes "number") (codes "1") ∷ [])
 
 unfoldable pub show_command : Shape
-show_command = command_named (codes "show") (needed (codes "file") ∷ wait_option ∷ at_option
+show_command = command_named (codes "show") (file_option ∷ desk_option ∷ wait_option ∷ at_option
     ∷ option_named (codes "meter") ∷ option_named (codes "operator") ∷ option_named (codes "ref")
     ∷ json_option ∷ word_named (codes "what") ∷ [])
 
 unfoldable pub list_command : Shape
-list_command = command_named (codes "list") (needed (codes "file") ∷ wait_option ∷ at_option
+list_command = command_named (codes "list") (file_option ∷ desk_option ∷ wait_option ∷ at_option
     ∷ option_named (codes "after") ∷ json_option ∷ word_named (codes "what") ∷ [])
 
 unfoldable pub offer_command : Shape
-offer_command = command_named (codes "offer") (needed (codes "file") ∷ wait_option ∷ at_option
+offer_command = command_named (codes "offer") (file_option ∷ desk_option ∷ wait_option ∷ at_option
     ∷ needed (codes "meter") ∷ json_option ∷ word_named (codes "tender") ∷ [])
 
 unfoldable pub meter_command : Shape
@@ -126,50 +128,7 @@ selfcheck_command = command_named (codes "selfcheck") (transform_option ∷ [])
 
 unfoldable pub audit_command : Shape
 audit_command = command_named (codes "audit")
-    (needed (codes "file") ∷ wait_option ∷ tested_transform_option ∷ [])
-
--- ---- commands that ask a running desk
-
--- where the desk listens, and these
-abbrev pub desk_command : Text → List Rule → Shape
-desk_command name rules = command_named name (needed (codes "desk") ∷ rules)
-
-unfoldable pub desk_import_command : Shape
-desk_import_command = desk_command (codes "desk-import")
-    (word_named (codes "kind") ∷ word_named (codes "csv") ∷ [])
-
-unfoldable pub desk_shift_command : Shape
-desk_shift_command = desk_command (codes "desk-shift")
-    (needed (codes "operator") ∷ word_named (codes "act") ∷ [])
-
-unfoldable pub desk_sell_command : Shape
-desk_sell_command = desk_command (codes "desk-sell") (needed (codes "operator")
-    ∷ needed (codes "ref") ∷ needed (codes "meter") ∷ needed (codes "tender") ∷ [])
-
-unfoldable pub desk_report_command : Shape
-desk_report_command = desk_command (codes "desk-report")
-    (needed (codes "kind") ∷ with_default (codes "number") (codes "1") ∷ [])
-
-unfoldable pub desk_show_command : Shape
-desk_show_command = desk_command (codes "desk-show") (option_named (codes "meter")
-    ∷ option_named (codes "operator") ∷ option_named (codes "ref") ∷ json_option
-    ∷ word_named (codes "what") ∷ [])
-
-unfoldable pub desk_list_command : Shape
-desk_list_command = desk_command (codes "desk-list")
-    (option_named (codes "after") ∷ json_option ∷ word_named (codes "what") ∷ [])
-
-unfoldable pub desk_quote_command : Shape
-desk_quote_command = desk_command (codes "desk-quote")
-    (needed (codes "meter") ∷ json_option ∷ word_named (codes "tender") ∷ [])
-
-unfoldable pub desk_tariff_command : Shape
-desk_tariff_command = desk_command (codes "desk-tariff")
-    (needed (codes "meter") ∷ needed (codes "tariff") ∷ [])
-
-unfoldable pub desk_base_command : Shape
-desk_base_command = desk_command (codes "desk-base")
-    (needed (codes "meter") ∷ needed (codes "base") ∷ [])
+    (needed (codes "file") ∷ wait_option ∷ transform_option ∷ [])
 
 -- ---- the line
 
@@ -189,24 +148,9 @@ care_commands = tariff_command ∷ base_command ∷ audit_command ∷ serve_comm
 abbrev pub officeless_commands : List Shape
 officeless_commands = quote_command ∷ meter_command ∷ trial_command ∷ selfcheck_command ∷ []
 
--- those by which a shop sells at a desk
-abbrev pub desk_shop_commands : List Shape
-desk_shop_commands = desk_import_command ∷ desk_shift_command ∷ desk_sell_command ∷ []
-
--- those that print what a desk has
-abbrev pub desk_reading_commands : List Shape
-desk_reading_commands = desk_report_command ∷ desk_show_command ∷ desk_list_command
-    ∷ desk_quote_command ∷ []
-
--- those that change a meter at a desk
-abbrev pub desk_care_commands : List Shape
-desk_care_commands = desk_tariff_command ∷ desk_base_command ∷ []
-
--- the commands, each of which has one level of words, in the order in which a shop needs them;
--- those that ask a desk come last
+-- the commands, each of which has one level of words, in the order in which a shop needs them
 abbrev pub commands : List Shape
-commands = shop_commands ++ (reading_commands ++ (care_commands ++ (officeless_commands
-    ++ (desk_shop_commands ++ (desk_reading_commands ++ desk_care_commands)))))
+commands = shop_commands ++ (reading_commands ++ (care_commands ++ officeless_commands))
 
 abbrev pub has_none : List Shape → Bool
 has_none [] = true
@@ -239,46 +183,29 @@ abbrev pub sells_by_base : List Text → Bool
 sells_by_base (command ∷ next ∷ rest) = pointwise eqb command (codes "sell") && is_base_option next
 sells_by_base words = false
 
--- `--file`, alone or with its value after `=`
-abbrev pub is_file_option : Text → Bool
-is_file_option word = pointwise eqb word (codes "--file") || starts_with eqb word (codes "--file=")
+-- `--file` or `--desk`, alone or with its value after `=`
+abbrev pub is_place_option : Text → Bool
+is_place_option word =
+    pointwise eqb word (codes "--file") || (starts_with eqb word (codes "--file=")
+    || (pointwise eqb word (codes "--desk") || starts_with eqb word (codes "--desk=")))
 
--- `quote`, and the option `--file` right after it
-abbrev pub quotes_by_file : List Text → Bool
-quotes_by_file (command ∷ next ∷ rest) =
-    pointwise eqb command (codes "quote") && is_file_option next
-quotes_by_file words = false
+-- one of them is among the options, which end at `--`
+abbrev pub have_place : List Text → Bool
+have_place [] = false
+have_place (word ∷ rest) =
+    if pointwise eqb word (codes "--") then false else is_place_option word || have_place rest
 
--- `--desk`, alone or with its value after `=`
-abbrev pub is_desk_option : Text → Bool
-is_desk_option word = pointwise eqb word (codes "--desk") || starts_with eqb word (codes "--desk=")
+-- `quote` of an office
+abbrev pub quotes_office : List Text → Bool
+quotes_office (command ∷ rest) = pointwise eqb command (codes "quote") && have_place rest
+quotes_office words = false
 
--- the command that asks a desk what this one asks a file
-abbrev pub desk_name : Text → Text
-desk_name command =
-    if pointwise eqb command (codes "import") then codes "desk-import"
-    else if pointwise eqb command (codes "shift") then codes "desk-shift"
-    else if pointwise eqb command (codes "sell") then codes "desk-sell"
-    else if pointwise eqb command (codes "report") then codes "desk-report"
-    else if pointwise eqb command (codes "show") then codes "desk-show"
-    else if pointwise eqb command (codes "list") then codes "desk-list"
-    else if pointwise eqb command (codes "quote") then codes "desk-quote"
-    else if pointwise eqb command (codes "offer") then codes "desk-quote"
-    else if pointwise eqb command (codes "tariff") then codes "desk-tariff"
-    else if pointwise eqb command (codes "base") then codes "desk-base" else command
-
--- the option `--desk` comes right after the command
-abbrev pub asks_desk : List Text → Bool
-asks_desk (command ∷ next ∷ rest) = is_desk_option next
-asks_desk words = false
-
--- the words as they are meant: `sell` is `trial` where `--base` comes next, `quote` is `offer`
--- where `--file` does, and each command that a desk can be asked is that one where `--desk` does
+-- the words as they are meant: `sell` is `trial` where `--base` comes next, and `quote` is `offer`
+-- where an office is named
 abbrev pub meant_by : List Text → List Text
 meant_by (command ∷ rest) =
     (if sells_by_base (command ∷ rest) then codes "trial"
-    else if quotes_by_file (command ∷ rest) then codes "offer"
-    else if asks_desk (command ∷ rest) then desk_name command else command) ∷ rest
+    else if quotes_office (command ∷ rest) then codes "offer" else command) ∷ rest
 meant_by [] = []
 
 -- the faults that `clap` finds in the words; none where they are those of a command

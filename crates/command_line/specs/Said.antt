@@ -5,7 +5,7 @@ use Rattle.clap.specs.Matches.{found_of}
 use Rattle.clap.specs.declared.parser.matches.ArgMatches.{ArgMatches}
 use Rattle.sts_fields.specs.Text.{Text}
 use Rattle.command_line.specs.declared.words.BadWords.{BadWords}
-use Rattle.command_line.specs.declared.words.BadWords.TheVariants.{Value, Memory}
+use Rattle.command_line.specs.declared.words.BadWords.TheVariants.{Value, Place, Memory}
 
 -- the rows of a command that was parsed
 unfoldable pub argument_rows : ArgMatches → List Row
@@ -30,6 +30,12 @@ IsOptionalArgument Says None (Some v) = ⊥
 IsOptionalArgument Says (Some text) None = ⊥
 IsOptionalArgument Says (Some text) (Some v) = Says text v
 
+-- the same, where this text stands for an argument that is left out
+abbrev pub IsArgumentOr : {V : Type 0} → (Text → V → Type 0) → (left_out : Text) → Option Text → V
+    → Type 0
+IsArgumentOr Says left_out None v = Says left_out v
+IsArgumentOr Says left_out (Some text) v = Says text v
+
 -- what is read, where the words say `v` by `Says v`: a value that they say, and nothing exactly
 -- where they say none
 abbrev pub ReadsWhat : {V : Type 0} → Option V → (V → Type 0) → Type 0
@@ -40,4 +46,5 @@ ReadsWhat {V} None Says = (v : V) → ¬ Says v
 abbrev pub ReadsOrFull : {V : Type 0} → Result V BadWords → (V → Type 0) → Type 0
 ReadsOrFull (Ok v) Says = Says v
 ReadsOrFull {V} (Err Value) Says = (v : V) → ¬ Says v
+ReadsOrFull (Err Place) Says = ⊥
 ReadsOrFull (Err Memory) Says = ⊤

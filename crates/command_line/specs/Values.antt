@@ -43,6 +43,10 @@ SaysConnections text count = SaysNumber text count × (1 ≤ count) × (count �
 abbrev pub SaysWait : Text → ℕ → Type 0
 SaysWait text seconds = SaysNumber text seconds × (seconds ≤ 3600)
 
+-- where they are left out a file is waited for for five seconds
+abbrev pub default_wait : Text
+default_wait = codes "5"
+
 -- a number of an address, and its port
 abbrev pub SaysOctet : Text → ℕ → Type 0
 SaysOctet text octet = SaysNumber text octet × (octet < 256)
@@ -109,6 +113,10 @@ transform_name Demo = codes "demo"
 
 abbrev pub SaysTransform : Text → Shipped → Type 0
 SaysTransform text transform = text ≡ transform_name transform
+
+-- the transform where none is named
+abbrev pub default_transform : Text
+default_transform = transform_name Plain
 
 -- how often a change is synced, by its name
 abbrev pub sync_name : Syncs → Text

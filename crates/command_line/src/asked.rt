@@ -1,7 +1,7 @@
 ghost use Rattle.std.specs.Prelude.{◌≡◌};
 ghost use Rattle.clap.specs.Simple.{subcommand_rows_of};
-ghost use Rattle.command_line.specs.Asked.{CommandAsks, syncs_of};
-ghost use Rattle.command_line.specs.Said.{ReadsOrFull};
+ghost use Rattle.command_line.specs.Asked.{ArgumentsSay, ReadsAsked, syncs_of};
+ghost use Rattle.command_line.specs.Said.{ReadsOrFull, argument_rows};
 
 use crate::commands::at_desk::DeskWords;
 use crate::commands::audit::AuditWords;
@@ -15,6 +15,7 @@ use crate::commands::selfcheck::SelfcheckWords;
 use crate::commands::serve::ServeWords;
 use crate::commands::show::ShowWords;
 use crate::commands::trial::TrialWords;
+use crate::place::lacks_place;
 use crate::request_words::RequestWords;
 use crate::said;
 use crate::syncs::Syncs;
@@ -44,58 +45,77 @@ impl<'m, 'a> Asked<'m, 'a> {
     /// Reads what the arguments of the given command ask for.
     ///
     /// # Errors
-    /// `Value` if a value is outside its rule, so that they ask for nothing; `Memory`.
+    /// `Place` if the command has to name one office and does not, `Value` if a value is outside its
+    /// rule, so that they ask for nothing; `Memory`.
     pub fn read(alloc: Global, matches: &'m ArgMatches<'a>) -> Result<Asked<'m, 'a>, BadWords>
-        ensures { ReadsOrFull result (CommandAsks (subcommand_rows_of matches.now)) }
+        ensures { ReadsAsked result (subcommand_rows_of matches.now) }
     {
         match said::command(matches) {
-            Some(("trial", words)) => Ok(Asked::Trial(TrialWords::read(alloc, words)?)),
-            Some(("import", words)) => match ImportWords::read(words) {
+            Some((name, words)) => {
+                if lacks_place(name, words) {
+                    return Err(BadWords::Place);
+                }
+                Asked::read_command(alloc, name, words)
+            }
+            // The line has no words without a command.
+            None => Err(BadWords::Value),
+        }
+    }
+
+    // Reads those of the command of a name, whatever office it names.
+    fn read_command(
+        alloc: Global,
+        name: &str,
+        words: &'m ArgMatches<'a>,
+    ) -> Result<Asked<'m, 'a>, BadWords>
+        ensures { ReadsOrFull result (ArgumentsSay name.now (argument_rows words.now)) }
+    {
+        if let Some(words) = DeskWords::read(name, words) {
+            return Ok(Asked::Desk(words));
+        }
+        match name {
+            "trial" => Ok(Asked::Trial(TrialWords::read(alloc, words)?)),
+            "import" => match ImportWords::read(words) {
                 Some(words) => Ok(Asked::Import(words)),
                 None => Err(BadWords::Value),
             },
-            Some(("report", words)) => match ReportWords::read(words) {
+            "report" => match ReportWords::read(words) {
                 Some(words) => Ok(Asked::Report(words)),
                 None => Err(BadWords::Value),
             },
-            Some(("show", words)) => match ShowWords::read(words) {
+            "show" => match ShowWords::read(words) {
                 Some(words) => Ok(Asked::Show(words)),
                 None => Err(BadWords::Value),
             },
-            Some(("list", words)) => match ListWords::read(words) {
+            "list" => match ListWords::read(words) {
                 Some(words) => Ok(Asked::List(words)),
                 None => Err(BadWords::Value),
             },
-            Some(("meter", words)) => match MeterWords::read(words) {
+            "meter" => match MeterWords::read(words) {
                 Some(words) => Ok(Asked::Meter(words)),
                 None => Err(BadWords::Value),
             },
-            Some(("quote", words)) => Ok(Asked::Quote(QuoteWords::read(alloc, words)?)),
-            Some(("offer", words)) => match OfferWords::read(words) {
+            "quote" => Ok(Asked::Quote(QuoteWords::read(alloc, words)?)),
+            "offer" => match OfferWords::read(words) {
                 Some(words) => Ok(Asked::Offer(words)),
                 None => Err(BadWords::Value),
             },
-            Some(("serve", words)) => match ServeWords::read(words) {
+            "serve" => match ServeWords::read(words) {
                 Some(words) => Ok(Asked::Serve(words)),
                 None => Err(BadWords::Value),
             },
-            Some(("selfcheck", words)) => match SelfcheckWords::read(words) {
+            "selfcheck" => match SelfcheckWords::read(words) {
                 Some(words) => Ok(Asked::Selfcheck(words)),
                 None => Err(BadWords::Value),
             },
-            Some(("audit", words)) => match AuditWords::read(words) {
+            "audit" => match AuditWords::read(words) {
                 Some(words) => Ok(Asked::Audit(words)),
                 None => Err(BadWords::Value),
             },
-            Some((name, words)) => match RequestWords::read(name, words) {
+            _ => match RequestWords::read(name, words) {
                 Some(words) => Ok(Asked::Request(words)),
-                None => match DeskWords::read(name, words) {
-                    Some(words) => Ok(Asked::Desk(words)),
-                    None => Err(BadWords::Value),
-                },
+                None => Err(BadWords::Value),
             },
-            // The line has no words without a command.
-            None => Err(BadWords::Value),
         }
     }
 

@@ -1,9 +1,8 @@
 //! The commands: how each is described, and what its words say.
 ghost use Rattle.std.specs.Prelude.{◌≡◌, map};
 ghost use Rattle.command_line.specs.Description.{shape_of_description};
-ghost use Rattle.command_line.specs.Line.{care_commands, desk_care_commands, desk_reading_commands};
-ghost use Rattle.command_line.specs.Line.{desk_shop_commands, officeless_commands};
-ghost use Rattle.command_line.specs.Line.{reading_commands, shop_commands};
+ghost use Rattle.command_line.specs.Line.{care_commands, officeless_commands, reading_commands};
+ghost use Rattle.command_line.specs.Line.{shop_commands};
 
 use crate::description::Description;
 
@@ -49,17 +48,6 @@ static OFFICELESS: [Description; 4] = [
     selfcheck::COMMAND,
 ];
 
-static DESK_SHOP: [Description; 3] = [at_desk::IMPORT, at_desk::SHIFT, at_desk::SELL];
-
-static DESK_READING: [Description; 4] = [
-    at_desk::REPORT,
-    at_desk::SHOW,
-    at_desk::LIST,
-    at_desk::QUOTE,
-];
-
-static DESK_CARE: [Description; 2] = [at_desk::TARIFF, at_desk::BASE];
-
 /// The commands by which a shop sells.
 pub(crate) fn shop() -> &'static [Description]
     ensures { map shape_of_description result.now ≡ shop_commands }
@@ -86,25 +74,4 @@ pub(crate) fn officeless() -> &'static [Description]
     ensures { map shape_of_description result.now ≡ officeless_commands }
 {
     &OFFICELESS
-}
-
-/// Those by which a shop sells at a desk.
-pub(crate) fn desk_shop() -> &'static [Description]
-    ensures { map shape_of_description result.now ≡ desk_shop_commands }
-{
-    &DESK_SHOP
-}
-
-/// Those that print what a desk has.
-pub(crate) fn desk_reading() -> &'static [Description]
-    ensures { map shape_of_description result.now ≡ desk_reading_commands }
-{
-    &DESK_READING
-}
-
-/// Those that change a meter at a desk.
-pub(crate) fn desk_care() -> &'static [Description]
-    ensures { map shape_of_description result.now ≡ desk_care_commands }
-{
-    &DESK_CARE
 }

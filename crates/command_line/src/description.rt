@@ -14,8 +14,6 @@ pub(crate) struct Description {
     pub about: &'static str,
     /// Stands below its options.
     pub example: &'static str,
-    /// Whether the list of commands leaves it out, since it is meant by another one (`meant`).
-    pub is_hidden: bool,
     /// In the order of its help, and the words in that of the line.
     pub arguments: &'static [Argument],
 }
@@ -27,8 +25,7 @@ impl Description {
     {
         let mut command = Command::new(alloc, self.name)
             .about(self.about)
-            .after_help(self.example)
-            .hide(self.is_hidden);
+            .after_help(self.example);
         for argument in self.arguments {
             command = command.arg(argument.arg(alloc))?;
         }

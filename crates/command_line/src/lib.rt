@@ -31,6 +31,7 @@ mod commands;
 mod description;
 mod line;
 mod options;
+mod place;
 mod request_words;
 mod said;
 mod syncs;

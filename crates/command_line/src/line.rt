@@ -2,10 +2,9 @@ ghost use Rattle.std.specs.Prelude.{◌≡◌, List, [], ◌++◌, IfOk, MatchRe
 ghost use Rattle.clap.specs.Kinds.{HasKind};
 ghost use Rattle.clap.specs.Simple.{Shape, app_of, subcommand_rows_of};
 ghost use Rattle.command_line.specs.Description.{shape_of_description};
-ghost use Rattle.command_line.specs.Line.{command_in, faults_in, line_of_commands, vend_line};
-ghost use Rattle.command_line.specs.Line.{is_base_option, is_file_option, meant_by};
-ghost use Rattle.command_line.specs.Line.{asks_desk, desk_name, is_desk_option};
-ghost use Rattle.command_line.specs.Line.{quotes_by_file, sells_by_base};
+ghost use Rattle.command_line.specs.Line.{command_in, faults_in, have_place, is_base_option};
+ghost use Rattle.command_line.specs.Line.{is_place_option, line_of_commands, meant_by};
+ghost use Rattle.command_line.specs.Line.{quotes_office, sells_by_base, vend_line};
 ghost use Rattle.sts_fields.specs.Text.{Text};
 
 use crate::commands;
@@ -23,8 +22,7 @@ const STATUSES: &str = "Exit status: 0 done; 1 refused or failed (standard error
     2 invalid arguments.\n'vend COMMAND --help' lists the options of a command.";
 
 /// The words of a line as they are meant, the program's own name left out: `sell` right before
-/// `--base` means `trial`, `quote` right before `--file` means `offer`, and right before `--desk` a
-/// command means that a desk is asked.
+/// `--base` means `trial`, and `quote` with `--file` or `--desk` among its options means `offer`.
 pub fn meant<'a>(alloc: Global, words: &[&'a str]) -> Result<Vec<&'a str>, AllocError>
     ensures { IfOk result (λ meant. map (λ w. w.now) meant.items
         ≡ meant_by (map (λ w. w.now) words.now)) }
@@ -32,10 +30,8 @@ pub fn meant<'a>(alloc: Global, words: &[&'a str]) -> Result<Vec<&'a str>, Alloc
     let mut meant = words.to_vec(alloc)?;
     if sells_by_base(words) {
         meant[0] = "trial";
-    } else if quotes_by_file(words) {
+    } else if quotes_office(words) {
         meant[0] = "offer";
-    } else if asks_desk(words) {
-        meant[0] = desk_name(words[0]);
     }
     Ok(meant)
 }
@@ -57,65 +53,40 @@ fn is_base_option(word: &str) -> bool
     word == "--base" || word.as_bytes().starts_with(b"--base=")
 }
 
-// `quote`, and the option `--file` right after it.
-fn quotes_by_file(words: &[&str]) -> bool
-    ensures { result ≡ quotes_by_file (map (λ w. w.now) words.now) }
+// `quote`, with the name of an office behind it.
+fn quotes_office(words: &[&str]) -> bool
+    ensures { result ≡ quotes_office (map (λ w. w.now) words.now) }
 {
     match words {
-        [command, next, ..] => *command == "quote" && is_file_option(next),
+        [command, rest @ ..] => *command == "quote" && have_place(rest),
         _ => false,
     }
 }
 
-// `--file`, alone or with its value after `=`.
-fn is_file_option(word: &str) -> bool
-    ensures { result ≡ is_file_option word.now }
-{
-    word == "--file" || word.as_bytes().starts_with(b"--file=")
-}
-
-// The option `--desk` right after the command.
-fn asks_desk(words: &[&str]) -> bool
-    ensures { result ≡ asks_desk (map (λ w. w.now) words.now) }
+// `--file` or `--desk` among the options, which end at `--`.
+fn have_place(words: &[&str]) -> bool
+    ensures { result ≡ have_place (map (λ w. w.now) words.now) }
 {
     match words {
-        [_, next, ..] => is_desk_option(next),
-        _ => false,
+        [] => false,
+        [word, rest @ ..] => {
+            if *word == "--" {
+                false
+            } else {
+                is_place_option(word) || have_place(rest)
+            }
+        }
     }
 }
 
-// `--desk`, alone or with its value after `=`.
-fn is_desk_option(word: &str) -> bool
-    ensures { result ≡ is_desk_option word.now }
+// One of them, alone or with its value after `=`.
+fn is_place_option(word: &str) -> bool
+    ensures { result ≡ is_place_option word.now }
 {
-    word == "--desk" || word.as_bytes().starts_with(b"--desk=")
-}
-
-// The command that asks a desk what this one asks a file.
-fn desk_name<'a>(command: &'a str) -> &'a str
-    ensures { result.now ≡ desk_name command.entry.now }
-{
-    if command == "import" {
-        "desk-import"
-    } else if command == "shift" {
-        "desk-shift"
-    } else if command == "sell" {
-        "desk-sell"
-    } else if command == "report" {
-        "desk-report"
-    } else if command == "show" {
-        "desk-show"
-    } else if command == "list" {
-        "desk-list"
-    } else if command == "quote" || command == "offer" {
-        "desk-quote"
-    } else if command == "tariff" {
-        "desk-tariff"
-    } else if command == "base" {
-        "desk-base"
-    } else {
-        command
-    }
+    word == "--file"
+        || word.as_bytes().starts_with(b"--file=")
+        || word == "--desk"
+        || word.as_bytes().starts_with(b"--desk=")
 }
 
 /// The matches of words as they are meant, or what `clap` says of them.
@@ -137,11 +108,7 @@ fn describe<'a>(alloc: Global) -> Result<Command<'a>, AllocError>
     let line = with(alloc, line, commands::shop())?;
     let line = with(alloc, line, commands::reading())?;
     let line = with(alloc, line, commands::care())?;
-    let line = with(alloc, line, commands::officeless())?;
-    // These are meant by others, and hidden.
-    let line = with(alloc, line, commands::desk_shop())?;
-    let line = with(alloc, line, commands::desk_reading())?;
-    with(alloc, line, commands::desk_care())
+    with(alloc, line, commands::officeless())
 }
 
 // The line without its commands.

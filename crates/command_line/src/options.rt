@@ -1,11 +1,12 @@
 //! The options that commands share, each with its reader.
 ghost use Rattle.std.specs.Prelude.{codes};
 ghost use Rattle.command_line.specs.Address.{SaysAddress};
-ghost use Rattle.command_line.specs.Said.{IsArgument, IsOptionalArgument, ReadsWhat, argument_rows};
-ghost use Rattle.command_line.specs.Said.{parsed_argument};
+ghost use Rattle.command_line.specs.Said.{IsArgument, IsArgumentOr, IsOptionalArgument, ReadsWhat};
+ghost use Rattle.command_line.specs.Said.{argument_rows, parsed_argument};
 ghost use Rattle.command_line.specs.Values.{SaysBase, SaysFlag, SaysKey, SaysMeterNo, SaysMoment};
 ghost use Rattle.command_line.specs.Values.{SaysOperator, SaysRef};
 ghost use Rattle.command_line.specs.Values.{SaysTender, SaysText, SaysTransform, SaysWait};
+ghost use Rattle.command_line.specs.Values.{default_transform, default_wait};
 
 use crate::address::Address;
 use crate::argument::{Argument, ArgumentKind};
@@ -20,15 +21,18 @@ use tariff::Tender;
 /// `--transform`, which is `plain` where it is left out.
 pub(crate) const TRANSFORM: Argument = Argument {
     name: "transform",
-    kind: ArgumentKind::Default("NAME", "plain"),
-    help: "How the meter's tokens are mixed with its key: plain or demo",
+    kind: ArgumentKind::Optional("NAME"),
+    help: "How the meter's tokens are mixed with its key: plain or demo [default: plain]",
 };
 
 pub(crate) fn read_transform(matches: &ArgMatches) -> Option<Shipped>
-    ensures { ReadsWhat result (IsArgument SaysTransform
+    ensures { ReadsWhat result (IsArgumentOr SaysTransform default_transform
         (parsed_argument (codes "transform") (argument_rows matches.now))) }
 {
-    Shipped::read(said::text(matches, "transform")?)
+    match said::text(matches, "transform") {
+        Some(word) => Shipped::read(word),
+        None => Some(Shipped::Plain),
+    }
 }
 
 /// `--transform`, of a command that tests tokens only where it is given.
@@ -86,17 +90,15 @@ pub(crate) const PRESENT_FILE: Argument = Argument {
 /// `--file`, of a command that a running desk can be asked too.
 pub(crate) const FILE_OR_DESK: Argument = Argument {
     name: "file",
-    kind: ArgumentKind::Needed("FILE"),
-    help: "The office's file, created if it does not exist; --desk ADDRESS in its place asks \
-        a running desk",
+    kind: ArgumentKind::Optional("FILE"),
+    help: "The office's file, created if it does not exist",
 };
 
 /// The same, of a command that makes no file.
 pub(crate) const PRESENT_FILE_OR_DESK: Argument = Argument {
     name: "file",
-    kind: ArgumentKind::Needed("FILE"),
-    help: "The office's file, which has to exist; --desk ADDRESS in its place asks a running \
-        desk",
+    kind: ArgumentKind::Optional("FILE"),
+    help: "The office's file, which has to exist",
 };
 
 pub(crate) fn read_file<'a>(matches: &ArgMatches<'a>) -> Option<&'a str>
@@ -109,22 +111,27 @@ pub(crate) fn read_file<'a>(matches: &ArgMatches<'a>) -> Option<&'a str>
 /// `--wait`, which is 5 where it is left out.
 pub(crate) const WAIT: Argument = Argument {
     name: "wait",
-    kind: ArgumentKind::Default("SECONDS", "5"),
-    help: "Wait up to this many seconds while another program uses the file, 0 to 3600",
+    kind: ArgumentKind::Optional("SECONDS"),
+    help: "Wait up to this many seconds while another program uses the file, 0 to 3600 \
+        [default: 5]",
 };
 
 pub(crate) fn read_wait(matches: &ArgMatches) -> Option<u32>
-    ensures { ReadsWhat result (IsArgument SaysWait
+    ensures { ReadsWhat result (IsArgumentOr SaysWait default_wait
         (parsed_argument (codes "wait") (argument_rows matches.now))) }
 {
-    values::wait(said::text(matches, "wait")?)
+    match said::text(matches, "wait") {
+        Some(word) => values::wait(word),
+        None => values::wait("5"),
+    }
 }
 
-/// `--desk`, of a command that asks a running desk.
+/// `--desk`, of a command that a running desk can be asked too.
 pub(crate) const DESK: Argument = Argument {
     name: "desk",
-    kind: ArgumentKind::Needed("ADDRESS"),
-    help: "Where a desk runs ('vend serve'): four numbers and a port, e.g. 127.0.0.1:8080",
+    kind: ArgumentKind::Optional("ADDRESS"),
+    help: "In place of --file: where a desk runs ('vend serve'), four numbers and a port, e.g. \
+        127.0.0.1:8080",
 };
 
 pub(crate) fn read_desk(matches: &ArgMatches) -> Option<Address>

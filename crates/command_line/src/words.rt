@@ -5,6 +5,8 @@ use std::alloc::AllocError;
 pub enum BadWords {
     /// A value is outside its rule.
     Value,
+    /// No office is named, or two; or a desk with an option that only a file has.
+    Place,
     /// There was no room to keep what they say.
     Memory,
 }

@@ -1,19 +1,25 @@
 //! The desk over memory and over a connection, and what is told where they differ.
-use command_line::{SelfcheckWords, Shipped};
+
+ghost use Rattle.std.specs.Prelude.{⊤};
+
+use command_line::{Address, SelfcheckWords, Shipped};
 use std::io;
 use std::io::{ErrorKind, Read};
-use std::net::{Net, SocketAddr, TcpListener, TcpStream};
+use std::net::TcpStream;
 use std::test::Fail;
 use sts_token::{Demo, Plain};
-use vend_commands::{CommandEnd, Watched, gives_exactly, replies_over_memory, run_selfcheck};
+use vend_commands::{
+    CommandEnd, Loopback, Watched, gives_exactly, replies_over_memory, run_selfcheck,
+};
 
 // The replies to a sale and to a call for its receipt.
 const REPLIES: &[u8] = b"HTTP/1.1 200 OK\r\nContent-Type: application/json\r\n\
-    Content-Length: 189\r\n\r\n\
+    Content-Length: 189\r\nDate: Wed, 01 Jan 2014 00:00:30 GMT\r\n\r\n\
     {\"base\":2014,\"change\":0,\"meter\":\"12345678903\",\"moment\":1388534430,\"number\":1,\
     \"operator\":\"ann\",\"price\":10,\"ref\":\"A-1\",\"shift\":1,\"tender\":10,\"tenths\":1,\
     \"tid\":2,\"token\":\"00072057602627981690\"}\
-    HTTP/1.1 200 OK\r\nContent-Type: text/plain\r\nContent-Length: 118\r\n\r\n\
+    HTTP/1.1 200 OK\r\nContent-Type: text/plain\r\nContent-Length: 118\r\n\
+    Date: Wed, 01 Jan 2014 00:00:30 GMT\r\n\r\n\
     SALE 1\nMETER 12345678903\nTIME 2014-01-01T00:00:30Z\nKWH 0.1\nPRICE 10\nTENDER 10\n\
     CHANGE 0\nTOKEN 0007 2057 6026 2798 1690\n";
 
@@ -41,32 +47,51 @@ impl Read for Breaking<'_> {
     }
 }
 
-// A machine without a network, or one on which nobody can be called.
+// A machine that has no connection with itself.
 #[derive(Drop)]
-struct NoNet<'a, N> {
-    binds: Option<&'a N>,
-}
+struct NoNet;
 
-impl<N: Net<Stream = TcpStream, Listener = TcpListener>> Net for NoNet<'_, N> {
+impl Loopback for NoNet {
     type Stream = TcpStream;
 
-    type Listener = TcpListener;
+    ghost joins = { λ _ _. ⊤ };
 
-    fn bind(&self, addr: SocketAddr) -> io::Result<TcpListener> {
-        match self.binds {
-            Some(net) => net.bind(addr),
-            None => Err(io::Error::from(ErrorKind::AddrInUse)),
-        }
+    ghost connects = { λ _ _ _ _ _. ⊤ };
+
+    ghost lacks = { λ _. ⊤ };
+
+    ghost calls = { λ _ _ _. ⊤ };
+
+    ghost misses = { λ _ _. ⊤ };
+
+    ghost ends = { λ _ _. ⊤ };
+
+    ghost leaves = { λ _ _. ⊤ };
+
+    fn connect(self, _text: &[u8]) -> io::Result<(TcpStream, TcpStream, TcpStream)> {
+        Err(io::Error::from(ErrorKind::ConnectionRefused))
     }
 
-    fn connect(&self, _addr: SocketAddr) -> io::Result<TcpStream> {
+    fn call(self, _address: Address) -> io::Result<TcpStream> {
         Err(io::Error::from(ErrorKind::ConnectionRefused))
+    }
+
+    fn end<S: Drop>(stream: S)
+        ensures { ⊤ }
+    {
+        drop(stream);
+    }
+
+    fn leave<T: Drop>(it: T)
+        ensures { ⊤ }
+    {
+        drop(it);
     }
 }
 
 #[test]
 fn replies(rt: HostRuntime) -> Result<(), Fail> {
-    assert_eq!(rt; REPLIES.len(), 445);
+    assert_eq!(rt; REPLIES.len(), 519);
     let Ok(plain) = replies_over_memory(rt.alloc(), Plain) else {
         return Err("no replies".into());
     };
@@ -76,10 +101,10 @@ fn replies(rt: HostRuntime) -> Result<(), Fail> {
         return Err("no replies".into());
     };
     assert_eq!(rt; demo.len(), REPLIES.len());
-    assert_eq!(rt; demo.get(..239), REPLIES.get(..239));
-    assert_eq!(rt; demo.get(259..420), REPLIES.get(259..420));
-    assert!(rt; demo.get(239..259) != REPLIES.get(239..259));
-    assert!(rt; demo.get(420..444) != REPLIES.get(420..444));
+    assert_eq!(rt; demo.get(..276), REPLIES.get(..276));
+    assert_eq!(rt; demo.get(296..494), REPLIES.get(296..494));
+    assert!(rt; demo.get(276..296) != REPLIES.get(276..296));
+    assert!(rt; demo.get(494..518) != REPLIES.get(494..518));
     Ok(())
 }
 
@@ -88,11 +113,11 @@ fn other_replies(rt: HostRuntime) -> Result<(), Fail> {
     let rows: [(&[u8], bool); 7] = [
         (REPLIES, true),
         (b"", false),
-        (first(444), false),
-        (first(261), false),
+        (first(518), false),
+        (first(298), false),
         (first(1), false),
-        (&[0; 445], false),
-        (&[0; 446], false),
+        (&[0; 519], false),
+        (&[0; 520], false),
     ];
     for (bytes, same) in rows {
         let mut reader = bytes;
@@ -108,7 +133,7 @@ fn other_replies(rt: HostRuntime) -> Result<(), Fail> {
 
 #[test]
 fn a_reader_fails(rt: HostRuntime) -> Result<(), Fail> {
-    for len in [0, 1, 444, 445] {
+    for len in [0, 1, 518, 519] {
         let mut reader = Breaking { bytes: first(len) };
         let given = gives_exactly(rt.alloc(), &mut reader, REPLIES);
         assert_eq!(rt;
@@ -121,19 +146,16 @@ fn a_reader_fails(rt: HostRuntime) -> Result<(), Fail> {
 
 #[test]
 fn nobody_answers(rt: HostRuntime) -> Result<(), Fail> {
-    for binds in [None, Some(&rt)] {
-        let words = SelfcheckWords {
-            transform: Shipped::Plain,
-        };
-        let mut out = Vec::new(rt.alloc());
-        let mut err = Vec::new(rt.alloc());
-        let net = NoNet { binds };
-        let mut output = Watched::new(&mut out);
-        let mut errors = Watched::new(&mut err);
-        let end = run_selfcheck(&words, rt.alloc(), &net, &mut output, &mut errors);
-        assert_eq!(rt; end, CommandEnd::Refused);
-        assert!(rt; out.is_empty());
-        assert_eq!(rt; err.as_slice(), b"net\n".as_slice());
-    }
+    let words = SelfcheckWords {
+        transform: Shipped::Plain,
+    };
+    let mut out = Vec::new(rt.alloc());
+    let mut err = Vec::new(rt.alloc());
+    let mut output = Watched::new(&mut out);
+    let mut errors = Watched::new(&mut err);
+    let end = run_selfcheck(&words, rt.alloc(), NoNet, &mut output, &mut errors);
+    assert_eq!(rt; end, CommandEnd::Refused);
+    assert!(rt; out.is_empty());
+    assert_eq!(rt; err.as_slice(), b"net\n".as_slice());
     Ok(())
 }

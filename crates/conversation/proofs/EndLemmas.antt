@@ -1,19 +1,21 @@
 -- How a run ends, from how the last message of it did.
-use Rattle.std.proofs.Common.{◌≡◌, ℕ, ◌<◌, inl, inr, true, List, [], ◌∷◌, ◌++◌, length, take, Option, Some, None, Err, refl, ap, sym, subst, ◌∙◌, append-nil}
+use Rattle.std.proofs.Common.{◌≡◌, ℕ, ◌+◌, ◌<◌, inl, inr, Bool, true, false, List, [], ◌∷◌, ◌++◌, length, take, Option, Some, None, Err, refl, ap, sym, subst, ◌∙◌, append_assoc, append-nil, arith}
+use Rattle.std.proofs.lemmas.List.{length-append}
 use Rattle.std.specs.Prelude.{MatchBool}
 use Rattle.std.specs.Io.KnownBytes.{Appends, Consumes, IsAtEnd}
 use Rattle.std.proofs.KnownBytes.{Appends-trans}
 use Rattle.conversation.specs.declared.end.End.{End}
 use Rattle.conversation.specs.declared.end.End.TheVariants.{Closed, BadMessage, ReadFault, WriteFault, Memory}
 use Rattle.conversation.specs.declared.message.message_fault.MessageFault.{MessageFault}
-use Rattle.conversation.specs.Conversation.{messages_of, Conversation, Progress, IsCutOff, IsGivenUp}
+use Rattle.conversation.specs.Conversation.{interim, interim_for, messages_of, text_of, Conversation, Progress, IsCutOff, IsGivenUp}
 use Rattle.conversation.specs.Exchanges.{MessageExchange, Timed, timed, GaveUp}
-use Rattle.conversation.specs.message.Messages.{Stop, ended, Message, BeginsMessage, IsMessageRefused, finished, closing, refused}
+use Rattle.conversation.specs.message.Messages.{Stop, ended, Message, BeginsMessage, IsMessageRefused, IsTold, LacksBody, finished, closing, refused}
 use Rattle.conversation.specs.message.Next.{IsRefusedEver}
-use Rattle.conversation.specs.Parts.{EndsEarly, EndsHere, ReplyIsWritten, RefusalIsWritten}
+use Rattle.conversation.specs.Parts.{EndsEarly, EndsHere, ReplyIsWritten, RefusalIsWritten, is_due}
 use Rattle.conversation.specs.Run.{IsAll, IsRun}
-use Rattle.conversation.specs.Ends.{Output, WritesLast, WritesWhole}
-use Rattle.conversation.proofs.UsesLemmas.{last_after}
+use Rattle.conversation.specs.Ends.{IsOutputSent, Output, WritesLast, WritesWhole}
+use Rattle.conversation.proofs.InterimLemmas.{IsTold-append, lack_told, told_message, told_text}
+use Rattle.conversation.proofs.UsesLemmas.{last_after, take_behind}
 use Rattle.conversation.proofs.ProgressLemmas.{Step, BeginsMessage-append, progress_none, progress-append, conversation_after, cut_off_after, given_up_after}
 
 -- a text that a writer took, and the end of which it is
@@ -26,11 +28,12 @@ WrittenBytes held holds Ends = (text : List ℕ) × Appends held holds text × E
 
 -- ---- one message
 
--- a message that closes the conversation
-pub closed_end : {O : Type 0} (step : Step O) (refusal : MessageFault → List ℕ) (old new : Timed O) (rest : List ℕ)
-    (m : Message) (after : List ℕ) (x : MessageExchange) → BeginsMessage rest m after → m.closes ≡ true → x.message ≡ m
-    → timed step old x new → EndsEarly step refusal old x.reply new rest Closed
-closed_end step refusal old new rest m after x begins closes same answered stop more = record {
+-- a message that closes the conversation, behind the interim reply where that was written before
+pub closed_end : {O : Type 0} (step : Step O) (refusal : MessageFault → List ℕ) (told : Bool) (old new : Timed O) (rest : List ℕ)
+    (m : Message) (after : List ℕ) (x : MessageExchange) → IsTold rest told → BeginsMessage rest m after → m.closes ≡ true → x.message ≡ m
+    → timed step old x new
+    → EndsEarly step refusal old (interim_for told ++ (interim_for (is_due m.expects told) ++ x.reply)) new rest Closed
+closed_end step refusal told old new rest m after x was begins closes same answered stop more = record {
   exchanges = x ∷ [];
   messages =
       let begun = subst (λ n. BeginsMessage (rest ++ more) n (after ++ more)) (sym same) (BeginsMessage-append rest m after more begins) in
@@ -38,53 +41,106 @@ closed_end step refusal old new rest m after x begins closes same answered stop 
       let A : Type 0 = (messages_of [] ≡ []) × (closing ≡ closing) in
       (after ++ more, begun, subst (λ b. MatchBool b A ⊥) (sym last) (refl, refl));
   served = (new, answered, refl);
-  text_is = sym (append-nil (x.reply ++ []) ∙ append-nil x.reply);
+  text_is =
+      told_text x m told same (told_message rest m after told was begins)
+      ∙ sym (append-nil (text_of x ++ []) ∙ append-nil (text_of x));
 }
 
--- a message whose reply was not written whole
-pub answered_end : {O : Type 0} (A : Type 0) (step : Step O) (refusal : MessageFault → List ℕ) (old new : Timed O) (held holds : Output)
-    (rest : List ℕ) (m : Message) (after : List ℕ) (end : End) → BeginsMessage rest m after
-    → ReplyIsWritten {A = A} step old new held holds m (Err end)
-    → Written end held holds (λ text. EndsEarly step refusal old text new rest end)
-answered_end A step refusal old new held holds rest m after Closed begins x = absurd x
-answered_end A step refusal old new held holds rest m after BadMessage begins x = absurd x
-answered_end A step refusal old new held holds rest m after ReadFault begins x = absurd x
-answered_end A step refusal old new held holds rest m after WriteFault begins (x, same, answered, (part, short, written)) = (
-  take part x.reply,
+-- a message for which not all was written, behind the interim reply where that had been
+pub answered_end : {O : Type 0} (A : Type 0) (step : Step O) (refusal : MessageFault → List ℕ) (told : Bool) (old new : Timed O) (held holds : Output)
+    (rest : List ℕ) (m : Message) (after : List ℕ) (end : End) → IsTold rest told → BeginsMessage rest m after
+    → ReplyIsWritten {A = A} step told old new held holds m (Err end)
+    → Written end held holds (λ text. EndsEarly step refusal old (interim_for told ++ text) new rest end)
+answered_end A step refusal told old new held holds rest m after Closed was begins x = absurd x
+answered_end A step refusal told old new held holds rest m after BadMessage was begins x = absurd x
+answered_end A step refusal told old new held holds rest m after ReadFault was begins x = absurd x
+answered_end A step refusal told old new held holds rest m after WriteFault was begins (x, same, answered, (part, short, written)) =
+    let front = interim_for told in
+    let last = interim_for (is_due m.expects told) ++ x.reply in
+    let whole : front ++ last ≡ text_of x = told_text x m told same (told_message rest m after told was begins) in (
+      take part last,
+      written,
+      λ more. record {
+        rest = rest ++ more;
+        whole = [];
+        mid = old;
+        before = progress_none (timed step) (rest ++ more) old;
+        last = text_of x;
+        is_last = inl (record {
+          exchange = x;
+          rest = after ++ more;
+          begins = subst (λ n. BeginsMessage (rest ++ more) n (after ++ more)) (sym same) (BeginsMessage-append rest m after more begins);
+          answered = answered;
+          text_is = refl;
+        });
+        part = length front + part;
+        short = omega (arith, short, length-append front last, ap length whole);
+        written_is = sym (take_behind front last part) ∙ ap (λ bytes. take (length front + part) bytes) whole;
+      },
+    )
+answered_end A step refusal told old new held holds rest m after Memory was begins (gave_up, k) = (
+  [],
+  record { writes = k.writes; ends = k.open_still },
+  λ more. record {
+    rest = rest ++ more;
+    mid = old;
+    whole = [];
+    before = progress_none (timed step) (rest ++ more) old;
+    told = told;
+    expects = IsTold-append rest more told was;
+    text_is = append-nil (interim_for told);
+    after = inr (m, after ++ more, BeginsMessage-append rest m after more begins, gave_up);
+  },
+)
+
+due_end : {O : Type 0} (A : Type 0) (step : Step O) (refusal : MessageFault → List ℕ) (old : Timed O) (held holds : Output)
+    (rest : List ℕ) (missing : ℕ) (expects told : Bool) (end : End) → LacksBody rest missing expects
+    → IsOutputSent {A = A} held holds (interim_for (is_due expects told)) (Err end)
+    → Written end held holds (λ text. EndsEarly step refusal old (interim_for told ++ text) old rest end)
+due_end A step refusal old held holds rest missing expects told Closed lacks x = absurd x
+due_end A step refusal old held holds rest missing expects told BadMessage lacks x = absurd x
+due_end A step refusal old held holds rest missing expects told ReadFault lacks x = absurd x
+due_end A step refusal old held holds rest missing expects told Memory lacks x = absurd x
+due_end A step refusal old held holds rest missing false told WriteFault lacks (part, short, written) = absurd (omega (arith, short))
+due_end A step refusal old held holds rest missing true true WriteFault lacks (part, short, written) = absurd (omega (arith, short))
+due_end A step refusal old held holds rest missing true false WriteFault lacks (part, short, written) = (
+  take part interim,
   written,
   λ more. record {
     rest = rest ++ more;
     whole = [];
     mid = old;
     before = progress_none (timed step) (rest ++ more) old;
-    last = x.reply;
-    is_last = inl (record {
-      exchange = x;
-      rest = after ++ more;
-      begins = subst (λ n. BeginsMessage (rest ++ more) n (after ++ more)) (sym same) (BeginsMessage-append rest m after more begins);
-      answered = answered;
-      text_is = refl;
-    });
+    last = interim;
+    is_last = inr (inr (record { expects = IsTold-append rest more true (lack_told rest missing true lacks); text_is = refl; same = refl }));
     part = part;
     short = short;
     written_is = refl;
   },
 )
-answered_end A step refusal old new held holds rest m after Memory begins (gave_up, k) = (
-  [],
-  record { writes = k.writes; ends = k.open_still },
-  λ more. record {
-    rest = rest ++ more;
-    mid = old;
-    before = progress_none (timed step) (rest ++ more) old;
-    after = inr (m, after ++ more, BeginsMessage-append rest m after more begins, gave_up);
-  },
-)
+
+-- an interim reply that was due, and not written whole
+pub interim_end : {O : Type 0} (A : Type 0) (step : Step O) (refusal : MessageFault → List ℕ) (old : Timed O) (held holds : Output)
+    (rest : List ℕ) (missing : ℕ) (expects told due : Bool) (end : End) → due ≡ is_due expects told → LacksBody rest missing expects
+    → IsOutputSent {A = A} held holds (interim_for due) (Err end)
+    → Written end held holds (λ text. EndsEarly step refusal old (interim_for told ++ text) old rest end)
+interim_end A step refusal old held holds rest missing expects told due end same lacks x =
+    due_end A step refusal old held holds rest missing expects told end lacks
+    (subst (λ b. IsOutputSent {A = A} held holds (interim_for b) (Err end)) same x)
 
 -- memory was short, and nothing was written
 pub memory_end : {O : Type 0} (step : Step O) (old : Timed O) (rest : List ℕ)
     → IsGivenUp (timed step) (GaveUp step) rest old [] old
-memory_end step old rest = record { rest = rest; mid = old; before = progress_none (timed step) rest old; after = inl refl }
+memory_end step old rest = record {
+  rest = rest;
+  mid = old;
+  whole = [];
+  before = progress_none (timed step) rest old;
+  told = false;
+  expects = tt;
+  text_is = refl;
+  after = inl refl;
+}
 
 -- the refusal of the front of an input that ends there
 refused_conversation : {O : Type 0} (step : Step O) (refusal : MessageFault → List ℕ) (old : Timed O) (stop : Stop) (rest : List ℕ)
@@ -102,7 +158,7 @@ refused_cut_off step refusal old rest fault part is short = record {
   mid = old;
   before = progress_none (timed step) rest old;
   last = refusal fault;
-  is_last = inr (record { fault = fault; is_refused = is; text_is = refl; same = refl });
+  is_last = inr (inl (record { fault = fault; is_refused = is; text_is = refl; same = refl }));
   part = part;
   short = short;
   written_is = refl;
@@ -166,7 +222,7 @@ here_after : {O : Type 0} (step : Step O) (refusal : MessageFault → List ℕ) 
     (first second : List ℕ) (end : End) → Progress (timed step) input rest old first mid
     → EndsHere step refusal mid second new rest end → EndsHere step refusal old (first ++ second) new input end
 here_after step refusal old mid new input rest first second Closed p x =
-    conversation_after (timed step) refusal ended input rest old mid new first second finished p x
+    (x.0, conversation_after (timed step) refusal ended input rest old mid new first second (finished x.0) p x.1)
 here_after step refusal old mid new input rest first second BadMessage p x =
     (x.0, conversation_after (timed step) refusal ended input rest old mid new first second (refused x.0) p x.1)
 here_after step refusal old mid new input rest first second ReadFault p x = x
@@ -175,29 +231,49 @@ here_after step refusal old mid new input rest first second WriteFault p x =
 here_after step refusal old mid new input rest first second Memory p x =
     given_up_after (timed step) (GaveUp step) input rest old mid new first second p x
 
--- an end after messages that were answered
+joined : (front first whole behind second : List ℕ) → front ++ first ≡ whole ++ behind → whole ++ (behind ++ second) ≡ front ++ (first ++ second)
+joined front first whole behind second said =
+    sym (append_assoc whole behind second) ∙ ap (λ bytes. bytes ++ second) (sym said) ∙ append_assoc front first second
+
+-- an end after messages that were answered: what was written before is the whole text for these and
+-- what stands behind it, the interim reply to the next one
 pub end_after : {O : Type 0} (step : Step O) (refusal : MessageFault → List ℕ) (old mid new : Timed O) (a b c : Output)
-    (input rest : List ℕ) (first : List ℕ) (end : End) → WritesWhole a b first → Progress (timed step) input rest old first mid
-    → Written end b c (λ text. EndsEarly step refusal mid text new rest end)
-    → Written end a c (λ text. EndsEarly step refusal old text new input end)
-end_after step refusal old mid new a b c input rest first end before p (second, written, ends) =
-    (first ++ second, last_after end a b c first second before written, early_after step refusal old mid new input rest first second end p ends)
+    (input rest : List ℕ) (front first whole behind : List ℕ) (end : End) → WritesWhole a b first → Progress (timed step) input rest old whole mid
+    → front ++ first ≡ whole ++ behind
+    → Written end b c (λ text. EndsEarly step refusal mid (behind ++ text) new rest end)
+    → Written end a c (λ text. EndsEarly step refusal old (front ++ text) new input end)
+end_after step refusal old mid new a b c input rest front first whole behind end before p said (second, written, ends) = (
+  first ++ second,
+  last_after end a b c first second before written,
+  subst (λ text. EndsEarly step refusal old text new input end) (joined front first whole behind second said)
+      (early_after step refusal old mid new input rest whole (behind ++ second) end p ends),
+)
 
 -- the same, of the bytes alone
 pub bytes_after : {O : Type 0} (step : Step O) (refusal : MessageFault → List ℕ) (old mid new : Timed O) (a b c : Option (List ℕ))
-    (input rest : List ℕ) (first : List ℕ) (end : End) → Appends a b first → Progress (timed step) input rest old first mid
-    → WrittenBytes b c (λ text. EndsEarly step refusal mid text new rest end)
+    (input rest : List ℕ) (first whole behind : List ℕ) (end : End) → Appends a b first → Progress (timed step) input rest old whole mid
+    → first ≡ whole ++ behind
+    → WrittenBytes b c (λ text. EndsEarly step refusal mid (behind ++ text) new rest end)
     → WrittenBytes a c (λ text. EndsEarly step refusal old text new input end)
-bytes_after step refusal old mid new a b c input rest first end before p (second, written, ends) =
-    (first ++ second, Appends-trans a b c first second before written, early_after step refusal old mid new input rest first second end p ends)
+bytes_after step refusal old mid new a b c input rest first whole behind end before p said (second, written, ends) = (
+  first ++ second,
+  Appends-trans a b c first second before written,
+  subst (λ text. EndsEarly step refusal old text new input end) (joined [] first whole behind second said)
+      (early_after step refusal old mid new input rest whole (behind ++ second) end p ends),
+)
 
 -- the same of an end where the input ended
 pub bytes_here_after : {O : Type 0} (step : Step O) (refusal : MessageFault → List ℕ) (old mid new : Timed O) (a b c : Option (List ℕ))
-    (input rest : List ℕ) (first : List ℕ) (end : End) → Appends a b first → Progress (timed step) input rest old first mid
-    → WrittenBytes b c (λ text. EndsHere step refusal mid text new rest end)
+    (input rest : List ℕ) (first whole behind : List ℕ) (end : End) → Appends a b first → Progress (timed step) input rest old whole mid
+    → first ≡ whole ++ behind
+    → WrittenBytes b c (λ text. EndsHere step refusal mid (behind ++ text) new rest end)
     → WrittenBytes a c (λ text. EndsHere step refusal old text new input end)
-bytes_here_after step refusal old mid new a b c input rest first end before p (second, written, ends) =
-    (first ++ second, Appends-trans a b c first second before written, here_after step refusal old mid new input rest first second end p ends)
+bytes_here_after step refusal old mid new a b c input rest first whole behind end before p said (second, written, ends) = (
+  first ++ second,
+  Appends-trans a b c first second before written,
+  subst (λ text. EndsHere step refusal old text new input end) (joined [] first whole behind second said)
+      (here_after step refusal old mid new input rest whole (behind ++ second) end p ends),
+)
 
 -- ---- the whole run
 
@@ -236,7 +312,7 @@ pub run_here : {O : Type 0} (step : Step O) (refusal : MessageFault → List ℕ
     (taken : List ℕ) (end : End) → Consumes unread left taken → IsAtEnd left
     → WrittenBytes held holds (λ text. EndsHere step refusal old text new taken end) → IsRun step refusal old new unread left held holds end
 run_here step refusal old new unread left held holds taken Closed c none (text, written, ends) =
-    (taken, all_taken unread left taken c none, inl (record { text = text; written = written; conversation = ends }))
+    (taken, all_taken unread left taken c none, inl (ends.0, record { text = text; written = written; conversation = ends.1 }))
 run_here step refusal old new unread left held holds taken BadMessage c none (text, written, ends) =
     (taken, all_taken unread left taken c none, ends.0, record { text = text; written = written; conversation = ends.1 })
 run_here step refusal old new unread left held holds taken ReadFault c none (text, written, ends) = absurd ends

@@ -3,7 +3,7 @@ use Rattle.std.proofs.Common.{◌≡◌, ◌⊎◌, ℕ, ℤ, inl, inr, List, []
 use Rattle.conversation.specs.declared.end.End.{End}
 use Rattle.conversation.specs.declared.end.End.TheVariants.{Closed, BadMessage, ReadFault, WriteFault, Memory}
 use Rattle.conversation.specs.declared.message.message_fault.MessageFault.{MessageFault}
-use Rattle.conversation.specs.Conversation.{Conversation, Progress, IsCutOff, IsGivenUp, IsMessageReply, IsRefusal}
+use Rattle.conversation.specs.Conversation.{Conversation, Progress, IsCutOff, IsGivenUp, IsNextText}
 use Rattle.conversation.specs.Exchanges.{MessageExchange, Exchanged, Timed, clocked, timed, GaveUp}
 use Rattle.conversation.specs.message.Messages.{Stop, Message, BeginsMessage, Ending}
 use Rattle.conversation.specs.Run.{IsRun, IsSaid}
@@ -66,27 +66,35 @@ module _ {O L : Type 0} (step : Step O) (live : Step L) (IsOf : L → O → Type
       let goes = conversation_along refusal life stop input old said.text ending new is said.conversation well in
       (goes.0, record { text = said.text; written = said.written; conversation = goes.1 }, goes.2)
 
-  -- the last text of a run whose writer failed
-  abbrev Last : {M : Type 0} → Step M → (MessageFault → List ℕ) → List ℕ → Timed M → List ℕ → Timed M → Type 0
-  Last move refusal rest mid last new = IsMessageReply (timed move) rest mid last new ⊎ IsRefusal refusal rest mid last new
-
   well_before_last : (refusal : MessageFault → List ℕ) (rest : List ℕ) (mid : Timed O) (last : List ℕ) (new : Timed O)
-      → Last step refusal rest mid last new → Well new.0 → Well mid.0
+      → IsNextText (timed step) refusal rest mid last new → Well new.0 → Well mid.0
   well_before_last refusal rest mid last new (inl reply) well = f.back mid.0 reply.exchange new.0 reply.answered.0 well
-  well_before_last refusal rest mid last new (inr refused) well = subst (λ (o : Timed O). Well o.0) refused.same well
+  well_before_last refusal rest mid last new (inr (inl refused)) well = subst (λ (o : Timed O). Well o.0) refused.same well
+  well_before_last refusal rest mid last new (inr (inr told)) well = subst (λ (o : Timed O). Well o.0) told.same well
 
   last_along : (refusal : MessageFault → List ℕ) (life : L) (rest : List ℕ) (mid : Timed O) (last : List ℕ) (new : Timed O) → IsOf life mid.0
-      → Last step refusal rest mid last new → Well new.0 → Goes new.0 (λ after. Last live refusal rest (life, mid.1) last (after, new.1))
+      → IsNextText (timed step) refusal rest mid last new → Well new.0
+      → Goes new.0 (λ after. IsNextText (timed live) refusal rest (life, mid.1) last (after, new.1))
   last_along refusal life rest mid last new is (inl reply) well =
       let one = f.next life mid.0 reply.exchange new.0 is reply.answered.0 well in (
         one.0,
         inl (record { exchange = reply.exchange; rest = reply.rest; begins = reply.begins; answered = (one.1, reply.answered.1); text_is = reply.text_is }),
         one.2,
       )
-  last_along refusal life rest mid last new is (inr refused) well = (
+  last_along refusal life rest mid last new is (inr (inl refused)) well = (
     life,
-    inr (record { fault = refused.fault; is_refused = refused.is_refused; text_is = refused.text_is; same = ap (λ (o : Timed O). (life, o.1)) refused.same }),
+    inr (inl (record {
+      fault = refused.fault;
+      is_refused = refused.is_refused;
+      text_is = refused.text_is;
+      same = ap (λ (o : Timed O). (life, o.1)) refused.same;
+    })),
     subst (λ (o : Timed O). IsOf life o.0) (sym refused.same) is,
+  )
+  last_along refusal life rest mid last new is (inr (inr told)) well = (
+    life,
+    inr (inr (record { expects = told.expects; text_is = told.text_is; same = ap (λ (o : Timed O). (life, o.1)) told.same })),
+    subst (λ (o : Timed O). IsOf life o.0) (sym told.same) is,
   )
 
   cut_off_along : (refusal : MessageFault → List ℕ) (life : L) (input : List ℕ) (old : Timed O) (written : List ℕ) (new : Timed O) → IsOf life old.0
@@ -133,26 +141,37 @@ module _ {O L : Type 0} (step : Step O) (live : Step L) (IsOf : L → O → Type
       → IsGivenUp (timed step) (GaveUp step) input old text new → Well new.0
       → Goes new.0 (λ after. IsGivenUp (timed live) (GaveUp live) input (life, old.1) text (after, new.1))
   given_up_along life input old text new is g well =
-      let before = progress_along life input g.rest old text g.mid is g.before (well_before_giving_up g.rest g.mid new g.after well) in
+      let before = progress_along life input g.rest old g.whole g.mid is g.before (well_before_giving_up g.rest g.mid new g.after well) in
       let then = giving_up_along before.0 g.rest g.mid new before.2 g.after well in
-      (then.0, record { rest = g.rest; mid = (before.0, g.mid.1); before = before.1; after = then.1 }, then.2)
+      let given : IsGivenUp (timed live) (GaveUp live) input (life, old.1) text (then.0, new.1) =
+      record {
+        rest = g.rest;
+        mid = (before.0, g.mid.1);
+        whole = g.whole;
+        before = before.1;
+        told = g.told;
+        expects = g.expects;
+        text_is = g.text_is;
+        after = then.1;
+      } in
+      (then.0, given, then.2)
 
   -- a whole run
   pub run_along : (refusal : MessageFault → List ℕ) (life : L) (old new : Timed O) (unread left held holds : Option (List ℕ)) (end : End) → IsOf life old.0
       → IsRun step refusal old new unread left held holds end → Well new.0
       → Goes new.0 (λ after. IsRun live refusal (life, old.1) (after, new.1) unread left held holds end)
-  run_along refusal life old new unread left held holds Closed is (input, all, inl said) well =
+  run_along refusal life old new unread left held holds Closed is (input, all, inl (expects, said)) well =
       let goes = said_along refusal life old new held holds _ input _ is said well in
-      (goes.0, (input, all, inl goes.1), goes.2)
+      (goes.0, (input, all, inl (expects, goes.1)), goes.2)
   run_along refusal life old new unread left held holds Closed is (input, all, inr said) well =
       let goes = said_along refusal life old new held holds _ input _ is said well in
       (goes.0, (input, all, inr goes.1), goes.2)
   run_along refusal life old new unread left held holds BadMessage is (input, all, fault, said) well =
       let goes = said_along refusal life old new held holds _ input _ is said well in
       (goes.0, (input, all, fault, goes.1), goes.2)
-  run_along refusal life old new unread left held holds ReadFault is (input, read, said) well =
+  run_along refusal life old new unread left held holds ReadFault is (input, read, expects, said) well =
       let goes = said_along refusal life old new held holds _ input _ is said well in
-      (goes.0, (input, read, goes.1), goes.2)
+      (goes.0, (input, read, expects, goes.1), goes.2)
   run_along refusal life old new unread left held holds WriteFault is (input, all, text, written, cut) well =
       let goes = cut_off_along refusal life input old text new is cut well in
       (goes.0, (input, all, text, written, goes.1), goes.2)
@@ -163,13 +182,13 @@ module _ {O L : Type 0} (step : Step O) (live : Step L) (IsOf : L → O → Type
   -- a run that is well after it began where all was well
   pub run_well : (refusal : MessageFault → List ℕ) (old new : Timed O) (unread left held holds : Option (List ℕ)) (end : End)
       → IsRun step refusal old new unread left held holds end → Well new.0 → Well old.0
-  run_well refusal old new unread left held holds Closed (input, all, inl said) well =
+  run_well refusal old new unread left held holds Closed (input, all, inl (expects, said)) well =
       well_before old said.conversation.exchanges new said.conversation.served well
   run_well refusal old new unread left held holds Closed (input, all, inr said) well =
       well_before old said.conversation.exchanges new said.conversation.served well
   run_well refusal old new unread left held holds BadMessage (input, all, fault, said) well =
       well_before old said.conversation.exchanges new said.conversation.served well
-  run_well refusal old new unread left held holds ReadFault (input, read, said) well =
+  run_well refusal old new unread left held holds ReadFault (input, read, expects, said) well =
       well_before old said.conversation.exchanges new said.conversation.served well
   run_well refusal old new unread left held holds WriteFault (input, all, text, written, cut) well =
       well_before old cut.before.exchanges cut.mid cut.before.served (well_before_last refusal cut.rest cut.mid cut.last new cut.is_last well)

@@ -4,6 +4,7 @@ pub mod FieldLemmas
 pub mod FollowLemmas
 pub mod FramingLemmas
 pub mod HeadLemmas
+pub mod InterimLemmas
 pub mod MessageLemmas
 pub mod ProgressLemmas
 pub mod ReadingLemmas

@@ -16,7 +16,7 @@ use Rattle.conversation.specs.declared.message.framing.Framing.{Framing}
 use Rattle.conversation.specs.declared.message.message_fault.MessageFault.{MessageFault}
 use Rattle.conversation.specs.declared.message.message_fault.MessageFault.TheVariants.{Head, Host, Coding, Length, Body}
 use Rattle.conversation.specs.message.Fields.{fields_at, values_of}
-use Rattle.conversation.specs.message.Framing.{◌>>=◌, body_len, framing, framing_of, is_number, is_last, is_uncoded, length_of, longest_body, method_of, names_its_host, unless}
+use Rattle.conversation.specs.message.Framing.{◌>>=◌, body_len, expects_interim, framing, framing_of, is_number, is_last, is_uncoded, length_of, longest_body, method_of, names_its_host, unless}
 use Rattle.conversation.specs.declared.message.message_fault.MessageFault.TheVariants as faults
 use Rattle.conversation.specs.declared.message.method.Method.TheVariants.{Get, Post}
 use Rattle.conversation.specs.declared.message.method.Method.TheVariants as methods
@@ -51,10 +51,10 @@ abbrev IsOfHead : {A : Type 0} → Result A MessageFault → Type 0
 IsOfHead {A} r = r ≢ Err Head
 
 -- what a head says, by what its parts say
-abbrev parts : Result Method MessageFault → Bool → Bool → Result ℕ MessageFault → Bool → Result Framing MessageFault
-parts method host coded body last =
+abbrev parts : Result Method MessageFault → Bool → Bool → Result ℕ MessageFault → Bool → (ℕ → Bool) → Result Framing MessageFault
+parts method host coded body last expects =
     method >>= λ name. unless host faults.Host >>= λ _. unless coded faults.Coding >>= λ _. body >>= λ len.
-    Ok (record { method = name; body = len; closes = last })
+    Ok (record { method = name; body = len; closes = last; expects = expects len })
 
 of_method : (name : List ℕ) → IsOfHead (method_of name)
 of_method name = by_tests (bytes_eq name (codes "GET")) (bytes_eq name (codes "POST")) (bytes_eq name (codes "HEAD"))
@@ -78,20 +78,20 @@ of_body [] e = absurd (cc)
 of_body (value ∷ []) e = of_length value e
 of_body (value ∷ other ∷ values) e = absurd (cc)
 
-of_parts : (method : Result Method MessageFault) (host coded last : Bool) (body : Result ℕ MessageFault)
-    → IsOfHead method → IsOfHead body → IsOfHead (parts method host coded body last)
-of_parts (Err fault) host coded last body first then e = first (cc)
-of_parts (Ok method) false coded last body first then e = absurd (cc)
-of_parts (Ok method) true false last body first then e = absurd (cc)
-of_parts (Ok method) true true last (Err fault) first then e = then (cc)
-of_parts (Ok method) true true last (Ok body) first then e = absurd (cc)
+of_parts : (method : Result Method MessageFault) (host coded last : Bool) (expects : ℕ → Bool) (body : Result ℕ MessageFault)
+    → IsOfHead method → IsOfHead body → IsOfHead (parts method host coded body last expects)
+of_parts (Err fault) host coded last expects body first then e = first (cc)
+of_parts (Ok method) false coded last expects body first then e = absurd (cc)
+of_parts (Ok method) true false last expects body first then e = absurd (cc)
+of_parts (Ok method) true true last expects (Err fault) first then e = then (cc)
+of_parts (Ok method) true true last expects (Ok body) first then e = absurd (cc)
 
 not_head : (head : RequestHead) → framing_of head ≢ Err Head
 unfolding framing
 not_head head =
     let fields = map name_and_value head.fields in
     of_parts (method_of head.method) (names_its_host head.minor fields) (is_uncoded fields) (is_last head.minor fields)
-    (body_len (values_of (codes "content-length") fields)) (of_method head.method) (of_body (values_of (codes "content-length") fields))
+    (λ len. expects_interim head.minor len fields) (body_len (values_of (codes "content-length") fields)) (of_method head.method) (of_body (values_of (codes "content-length") fields))
 
 -- a length that a value writes is one that a body may have
 len_fits : (value : List ℕ) (n : ℕ) → length_of value ≡ Ok n → n ≤ longest_body
@@ -108,14 +108,14 @@ body_fits [] n e = let same : 0 ≡ n = cc in omega (arith, same)
 body_fits (value ∷ []) n e = len_fits value n e
 body_fits (value ∷ other ∷ values) n e = absurd (cc)
 
-parts_fit : (method : Result Method MessageFault) (host coded last : Bool) (body : Result ℕ MessageFault) (f : Framing)
-    → ((n : ℕ) → body ≡ Ok n → n ≤ longest_body) → parts method host coded body last ≡ Ok f → f.body ≤ longest_body
-parts_fit (Err fault) host coded last body f fits e = absurd (cc)
-parts_fit (Ok method) false coded last body f fits e = absurd (cc)
-parts_fit (Ok method) true false last body f fits e = absurd (cc)
-parts_fit (Ok method) true true last (Err fault) f fits e = absurd (cc)
-parts_fit (Ok method) true true last (Ok body) f fits e =
-    let framing : Framing = record { method = method; body = body; closes = last } in
+parts_fit : (method : Result Method MessageFault) (host coded last : Bool) (expects : ℕ → Bool) (body : Result ℕ MessageFault) (f : Framing)
+    → ((n : ℕ) → body ≡ Ok n → n ≤ longest_body) → parts method host coded body last expects ≡ Ok f → f.body ≤ longest_body
+parts_fit (Err fault) host coded last expects body f fits e = absurd (cc)
+parts_fit (Ok method) false coded last expects body f fits e = absurd (cc)
+parts_fit (Ok method) true false last expects body f fits e = absurd (cc)
+parts_fit (Ok method) true true last expects (Err fault) f fits e = absurd (cc)
+parts_fit (Ok method) true true last expects (Ok body) f fits e =
+    let framing : Framing = record { method = method; body = body; closes = last; expects = expects body } in
     let both : Ok framing ≡ Ok f = e in
     let same : framing ≡ f = cc in
     subst (λ (g : Framing). g.body ≤ longest_body) same (fits body refl)
@@ -126,7 +126,7 @@ unfolding framing
 framed_fits head f =
     let fields = map name_and_value head.fields in
     parts_fit (method_of head.method) (names_its_host head.minor fields) (is_uncoded fields) (is_last head.minor fields)
-    (body_len (values_of (codes "content-length") fields)) f (body_fits (values_of (codes "content-length") fields))
+    (λ len. expects_interim head.minor len fields) (body_len (values_of (codes "content-length") fields)) f (body_fits (values_of (codes "content-length") fields))
 
 refused_for : (stop : Stop) (input : List ℕ) (fault : MessageFault) → fault ≢ Head → BeginsFaulty input fault
     → IsMessageRefused stop input fault
@@ -185,7 +185,7 @@ NeverHasHead-append input more never further = rw append_assoc (never (more ++ f
 pub whole_at : (input : List ℕ) (fields : List HeaderSpan) (spans : RequestSpans) (f : Framing) (after target : List ℕ)
     → (at : IsHeadAt input fields spans) → framing_of at.head ≡ Ok f → after ≡ drop spans.len input → f.body ≤ length after
     → target ≡ path_of (span_bytes input spans.path)
-    → BeginsMessage input (record { method = f.method; target = target; body = take f.body after; closes = f.closes })
+    → BeginsMessage input (record { method = f.method; target = target; body = take f.body after; closes = f.closes; expects = f.expects })
     (drop (spans.len + f.body) input)
 whole_at input fields spans f after target at framed is fits same =
     let e : take f.body after ++ drop (spans.len + f.body) input ≡ drop spans.len input =

@@ -4,7 +4,7 @@ use Rattle.std.specs.Prelude.{MatchBool}
 use Rattle.std.proofs.lemmas.List.{map-append}
 use Rattle.std.proofs.lemmas.Grind.{flat_map-append}
 use Rattle.conversation.specs.declared.message.message_fault.MessageFault.{MessageFault}
-use Rattle.conversation.specs.Conversation.{messages_of, replies_of, last_words, Conversation, Progress, IsCutOff, IsGivenUp}
+use Rattle.conversation.specs.Conversation.{interim_for, messages_of, replies_of, last_words, text_of, Conversation, Progress, IsCutOff, IsGivenUp}
 use Rattle.conversation.specs.Exchanges.{MessageExchange, Exchanged, BeginsMessages}
 use Rattle.conversation.specs.message.Messages.{Stop, Message, BeginsMessage, Ending, closing, Messages}
 use Rattle.conversation.proofs.MessageLemmas.{BeginsWith-append}
@@ -57,14 +57,14 @@ replies_of-append = flat_map-append _
 pub progress_none : {O : Type 0} (step : O → MessageExchange → O → Type 0) (input : List ℕ) (old : O) → Progress step input input old [] old
 progress_none step input old = record { exchanges = []; begins = refl; served = refl; text_is = refl }
 
--- an answered message that does not close the conversation is progress by its reply
+-- an answered message that does not close the conversation is progress by what is written for it
 pub progress_one : {O : Type 0} (step : O → MessageExchange → O → Type 0) (input : List ℕ) (m : Message) (after : List ℕ) (x : MessageExchange) (old new : O)
-    → BeginsMessage input m after → m.closes ≡ false → x.message ≡ m → step old x new → Progress step input after old x.reply new
+    → BeginsMessage input m after → m.closes ≡ false → x.message ≡ m → step old x new → Progress step input after old (text_of x) new
 progress_one step input m after x old new begins goes_on same answered = record {
   exchanges = x ∷ [];
   begins = (after, subst (λ n. BeginsMessage input n after) (sym same) begins, ap (λ n. n.closes) same ∙ goes_on, refl);
   served = (new, answered, refl);
-  text_is = sym (append-nil x.reply);
+  text_is = sym (append-nil (text_of x));
 }
 
 -- messages that were answered, and then more of what they left, are progress together
@@ -124,6 +124,10 @@ pub given_up_after : {O : Type 0} (step : O → MessageExchange → O → Type 0
 given_up_after step gave_up input rest old mid new first second x y = record {
   rest = y.rest;
   mid = y.mid;
-  before = progress_trans step input rest y.rest old mid y.mid first second x y.before;
+  whole = first ++ y.whole;
+  before = progress_trans step input rest y.rest old mid y.mid first y.whole x y.before;
+  told = y.told;
+  expects = y.expects;
+  text_is = ap (λ bytes. first ++ bytes) y.text_is ∙ sym (append_assoc first y.whole (interim_for y.told));
   after = y.after;
 }

@@ -29,14 +29,15 @@ pub head_unique : (input : List ℕ) (h k : RequestHead) (r q : List ℕ) → Be
 head_unique input h k r q x y = request_unique input h k r q x.reads y.reads
 
 -- what two heads of one input say is one
-said_once : (input : List ℕ) (h k : RequestHead) (r q : List ℕ) (a b : Result Framing MessageFault) → BeginsWithHead input h r
+pub said_once : (input : List ℕ) (h k : RequestHead) (r q : List ℕ) (a b : Result Framing MessageFault) → BeginsWithHead input h r
     → BeginsWithHead input k q → framing_of h ≡ a → framing_of k ≡ b → a ≡ b
 said_once input h k r q a b x y p s = sym p ∙ ap framing_of (head_unique input h k r q x y).0 ∙ s
 
-abbrev ok : Framing → Result Framing MessageFault
+abbrev pub ok : Framing → Result Framing MessageFault
 ok a = Ok a
 
-ok_same : (a b : Framing) → ok a ≡ ok b → a ≡ b
+-- two heads that say something say one thing where that is the same
+pub ok_same : (a b : Framing) → ok a ≡ ok b → a ≡ b
 ok_same a b e = cc
 
 -- a head has bytes
@@ -57,10 +58,11 @@ message_unique input m n r q x y =
     let framed = ok_same _ _ said in
     let method : m.method ≡ n.method = ap (λ (f : Framing). f.method) framed in
     let closes : m.closes ≡ n.closes = ap (λ (f : Framing). f.closes) framed in
+    let expects : m.expects ≡ n.expects = ap (λ (f : Framing). f.expects) framed in
     let long : length m.body ≡ length n.body = ap (λ (f : Framing). f.body) framed in
     let bodies = fronts_same m.body n.body r q heads.1 long in
     let target : m.target ≡ n.target = sym x.target ∙ ap (λ h. path_of h.target) heads.0 ∙ y.target in
-    (λ i. record { method = method i; target = target i; body = bodies.0 i; closes = closes i }, bodies.1)
+    (λ i. record { method = method i; target = target i; body = bodies.0 i; closes = closes i; expects = expects i }, bodies.1)
 
 -- what stands at the front is one thing: a message, a fault, a message that is cut, or no head
 
@@ -69,15 +71,15 @@ message_no_fault : (input : List ℕ) (m : Message) (rest : List ℕ) (fault : M
 message_no_fault input m rest fault x y =
     let said = said_once input x.head y.head _ _ _ _ x.begins y.begins x.framed y.faulty in cc
 
-message_no_cut : (input : List ℕ) (m : Message) (rest : List ℕ) → BeginsMessage input m rest → ¬ (IsCutMessage input)
-message_no_cut input m rest x (missing, y) =
+message_no_cut : (input : List ℕ) (m : Message) (rest : List ℕ) (expects : Bool) → BeginsMessage input m rest → ¬ (IsCutMessage input expects)
+message_no_cut input m rest expects x (missing, y) =
     let heads = head_unique input x.head y.head _ _ x.begins y.begins in
     let said = said_once input x.head y.head _ _ _ _ x.begins y.begins x.framed y.framed in
     let long : length m.body ≡ y.framing.body = ap (λ (f : Framing). f.body) (ok_same _ _ said) in
     omega (arith, ap length heads.1, length-append m.body rest, long, y.lacks, y.some)
 
-cut_no_fault : (input : List ℕ) (fault : MessageFault) → IsCutMessage input → ¬ (BeginsFaulty input fault)
-cut_no_fault input fault (missing, x) y =
+cut_no_fault : (input : List ℕ) (fault : MessageFault) (expects : Bool) → IsCutMessage input expects → ¬ (BeginsFaulty input fault)
+cut_no_fault input fault expects (missing, x) y =
     let said = said_once input x.head y.head _ _ _ _ x.begins y.begins x.framed y.faulty in cc
 
 one_fault : (input : List ℕ) (f g : MessageFault) → BeginsFaulty input f → BeginsFaulty input g → f ≡ g
@@ -85,7 +87,7 @@ one_fault input f g x y =
     let said = said_once input x.head y.head _ _ _ _ x.begins y.begins x.faulty y.faulty in cc
 
 -- a front that is refused has a fault, or there is none
-record NoHead (stop : Stop) (input : List ℕ) (fault : MessageFault) : Type 0 where
+pub record NoHead (stop : Stop) (input : List ℕ) (fault : MessageFault) : Type 0 where
   pub word : fault ≡ Head
   pub none : HasNoHead input
   pub some : stop ≡ ended → 0 < length input
@@ -113,13 +115,13 @@ message_not_refused stop input m rest fault x (inr y) = y.none x.head _ x.begins
 
 message_not_end : (stop : Stop) (input : List ℕ) (m : Message) (rest : List ℕ) (e : Ending) → BeginsMessage input m rest
     → ¬ (EndsAs stop input e)
-message_not_end ended input m rest finished x (inl none) =
-    no_empty_head x.head _ (subst (λ bytes. BeginsWithHead bytes x.head (m.body ++ rest)) none x.begins)
-message_not_end ended input m rest finished x (inr cut) = message_no_cut input m rest x cut
-message_not_end failed input m rest finished x y = y
-message_not_end ended input m rest broken x y = y
-message_not_end failed input m rest broken x (inl none) = none.0 x.head _ x.begins
-message_not_end failed input m rest broken x (inr cut) = message_no_cut input m rest x cut
+message_not_end ended input m rest (finished expects) x (inl none) =
+    no_empty_head x.head _ (subst (λ bytes. BeginsWithHead bytes x.head (m.body ++ rest)) none.0 x.begins)
+message_not_end ended input m rest (finished expects) x (inr cut) = message_no_cut input m rest expects x cut
+message_not_end failed input m rest (finished expects) x y = y
+message_not_end ended input m rest (broken expects) x y = y
+message_not_end failed input m rest (broken expects) x (inl none) = none.0 x.head _ x.begins
+message_not_end failed input m rest (broken expects) x (inr cut) = message_no_cut input m rest expects x cut
 message_not_end ended input m rest (refused fault) x y =
     message_not_refused ended input m rest fault x (refused_cases ended input fault y)
 message_not_end failed input m rest (refused fault) x y =
@@ -135,44 +137,73 @@ same_refusal stop input f g (inr x) (inl y) = absurd (x.none y.head _ y.begins)
 same_refusal stop input f g (inr x) (inr y) = x.word ∙ sym y.word
 
 -- an input that ended within its messages is not refused
-finished_not_refused : (input : List ℕ) (f : MessageFault) → (input ≡ []) ⊎ IsCutMessage input
+finished_not_refused : (input : List ℕ) (f : MessageFault) (expects : Bool) → ((input ≡ []) × (expects ≡ false)) ⊎ IsCutMessage input expects
     → BeginsFaulty input f ⊎ NoHead ended input f → ⊥
-finished_not_refused input f (inl none) (inl y) =
-    no_empty_head y.head _ (subst (λ bytes. BeginsWithHead bytes y.head y.rest) none y.begins)
-finished_not_refused input f (inl none) (inr y) = omega (arith, ap length none, y.some refl)
-finished_not_refused input f (inr cut) (inl y) = cut_no_fault input f cut y
-finished_not_refused input f (inr cut) (inr y) = y.none cut.1.head _ cut.1.begins
+finished_not_refused input f expects (inl none) (inl y) =
+    no_empty_head y.head _ (subst (λ bytes. BeginsWithHead bytes y.head y.rest) none.0 y.begins)
+finished_not_refused input f expects (inl none) (inr y) = omega (arith, ap length none.0, y.some refl)
+finished_not_refused input f expects (inr cut) (inl y) = cut_no_fault input f expects cut y
+finished_not_refused input f expects (inr cut) (inr y) = y.none cut.1.head _ cut.1.begins
 
 -- where the reader failed, only the want of a head may be told in two ways
-broken_or_refused : (input : List ℕ) (f : MessageFault) → (HasNoHead input × (length input < 8192)) ⊎ IsCutMessage input
-    → BeginsFaulty input f ⊎ NoHead failed input f → IsEither (refused f)
-broken_or_refused input f (inl none) (inl y) = absurd (none.0 y.head _ y.begins)
-broken_or_refused input f (inl none) (inr y) = subst (λ g. IsEither (refused g)) (sym y.word) tt
-broken_or_refused input f (inr cut) (inl y) = absurd (cut_no_fault input f cut y)
-broken_or_refused input f (inr cut) (inr y) = absurd (y.none cut.1.head _ cut.1.begins)
+broken_or_refused : (input : List ℕ) (f : MessageFault) (expects : Bool)
+    → (HasNoHead input × (length input < 8192) × (expects ≡ false)) ⊎ IsCutMessage input expects
+    → BeginsFaulty input f ⊎ NoHead failed input f → IsEither (broken expects) × IsEither (refused f)
+broken_or_refused input f expects (inl none) (inl y) = absurd (none.0 y.head _ y.begins)
+broken_or_refused input f expects (inl none) (inr y) =
+    (subst (λ b. IsEither (broken b)) (sym none.2) tt, subst (λ g. IsEither (refused g)) (sym y.word) tt)
+broken_or_refused input f expects (inr cut) (inl y) = absurd (cut_no_fault input f expects cut y)
+broken_or_refused input f expects (inr cut) (inr y) = absurd (y.none cut.1.head _ cut.1.begins)
+
+-- two cuts of one input lack as many bytes, and expect alike
+cut_once : (input : List ℕ) (a b : ℕ) (p q : Bool) → LacksBody input a p → LacksBody input b q → (a ≡ b) × (p ≡ q)
+cut_once input a b p q x y =
+    let heads = head_unique input x.head y.head _ _ x.begins y.begins in
+    let said = said_once input x.head y.head _ _ _ _ x.begins y.begins x.framed y.framed in
+    let long : x.framing.body ≡ y.framing.body = ap (λ (f : Framing). f.body) (ok_same _ _ said) in
+    let expects : x.framing.expects ≡ y.framing.expects = ap (λ (f : Framing). f.expects) (ok_same _ _ said) in
+    (omega (arith, ap length heads.1, long, x.lacks, y.lacks), sym x.expects_so ∙ expects ∙ y.expects_so)
+
+-- an end within the messages of an input expects one thing
+one_finish : (input : List ℕ) (a b : Bool) → ((input ≡ []) × (a ≡ false)) ⊎ IsCutMessage input a
+    → ((input ≡ []) × (b ≡ false)) ⊎ IsCutMessage input b → a ≡ b
+one_finish input a b (inl x) (inl y) = x.1 ∙ sym y.1
+one_finish input a b (inl x) (inr y) =
+    absurd (no_empty_head y.1.head _ (subst (λ bytes. BeginsWithHead bytes y.1.head y.1.body) x.0 y.1.begins))
+one_finish input a b (inr x) (inl y) =
+    absurd (no_empty_head x.1.head _ (subst (λ bytes. BeginsWithHead bytes x.1.head x.1.body) y.0 x.1.begins))
+one_finish input a b (inr x) (inr y) = (cut_once input x.0 y.0 a b x.1 y.1).1
+
+one_break : (input : List ℕ) (a b : Bool) → (HasNoHead input × (length input < 8192) × (a ≡ false)) ⊎ IsCutMessage input a
+    → (HasNoHead input × (length input < 8192) × (b ≡ false)) ⊎ IsCutMessage input b → a ≡ b
+one_break input a b (inl x) (inl y) = x.2 ∙ sym y.2
+one_break input a b (inl x) (inr y) = absurd (x.0 y.1.head _ y.1.begins)
+one_break input a b (inr x) (inl y) = absurd (y.0 x.1.head _ x.1.begins)
+one_break input a b (inr x) (inr y) = (cut_once input x.0 y.0 a b x.1 y.1).1
 
 ends_agree : (stop : Stop) (input : List ℕ) (e f : Ending) → EndsAs stop input e → EndsAs stop input f → AgreeBy stop e f
-ends_agree ended input finished finished x y = refl
-ends_agree ended input finished (refused g) x y = absurd (finished_not_refused input g x (refused_cases ended input g y))
-ends_agree ended input (refused f) finished x y = absurd (finished_not_refused input f y (refused_cases ended input f x))
+ends_agree ended input (finished a) (finished b) x y = ap finished (one_finish input a b x y)
+ends_agree ended input (finished a) (refused g) x y = absurd (finished_not_refused input g a x (refused_cases ended input g y))
+ends_agree ended input (refused f) (finished b) x y = absurd (finished_not_refused input f b y (refused_cases ended input f x))
 ends_agree ended input (refused f) (refused g) x y =
     ap refused (same_refusal ended input f g (refused_cases ended input f x) (refused_cases ended input g y))
-ends_agree ended input broken f x y = absurd x
+ends_agree ended input (broken a) f x y = absurd x
 ends_agree ended input closing f x y = absurd x
-ends_agree ended input finished broken x y = absurd y
-ends_agree ended input finished closing x y = absurd y
-ends_agree ended input (refused f) broken x y = absurd y
+ends_agree ended input (finished a) (broken b) x y = absurd y
+ends_agree ended input (finished a) closing x y = absurd y
+ends_agree ended input (refused f) (broken b) x y = absurd y
 ends_agree ended input (refused f) closing x y = absurd y
-ends_agree failed input broken broken x y = inl refl
-ends_agree failed input broken (refused g) x y = inr (tt, broken_or_refused input g x (refused_cases failed input g y))
-ends_agree failed input (refused f) broken x y = inr (broken_or_refused input f y (refused_cases failed input f x), tt)
+ends_agree failed input (broken a) (broken b) x y = inl (ap broken (one_break input a b x y))
+ends_agree failed input (broken a) (refused g) x y = inr (broken_or_refused input g a x (refused_cases failed input g y))
+ends_agree failed input (refused f) (broken b) x y =
+    let both = broken_or_refused input f b y (refused_cases failed input f x) in inr (both.1, both.0)
 ends_agree failed input (refused f) (refused g) x y =
     inl (ap refused (same_refusal failed input f g (refused_cases failed input f x) (refused_cases failed input g y)))
-ends_agree failed input finished f x y = absurd x
+ends_agree failed input (finished a) f x y = absurd x
 ends_agree failed input closing f x y = absurd x
-ends_agree failed input broken finished x y = absurd y
-ends_agree failed input broken closing x y = absurd y
-ends_agree failed input (refused f) finished x y = absurd y
+ends_agree failed input (broken a) (finished b) x y = absurd y
+ends_agree failed input (broken a) closing x y = absurd y
+ends_agree failed input (refused f) (finished b) x y = absurd y
 ends_agree failed input (refused f) closing x y = absurd y
 
 agree_same : (stop : Stop) (e f : Ending) → e ≡ f → AgreeBy stop e f
@@ -202,15 +233,8 @@ one_reading stop input (m ∷ ms) (n ∷ ns) e f x y =
 
 -- ---- what `next_of` answers is what stands there
 
-cut_once : (input : List ℕ) (a b : ℕ) → LacksBody input a → LacksBody input b → a ≡ b
-cut_once input a b x y =
-    let heads = head_unique input x.head y.head _ _ x.begins y.begins in
-    let said = said_once input x.head y.head _ _ _ _ x.begins y.begins x.framed y.framed in
-    let long : x.framing.body ≡ y.framing.body = ap (λ (f : Framing). f.body) (ok_same _ _ said) in
-    omega (arith, ap length heads.1, long, x.lacks, y.lacks)
-
 -- a front that is refused whatever follows is refused where nothing does
-refused_now : (input : List ℕ) (fault : MessageFault) → IsRefusedEver input fault
+pub refused_now : (input : List ℕ) (fault : MessageFault) → IsRefusedEver input fault
     → BeginsFaulty input fault ⊎ NoHead ended input fault
 refused_now input fault ever =
     refused_cases ended input fault (subst (λ bytes. IsMessageRefused ended bytes fault) (append-nil input) (ever ended []))
@@ -225,7 +249,7 @@ pub finds_next : (input : List ℕ) (next : Next) → BeginsAs input next → Fi
 finds_next input (Whole r) is = record {
   whole = λ m rest x. message_unique input (message_of r) m _ rest is.begins x;
   faulty = λ fault x. absurd (message_no_fault input _ _ fault is.begins x);
-  cut = λ missing x. absurd (message_no_cut input _ _ is.begins (missing, x));
+  cut = λ missing expects x. absurd (message_no_cut input _ _ expects is.begins (missing, x));
   headless = λ none. none is.begins.head _ is.begins.begins;
 }
 finds_next input (Refused fault) is =
@@ -233,19 +257,21 @@ finds_next input (Refused fault) is =
     record {
       whole = λ m rest x. message_not_refused ended input m rest fault x now;
       faulty = λ other x. ap Refused (same_refusal ended input fault other now (inl x));
-      cut = λ missing x. absurd (finished_not_refused input fault (inr (missing, x)) now);
+      cut = λ missing expects x. absurd (finished_not_refused input fault expects (inr (missing, x)) now);
       headless = λ none. faulty_or_headless input fault none now;
     }
 finds_next input NeedHead is = record {
   whole = λ m rest x. is.none x.head _ x.begins;
   faulty = λ fault x. absurd (is.none x.head _ x.begins);
-  cut = λ missing x. absurd (is.none x.head _ x.begins);
+  cut = λ missing expects x. absurd (is.none x.head _ x.begins);
   headless = λ none. tt;
 }
-finds_next input (NeedBody missing) is = record {
-  whole = λ m rest x. message_no_cut input m rest x (missing, is);
-  faulty = λ fault x. absurd (cut_no_fault input fault (missing, is) x);
-  cut = λ other x. ap NeedBody (cut_once input missing other is x);
+finds_next input (NeedBody missing expects) is = record {
+  whole = λ m rest x. message_no_cut input m rest expects x (missing, is);
+  faulty = λ fault x. absurd (cut_no_fault input fault expects (missing, is) x);
+  cut = λ other others x.
+      let once = cut_once input missing other expects others is x in
+      ap (λ n. NeedBody n expects) once.0 ∙ ap (λ b. NeedBody other b) once.1;
   headless = λ none. none is.head _ is.begins;
 }
 

@@ -1,5 +1,5 @@
 -- A run, read by read.
-use Rattle.std.proofs.Common.{◌≡◌, ℕ, ◌+◌, ◌≤◌, inl, inr, suc, List, [], ◌∷◌, ◌++◌, length, Option, None, Some, Ok, Err, refl, ap, sym, subst, subst₂, ◌∙◌, arith, append-nil, lit<}
+use Rattle.std.proofs.Common.{◌≡◌, ℕ, ◌+◌, ◌≤◌, inl, inr, suc, Bool, List, [], ◌∷◌, ◌++◌, length, Option, None, Some, Ok, Err, refl, ap, sym, subst, subst₂, ◌∙◌, arith, append_assoc, append-nil, lit<}
 use Rattle.std.proofs.lemmas.List.{length-append}
 use Rattle.std.specs.Io.KnownBytes.{Appends, Consumes}
 use Rattle.std.proofs.KnownBytes.{Appends-nil, Appends-trans, Consumes-kept, Consumes-nil, Consumes-trans}
@@ -10,15 +10,16 @@ use Rattle.conversation.specs.declared.message.message_fault.MessageFault.{Messa
 use Rattle.conversation.specs.declared.message.message_fault.MessageFault.TheVariants as faults
 use Rattle.conversation.specs.declared.wants.Wants.{Wants}
 use Rattle.conversation.specs.declared.wants.Wants.TheVariants.{Head, Body}
-use Rattle.conversation.specs.Conversation.{Conversation, Progress}
+use Rattle.conversation.specs.Conversation.{Conversation, Progress, interim_for}
 use Rattle.conversation.specs.Ends.{AsksOnce, IsInputRead, Output, Writes, WritesLast, WritesWhole}
 use Rattle.conversation.specs.Exchanges.{Timed, timed}
 use Rattle.conversation.specs.message.Heads.{longest_head}
-use Rattle.conversation.specs.message.Messages.{failed as failing, EndsAs, broken}
+use Rattle.conversation.specs.message.Messages.{ended, failed as failing, EndsAs, broken, finished}
 use Rattle.conversation.specs.Parts.{EndsHere, IsOver}
 use Rattle.conversation.specs.Run.{IsRun}
 use Rattle.conversation.specs.Uses.{AreOpen, AreSound, EndsBy, Grows, IsOpen, IsPaced, MayAsk, Passed, Use, asked, bytes_in, failed, interrupted, longest_message, moved, reads_in, received, written}
-use Rattle.conversation.specs.Wants.{count_of, IsAwaited}
+use Rattle.conversation.specs.Wants.{count_of, told_of, IsAwaited}
+use Rattle.conversation.proofs.InterimLemmas.{IsTold-append, awaited_told}
 use Rattle.conversation.proofs.EndLemmas.{Written, WrittenBytes, all_left, left_of, told_here}
 use Rattle.conversation.proofs.MessageLemmas.{framed_fits, some_head, some_head_is}
 use Rattle.conversation.proofs.UsesLemmas.{AreInTurn-append, AreOpen-append, AreSound-append, are_sound, ends_by, Grows-nil, Grows-trans, reads_in-append, received-append, sends_in_turn, sends_read_none, sends_receive, written-append}
@@ -39,49 +40,100 @@ awaits_nothing = (
 -- what is left and what is awaited of it is at most the longest message
 pub awaited_fits : (rest : List ℕ) (w : Wants) → IsAwaited rest w → length rest + count_of w ≤ longest_message
 awaited_fits rest (Head count) (head, all) = omega (arith, all)
-awaited_fits rest (Body count) body =
+awaited_fits rest (Body count told) body =
     let whole = ap length body.begins.reads.1 in
     omega (arith, whole, length-append (print_request body.head) body.body, body.begins.bytes, body.lacks, framed_fits body.head body.framing body.framed)
 
-awaited_broken : (rest : List ℕ) (w : Wants) → IsAwaited rest w → EndsAs failing rest broken
-awaited_broken rest (Head count) (head, all) = inl (head.none, head.short)
-awaited_broken rest (Body count) body = inr (count, body)
+awaited_broken : (rest : List ℕ) (w : Wants) → IsAwaited rest w → EndsAs failing rest (broken (told_of w))
+awaited_broken rest (Head count) (head, all) = inl (head.none, head.short, refl)
+awaited_broken rest (Body count told) body = inr (count, body)
+
+-- Of what was read all whole messages were answered, and this is left and awaited; that and the
+-- interim reply to the message that is left are all that was written.
+pub record Answered
+    {O : Type 0} (step : Step O) (old : Timed O) (read wrote rest : List ℕ) (w : Wants) (new : Timed O) : Type 0 where
+  pub whole : List ℕ
+  pub progress : Progress (timed step) read rest old whole new
+  pub awaited : IsAwaited rest w
+  pub said : wrote ≡ whole ++ interim_for (told_of w)
+
+-- where the input ended and nothing is left of it
+pub nothing_over : (rest : List ℕ) (w : Wants) (count : ℕ) → w ≡ Head count → rest ≡ [] → EndsAs ended rest (finished (told_of w))
+nothing_over rest w count is none = inl (none, ap told_of is)
+
+-- where it ended within a body
+pub body_over : (rest : List ℕ) (w : Wants) (missing : ℕ) (told : Bool) → w ≡ Body missing told → IsAwaited rest w
+    → EndsAs ended rest (finished (told_of w))
+body_over rest w missing told is awaited =
+    subst (λ v. EndsAs ended rest (finished (told_of v))) (sym is) (inr (missing, subst (IsAwaited rest) is awaited))
 
 -- a reader that failed where this was left and awaited
 pub failed_run : {O : Type 0} (step : Step O) (refusal : MessageFault → List ℕ) (old new : Timed O) (unread left held holds : Option (List ℕ))
     (taken rest text : List ℕ) (w : Wants) → Consumes unread left taken → Appends held holds text
-    → Progress (timed step) taken rest old text new → IsAwaited rest w → IsRun step refusal old new unread left held holds ReadFault
-failed_run step refusal old new unread left held holds taken rest text w c written p awaited =
-    let nothing : Conversation (timed step) refusal failing rest new [] broken new =
-    record { exchanges = []; messages = awaited_broken rest w awaited; served = refl; text_is = refl } in
-    let all = conversation_after (timed step) refusal failing taken rest old new new text [] broken p nothing in
-    (taken, c, record { text = text; written = written; conversation = rw append-nil at all })
+    → Answered step old taken text rest w new → IsRun step refusal old new unread left held holds ReadFault
+failed_run step refusal old new unread left held holds taken rest text w c written p =
+    let told : Bool = told_of w in
+    let nothing : Conversation (timed step) refusal failing rest new (interim_for told) (broken told) new =
+    record { exchanges = []; messages = awaited_broken rest w p.awaited; served = refl; text_is = refl } in
+    let all = conversation_after (timed step) refusal failing taken rest old new new p.whole (interim_for told) (broken told) p.progress nothing in (
+      taken,
+      c,
+      told,
+      record {
+        text = text;
+        written = written;
+        conversation = subst (λ bytes. Conversation (timed step) refusal failing taken old bytes (broken told) new) (sym p.said) all;
+      },
+    )
 
 -- a read that failed, or had no room
 pub read_run : {O : Type 0} (step : Step O) (refusal : MessageFault → List ℕ) (old new : Timed O) (told tells : Option (List Use))
     (a b c held holds : Option (List ℕ))
     (wanted : ℕ) (taken rest after text : List ℕ) (w : Wants) (end : End) → Consumes a b taken → IsInputRead told tells b c wanted rest after (Err end)
-    → Appends held holds text → Progress (timed step) taken rest old text new → IsAwaited rest w
-    → IsRun step refusal old new a c held holds end
-read_run step refusal old new told tells a b c held holds wanted taken rest after text w Closed before is written p awaited = absurd is
-read_run step refusal old new told tells a b c held holds wanted taken rest after text w BadMessage before is written p awaited = absurd is
-read_run step refusal old new told tells a b c held holds wanted taken rest after text w WriteFault before is written p awaited = absurd is
-read_run step refusal old new told tells a b c held holds wanted taken rest after text w ReadFault before (k, same, asks) written p awaited =
-    failed_run step refusal old new a c held holds taken rest text w (Consumes-kept a b c taken before k) written p awaited
-read_run step refusal old new told tells a b c held holds wanted taken rest after text w Memory before (k, same, none) written p awaited =
+    → Appends held holds text → Answered step old taken text rest w new → IsRun step refusal old new a c held holds end
+read_run step refusal old new told tells a b c held holds wanted taken rest after text w Closed before is written p = absurd is
+read_run step refusal old new told tells a b c held holds wanted taken rest after text w BadMessage before is written p = absurd is
+read_run step refusal old new told tells a b c held holds wanted taken rest after text w WriteFault before is written p = absurd is
+read_run step refusal old new told tells a b c held holds wanted taken rest after text w ReadFault before (k, same, asks) written p =
+    failed_run step refusal old new a c held holds taken rest text w (Consumes-kept a b c taken before k) written p
+read_run step refusal old new told tells a b c held holds wanted taken rest after text w Memory before (k, same, none) written p =
     let all = all_left a c taken (Consumes-kept a b c taken before k) in
-    let gone_on = progress-append (timed step) taken rest (left_of c) old new text p in
-    (_, all, text, written, record { rest = _; mid = new; before = gone_on; after = inl refl })
+    let gone_on = progress-append (timed step) taken rest (left_of c) old new p.whole p.progress in (
+      _,
+      all,
+      text,
+      written,
+      record {
+        rest = _;
+        mid = new;
+        whole = p.whole;
+        before = gone_on;
+        told = told_of w;
+        expects = IsTold-append rest (left_of c) (told_of w) (awaited_told rest w p.awaited);
+        text_is = p.said;
+        after = inl refl;
+      },
+    )
 
--- the end of the input, where this was left of it
-pub over_end : {O : Type 0} (step : Step O) (refusal : MessageFault → List ℕ) (old : Timed O) (held holds : Output)
-    (rest : List ℕ) (end : End) → IsOver refusal rest held holds end → Written end held holds (λ text. EndsHere step refusal old text old rest end)
-over_end step refusal old held holds rest Closed (is, none) =
-    ([], record { writes = none.writes; ends = none.open_still }, record { exchanges = []; messages = is; served = refl; text_is = refl })
-over_end step refusal old held holds rest BadMessage (is, told) = told_here step refusal old held holds rest faults.Head BadMessage is told
-over_end step refusal old held holds rest WriteFault (is, told) = told_here step refusal old held holds rest faults.Head WriteFault is told
-over_end step refusal old held holds rest Memory (is, told) = told_here step refusal old held holds rest faults.Head Memory is told
-over_end step refusal old held holds rest ReadFault (is, told) = absurd told
+-- the end of the input, where this was left of it, behind the interim reply where that was written
+pub over_end : {O : Type 0} (step : Step O) (refusal : MessageFault → List ℕ) (told : Bool) (old : Timed O) (held holds : Output)
+    (rest : List ℕ) (end : End) → IsOver refusal told rest held holds end
+    → Written end held holds (λ text. EndsHere step refusal old (interim_for told ++ text) old rest end)
+over_end step refusal told old held holds rest Closed (is, none) = (
+  [],
+  record { writes = none.writes; ends = none.open_still },
+  (told, record { exchanges = []; messages = is; served = refl; text_is = append-nil (interim_for told) }),
+)
+over_end step refusal told old held holds rest BadMessage (untold, is, refuses) =
+    subst (λ b. Written BadMessage held holds (λ text. EndsHere step refusal old (interim_for b ++ text) old rest BadMessage)) (sym untold)
+    (told_here step refusal old held holds rest faults.Head BadMessage is refuses)
+over_end step refusal told old held holds rest WriteFault (untold, is, refuses) =
+    subst (λ b. Written WriteFault held holds (λ text. EndsHere step refusal old (interim_for b ++ text) old rest WriteFault)) (sym untold)
+    (told_here step refusal old held holds rest faults.Head WriteFault is refuses)
+over_end step refusal told old held holds rest Memory (untold, is, refuses) =
+    subst (λ b. Written Memory held holds (λ text. EndsHere step refusal old (interim_for b ++ text) old rest Memory)) (sym untold)
+    (told_here step refusal old held holds rest faults.Head Memory is refuses)
+over_end step refusal told old held holds rest ReadFault (untold, is, refuses) = absurd refuses
 
 -- a text that was written, by its bytes alone
 pub bytes_of : (end : End) (a b : Output) (Ends : List ℕ → Type 0) → Written end a b Ends → WrittenBytes a.0 b.0 Ends
@@ -114,16 +166,26 @@ used_none step old told unread held =
 pub used_read : {O : Type 0} (step : Step O) (old new : Timed O) (told mid tells : Option (List Use))
     (unread left now held holds : Option (List ℕ)) (uses : List Use)
     (rest : List ℕ) (w : Wants) (wanted : ℕ) (passed : Passed) → wanted ≡ count_of w → Used step old told mid unread left held holds uses → AreOpen uses
-    → Progress (timed step) (received uses) rest old (written uses) new → IsAwaited rest w → (asks : AsksOnce mid tells wanted passed)
+    → Answered step old (received uses) (written uses) rest w new → (asks : AsksOnce mid tells wanted passed)
     → Consumes left now (bytes_in passed) → Used step old told tells unread now held holds (uses ++ asked asks.0 passed ∷ [])
-used_read step old new told mid tells unread left now held holds uses rest w wanted passed all used opened answered awaited
+used_read step old new told mid tells unread left now held holds uses rest w wanted passed all used opened answered
     (count, least, fits_in, grows) reads =
     let within : count ≤ count_of w = omega (arith, least, all) in
     let more : List Use = asked count passed ∷ [] in
-    let fits = awaited_fits rest w awaited in
+    let fits = awaited_fits rest w answered.awaited in
     let one : received more ≡ bytes_in passed = append-nil (bytes_in passed) in
     let may : MayAsk step old (received uses) (written uses) count =
-    record { rest = rest; mid = new; answered = answered; wants = w; awaited = awaited; within = within; held = omega (arith, fits, within) } in
+    record {
+      rest = rest;
+      mid = new;
+      text = answered.whole;
+      answered = answered.progress;
+      wants = w;
+      awaited = answered.awaited;
+      said = answered.said;
+      within = within;
+      held = omega (arith, fits, within);
+    } in
     record {
       told_are = Grows-trans told mid tells uses more used.told_are grows;
       paced = record {
@@ -173,13 +235,13 @@ module _ {O : Type 0} (step : Step O) (old new : Timed O) (told mid tells : Opti
   -- a read that failed, or had no room
   pub paced_read : (after : List ℕ) (w : Wants) (wanted : ℕ) (end : End) → wanted ≡ count_of w
       → Used step old told mid unread left held holds uses → AreOpen uses
-      → Progress (timed step) (received uses) rest old (written uses) new → IsAwaited rest w → IsInputRead mid tells left now wanted rest after (Err end)
+      → Answered step old (received uses) (written uses) rest w new → IsInputRead mid tells left now wanted rest after (Err end)
       → Paced step old told tells unread now held holds end
-  paced_read after w wanted ReadFault all used opened answered awaited (kept, same, asks) =
-      let read = used_read step old new told mid tells unread left now held holds uses rest w wanted failed all used opened answered awaited asks
+  paced_read after w wanted ReadFault all used opened answered (kept, same, asks) =
+      let read = used_read step old new told mid tells unread left now held holds uses rest w wanted failed all used opened answered asks
       (Consumes-kept left left now [] (Consumes-nil left) kept) in
       paced step old told tells unread now held holds ReadFault _ read (inl (asks.0, (uses, refl)))
-  paced_read after w wanted Memory all used opened answered awaited (kept, same, none) = (
+  paced_read after w wanted Memory all used opened answered (kept, same, none) = (
     uses,
     subst (λ l. Grows told tells l) (append-nil uses) (Grows-trans told mid tells uses [] used.told_are none),
     record {
@@ -189,40 +251,39 @@ module _ {O : Type 0} (step : Step O) (old new : Timed O) (told mid tells : Opti
     },
     are_sound uses opened,
   )
-  paced_read after w wanted Closed all used opened answered awaited is = absurd is
-  paced_read after w wanted BadMessage all used opened answered awaited is = absurd is
-  paced_read after w wanted WriteFault all used opened answered awaited is = absurd is
+  paced_read after w wanted Closed all used opened answered is = absurd is
+  paced_read after w wanted BadMessage all used opened answered is = absurd is
+  paced_read after w wanted WriteFault all used opened answered is = absurd is
 
   -- a read that was interrupted
   pub interrupted_read : (after : List ℕ) (w : Wants) (wanted : ℕ) → wanted ≡ count_of w → Used step old told mid unread left held holds uses → AreOpen uses
-      → Progress (timed step) (received uses) rest old (written uses) new → IsAwaited rest w → IsInputRead mid tells left now wanted rest after (Ok None)
+      → Answered step old (received uses) (written uses) rest w new → IsInputRead mid tells left now wanted rest after (Ok None)
       → (all : List Use) × Used step old told tells unread now held holds all × AreOpen all
-      × Progress (timed step) (received all) after old (written all) new × IsAwaited after w × (reads_in all ≡ suc (reads_in uses))
-  interrupted_read after w wanted all used opened answered awaited (kept, same, asks) =
+      × Answered step old (received all) (written all) after w new × (reads_in all ≡ suc (reads_in uses))
+  interrupted_read after w wanted all used opened answered (kept, same, asks) =
       let more : List Use = asked asks.0 interrupted ∷ [] in
       let none_came : received (uses ++ more) ≡ received uses = received-append uses more ∙ append-nil (received uses) in
       let none_left : written (uses ++ more) ≡ written uses = written-append uses more ∙ append-nil (written uses) in (
         uses ++ more,
-        used_read step old new told mid tells unread left now held holds uses rest w wanted interrupted all used opened answered awaited asks
+        used_read step old new told mid tells unread left now held holds uses rest w wanted interrupted all used opened answered asks
             (Consumes-kept left left now [] (Consumes-nil left) kept),
         AreOpen-append uses more opened (tt, tt),
-        subst₂ (λ (a b : List ℕ). Progress (timed step) a after old b new) (sym none_came) (sym none_left)
-            (subst (λ l. Progress (timed step) (received uses) l old (written uses) new) (sym same) answered),
-        subst (λ l. IsAwaited l w) (sym same) awaited,
+        subst₂ (λ (a b : List ℕ). Answered step old a b after w new) (sym none_came) (sym none_left)
+            (subst (λ l. Answered step old (received uses) (written uses) l w new) (sym same) answered),
         omega (arith, reads_in-append uses more),
       )
 
   -- a read that was not interrupted
   module _ (after : List ℕ) (w : Wants) (wanted count : ℕ) (all_wanted : wanted ≡ count_of w)
       (used : Used step old told mid unread left held holds uses) (opened : AreOpen uses)
-      (answered : Progress (timed step) (received uses) rest old (written uses) new) (awaited : IsAwaited rest w)
+      (answered : Answered step old (received uses) (written uses) rest w new)
       (read : IsInputRead mid tells left now wanted rest after (Ok (Some count))) where
     abbrev made : List Use
     made = uses ++ asked read.5.0 (moved read.0) ∷ []
 
     was_read : Used step old told tells unread now held holds made
     was_read = used_read step old new told mid tells unread left now held holds uses rest w wanted (moved read.0) all_wanted used opened
-        answered awaited read.5 read.3
+        answered read.5 read.3
 
     sound : AreSound made
     sound = AreSound-append uses (asked read.5.0 (moved read.0) ∷ []) (are_sound uses opened) (tt, tt)
@@ -235,27 +296,37 @@ module _ {O : Type 0} (step : Step O) (old new : Timed O) (told mid tells : Opti
         paced step old told last unread now held wrote end _ used (ends_by end made sends.writes.uses sound sends.ends)
 
     -- and all were taken, where bytes had come
-    pub went_on : (last : Option (List Use)) (wrote : Option (List ℕ)) (text : List ℕ) (later : Timed O) (left_over : List ℕ) → ¬ (count ≡ 0)
-        → WritesWhole (holds, tells) (wrote, last) text → Progress (timed step) after left_over new text later
+    pub went_on : (last : Option (List Use)) (wrote : Option (List ℕ)) (text more_whole : List ℕ) (later : Timed O) (left_over kept : List ℕ) (wants : Wants)
+        → kept ≡ left_over → ¬ (count ≡ 0) → WritesWhole (holds, tells) (wrote, last) text → Progress (timed step) after left_over new more_whole later
+        → IsAwaited left_over wants → interim_for (told_of w) ++ text ≡ more_whole ++ interim_for (told_of wants)
         → (all : List Use) × Used step old told last unread now held wrote all × AreOpen all
-        × Progress (timed step) (received all) left_over old (written all) later × (reads_in all ≡ suc (reads_in uses))
-    went_on last wrote text later left_over some whole progress =
-        let w = whole.writes in
+        × Answered step old (received all) (written all) kept wants later × (reads_in all ≡ suc (reads_in uses))
+    went_on last wrote text more_whole later left_over kept wants same some whole progress awaits said =
+        let writes = whole.writes in
         let more : List Use = asked read.5.0 (moved read.0) ∷ [] in
-        let all = made ++ w.uses in
-        let one : Progress (timed step) (received uses ++ read.0) after old (written uses) new =
-        subst (λ l. Progress (timed step) (received uses ++ read.0) l old (written uses) new) (sym read.2)
-        (progress-append (timed step) (received uses) rest read.0 old new (written uses) answered) in
-        let both = progress_trans (timed step) (received uses ++ read.0) after left_over old new later (written uses) text one progress in
+        let all = made ++ writes.uses in
+        let before = interim_for (told_of w) in
+        let behind = interim_for (told_of wants) in
+        let one : Progress (timed step) (received uses ++ read.0) after old answered.whole new =
+        subst (λ l. Progress (timed step) (received uses ++ read.0) l old answered.whole new) (sym read.2)
+        (progress-append (timed step) (received uses) rest read.0 old new answered.whole answered.progress) in
+        let both = progress_trans (timed step) (received uses ++ read.0) after left_over old new later answered.whole more_whole one progress in
         let came : received uses ++ read.0 ≡ received all =
-        sym (received-append made w.uses ∙ ap (λ l. received made ++ l) (sends_receive w.uses w.sends) ∙ append-nil (received made)
+        sym (received-append made writes.uses ∙ ap (λ l. received made ++ l) (sends_receive writes.uses writes.sends) ∙ append-nil (received made)
         ∙ received-append uses more ∙ ap (λ l. received uses ++ l) (append-nil read.0)) in
         let took : written uses ++ text ≡ written all =
-        sym (written-append made w.uses ∙ ap (λ l. l ++ written w.uses) (written-append uses more ∙ append-nil (written uses))
-        ∙ ap (λ l. written uses ++ l) (sym w.text_is)) in (
+        sym (written-append made writes.uses ∙ ap (λ l. l ++ written writes.uses) (written-append uses more ∙ append-nil (written uses))
+        ∙ ap (λ l. written uses ++ l) (sym writes.text_is)) in (
           all,
-          used_sends step old told tells last unread now held holds wrote made text was_read sound w,
-          AreOpen-append made w.uses (AreOpen-append uses more opened (came_open read.5.0 count read.0 read.1 some, tt)) whole.open_still,
-          subst₂ (λ (a b : List ℕ). Progress (timed step) a left_over old b later) came took both,
-          omega (arith, reads_in-append made w.uses, reads_in-append uses more, sends_read_none w.uses w.sends),
+          used_sends step old told tells last unread now held holds wrote made text was_read sound writes,
+          AreOpen-append made writes.uses (AreOpen-append uses more opened (came_open read.5.0 count read.0 read.1 some, tt)) whole.open_still,
+          record {
+            whole = answered.whole ++ more_whole;
+            progress = subst₂ (λ (a b : List ℕ). Progress (timed step) a b old (answered.whole ++ more_whole) later) came (sym same) both;
+            awaited = subst (λ l. IsAwaited l wants) (sym same) awaits;
+            said =
+                sym took ∙ ap (λ l. l ++ text) answered.said ∙ append_assoc answered.whole before text
+                ∙ ap (λ l. answered.whole ++ l) said ∙ sym (append_assoc answered.whole more_whole behind);
+          },
+          omega (arith, reads_in-append made writes.uses, reads_in-append uses more, sends_read_none writes.uses writes.sends),
         )

@@ -1,6 +1,7 @@
 -- Uses of a reader and a writer, one after another.
-use Rattle.std.proofs.Common.{◌≡◌, ◌≢◌, ℕ, zero, suc, ◌+◌, ◌<◌, ◌≤◌, ◌↔◌, inl, inr, Bool, true, false, IsTrue, if◌then◌else◌, Err, List, [], ◌∷◌, ◌++◌, length, Option, None, Some, refl, ap, sym, subst, ◌∙◌, append_assoc, append-nil, arith, take, drop}
-use Rattle.std.proofs.Math.Seq.{take-add}
+use Rattle.std.proofs.Common.{◌≡◌, ◌≢◌, ℕ, zero, suc, ◌+◌, ◌<◌, ◌≤◌, ◌↔◌, inl, inr, Bool, true, false, IsTrue, if◌then◌else◌, Result, Ok, Err, List, [], ◌∷◌, ◌++◌, length, Option, None, Some, refl, ap, sym, subst, ◌∙◌, append_assoc, append-nil, arith, take, drop}
+use Rattle.std.proofs.Math.Seq.{take-add, take-append_seam, drop-append_seam}
+use Rattle.std.proofs.lemmas.List.{length-append, take-append-le}
 use Rattle.std.proofs.lemmas.Bool.{false≢true}
 use Rattle.std.specs.IoError.{error_kind}
 use Rattle.std.specs.declared.io.Error.{Error}
@@ -210,6 +211,40 @@ sent_before A a b c text rest n ReadFault short x is = absurd is
 sent_before A a b c text rest n WriteFault short x is =
     (n, short, subst (λ bytes. WritesLast WriteFault a c bytes) (append-nil (take n text)) (last_after WriteFault a b c (take n text) [] x is))
 sent_before A a b c text rest n Memory short x is = absurd is
+
+-- a text with a beginning of the next one is a beginning of both
+pub take_behind : (front text : List ℕ) (part : ℕ) → take (length front + part) (front ++ text) ≡ front ++ take part text
+take_behind front text part =
+    take-add (length front) part (front ++ text)
+    ∙ ap (λ bytes. bytes ++ take part (drop (length front) (front ++ text))) (take-append_seam front text)
+    ∙ ap (λ bytes. front ++ take part bytes) (drop-append_seam front text)
+
+-- a text that was written whole, and one that was handed over behind it, were so together
+pub sent_behind : {A : Type 0} (a b c : Output) (first second : List ℕ) (r : Result A End) → WritesWhole a b first
+    → IsOutputSent b c second r → IsOutputSent a c (first ++ second) r
+sent_behind a b c first second (Ok done) x is = whole_after a b c first second x is
+sent_behind a b c first second (Err Closed) x is = absurd is
+sent_behind a b c first second (Err BadMessage) x is = absurd is
+sent_behind a b c first second (Err ReadFault) x is = absurd is
+sent_behind a b c first second (Err Memory) x is = absurd is
+sent_behind a b c first second (Err WriteFault) x (part, short, last) = (
+  length first + part,
+  omega (arith, short, length-append first second),
+  subst (λ bytes. WritesLast WriteFault a c bytes) (sym (take_behind first second part)) (last_after WriteFault a b c first (take part second) x last),
+)
+
+-- where the first text was not written whole, both were not
+pub sent_neither : (A B : Type 0) (a b : Output) (first second : List ℕ) (end : End) → IsOutputSent {A = A} a b first (Err end)
+    → IsOutputSent {A = B} a b (first ++ second) (Err end)
+sent_neither A B a b first second Closed is = absurd is
+sent_neither A B a b first second BadMessage is = absurd is
+sent_neither A B a b first second ReadFault is = absurd is
+sent_neither A B a b first second Memory is = absurd is
+sent_neither A B a b first second WriteFault (part, short, last) = (
+  part,
+  omega (arith, short, length-append first second),
+  subst (λ bytes. WritesLast WriteFault a b bytes) (sym (take-append-le part first second (omega (arith, short)))) last,
+)
 
 -- so many writes of which each was interrupted
 pub record AreInterrupted (a b : Output) (count : ℕ) : Type 0 where

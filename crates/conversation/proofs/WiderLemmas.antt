@@ -1,6 +1,6 @@
 -- What was done by steps of one kind was done by those of a wider kind.
 use Rattle.std.specs.Prelude.{IfSome}
-use Rattle.std.proofs.Common.{ℕ, ℤ, inl, inr, List, [], ◌∷◌, ◌++◌, Option, None, Some, Result, Ok, Err}
+use Rattle.std.proofs.Common.{ℕ, ℤ, inl, inr, Bool, List, [], ◌∷◌, ◌++◌, Option, None, Some, Result, Ok, Err}
 use Rattle.conversation.specs.declared.conversation.Awaiting.{Awaiting}
 use Rattle.conversation.specs.declared.end.End.{End}
 use Rattle.conversation.specs.declared.end.End.TheVariants.{Closed, BadMessage, ReadFault, WriteFault, Memory}
@@ -80,7 +80,11 @@ module _ {O : Type 0} (step wide : Step O) (wider : Wider step wide) where
   given_up_wider input old text new g = record {
     rest = g.rest;
     mid = g.mid;
-    before = progress_wider input g.rest old text g.mid g.before;
+    whole = g.whole;
+    before = progress_wider input g.rest old g.whole g.mid g.before;
+    told = g.told;
+    expects = g.expects;
+    text_is = g.text_is;
     after = elim g.after [
       | inl same ↦ inl same
       | inr (m, after, begins, gave_up) ↦ inr (m, after, begins, gave_up_wider g.mid m new gave_up)
@@ -96,21 +100,21 @@ module _ {O : Type 0} (step wide : Step O) (wider : Wider step wide) where
   early_wider refusal old text new input Memory x = λ more. given_up_wider _ old text new (x more)
 
   -- the reply to one message
-  pub reply_wider : {A : Type 0} (old new : Timed O) (held holds : Output) (m : Message) (r : Result A End)
-      → ReplyIsWritten step old new held holds m r → ReplyIsWritten wide old new held holds m r
-  reply_wider old new held holds m (Ok done) (x, same, (stepped, reads), whole) = (x, same, (wider old.0 x new.0 stepped, reads), whole)
-  reply_wider old new held holds m (Err WriteFault) (x, same, (stepped, reads), part) = (x, same, (wider old.0 x new.0 stepped, reads), part)
-  reply_wider old new held holds m (Err Memory) (gave_up, none) = (gave_up_wider old m new gave_up, none)
-  reply_wider old new held holds m (Err Closed) x = absurd x
-  reply_wider old new held holds m (Err BadMessage) x = absurd x
-  reply_wider old new held holds m (Err ReadFault) x = absurd x
+  pub reply_wider : {A : Type 0} (told : Bool) (old new : Timed O) (held holds : Output) (m : Message) (r : Result A End)
+      → ReplyIsWritten step told old new held holds m r → ReplyIsWritten wide told old new held holds m r
+  reply_wider told old new held holds m (Ok done) (x, same, (stepped, reads), whole) = (x, same, (wider old.0 x new.0 stepped, reads), whole)
+  reply_wider told old new held holds m (Err WriteFault) (x, same, (stepped, reads), part) = (x, same, (wider old.0 x new.0 stepped, reads), part)
+  reply_wider told old new held holds m (Err Memory) (gave_up, none) = (gave_up_wider old m new gave_up, none)
+  reply_wider told old new held holds m (Err Closed) x = absurd x
+  reply_wider told old new held holds m (Err BadMessage) x = absurd x
+  reply_wider told old new held holds m (Err ReadFault) x = absurd x
 
   -- the replies to all whole messages of an input
-  pub replies_wider : (refusal : MessageFault → List ℕ) (old new : Timed O) (held holds : Output) (input : List ℕ) (r : Result Awaiting End)
-      → RepliesAreWritten step refusal old new held holds input r → RepliesAreWritten wide refusal old new held holds input r
-  replies_wider refusal old new held holds input (Ok awaiting) (text, whole, within, p, awaited) =
-      (text, whole, within, progress_wider input _ old text new p, awaited)
-  replies_wider refusal old new held holds input (Err end) (text, last, ends) = (text, last, early_wider refusal old text new input end ends)
+  pub replies_wider : (refusal : MessageFault → List ℕ) (told : Bool) (old new : Timed O) (held holds : Output) (input : List ℕ) (r : Result Awaiting End)
+      → RepliesAreWritten step refusal told old new held holds input r → RepliesAreWritten wide refusal told old new held holds input r
+  replies_wider refusal told old new held holds input (Ok awaiting) (text, whole, wrote, within, p, awaited, said) =
+      (text, whole, wrote, within, progress_wider input _ old whole new p, awaited, said)
+  replies_wider refusal told old new held holds input (Err end) (text, last, ends) = (text, last, early_wider refusal old _ new input end ends)
 
   -- ---- uses in turn
 
@@ -118,9 +122,11 @@ module _ {O : Type 0} (step wide : Step O) (wider : Wider step wide) where
   may_ask_wider old read wrote count may = record {
     rest = may.rest;
     mid = may.mid;
-    answered = progress_wider read may.rest old wrote may.mid may.answered;
+    text = may.text;
+    answered = progress_wider read may.rest old may.text may.mid may.answered;
     wants = may.wants;
     awaited = may.awaited;
+    said = may.said;
     within = may.within;
     held = may.held;
   }
@@ -151,11 +157,13 @@ module _ {O : Type 0} (step wide : Step O) (wider : Wider step wide) where
   -- a run
   pub run_wider : (refusal : MessageFault → List ℕ) (old new : Timed O) (unread left held holds : Option (List ℕ)) (end : End)
       → IsRun step refusal old new unread left held holds end → IsRun wide refusal old new unread left held holds end
-  run_wider refusal old new unread left held holds Closed (input, all, inl said) = (input, all, inl (said_wider refusal old new held holds _ input _ said))
+  run_wider refusal old new unread left held holds Closed (input, all, inl (expects, said)) =
+      (input, all, inl (expects, said_wider refusal old new held holds _ input _ said))
   run_wider refusal old new unread left held holds Closed (input, all, inr said) = (input, all, inr (said_wider refusal old new held holds _ input _ said))
   run_wider refusal old new unread left held holds BadMessage (input, all, fault, said) =
       (input, all, fault, said_wider refusal old new held holds _ input _ said)
-  run_wider refusal old new unread left held holds ReadFault (input, read, said) = (input, read, said_wider refusal old new held holds _ input _ said)
+  run_wider refusal old new unread left held holds ReadFault (input, read, expects, said) =
+      (input, read, expects, said_wider refusal old new held holds _ input _ said)
   run_wider refusal old new unread left held holds WriteFault (input, all, text, written, cut) =
       (input, all, text, written, cut_off_wider refusal input old text new cut)
   run_wider refusal old new unread left held holds Memory (input, all, text, written, given) =

@@ -1,18 +1,19 @@
 -- What the parts of a run do, which its own proof rests on: to one message, to all that are whole,
 -- and where the input ended.
-use Rattle.std.specs.Prelude.{◌≡◌, ℕ, ◌≤◌, List, [], ◌++◌, length, drop, Result, Ok, Err}
+use Rattle.std.specs.Prelude.{◌≡◌, ℕ, ◌≤◌, Bool, false, not, ◌&&◌, List, [], ◌++◌, length, drop}
+use Rattle.std.specs.Prelude.{Result, Ok, Err}
 use Rattle.conversation.specs.declared.end.End.{End}
 use Rattle.conversation.specs.declared.end.End.TheVariants.{Closed, BadMessage, ReadFault}
 use Rattle.conversation.specs.declared.end.End.TheVariants.{WriteFault, Memory}
 use Rattle.conversation.specs.declared.conversation.Awaiting.{Awaiting}
 use Rattle.conversation.specs.declared.message.message_fault.MessageFault.{MessageFault}
 use Rattle.conversation.specs.declared.message.message_fault.MessageFault.TheVariants.{Head}
-use Rattle.conversation.specs.Conversation.{Conversation, Progress, IsCutOff, IsGivenUp}
+use Rattle.conversation.specs.Conversation.{Conversation, Progress, IsCutOff, IsGivenUp, interim_for}
 use Rattle.conversation.specs.Ends.{IsBeginning, Output, WritesLast, WritesWhole}
 use Rattle.conversation.specs.Exchanges.{MessageExchange, Timed, timed, GaveUp}
 use Rattle.conversation.specs.message.Messages.{Stop, ended, Message, EndsAs, IsMessageRefused}
 use Rattle.conversation.specs.message.Messages.{finished, closing, refused}
-use Rattle.conversation.specs.Wants.{IsAwaited}
+use Rattle.conversation.specs.Wants.{IsAwaited, told_of}
 
 -- an end that was written as this text, whatever follows the input and however that stops
 abbrev pub EndsEarly : {O : Type 0} → (O → MessageExchange → O → Type 0) → (MessageFault → List ℕ)
@@ -29,16 +30,23 @@ EndsEarly step refusal old text new input WriteFault =
 EndsEarly step refusal old text new input Memory =
     (more : List ℕ) → IsGivenUp (timed step) (GaveUp step) (input ++ more) old text new
 
--- one message was answered and its reply written, or not
-abbrev pub ReplyIsWritten : {O A : Type 0} → (O → MessageExchange → O → Type 0) → Timed O → Timed O
-    → Output → Output → Message → Result A End → Type 0
-ReplyIsWritten step old new held holds m (Ok _) =
-    (x : MessageExchange) × (x.message ≡ m) × timed step old x new × WritesWhole held holds x.reply
-ReplyIsWritten step old new held holds m (Err WriteFault) =
-    (x : MessageExchange) × (x.message ≡ m) × timed step old x new × IsBeginning held holds x.reply
-ReplyIsWritten step old new held holds m (Err Memory) =
+-- an interim reply is due that is expected and was not written
+abbrev pub is_due : (expects told : Bool) → Bool
+is_due expects told = expects && not told
+
+-- one message was answered, and what is written for it written, behind the interim reply where that
+-- was written before; or not
+abbrev pub ReplyIsWritten : {O A : Type 0} → (O → MessageExchange → O → Type 0) → (told : Bool)
+    → Timed O → Timed O → Output → Output → Message → Result A End → Type 0
+ReplyIsWritten step told old new held holds m (Ok _) =
+    (x : MessageExchange) × (x.message ≡ m) × timed step old x new
+    × WritesWhole held holds (interim_for (is_due m.expects told) ++ x.reply)
+ReplyIsWritten step told old new held holds m (Err WriteFault) =
+    (x : MessageExchange) × (x.message ≡ m) × timed step old x new
+    × IsBeginning held holds (interim_for (is_due m.expects told) ++ x.reply)
+ReplyIsWritten step told old new held holds m (Err Memory) =
     GaveUp step old m new × WritesWhole held holds []
-ReplyIsWritten step old new held holds m (Err end) = ⊥
+ReplyIsWritten step told old new held holds m (Err end) = ⊥
 
 -- the refusal of a message was written, or not
 abbrev pub RefusalIsWritten : Output → Output → List ℕ → End → Type 0
@@ -47,28 +55,36 @@ RefusalIsWritten held holds text WriteFault = IsBeginning held holds text
 RefusalIsWritten held holds text Memory = WritesWhole held holds []
 RefusalIsWritten held holds text end = ⊥
 
--- the input ended where this was left: it is cut or nothing, or is refused for want of a head
-abbrev pub IsOver : (MessageFault → List ℕ) → List ℕ → Output → Output → End → Type 0
-IsOver refusal rest held holds Closed = EndsAs ended rest finished × WritesWhole held holds []
-IsOver refusal rest held holds end =
-    IsMessageRefused ended rest Head × RefusalIsWritten held holds (refusal Head) end
+-- the input ended where this was left: it is cut or nothing, or is refused for want of a head; an
+-- interim reply was written for it before, or none was
+abbrev pub IsOver : (MessageFault → List ℕ) → (told : Bool) → List ℕ → Output → Output → End
+    → Type 0
+IsOver refusal told rest held holds Closed =
+    EndsAs ended rest (finished told) × WritesWhole held holds []
+IsOver refusal told rest held holds end =
+    (told ≡ false) × IsMessageRefused ended rest Head
+    × RefusalIsWritten held holds (refusal Head) end
 
--- all whole messages of the input were answered, and this is left and awaited; or the end came
+-- Behind the interim reply, where that was written before, all whole messages of the input were
+-- answered, and this is left and awaited; or the end came.
 abbrev pub RepliesAreWritten : {O : Type 0} → (O → MessageExchange → O → Type 0)
-    → (MessageFault → List ℕ)
+    → (MessageFault → List ℕ) → (told : Bool)
     → Timed O → Timed O → Output → Output → List ℕ → Result Awaiting End → Type 0
-RepliesAreWritten step refusal old new held holds input (Ok awaiting) =
-    (text : List ℕ) × WritesWhole held holds text × (awaiting.len ≤ length input)
-    × Progress (timed step) input (drop awaiting.len input) old text new
+RepliesAreWritten step refusal told old new held holds input (Ok awaiting) =
+    (text : List ℕ) × (whole : List ℕ) × WritesWhole held holds text × (awaiting.len ≤ length input)
+    × Progress (timed step) input (drop awaiting.len input) old whole new
     × IsAwaited (drop awaiting.len input) awaiting.wants
-RepliesAreWritten step refusal old new held holds input (Err end) =
-    (text : List ℕ) × WritesLast end held holds text × EndsEarly step refusal old text new input end
+    × (interim_for told ++ text ≡ whole ++ interim_for (told_of awaiting.wants))
+RepliesAreWritten step refusal told old new held holds input (Err end) =
+    (text : List ℕ) × WritesLast end held holds text
+    × EndsEarly step refusal old (interim_for told ++ text) new input end
 
 -- an end that was written as this text where the input ended
 abbrev pub EndsHere : {O : Type 0} → (O → MessageExchange → O → Type 0) → (MessageFault → List ℕ)
     → Timed O → List ℕ → Timed O → List ℕ → End → Type 0
 EndsHere step refusal old text new input Closed =
-    Conversation (timed step) refusal ended input old text finished new
+    (expects : Bool)
+    × Conversation (timed step) refusal ended input old text (finished expects) new
 EndsHere step refusal old text new input BadMessage =
     (fault : MessageFault)
     × Conversation (timed step) refusal ended input old text (refused fault) new

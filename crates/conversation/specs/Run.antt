@@ -1,6 +1,6 @@
 -- What a run does: to the office with the answers of its clock, to what a reader has left and to
 -- what a writer holds, where these are known.
-use Rattle.std.specs.Prelude.{◌≡◌, ℕ, ◌⊎◌, List, Option, None, Some, ⊤}
+use Rattle.std.specs.Prelude.{◌≡◌, ℕ, ◌⊎◌, Bool, List, Option, None, Some, ⊤}
 use Rattle.std.specs.Io.KnownBytes.{Appends, Consumes}
 use Rattle.conversation.specs.declared.end.End.{End}
 use Rattle.conversation.specs.declared.end.End.TheVariants.{Closed, BadMessage, ReadFault}
@@ -31,14 +31,14 @@ abbrev pub IsRun : {O : Type 0} → (O → MessageExchange → O → Type 0) →
     → End → Type 0
 IsRun step refusal old new unread left held holds Closed =
     (input : List ℕ) × IsAll unread input
-    × (IsSaid step refusal old new held holds ended input finished
+    × (((expects : Bool) × IsSaid step refusal old new held holds ended input (finished expects))
     ⊎ IsSaid step refusal old new held holds ended input closing)
 IsRun step refusal old new unread left held holds BadMessage =
     (input : List ℕ) × IsAll unread input
     × (fault : MessageFault) × IsSaid step refusal old new held holds ended input (refused fault)
 IsRun step refusal old new unread left held holds ReadFault =
     (input : List ℕ) × Consumes unread left input
-    × IsSaid step refusal old new held holds failed input broken
+    × (expects : Bool) × IsSaid step refusal old new held holds failed input (broken expects)
 IsRun step refusal old new unread left held holds WriteFault =
     (input : List ℕ) × IsAll unread input
     × (text : List ℕ) × Appends held holds text × IsCutOff (timed step) refusal input old text new

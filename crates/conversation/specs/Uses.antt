@@ -11,11 +11,11 @@ use Rattle.conversation.specs.declared.end.End.{End}
 use Rattle.conversation.specs.declared.end.End.TheVariants.{Closed, BadMessage, ReadFault}
 use Rattle.conversation.specs.declared.end.End.TheVariants.{WriteFault, Memory}
 use Rattle.conversation.specs.declared.wants.Wants.{Wants}
-use Rattle.conversation.specs.Conversation.{Progress}
+use Rattle.conversation.specs.Conversation.{Progress, interim_for}
 use Rattle.conversation.specs.Exchanges.{MessageExchange, Timed, timed}
 use Rattle.conversation.specs.message.Framing.{longest_body}
 use Rattle.conversation.specs.message.Heads.{longest_head}
-use Rattle.conversation.specs.Wants.{count_of, IsAwaited}
+use Rattle.conversation.specs.Wants.{count_of, told_of, IsAwaited}
 
 -- What came of one read or one write: bytes moved, none at the end of an input or where a writer
 -- takes no more; or none, for the system interrupted it; or none, for it failed.
@@ -104,15 +104,18 @@ longest_message = longest_head + longest_body
 
 -- Where these bytes were read and those written, so many more may be asked for: the replies to all
 -- whole messages were written, none of them ends the conversation, and what is left is a beginning
--- of one more. No more is asked for than the longest head still lacks, or its body.
+-- of one more, to which the interim reply was written, if its head is there and expects one. No more
+-- is asked for than the longest head still lacks, or its body.
 pub record MayAsk
     {O : Type 0} (step : O → MessageExchange → O → Type 0) (old : Timed O)
     (read wrote : List ℕ) (count : ℕ) : Type 0 where
   pub rest : List ℕ
   pub mid : Timed O
-  pub answered : Progress (timed step) read rest old wrote mid
+  pub text : List ℕ
+  pub answered : Progress (timed step) read rest old text mid
   pub wants : Wants
   pub awaited : IsAwaited rest wants
+  pub said : wrote ≡ text ++ interim_for (told_of wants)
   pub within : count ≤ count_of wants
   pub held : length rest + count ≤ longest_message
 

@@ -1,10 +1,11 @@
 ghost use Rattle.conversation.specs.Exchanges.{clocked};
+ghost use Rattle.conversation.specs.message.Messages.{IsTold};
 ghost use Rattle.conversation.specs.message.Next.{message_of};
 ghost use Rattle.conversation.specs.Parts.{RepliesAreWritten, ReplyIsWritten, IsOver};
 ghost use Rattle.conversation.specs.Parts.{RefusalIsWritten};
 ghost use Rattle.conversation.specs.Run.{IsRun};
 ghost use Rattle.conversation.specs.Uses.{EndsBy, Grows, IsPaced, Use};
-ghost use Rattle.conversation.specs.Wants.{IsAwaited};
+ghost use Rattle.conversation.specs.Wants.{IsAwaited, told_of};
 ghost use Rattle.std.specs.Prelude.{ℤ, List};
 
 use crate::clock::Clock;
@@ -14,7 +15,7 @@ use crate::message::head::MAX_HEAD;
 use crate::message::message_fault::MessageFault;
 use crate::message::next::{Next, next_of};
 use crate::message::received::Received;
-use crate::sending::send;
+use crate::sending::{is_due, send, send_behind, tell};
 use crate::service::Service;
 use crate::unanswered::Unanswered;
 use crate::wants::Wants;
@@ -25,9 +26,10 @@ use std::io::{Read, Write};
 /// a reply that is written before more is asked for, until one of them ends it. While it awaits a
 /// head it asks for at most `MAX_HEAD` bytes of it in all, and while it awaits a body for what that
 /// lacks; it holds no more than one longest message, and reads nothing after an end
-/// (`specs/Uses.antt`). A read or a write that the system interrupts is made again. A head is
-/// parsed when it is whole and once more when its body is, however small the pieces are in which
-/// that comes. No bytes are kept for another run.
+/// (`specs/Uses.antt`). Where a message expects an interim reply, that is written once, before its
+/// body is asked for. A read or a write that the system interrupts is made again. A head is parsed
+/// when it is whole and once more when its body is, however small the pieces are in which that
+/// comes. No bytes are kept for another run.
 pub fn run<O, S: Service<O>, L: Line<R, W>, R: Read, W: Write, C: Clock>(
     service: &S,
     alloc: Global,
@@ -73,6 +75,7 @@ pub fn run<O, S: Service<O>, L: Line<R, W>, R: Read, W: Write, C: Clock>(
             line,
             writer,
             unanswered.as_slice(),
+            wants.told(),
         ) {
             Ok(awaiting) => {
                 wants = awaiting.wants;
@@ -92,7 +95,8 @@ pub(crate) struct Awaiting {
 }
 
 // Answers all whole messages at the front of an input, in order, each by a reply that is written
-// before the next one is looked at.
+// before the next one is looked at. For the first one an interim reply may have been written; where
+// a body is awaited, the interim reply is written that its message expects.
 fn answer_all<O, S: Service<O>, L: Line<R, W>, R: Read, W: Write, C: Clock>(
     service: &S,
     alloc: Global,
@@ -101,19 +105,22 @@ fn answer_all<O, S: Service<O>, L: Line<R, W>, R: Read, W: Write, C: Clock>(
     line: &mut L,
     writer: &mut W,
     input: &[u8],
+    told: bool,
 ) -> Result<Awaiting, End>
-    ensures written { RepliesAreWritten (clocked (C.reads clock.old) S.step) S.refusal
+    requires { IsTold input.now told }
+    ensures written { RepliesAreWritten (clocked (C.reads clock.old) S.step) S.refusal told
         (office.old, C.answers clock.old) (office.new, C.answers clock.new)
         (W.contents writer.old, L.uses line.old) (W.contents writer.new, L.uses line.new)
         input.now result }
     ensures stays { (given : ℤ) → C.reads clock.new given → C.reads clock.old given }
 {
     let mut len = 0;
+    let mut was_told = told;
     'messages: while len < input.len() {
-        let wants = match next_of(&input[len..]) {
+        match next_of(&input[len..]) {
             Next::Whole(message) => {
                 if let Err(end) = answer_one(
-                    service, alloc, office, clock, line, writer, &message,
+                    service, alloc, office, clock, line, writer, &message, was_told,
                 ) {
                     return Err(end);
                 }
@@ -121,13 +128,28 @@ fn answer_all<O, S: Service<O>, L: Line<R, W>, R: Read, W: Write, C: Clock>(
                     return Err(End::Closed);
                 }
                 len += message.len;
-                continue;
+                was_told = false;
             }
             Next::Refused(fault) => return Err(refuse(service, alloc, line, writer, fault)),
-            Next::NeedHead => Wants::Head(MAX_HEAD - (input.len() - len)),
-            Next::NeedBody(missing) => Wants::Body(missing),
-        };
-        return Ok(Awaiting { len, wants });
+            Next::NeedHead => {
+                return Ok(Awaiting {
+                    len,
+                    wants: Wants::Head(MAX_HEAD - (input.len() - len)),
+                });
+            }
+            Next::NeedBody { missing, expects } => {
+                if let Err(end) = tell(line, writer, is_due(expects, was_told)) {
+                    return Err(end);
+                }
+                return Ok(Awaiting {
+                    len,
+                    wants: Wants::Body {
+                        missing,
+                        told: expects,
+                    },
+                });
+            }
+        }
     }
     Ok(Awaiting {
         len,
@@ -135,7 +157,8 @@ fn answer_all<O, S: Service<O>, L: Line<R, W>, R: Read, W: Write, C: Clock>(
     })
 }
 
-// Answers one message, and writes the reply.
+// Answers one message, and writes the reply, behind the interim one that it expects unless that was
+// written before.
 fn answer_one<O, S: Service<O>, L: Line<R, W>, R: Read, W: Write, C: Clock>(
     service: &S,
     alloc: Global,
@@ -144,15 +167,16 @@ fn answer_one<O, S: Service<O>, L: Line<R, W>, R: Read, W: Write, C: Clock>(
     line: &mut L,
     writer: &mut W,
     message: &Received<'_>,
+    told: bool,
 ) -> Result<(), End>
-    ensures written { ReplyIsWritten (clocked (C.reads clock.old) S.step)
+    ensures written { ReplyIsWritten (clocked (C.reads clock.old) S.step) told
         (office.old, C.answers clock.old) (office.new, C.answers clock.new)
         (W.contents writer.old, L.uses line.old) (W.contents writer.new, L.uses line.new)
         (message_of message.now) result }
     ensures stays { (given : ℤ) → C.reads clock.new given → C.reads clock.old given }
 {
     match service.answer(alloc, office, clock, message) {
-        Ok(reply) => send(line, writer, &reply),
+        Ok(reply) => send_behind(line, writer, is_due(message.expects, told), &reply),
         Err(_) => Err(End::Memory),
     }
 }
@@ -187,7 +211,7 @@ fn finish<O, S: Service<O>, L: Line<R, W>, R: Read, W: Write>(
     wants: Wants,
 ) -> End
     requires { IsAwaited rest.now wants }
-    ensures { IsOver S.refusal rest.now (W.contents writer.old, L.uses line.old)
+    ensures { IsOver S.refusal (told_of wants) rest.now (W.contents writer.old, L.uses line.old)
         (W.contents writer.new, L.uses line.new) result }
 {
     match wants {

@@ -13,6 +13,7 @@ use Rattle.conversation.specs.message.Messages.{Message}
 use Rattle.desk.specs.Along.{AreAsked}
 use Rattle.desk.specs.Answering.{answers_by, life_serves}
 use Rattle.desk_messages.specs.Meaning.{MessageAsks}
+use Rattle.desk_messages.specs.reply.HttpDate.{moment_given}
 use Rattle.desk_messages.specs.reply.Text.{reply_to}
 use Rattle.desk_messages.specs.declared.reply.form.Form.{Form}
 
@@ -54,7 +55,7 @@ goes_along old (x ∷ xs) new (mid, ((outcome, inr (inl (form, moment, request, 
         record {
           form = form;
           asks = asks_stamped x.message x.now form at moment request stamped.at_moment stamped.for_request asks;
-          told = told ∙ ap (λ o. reply_to x.message.method o x.message.closes) is;
+          told = told ∙ ap (λ o. reply_to x.message.method (moment_given x.now) o x.message.closes) is;
         },
         more.0,
         more.1,
@@ -71,7 +72,7 @@ goes_along old (x ∷ xs) new (mid, ((outcome, inr (inr (form, moment, lookup, f
       found ∷ more.2,
       inr (inr (
         found,
-        record { form = form; moment = moment; lookup = lookup; looks = looks; told = told ∙ ap (λ o. reply_to x.message.method o x.message.closes) is },
+        record { form = form; moment = moment; lookup = lookup; looks = looks; told = told ∙ ap (λ o. reply_to x.message.method (moment_given x.now) o x.message.closes) is },
         more.2,
         refl,
         more.3,

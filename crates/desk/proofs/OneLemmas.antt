@@ -28,6 +28,7 @@ use Rattle.desk.specs.Along.{AreAsked}
 use Rattle.desk_messages.specs.Asking.{BodyAsks}
 use Rattle.desk_messages.specs.Meaning.{AsksRequest, ComesAt, ComesOutside, IsFor, IsIdle, MessageAsks, MessageLooks, lookup_form, sale_form_of}
 use Rattle.desk.specs.OneConversation.{HasOneMeaning, IsOneConversation, asked_at, conversation_text, moments_of}
+use Rattle.desk_messages.specs.reply.HttpDate.{moment_given}
 use Rattle.desk_messages.specs.reply.Text.{reply_to}
 use Rattle.desk_messages.specs.route.Route.{IsRouted}
 
@@ -163,6 +164,13 @@ at_other : (Holds : Message → Option ℤ → Type 0) (x y : MessageExchange) �
 at_other Holds x y message now holds =
     subst (λ m. Holds m x.now) (sym message) (subst (λ n. Holds y.message n) (sym now) holds)
 
+-- the reply to the message and the moment of one exchange is that to those of another
+at_same : (outcome : Outcome) (x y : MessageExchange) → x.message ≡ y.message → x.now ≡ y.now
+    → reply_to x.message.method (moment_given x.now) outcome x.message.closes ≡ reply_to y.message.method (moment_given y.now) outcome y.message.closes
+at_same outcome x y message now =
+    ap (λ (m : Message). reply_to m.method (moment_given x.now) outcome m.closes) message
+    ∙ ap (λ (n : Option ℤ). reply_to y.message.method (moment_given n) outcome y.message.closes) now
+
 -- the same messages at the same moments with the same replies make the same exchanges
 pub same_exchanges : ((m : Message) (now : Option ℤ) → HasOneMeaning m now) → (xs ys : List MessageExchange) (ats bts : List Stamped)
     (replies : List (Result Answer Refusal)) (finds : List (Result Found Refusal)) → messages_of xs ≡ messages_of ys → moments_of xs ≡ moments_of ys
@@ -176,7 +184,8 @@ same_exchanges one (x ∷ xs) (y ∷ ys) ats bts replies finds messages moments 
     let outcome = (one x.message x.now).idle nothing.outcome none.outcome nothing.idle
     (at_other (λ m n. IsIdle m n none.outcome) x y message now none.idle) in
     let reply : x.reply ≡ y.reply =
-    nothing.told ∙ ap (λ o. reply_to x.message.method o x.message.closes) outcome ∙ ap (λ (m : Message). reply_to m.method none.outcome m.closes) message ∙ sym none.told in
+    nothing.told ∙ ap (λ o. reply_to x.message.method (moment_given x.now) o x.message.closes) outcome
+    ∙ at_same none.outcome x y message now ∙ sym none.told in
     let more = same_exchanges one xs ys ats bts replies finds (cc) (cc) a b in
     (ap (λ z. z ∷ xs) (same_exchange x y message now reply) ∙ ap (λ zs. y ∷ zs) more.0, more.1)
 same_exchanges one (x ∷ xs) (y ∷ ys) ats bts replies finds messages moments (inl (nothing, a)) (inr (inl (at, reply, asked, later, others, is, are, b))) =
@@ -221,8 +230,9 @@ same_exchanges one (x ∷ xs) (y ∷ ys) ats bts replies finds messages moments 
     let same : reply ≡ other = cc in
     let left : others ≡ rest = cc in
     let text : x.reply ≡ y.reply =
-    asked.told ∙ ap (λ f. reply_to x.message.method (Replied f reply) x.message.closes) meaning.0 ∙ ap (λ r. reply_to x.message.method (Replied ask.form r) x.message.closes) same
-    ∙ ap (λ (m : Message). reply_to m.method (Replied ask.form other) m.closes) message ∙ sym ask.told in
+    asked.told ∙ ap (λ f. reply_to x.message.method (moment_given x.now) (Replied f reply) x.message.closes) meaning.0
+    ∙ ap (λ r. reply_to x.message.method (moment_given x.now) (Replied ask.form r) x.message.closes) same
+    ∙ at_same (Replied ask.form other) x y message now ∙ sym ask.told in
     let more = same_exchanges one xs ys later then others finds (cc) (cc) a (subst (λ l. AreAsked ys then l finds) (sym left) b) in (
       ap (λ z. z ∷ xs) (same_exchange x y message now text) ∙ ap (λ zs. y ∷ zs) more.0,
       ap asked_at is ∙ ap (λ m. (m, at.request) ∷ asked_at later) meaning.1 ∙ ap (λ q. (bt.moment, q) ∷ asked_at later) meaning.2
@@ -237,9 +247,9 @@ same_exchanges one (x ∷ xs) (y ∷ ys) ats bts replies finds messages moments 
     let same : found ≡ other = cc in
     let left : others ≡ rest = cc in
     let text : x.reply ≡ y.reply =
-    looked.told ∙ ap (λ f. reply_to x.message.method (outcomes.Found f found) x.message.closes) meaning.0
-    ∙ ap (λ r. reply_to x.message.method (outcomes.Found look.form r) x.message.closes) same
-    ∙ ap (λ (m : Message). reply_to m.method (outcomes.Found look.form other) m.closes) message ∙ sym look.told in
+    looked.told ∙ ap (λ f. reply_to x.message.method (moment_given x.now) (outcomes.Found f found) x.message.closes) meaning.0
+    ∙ ap (λ r. reply_to x.message.method (moment_given x.now) (outcomes.Found look.form r) x.message.closes) same
+    ∙ at_same (outcomes.Found look.form other) x y message now ∙ sym look.told in
     let more = same_exchanges one xs ys ats bts replies others (cc) (cc) a (subst (λ l. AreAsked ys bts replies l) (sym left) b) in
     (ap (λ z. z ∷ xs) (same_exchange x y message now text) ∙ ap (λ zs. y ∷ zs) more.0, more.1)
 

@@ -1,5 +1,5 @@
 -- The lives that books keep, by the messages that they answer.
-use Rattle.std.proofs.Common.{◌≡◌, ◌∙◌, ℕ, ℤ, ◌+◌, ◌%◌, inl, inr, Bool, true, false, List, length, Option, Result, Ok, Err, refl, ap, sym, subst}
+use Rattle.std.proofs.Common.{◌≡◌, ◌∙◌, ℕ, ℤ, ◌+◌, ◌%◌, inl, inr, Bool, true, false, List, length, Option, Some, Result, Ok, Err, refl, ap, sym, subst}
 use Rattle.std.specs.Prelude.{IfOk, IfSome, OnErr}
 use Rattle.sqlite.specs.State.{HasCleanDisk, State}
 use Rattle.vend_core.specs.Law.Life.{Life, present}
@@ -25,6 +25,7 @@ use Rattle.conversation.proofs.FollowLemmas.{Follows, clocked_follows, run_along
 use Rattle.desk.specs.Answering.{Comes, LifeReplies, Serving, answers_by, books_serve, life_serves, message_refusal_of}
 use Rattle.desk.specs.Converses.{Converses}
 use Rattle.desk_messages.specs.Meaning.{IsIdle, IsMeaning}
+use Rattle.desk_messages.specs.reply.HttpDate.{moment_given}
 use Rattle.desk_messages.specs.reply.Text.{reply_to}
 use Rattle.desk_messages.specs.declared.reply.form.Form.{Form}
 use Rattle.desk_messages.specs.declared.meaning.Meaning.{Meaning}
@@ -65,10 +66,21 @@ pub comes_told : {O : Type 0} (serves : Serving O) (m : Message) (now : Option �
 comes_told serves m now meaning told outcome old office is means same kept =
     inl (subst (λ o. IsIdle m now o) (sym same) (subst (λ x. IsMeaning m now x) means is), kept)
 
+-- what a message means at the second that the clock gave
+pub means_at : (m : Message) (given second : ℤ) (meaning : Meaning) → given ≡ second → IsMeaning m (Some given) meaning → IsMeaning m (Some second) meaning
+means_at m given second meaning same is = subst (λ z. IsMeaning m (Some z) meaning) same is
+
+-- and the text of its reply
+pub told_at : {A E : Type 0} (items : A → List ℕ) (m : Message) (given second : ℤ) (dated : Option ℕ) (outcome : Outcome) (r : Result A E) → given ≡ second
+    → dated ≡ moment_given (Some given) → IfOk r (λ text. items text ≡ reply_to m.method dated outcome m.closes)
+    → IfOk r (λ text. items text ≡ reply_to m.method (moment_given (Some second)) outcome m.closes)
+told_at items m given second dated outcome r same is told =
+    subst (λ d. IfOk r (λ text. items text ≡ reply_to m.method d outcome m.closes)) (is ∙ ap (λ z. moment_given (Some z)) same) told
+
 -- a message was answered, by the text that a result has
 pub was_answered : {O A E : Type 0} (serves : Serving O) (gives : ℤ → Type 0) (items : A → List ℕ) (old new : Timed O) (m : Message) (now : Option ℤ)
     (outcome : Outcome) (r : Result A E)
-    → ReadsClock old.1 now new.1 → IfSome now gives → Comes serves m now outcome old.0 new.0 → IfOk r (λ text. items text ≡ reply_to m.method outcome m.closes)
+    → ReadsClock old.1 now new.1 → IfSome now gives → Comes serves m now outcome old.0 new.0 → IfOk r (λ text. items text ≡ reply_to m.method (moment_given now) outcome m.closes)
     → IfOk r (λ reply. (x : MessageExchange) × (x.message ≡ m) × (x.reply ≡ items reply) × timed (clocked gives (answers_by serves)) old x new)
 was_answered serves gives items old new m now outcome (Ok reply) reads gave comes text =
     (record { message = m; now = now; reply = items reply }, refl, refl, (((outcome, comes, text), gave), reads))
@@ -80,7 +92,7 @@ pub was_given_up : {O A E : Type 0} (serves : Serving O) (gives : ℤ → Type 0
     → ReadsClock old.1 now new.1 → IfSome now gives → Comes serves m now outcome old.0 new.0 → OnErr r (GaveUp (clocked gives (answers_by serves)) old m new)
 was_given_up serves gives old new m now outcome (Ok reply) reads gave comes = tt
 was_given_up serves gives old new m now outcome (Err error) reads gave comes =
-    (now, reads, inr (reply_to m.method outcome m.closes, ((outcome, comes, refl), gave)))
+    (now, reads, inr (reply_to m.method (moment_given now) outcome m.closes, ((outcome, comes, refl), gave)))
 
 unless_true : (b : Bool) → ¬ (b ≡ true) → b ≡ false
 unless_true true not = absurd (not refl)

@@ -11,20 +11,22 @@ use Rattle.desk_messages.specs.declared.reply.outcome.Outcome.{Outcome}
 use Rattle.desk_messages.specs.declared.reply.outcome.Outcome.TheVariants.{Replied}
 use Rattle.desk_messages.specs.declared.reply.outcome.Outcome.TheVariants as outcomes
 use Rattle.desk_messages.specs.Meaning.{MessageAsks, MessageLooks, IsIdle}
+use Rattle.desk_messages.specs.reply.HttpDate.{moment_given}
 use Rattle.desk_messages.specs.reply.Text.{reply_to}
 
 -- the message asked nothing of the office, and was told so
 pub record AskedNothing (x : MessageExchange) : Type 0 where
   pub outcome : Outcome
   pub idle : IsIdle x.message x.now outcome
-  pub told : x.reply ≡ reply_to x.message.method outcome x.message.closes
+  pub told : x.reply ≡ reply_to x.message.method (moment_given x.now) outcome x.message.closes
 
 -- the message asked this of the office, and was told the reply
 pub record AskedOffice (x : MessageExchange) (at : Stamped)
     (reply : Result Answer Refusal) : Type 0 where
   pub form : Form
   pub asks : MessageAsks x.message x.now form at.moment at.request
-  pub told : x.reply ≡ reply_to x.message.method (Replied form reply) x.message.closes
+  pub told : x.reply
+      ≡ reply_to x.message.method (moment_given x.now) (Replied form reply) x.message.closes
 
 -- the message looked something up in the office, and was told what was found
 pub record LookedUp (x : MessageExchange) (found : Result Found Refusal) : Type 0 where
@@ -33,7 +35,8 @@ pub record LookedUp (x : MessageExchange) (found : Result Found Refusal) : Type 
   pub lookup : Lookup
   pub looks : MessageLooks x.message x.now form moment lookup
   pub told : x.reply
-      ≡ reply_to x.message.method (outcomes.Found form found) x.message.closes
+      ≡ reply_to x.message.method (moment_given x.now) (outcomes.Found form found)
+      x.message.closes
 
 -- the requests and the replies of these exchanges and what they found, each once and in order, and
 -- no others

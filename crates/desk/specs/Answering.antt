@@ -1,6 +1,6 @@
 -- How an office answers messages, by how it serves requests and what it finds.
 use Rattle.std.specs.Prelude.{◌≡◌, ◌≢◌, ℕ, ◌+◌, ◌%◌, ℤ, ◌⊎◌, true, List, length, Option, Result}
-use Rattle.std.specs.Prelude.{Err}
+use Rattle.std.specs.Prelude.{Err, None}
 use Rattle.books.specs.Asking.{ReplyAt}
 use Rattle.books.specs.Keeps.{Seen}
 use Rattle.books.specs.Looking.{FoundAt, IsFoundAt}
@@ -21,6 +21,7 @@ use Rattle.desk_messages.specs.declared.reply.outcome.Outcome.{Outcome}
 use Rattle.desk_messages.specs.declared.reply.outcome.Outcome.TheVariants.{Refused, Replied}
 use Rattle.desk_messages.specs.declared.reply.outcome.Outcome.TheVariants as outcomes
 use Rattle.desk_messages.specs.Meaning.{MessageAsks, MessageLooks, IsIdle}
+use Rattle.desk_messages.specs.reply.HttpDate.{moment_given}
 use Rattle.desk_messages.specs.reply.Text.{reply_bytes_of, reply_to}
 
 -- How an office serves: at a moment a request gets a reply, and a look-up finds something or is
@@ -41,15 +42,18 @@ Comes serves m now outcome old new =
     × (outcome ≡ outcomes.Found form found) × MessageLooks m now form moment lookup
     × serves.finds moment lookup found old new))
 
--- the office answered a message by the reply that tells what came of it
+-- the office answered a message by the reply that tells what came of it, with the date of the moment
+-- that the clock gave
 abbrev pub answers_by : {O : Type 0} → Serving O → O → MessageExchange → O → Type 0
 answers_by serves old x new =
     (outcome : Outcome) × Comes serves x.message x.now outcome old new
-    × (x.reply ≡ reply_to x.message.method outcome x.message.closes)
+    × (x.reply
+    ≡ reply_to x.message.method (moment_given x.now) outcome x.message.closes)
 
--- the reply to a message that is refused, after which the conversation ends
+-- the reply to a message that is refused, for which the clock is not read, and after which the
+-- conversation ends
 abbrev pub message_refusal_of : MessageFault → List ℕ
-message_refusal_of fault = reply_bytes_of (Refused fault) true
+message_refusal_of fault = reply_bytes_of None (Refused fault) true
 
 -- how books of any kind serve, by what contracts see of them
 abbrev pub books_serve : {B : Type 0} → (B → Seen) → Serving B

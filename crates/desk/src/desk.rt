@@ -5,7 +5,7 @@ ghost use Rattle.desk.specs.Converses.{Converses};
 
 use books::Books;
 use conversation::{Clock, End, Line, MessageFault, Received, Service, Untold, run};
-use desk_messages::{Meaning, Outcome, Routes, reply_bytes, reply_to};
+use desk_messages::{Meaning, Outcome, Routes, moment_given, reply_bytes, reply_to};
 use sqlite::Alter;
 use std::alloc::{AllocError, Global};
 use std::io::{Read, Write};
@@ -29,8 +29,8 @@ impl Desk {
     }
 
     /// Holds the conversation of a reader and a writer over these books: each message that is read
-    /// is answered in order, and its request served once, before more is asked for. A request comes
-    /// at the moment that the clock gives for it. See `End` for what was written and served by the
+    /// is answered in order, and its request served once, before more is asked for. The clock is read
+    /// once for each; a request comes at the moment that it gives, and the reply has its date. See `End` for what was written and served by the
     /// end; `specs/Converses.antt` says what holds of it, and `specs/Answering.antt` how books and
     /// their lives answer. No more is read than `specs/Uses.antt` of `conversation` allows
     /// (`paced`): while a head is awaited 8192 bytes of it in all, while a body is awaited what it
@@ -90,7 +90,8 @@ impl<S: Alter, T: BlockTransform> Service<Books<S, T>> for Desk {
         clock: &mut C,
         message: &Received<'_>,
     ) -> Result<Vec<u8>, AllocError> {
-        let outcome = match self.routes.meaning_of(alloc, clock, message) {
+        let second = clock.now();
+        let outcome = match self.routes.meaning_of(alloc, second, message) {
             Meaning::Asks(form, moment, request) => {
                 Outcome::Replied(form, office.ask(moment, request))
             }
@@ -100,10 +101,11 @@ impl<S: Alter, T: BlockTransform> Service<Books<S, T>> for Desk {
             Meaning::Told(outcome) => outcome,
             Meaning::Memory => return Err(AllocError),
         };
-        reply_to(alloc, message.method, &outcome, message.closes)
+        let dated = moment_given(second);
+        reply_to(alloc, message.method, dated, &outcome, message.closes)
     }
 
     fn refuse(&self, alloc: Global, fault: MessageFault) -> Result<Vec<u8>, AllocError> {
-        reply_bytes(alloc, &Outcome::Refused(fault), true)
+        reply_bytes(alloc, None, &Outcome::Refused(fault), true)
     }
 }

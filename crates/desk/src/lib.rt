@@ -16,7 +16,7 @@ pub use conversation::{
 };
 pub use desk::Desk;
 pub use desk_messages::{
-    BodyFault, DeskFault, Endpoint, Form, JsonKind, Outcome, Route, Routes, asking_law, found_json,
-    head_law, list_law, put_day, put_steps, reply_bytes, reply_law, reply_to, request_of,
-    route_law,
+    BodyFault, DeskFault, Endpoint, Form, JsonKind, Outcome, Route, Routes, asking_law, date_law,
+    found_json, head_law, http_date, list_law, moment_given, put_day, put_steps, reply_bytes,
+    reply_law, reply_to, request_of, route_law,
 };

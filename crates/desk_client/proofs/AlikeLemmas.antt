@@ -295,6 +295,6 @@ alike_by_text most asked told.NoMoment told.NoMoment is are start text = tt
 pub alike : ((t : ℕ) → IsRepresentable t → t ≤ greatest_amount) → (asked : Wanted) (text : List ℕ) (t u : Told) → IsReply asked text t → IsReply asked text u
     → TellAlike t u
 alike most asked text t u h k =
-    let same = one_head (told_start t) (told_start u) (length (told_text t)) (length (told_text u)) (told_text t) (told_text u)
-    (omega (arith, h.short)) (omega (arith, k.short)) (sym h.is_text ∙ k.is_text) in
+    let same = one_head (told_start t) (told_start u) (length (told_text t)) (length (told_text u)) h.dated k.dated (told_text t) (told_text u)
+    (omega (arith, h.short)) (omega (arith, k.short)) h.is_dated k.is_dated (sym h.is_text ∙ k.is_text) in
     alike_by_text most asked t u h.tellable k.tellable same.0 same.2

@@ -321,6 +321,7 @@ is_sent q rest is =
       path = target_path q;
       body = body_fits q is;
       goes_on = refl;
+      needs_none = refl;
     })
 
 plain_of : (text : List ℕ) → IsWord text → flat_map escape_byte text ≡ text

@@ -1,15 +1,14 @@
 -- Heads of replies, and that a text begins with one of them.
-use Rattle.std.proofs.Common.{◌≡◌, ◌≢◌, ◌∙◌, ℕ, ◌+◌, ◌*◌, ◌^◌, ◌<◌, ◌≤◌, List, [], ◌∷◌, ◌++◌, length, get_or, drop, refl, ap, sym, subst, append_assoc, length-append, arith}
+use Rattle.std.proofs.Common.{◌≡◌, ◌≢◌, ◌∙◌, ℕ, ◌+◌, ◌*◌, ◌^◌, ◌<◌, ◌≤◌, List, [], ◌∷◌, ◌++◌, length, get_or, drop, codes, Option, None, Some, refl, ap, sym, subst, append_assoc, length-append, arith}
 use Rattle.std.specs.Prelude.{decimal, if◌then◌else◌, ◌==◌}
 use Rattle.std.proofs.lemmas.Fmt.{length-decimal-le}
 use Rattle.std.proofs.lemmas.List.{append-nil, append_cancel_left, nil_from_length}
-use Rattle.httparse.proofs.GrammarLemmas.{cons-append}
 use Rattle.conversation.proofs.HeadLemmas.{front_within}
 use Rattle.office_rules.specs.Decision.Refusals.{refusal_category}
 use Rattle.office_rules.specs.declared.decision.category.Category.{Category}
 use Rattle.office_rules.specs.declared.decision.category.Category.TheVariants as categories
 use Rattle.desk_client.specs.Reply.{IsRefusing, IsReply, head_bytes, longest_reply_body, longest_reply_head}
-use Rattle.desk_client.specs.Start.{category_start, head_end, start_text}
+use Rattle.desk_client.specs.Start.{IsDated, category_start, date_end, head_end, start_text}
 use Rattle.desk_client.specs.Told.{IsStart, IsTellable, granted_start, told_start, told_text}
 use Rattle.desk_client.specs.declared.start.Start.{Start}
 use Rattle.desk_client.specs.declared.start.Start.TheVariants.{Json, Paper, Missing, Forbidden, Unfit, Unable}
@@ -17,6 +16,7 @@ use Rattle.desk_client.specs.declared.told.Told.{Told}
 use Rattle.desk_client.specs.declared.told.Told.TheVariants as told
 use Rattle.desk_client.specs.declared.told.Wanted.{Wanted}
 use Rattle.desk_client.specs.declared.told.Wanted.TheVariants as wanted
+use Rattle.desk_client.proofs.DateLemmas.{date_long, same_front}
 use Rattle.desk_client.proofs.NumberLemmas.{same_number}
 use Rattle.desk_client.proofs.PlainLemmas.{plain_number}
 use Rattle.desk_client.proofs.WovenLemmas.{cut}
@@ -57,39 +57,56 @@ back Unable = refl
 one_start : (s t : Start) (r q : List ℕ) → start_text s ++ r ≡ start_text t ++ q → s ≡ t
 one_start s t r q e = sym (back s) ∙ ap of_mark (sym (marked s r) ∙ ap mark e ∙ marked t q) ∙ back t
 
--- and with one head
-pub one_head : (s t : Start) (n m : ℕ) (r q : List ℕ) → n < 2 ^ 64 → m < 2 ^ 64 → head_bytes s n r ≡ head_bytes t m q
-    → (s ≡ t) × (n ≡ m) × (r ≡ q)
-one_head s t n m r q small few e =
-    let starts = one_start s t (decimal n ++ (head_end ++ r)) (decimal m ++ (head_end ++ q)) e in
-    let behind : decimal n ++ (head_end ++ r) ≡ decimal m ++ (head_end ++ q) =
-    append_cancel_left (start_text t) _ _ (ap (λ (x : Start). start_text x ++ (decimal n ++ (head_end ++ r))) (sym starts) ∙ e) in
-    let same = cut (decimal n) (decimal m) (head_end ++ r) (head_end ++ q) (plain_number n small) (plain_number m few) refl refl behind in
-    (starts, same_number (decimal n) n m small few refl same.0, append_cancel_left head_end r q same.1)
+behind_end : (date end r : List ℕ) → (date ++ end) ++ r ≡ date ++ (end ++ r)
+behind_end date end r = append_assoc date end r
 
-regroup : (s d r more : List ℕ) → (s ++ (d ++ 13 ∷ 10 ∷ 13 ∷ 10 ∷ r)) ++ more ≡ s ++ (d ++ 13 ∷ 10 ∷ 13 ∷ 10 ∷ (r ++ more))
-regroup s d r more = simp (append_assoc, cons-append)
+-- what follows a date, if there is one, and an empty line
+one_end : (d f : Option (List ℕ)) (r q : List ℕ) → IsDated d → IsDated f → date_end d ++ r ≡ date_end f ++ q → r ≡ q
+one_end None None r q is are e = append_cancel_left (13 ∷ 10 ∷ []) r q e
+one_end None (Some b) r q is are e = absurd (cc)
+one_end (Some a) None r q is are e = absurd (cc)
+one_end (Some a) (Some b) r q is are e =
+    let end : List ℕ = 13 ∷ 10 ∷ 13 ∷ 10 ∷ [] in
+    let behind : (a ++ end) ++ r ≡ (b ++ end) ++ q = append_cancel_left (codes "Date: ") _ _ e in
+    append_cancel_left end r q
+    (same_front a b (end ++ r) (end ++ q) (date_long a is ∙ sym (date_long b are)) (sym (behind_end a end r) ∙ behind ∙ behind_end b end q)).1
+
+-- and with one head
+pub one_head : (s t : Start) (n m : ℕ) (d f : Option (List ℕ)) (r q : List ℕ) → n < 2 ^ 64 → m < 2 ^ 64 → IsDated d → IsDated f
+    → head_bytes s n d r ≡ head_bytes t m f q → (s ≡ t) × (n ≡ m) × (r ≡ q)
+one_head s t n m d f r q small few is are e =
+    let starts = one_start s t (decimal n ++ (head_end d ++ r)) (decimal m ++ (head_end f ++ q)) e in
+    let behind : decimal n ++ (head_end d ++ r) ≡ decimal m ++ (head_end f ++ q) =
+    append_cancel_left (start_text t) _ _ (ap (λ (x : Start). start_text x ++ (decimal n ++ (head_end d ++ r))) (sym starts) ∙ e) in
+    let same = cut (decimal n) (decimal m) (head_end d ++ r) (head_end f ++ q) (plain_number n small) (plain_number m few) refl refl behind in (
+      starts,
+      same_number (decimal n) n m small few refl same.0,
+      one_end d f r q is are (append_cancel_left (13 ∷ 10 ∷ []) (date_end d ++ r) (date_end f ++ q) same.1),
+    )
+
+regroup : (s d e r more : List ℕ) → (s ++ (d ++ (e ++ r))) ++ more ≡ s ++ (d ++ (e ++ (r ++ more)))
+regroup s d e r more = simp append_assoc
 
 -- what a whole reply says of a head that was found, and what follows it
-pub reply_behind : (asked : Wanted) (s : Start) (n : ℕ) (r more : List ℕ) (t : Told) → n < 2 ^ 64 → IsReply asked (head_bytes s n r ++ more) t
-    → (s ≡ told_start t) × (n ≡ length (told_text t)) × (r ++ more ≡ told_text t)
-reply_behind asked s n r more t small reply =
-    one_head s (told_start t) n (length (told_text t)) (r ++ more) (told_text t) small (omega (arith, reply.short))
-    (sym (regroup (start_text s) (decimal n) r more) ∙ reply.is_text)
+pub reply_behind : (asked : Wanted) (s : Start) (n : ℕ) (d : Option (List ℕ)) (r more : List ℕ) (t : Told) → n < 2 ^ 64 → IsDated d
+    → IsReply asked (head_bytes s n d r ++ more) t → (s ≡ told_start t) × (n ≡ length (told_text t)) × (r ++ more ≡ told_text t)
+reply_behind asked s n d r more t small is reply =
+    one_head s (told_start t) n (length (told_text t)) d reply.dated (r ++ more) (told_text t) small (omega (arith, reply.short)) is reply.is_dated
+    (sym (regroup (start_text s) (decimal n) (head_end d) r more) ∙ reply.is_text)
 
 -- the body of a whole reply is no longer than its head says, and that no longer than any
-pub reply_lengths : (asked : Wanted) (s : Start) (n : ℕ) (r more : List ℕ) (t : Told) → n < 2 ^ 64 → IsReply asked (head_bytes s n r ++ more) t
-    → (n ≤ longest_reply_body) × (length r + length more ≡ n)
-reply_lengths asked s n r more t small reply =
-    let is = reply_behind asked s n r more t small reply in
+pub reply_lengths : (asked : Wanted) (s : Start) (n : ℕ) (d : Option (List ℕ)) (r more : List ℕ) (t : Told) → n < 2 ^ 64 → IsDated d
+    → IsReply asked (head_bytes s n d r ++ more) t → (n ≤ longest_reply_body) × (length r + length more ≡ n)
+reply_lengths asked s n d r more t small dated reply =
+    let is = reply_behind asked s n d r more t small dated reply in
     (omega (arith, is.1, reply.short), omega (arith, is.1, ap length is.2, length-append r more))
 
 -- where nothing follows, the body is what is told
-pub reply_now : (asked : Wanted) (s : Start) (n : ℕ) (r more : List ℕ) (t : Told) → n < 2 ^ 64 → length r ≡ n → IsReply asked (head_bytes s n r ++ more) t
-    → (told_start t ≡ s) × (r ≡ told_text t)
-reply_now asked s n r more t small all reply =
-    let is = reply_behind asked s n r more t small reply in
-    let none : more ≡ [] = nil_from_length more (omega (arith, all, (reply_lengths asked s n r more t small reply).1)) in
+pub reply_now : (asked : Wanted) (s : Start) (n : ℕ) (d : Option (List ℕ)) (r more : List ℕ) (t : Told) → n < 2 ^ 64 → IsDated d → length r ≡ n
+    → IsReply asked (head_bytes s n d r ++ more) t → (told_start t ≡ s) × (r ≡ told_text t)
+reply_now asked s n d r more t small dated all reply =
+    let is = reply_behind asked s n d r more t small dated reply in
+    let none : more ≡ [] = nil_from_length more (omega (arith, all, (reply_lengths asked s n d r more t small dated reply).1)) in
     (sym is.0, sym (append-nil r) ∙ ap (λ (m : List ℕ). r ++ m) (sym none) ∙ is.2)
 
 -- what a reply may begin with, by what is wanted
@@ -121,9 +138,9 @@ start_is asked told.NoMoment h = tt
 pub alone : (asked : Wanted) (text more : List ℕ) (t u : Told) → IsReply asked text t → IsReply asked (text ++ more) u → more ≡ []
 alone asked text more t u one other =
     let n = length (told_text t) in
-    let read : IsReply asked (head_bytes (told_start t) n (told_text t) ++ more) u =
+    let read : IsReply asked (head_bytes (told_start t) n one.dated (told_text t) ++ more) u =
     subst (λ (bytes : List ℕ). IsReply asked (bytes ++ more) u) one.is_text other in
-    let lengths = reply_lengths asked (told_start t) n (told_text t) more u (omega (arith, one.short)) read in
+    let lengths = reply_lengths asked (told_start t) n one.dated (told_text t) more u (omega (arith, one.short)) one.is_dated read in
     nil_from_length more (omega (arith, lengths.1))
 
 short_start : (s : Start) → length (start_text s) ≤ 83
@@ -134,51 +151,64 @@ short_start Forbidden = omega arith
 short_start Unfit = omega arith
 short_start Unable = omega arith
 
--- the bytes of a head without what follows
-abbrev front : Start → ℕ → List ℕ
-front s n = start_text s ++ (decimal n ++ head_end)
+-- the end of a head is short, with a date too
+pub short_end : (d : Option (List ℕ)) → IsDated d → length (head_end d) ≤ 41
+short_end None is = omega arith
+short_end (Some date) is = omega (arith, date_long date is, length-append date (13 ∷ 10 ∷ 13 ∷ 10 ∷ []))
 
-short_front : (s : Start) (n : ℕ) → n ≤ longest_reply_body → length (front s n) ≤ longest_reply_head
-short_front s n h =
+-- the bytes of a head without what follows
+abbrev front : Start → ℕ → Option (List ℕ) → List ℕ
+front s n d = start_text s ++ (decimal n ++ head_end d)
+
+short_front : (s : Start) (n : ℕ) (d : Option (List ℕ)) → n ≤ longest_reply_body → IsDated d → length (front s n d) ≤ longest_reply_head
+short_front s n d h is =
     omega (
       arith,
-      length-append (start_text s) (decimal n ++ head_end),
-      length-append (decimal n) head_end,
+      length-append (start_text s) (decimal n ++ head_end d),
+      length-append (decimal n) (head_end d),
       short_start s,
+      short_end d is,
       length-decimal-le 8 n (omega arith) (omega (arith, h)) (omega (arith, h)),
     )
 
-behind_front : (s d r : List ℕ) → s ++ (d ++ 13 ∷ 10 ∷ 13 ∷ 10 ∷ r) ≡ (s ++ (d ++ 13 ∷ 10 ∷ 13 ∷ 10 ∷ [])) ++ r
-behind_front s d r = simp (append_assoc, cons-append)
+behind_front : (s d e r : List ℕ) → s ++ (d ++ (e ++ r)) ≡ (s ++ (d ++ e)) ++ r
+behind_front s d e r = simp append_assoc
 
 -- a head that tells a length of a body that may be read has fewer bytes than the longest head
-pub head_within : (s : Start) (n : ℕ) (r : List ℕ) → n ≤ longest_reply_body → length (head_bytes s n r) ≤ longest_reply_head + length r
-head_within s n r few =
-    omega (arith, ap length (behind_front (start_text s) (decimal n) r), length-append (front s n) r, short_front s n few)
+pub head_within : (s : Start) (n : ℕ) (d : Option (List ℕ)) (r : List ℕ) → n ≤ longest_reply_body → IsDated d
+    → length (head_bytes s n d r) ≤ longest_reply_head + length r
+head_within s n d r few is =
+    omega (
+      arith,
+      ap length (behind_front (start_text s) (decimal n) (head_end d) r),
+      length-append (front s n d) r,
+      short_front s n d few is,
+    )
 
 -- where no head is found in as many bytes as any has, no reply begins so
 pub no_reply : (asked : Wanted) (input : List ℕ) → longest_reply_head ≤ length input
-    → ((s : Start) (n : ℕ) (r : List ℕ) → IsStart asked s → n < 2 ^ 64 → input ≢ head_bytes s n r)
+    → ((s : Start) (n : ℕ) (d : Option (List ℕ)) (r : List ℕ) → IsStart asked s → n < 2 ^ 64 → IsDated d → input ≢ head_bytes s n d r)
     → (more : List ℕ) (t : Told) → ¬ IsReply asked (input ++ more) t
 no_reply asked input long none more t reply =
     let s = told_start t in
     let n = length (told_text t) in
-    let whole : input ++ more ≡ front s n ++ told_text t = reply.is_text ∙ behind_front (start_text s) (decimal n) (told_text t) in
-    let short = short_front s n reply.short in
-    let there = front_within input more (front s n) (told_text t) whole (omega (arith, short, long)) in
-    none s n (drop (length (front s n)) input) (start_is asked t reply.tellable) (omega (arith, reply.short))
-    (there ∙ sym (behind_front (start_text s) (decimal n) (drop (length (front s n)) input)))
+    let d = reply.dated in
+    let whole : input ++ more ≡ front s n d ++ told_text t = reply.is_text ∙ behind_front (start_text s) (decimal n) (head_end d) (told_text t) in
+    let short = short_front s n d reply.short reply.is_dated in
+    let there = front_within input more (front s n d) (told_text t) whole (omega (arith, short, long)) in
+    none s n d (drop (length (front s n d)) input) (start_is asked t reply.tellable) (omega (arith, reply.short)) reply.is_dated
+    (there ∙ sym (behind_front (start_text s) (decimal n) (head_end d) (drop (length (front s n d)) input)))
 
 -- a text does not begin with this start and a head behind it, whatever follows
 abbrev pub BeginsNot : List ℕ → Start → Type 0
-BeginsNot input s = (n : ℕ) (r : List ℕ) → n < 2 ^ 64 → input ≢ head_bytes s n r
+BeginsNot input s = (n : ℕ) (d : Option (List ℕ)) (r : List ℕ) → n < 2 ^ 64 → IsDated d → input ≢ head_bytes s n d r
 
 -- a refusal begins with one of four
 pub no_refusal : (input : List ℕ) → BeginsNot input Missing → BeginsNot input Forbidden → BeginsNot input Unfit → BeginsNot input Unable
-    → (s : Start) (n : ℕ) (r : List ℕ) → IsRefusing s → n < 2 ^ 64 → input ≢ head_bytes s n r
-no_refusal input a b c d Json n r is small = absurd is
-no_refusal input a b c d Paper n r is small = absurd is
-no_refusal input a b c d Missing n r is small = a n r small
-no_refusal input a b c d Forbidden n r is small = b n r small
-no_refusal input a b c d Unfit n r is small = c n r small
-no_refusal input a b c d Unable n r is small = d n r small
+    → (s : Start) (n : ℕ) (d : Option (List ℕ)) (r : List ℕ) → IsRefusing s → n < 2 ^ 64 → IsDated d → input ≢ head_bytes s n d r
+no_refusal input a b c e Json n d r is small = absurd is
+no_refusal input a b c e Paper n d r is small = absurd is
+no_refusal input a b c e Missing n d r is small = a n d r small
+no_refusal input a b c e Forbidden n d r is small = b n d r small
+no_refusal input a b c e Unfit n d r is small = c n d r small
+no_refusal input a b c e Unable n d r is small = e n d r small

@@ -2,6 +2,7 @@ pub mod AlikeLemmas
 pub mod AnswersLemmas
 pub mod AsksLemmas
 pub mod ColumnLemmas
+pub mod DateLemmas
 pub mod FoundLemmas
 pub mod FrontLemmas
 pub mod HeadLemmas

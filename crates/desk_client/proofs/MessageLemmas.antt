@@ -1,5 +1,5 @@
 -- The messages that are sent, as the grammar of heads and their framing read them.
-use Rattle.std.proofs.Common.{◌≡◌, ◌∙◌, ℕ, ◌+◌, ◌<◌, ◌≤◌, Bool, true, false, true≢false, not, List, [], ◌∷◌, ◌++◌, length, get_or, reverse, codes, Result, Ok, refl, ap, sym, subst, append_assoc, length-append, arith}
+use Rattle.std.proofs.Common.{◌≡◌, ◌∙◌, ℕ, ◌+◌, ◌<◌, ◌≤◌, Bool, true, false, true≢false, not, ◌&&◌, List, [], ◌∷◌, ◌++◌, length, get_or, reverse, codes, Result, Ok, refl, ap, sym, subst, subst₂, append_assoc, length-append, arith}
 use Rattle.std.specs.Prelude.{All, IsTrue, IsUtf8, decimal, nat_le, nat_lt}
 use Rattle.std.proofs.lemmas.Bool.{cond-false}
 use Rattle.std.proofs.lemmas.Bool.Decides.{nat_tests}
@@ -14,6 +14,7 @@ use Rattle.http1.specs.Text.{eq_ignore_case}
 use Rattle.httparse.specs.Grammar.{AllPass, Field, IsField, IsRequestHead, RequestHead, crlf, is_ows, is_token_byte, is_uri_byte, is_value_byte, print_request, skip_ows, trim_ows}
 use Rattle.httparse.proofs.GrammarLemmas.{cons-append, print_request-append}
 use Rattle.httparse.proofs.TrimLemmas.{AllPass-reverse, trim_ows_space}
+use Rattle.conversation.specs.declared.message.framing.Framing.{Framing}
 use Rattle.conversation.specs.declared.message.message_fault.MessageFault.{MessageFault}
 use Rattle.conversation.specs.declared.message.method.Method.{Method}
 use Rattle.conversation.specs.declared.message.method.Method.TheVariants.{Get, Head, Post}
@@ -194,17 +195,27 @@ post_short target body h k =
 
 -- ---- their framing
 
-get_framed : (target : List ℕ) → framing_of (get_head target) ≡ Ok (record { method = Get; body = 0; closes = false })
+get_framed : (target : List ℕ) → framing_of (get_head target) ≡ Ok (record { method = Get; body = 0; closes = false; expects = false })
 unfolding framing trim_ows host_field eq_ignore_case
 get_framed target = refl
 
+-- what the head of a message with such a body says, where it expects an interim reply or none
+abbrev post_says : ℕ → Bool → Result Framing MessageFault
+post_says n expects = Ok (record { method = Post; body = n; closes = false; expects = expects })
+
+nothing_more : (b : Bool) → (b && false) ≡ false
+nothing_more true = refl
+nothing_more false = refl
+
 -- by the value of the field that tells the length
 framed : (v : List ℕ) (n : ℕ) → length_of v ≡ Ok n
-    → framing (codes "POST") 1 ((codes "Host", codes "desk") ∷ (codes "Content-Length", v) ∷ []) ≡ Ok (record { method = Post; body = n; closes = false })
+    → framing (codes "POST") 1 ((codes "Host", codes "desk") ∷ (codes "Content-Length", v) ∷ []) ≡ post_says n false
 unfolding framing eq_ignore_case
-framed v n e = ap (λ (r : Result ℕ MessageFault). r >>= (λ body. Ok (record { method = Post; body = body; closes = false }))) e
+framed v n e =
+    ap (λ (r : Result ℕ MessageFault). r >>= (λ body. post_says body (nat_lt 0 body && false))) e
+    ∙ ap (post_says n) (nothing_more (nat_lt 0 n))
 
-post_framed : (target : List ℕ) (n : ℕ) → n ≤ longest_body → framing_of (post_head target n) ≡ Ok (record { method = Post; body = n; closes = false })
+post_framed : (target : List ℕ) (n : ℕ) → n ≤ longest_body → framing_of (post_head target n) ≡ post_says n false
 unfolding trim_ows host_field
 post_framed target n h =
     ap (λ v. framing (codes "POST") 1 ((codes "Host", codes "desk") ∷ (codes "Content-Length", v) ∷ [])) (trimmed n h)
@@ -213,9 +224,10 @@ post_framed target n h =
 -- ---- messages
 
 begins : (method : Method) (target body rest : List ℕ) → Visible target → path_of target ≡ target → HasBodyOf method body
-    → BeginsMessage (message_bytes method target body ++ rest) (record { method = method; target = target; body = body; closes = false }) rest
+    → BeginsMessage (message_bytes method target body ++ rest)
+    (record { method = method; target = target; body = body; closes = false; expects = false }) rest
 begins Get target body rest seen path none =
-    subst (λ b. BeginsMessage (message_bytes Get target b ++ rest) (record { method = Get; target = target; body = b; closes = false })
+    subst (λ b. BeginsMessage (message_bytes Get target b ++ rest) (record { method = Get; target = target; body = b; closes = false; expects = false })
     rest) (sym none) (record {
       head = get_head target;
       begins = record {
@@ -241,7 +253,7 @@ begins Post target body rest seen path h = record {
 -- a desk reads the bytes of a message that can be sent as this message
 pub is_message : (m : Message) (rest : List ℕ) → IsSendable m → BeginsMessage (message_bytes m.method m.target m.body ++ rest) m rest
 is_message m rest sendable =
-    subst (λ (closes : Bool). BeginsMessage (message_bytes m.method m.target m.body ++ rest)
-    (record { method = m.method; target = m.target; body = m.body; closes = closes }) rest)
-    (sym sendable.goes_on)
+    subst₂ (λ (closes expects : Bool). BeginsMessage (message_bytes m.method m.target m.body ++ rest)
+    (record { method = m.method; target = m.target; body = m.body; closes = closes; expects = expects }) rest)
+    (sym sendable.goes_on) (sym sendable.needs_none)
     (begins m.method m.target m.body rest (sendable.some, sendable.short, sendable.text, sendable.visible) sendable.path sendable.body)

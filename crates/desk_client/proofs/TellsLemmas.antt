@@ -1,6 +1,9 @@
 -- The replies of a desk are the texts that are read.
-use Rattle.std.proofs.Common.{◌≡◌, ◌∙◌, ℕ, ◌≤◌, false, List, [], ◌++◌, length, codes, None, Ok, Err, refl, ap, sym, subst, arith, append_assoc, append-nil}
+use Rattle.std.proofs.Common.{◌≡◌, ◌∙◌, ℕ, ◌≤◌, false, List, [], ◌∷◌, ◌++◌, length, codes, Bool, true, false, Option, Some, None, Ok, Err, ℤ, pos, negsuc, refl, ap, sym, subst, arith, append_assoc, append-nil}
 use Rattle.std.specs.Fmt.{decimal, digits}
+use Rattle.std.specs.Prelude.{◌&&◌, if◌then◌else◌, nat_le, option_map}
+use Rattle.std.proofs.lemmas.Bool.Decides.{nat_tests}
+use Rattle.sts_fields.specs.Moment.{IsMoment, first_moment, last_moment}
 use Rattle.book_states.specs.declared.lookup.Found.{Found}
 use Rattle.book_states.specs.declared.lookup.Found.TheVariants as found
 use Rattle.desk_messages.specs.declared.desk_fault.DeskFault.{DeskFault}
@@ -11,10 +14,11 @@ use Rattle.desk_messages.specs.declared.reply.outcome.Outcome.{Outcome}
 use Rattle.desk_messages.specs.declared.reply.outcome.Outcome.TheVariants as outcomes
 use Rattle.desk_messages.specs.reply.Body.{refusal_members, sale_body, sale_members}
 use Rattle.desk_messages.specs.reply.Head.{category_status}
+use Rattle.desk_messages.specs.reply.HttpDate.{IsDateAt, http_date, moment_given}
 use Rattle.desk_messages.specs.reply.Members.{json_text}
 use Rattle.desk_messages.specs.reply.SaleText.{IsTellableSale}
 use Rattle.desk_messages.specs.reply.SaleText as desk_text
-use Rattle.desk_messages.specs.reply.Text.{field_line, line_end, reply_bytes_of, reply_text, status_line}
+use Rattle.desk_messages.specs.reply.Text.{date_line, field_line, line_end, reply_bytes_of, reply_text, status_line}
 use Rattle.office_rules.specs.Decision.Refusals.{refusal_category}
 use Rattle.office_rules.specs.declared.decision.answer.Answer.{Answer}
 use Rattle.office_rules.specs.declared.decision.answer.Answer.TheVariants as answers
@@ -26,7 +30,7 @@ use Rattle.desk_client.specs.Page.{page_as_read}
 use Rattle.desk_client.specs.Reply.{IsReplyReading, IsReply, head_bytes, longest_reply_body}
 use Rattle.desk_client.specs.Reply as replies
 use Rattle.desk_client.specs.Sale.{sale_as_read}
-use Rattle.desk_client.specs.Start.{category_start, head_end}
+use Rattle.desk_client.specs.Start.{IsDated, category_start, head_end}
 use Rattle.desk_client.specs.Tells.{Tells, TellsReplyAnswer, TellsFault, TellsReplyFound, TellsPage, TellsPaper, TellsReplySale, as_told}
 use Rattle.desk_client.specs.Told.{IsTellable, refusal_text, told_start, told_text}
 use Rattle.desk_client.specs.declared.reply.Reading.{Reading}
@@ -41,9 +45,17 @@ use Rattle.desk_client.proofs.TextLemmas.{added-text, clock-text, done-text, met
 
 -- ---- heads
 
-right-most : (line kind name len end body : List ℕ)
-    → line ++ kind ++ (name ++ len ++ end) ++ [] ++ [] ++ end ++ body ≡ line ++ (kind ++ (name ++ (len ++ (end ++ (end ++ body)))))
-right-most line kind name len end body = simp (append_assoc, append-nil)
+right-most : (line kind name len end date body : List ℕ)
+    → line ++ kind ++ (name ++ len ++ end) ++ date ++ [] ++ [] ++ end ++ body ≡ line ++ (kind ++ (name ++ (len ++ (end ++ (date ++ (end ++ body))))))
+right-most line kind name len end date body = simp (append_assoc, append-nil)
+
+-- the line with the date, and the empty one
+date-pieces : (dated : Option ℕ) (body : List ℕ) → line_end ++ (date_line dated ++ (line_end ++ body)) ≡ head_end (option_map http_date dated) ++ body
+unfolding field_line
+date-pieces None body = refl
+date-pieces (Some moment) body =
+    let date = http_date moment in
+    ap (λ (behind : List ℕ). 13 ∷ 10 ∷ (codes "Date: " ++ behind)) (append_assoc date line_end (line_end ++ body) ∙ sym (append_assoc date (13 ∷ 10 ∷ 13 ∷ 10 ∷ []) body))
 
 ok-line : status_line 200 ≡ codes "HTTP/1.1 200 OK\r\n"
 unfolding status_line digits
@@ -65,140 +77,147 @@ unable-line : status_line 503 ≡ codes "HTTP/1.1 503 Service Unavailable\r\n"
 unfolding status_line digits
 unable-line = refl
 
-json-head : (status : ℕ) (line body : List ℕ) → status_line status ≡ line
-    → reply_text (record { status = status; form = forms.Json; allowed = None; closes = false }) body
-    ≡ line ++ (codes "Content-Type: application/json\r\nContent-Length: " ++ (decimal (length body) ++ (head_end ++ body)))
-unfolding reply_text field_line
-json-head status line body is =
-    rw is (right-most line (codes "Content-Type: application/json\r\n") (codes "Content-Length: ") (decimal (length body)) line_end body)
-
-paper-head : (status : ℕ) (line body : List ℕ) → status_line status ≡ line
-    → reply_text (record { status = status; form = forms.Paper; allowed = None; closes = false }) body
-    ≡ line ++ (codes "Content-Type: text/plain\r\nContent-Length: " ++ (decimal (length body) ++ (head_end ++ body)))
-unfolding reply_text field_line
-paper-head status line body is =
-    rw is (right-most line (codes "Content-Type: text/plain\r\n") (codes "Content-Length: ") (decimal (length body)) line_end body)
-
-json-reply : (body : List ℕ) → reply_text (record { status = 200; form = forms.Json; allowed = None; closes = false }) body ≡ head_bytes Json (length body) body
-json-reply body = json-head 200 _ body ok-line
-
-paper-reply : (body : List ℕ) → reply_text (record { status = 200; form = forms.Paper; allowed = None; closes = false }) body
-    ≡ head_bytes Paper (length body) body
-paper-reply body = paper-head 200 _ body ok-line
-
-category-reply : (c : Category) (body : List ℕ)
-    → reply_text (record { status = category_status c; form = forms.Json; allowed = None; closes = false }) body
-    ≡ head_bytes (category_start c) (length body) body
-category-reply categories.Missing body = json-head 404 _ body missing-line
-category-reply categories.Forbidden body = json-head 409 _ body forbidden-line
-category-reply categories.Unfit body = json-head 422 _ body unfit-line
-category-reply (categories.UnfitRow row cause) body = json-head 422 _ body unfit-line
-category-reply categories.Unable body = json-head 503 _ body unable-line
-
--- ---- replies
-
 -- the text of a sale, as the desk's law has it
 abbrev pub SalesAreTexts : Type 0
 SalesAreTexts = (s : Sale) → IsTellableSale s → json_text (sale_members s) ≡ desk_text.sale_text s
 
-json_says : (body : List ℕ) (g : Granted) → told_start (told.Granted g) ≡ Json → body ≡ told_text (told.Granted g)
-    → reply_text (record { status = 200; form = forms.Json; allowed = None; closes = false }) body ≡ replies.reply_text (told.Granted g)
-json_says body g start is = rw (start, sym is) (json-reply body)
+module _ (dated : Option ℕ) where
+  -- the date of the head
+  abbrev date : Option (List ℕ)
+  date = option_map http_date dated
 
-refusal_says : (r : Refusal) (asked : Wanted) → IsTellable asked (told.Refused r)
-    → reply_text (record { status = category_status (refusal_category r); form = forms.Json; allowed = None; closes = false }) (json_text (refusal_members r))
-    ≡ replies.reply_text (told.Refused r)
-refusal_says r asked h = rw (refusal-text r h) (category-reply (refusal_category r) (refusal_text r))
+  json-head : (status : ℕ) (line body : List ℕ) → status_line status ≡ line
+      → reply_text (record { status = status; form = forms.Json; dated = dated; allowed = None; closes = false }) body
+      ≡ line ++ (codes "Content-Type: application/json\r\nContent-Length: " ++ (decimal (length body) ++ (head_end date ++ body)))
+  unfolding reply_text field_line
+  json-head status line body is =
+      rw is (right-most line (codes "Content-Type: application/json\r\n") (codes "Content-Length: ") (decimal (length body)) line_end (date_line dated) body
+      ∙ ap (λ (behind : List ℕ). line ++ (codes "Content-Type: application/json\r\nContent-Length: " ++ (decimal (length body) ++ behind))) (date-pieces dated body))
 
-paper_says : (text : List ℕ) (t : Told) → TellsPaper text t
-    → reply_text (record { status = 200; form = forms.Paper; allowed = None; closes = false }) text ≡ replies.reply_text t
-paper_says text (told.Granted (granted.Paper paper)) h = rw h (paper-reply text)
-paper_says text (told.Granted granted.Done) h = absurd h
-paper_says text (told.Granted (granted.Imported n)) h = absurd h
-paper_says text (told.Granted (granted.Shift n)) h = absurd h
-paper_says text (told.Granted (granted.Sale s)) h = absurd h
-paper_says text (told.Granted (granted.Meter m)) h = absurd h
-paper_says text (told.Granted (granted.Quote q)) h = absurd h
-paper_says text (told.Granted (granted.Totals n t)) h = absurd h
-paper_says text (told.Granted (granted.Page page)) h = absurd h
-paper_says text (told.Refused r) h = absurd h
-paper_says text told.NoMoment h = absurd h
+  paper-head : (status : ℕ) (line body : List ℕ) → status_line status ≡ line
+      → reply_text (record { status = status; form = forms.Paper; dated = dated; allowed = None; closes = false }) body
+      ≡ line ++ (codes "Content-Type: text/plain\r\nContent-Length: " ++ (decimal (length body) ++ (head_end date ++ body)))
+  unfolding reply_text field_line
+  paper-head status line body is =
+      rw is (right-most line (codes "Content-Type: text/plain\r\n") (codes "Content-Length: ") (decimal (length body)) line_end (date_line dated) body
+      ∙ ap (λ (behind : List ℕ). line ++ (codes "Content-Type: text/plain\r\nContent-Length: " ++ (decimal (length body) ++ behind))) (date-pieces dated body))
 
--- a page, by the text that the desk writes of it
-page_says : (page : Found) (t : Told) → TellsPage page t
-    → reply_text (record { status = 200; form = forms.Json; allowed = None; closes = false }) (page_as_read page) ≡ replies.reply_text t
-page_says page (told.Granted (granted.Page text)) h = rw h (json-reply (page_as_read page))
-page_says page (told.Granted granted.Done) h = absurd h
-page_says page (told.Granted (granted.Imported n)) h = absurd h
-page_says page (told.Granted (granted.Shift n)) h = absurd h
-page_says page (told.Granted (granted.Sale s)) h = absurd h
-page_says page (told.Granted (granted.Meter m)) h = absurd h
-page_says page (told.Granted (granted.Quote q)) h = absurd h
-page_says page (told.Granted (granted.Totals n t)) h = absurd h
-page_says page (told.Granted (granted.Paper paper)) h = absurd h
-page_says page (told.Refused r) h = absurd h
-page_says page told.NoMoment h = absurd h
+  json-reply : (body : List ℕ) → reply_text (record { status = 200; form = forms.Json; dated = dated; allowed = None; closes = false }) body ≡ head_bytes Json (length body) date body
+  json-reply body = json-head 200 _ body ok-line
 
-sale_says : SalesAreTexts → (form : Form) (sale : Sale) (asked : Wanted) (t : Told) → IsTellable asked t → TellsReplySale form sale t
-    → reply_text (record { status = 200; form = form; allowed = None; closes = false }) (sale_body form sale) ≡ replies.reply_text t
-sale_says texts forms.Json sale asked t tellable h =
-    let is : IsTellable asked (told.Granted (granted.Sale (as_told sale))) = subst (IsTellable asked) h tellable in
-    let text : json_text (sale_members sale) ≡ sale_as_read (as_told sale) = texts sale (record {
-      operator = is.0.operator;
-      order_ref = is.0.order_ref;
-      meter = is.0.meter;
-      digits = is.0.digits;
-    }) in
-    json_says _ (granted.Sale (as_told sale)) refl text ∙ ap replies.reply_text (sym h)
-sale_says texts forms.Paper sale asked t tellable h = paper_says _ t h
+  paper-reply : (body : List ℕ) → reply_text (record { status = 200; form = forms.Paper; dated = dated; allowed = None; closes = false }) body
+      ≡ head_bytes Paper (length body) date body
+  paper-reply body = paper-head 200 _ body ok-line
 
-answer_says : SalesAreTexts → (form : Form) (answer : Answer) (asked : Wanted) (t : Told) → IsTellable asked t → TellsReplyAnswer form answer t
-    → reply_bytes_of (outcomes.Replied form (Ok answer)) false ≡ replies.reply_text t
-answer_says texts form answers.Done asked t tellable h = json_says _ granted.Done refl done-text ∙ ap replies.reply_text (sym h)
-answer_says texts form (answers.Imported n) asked t tellable h = json_says _ (granted.Imported n) refl (added-text n) ∙ ap replies.reply_text (sym h)
-answer_says texts form (answers.Opened n) asked t tellable h = json_says _ (granted.Shift n) refl (shift-text n) ∙ ap replies.reply_text (sym h)
-answer_says texts form (answers.Closed n) asked t tellable h = json_says _ (granted.Shift n) refl (shift-text n) ∙ ap replies.reply_text (sym h)
-answer_says texts form (answers.Sold sale) asked t tellable h = sale_says texts form sale asked t tellable h
-answer_says texts form (answers.Reprinted sale) asked t tellable h = sale_says texts form sale asked t tellable h
-answer_says texts form (answers.Report shift sales) asked t tellable h = paper_says _ t h
+  category-reply : (c : Category) (body : List ℕ)
+      → reply_text (record { status = category_status c; form = forms.Json; dated = dated; allowed = None; closes = false }) body
+      ≡ head_bytes (category_start c) (length body) date body
+  category-reply categories.Missing body = json-head 404 _ body missing-line
+  category-reply categories.Forbidden body = json-head 409 _ body forbidden-line
+  category-reply categories.Unfit body = json-head 422 _ body unfit-line
+  category-reply (categories.UnfitRow row cause) body = json-head 422 _ body unfit-line
+  category-reply categories.Unable body = json-head 503 _ body unable-line
 
-found_says : SalesAreTexts → (form : Form) (it : Found) (asked : Wanted) (t : Told) → IsTellable asked t → TellsReplyFound form it t
-    → reply_bytes_of (outcomes.Found form (Ok it)) false ≡ replies.reply_text t
-found_says texts form (found.SaleCount n) asked t tellable h = absurd h
-found_says texts form (found.Meter m) asked t tellable h =
-    let is : IsTellable asked (told.Granted (granted.Meter m)) = subst (IsTellable asked) h tellable in
-    json_says _ (granted.Meter m) refl (meter-text m is.0) ∙ ap replies.reply_text (sym h)
-found_says texts form (found.Sale sale) asked t tellable h = sale_says texts form sale asked t tellable h
-found_says texts form (found.Quote q) asked t tellable h =
-    let is : IsTellable asked (told.Granted (granted.Quote q)) = subst (IsTellable asked) h tellable in
-    json_says _ (granted.Quote q) refl (quote-text q is.0) ∙ ap replies.reply_text (sym h)
-found_says texts form (found.ShiftTotals n totals) asked t tellable h =
-    json_says _ (granted.Totals n totals) refl (totals-text n totals) ∙ ap replies.reply_text (sym h)
-found_says texts form (found.Tariffs page) asked t tellable h = page_says (found.Tariffs page) t h
-found_says texts form (found.Meters page) asked t tellable h = page_says (found.Meters page) t h
-found_says texts form (found.Shifts page) asked t tellable h = page_says (found.Shifts page) t h
-found_says texts form (found.Sales page) asked t tellable h = page_says (found.Sales page) t h
+  -- ---- replies
 
-fault_says : (fault : DeskFault) (t : Told) → TellsFault fault t → reply_bytes_of (outcomes.Faulty fault) false ≡ replies.reply_text t
-fault_says faults.NoRoute t h = absurd h
-fault_says (faults.Method allowed) t h = absurd h
-fault_says faults.Clock t h = rw (h, clock-text) (category-reply categories.Unable (codes "{\"error\":\"Clock\"}"))
-fault_says faults.Body t h = absurd h
+  json_says : (body : List ℕ) (g : Granted) → told_start (told.Granted g) ≡ Json → body ≡ told_text (told.Granted g)
+      → reply_text (record { status = 200; form = forms.Json; dated = dated; allowed = None; closes = false }) body ≡ replies.reply_text date (told.Granted g)
+  json_says body g start is = rw (start, sym is) (json-reply body)
 
-refused_says : (r : Refusal) (asked : Wanted) (t : Told) → IsTellable asked t → t ≡ told.Refused r
-    → reply_text (record { status = category_status (refusal_category r); form = forms.Json; allowed = None; closes = false }) (json_text (refusal_members r))
-    ≡ replies.reply_text t
-refused_says r asked t tellable h = refusal_says r asked (subst (IsTellable asked) h tellable) ∙ ap replies.reply_text (sym h)
+  refusal_says : (r : Refusal) (asked : Wanted) → IsTellable asked (told.Refused r)
+      → reply_text (record { status = category_status (refusal_category r); form = forms.Json; dated = dated; allowed = None; closes = false }) (json_text (refusal_members r))
+      ≡ replies.reply_text date (told.Refused r)
+  refusal_says r asked h = rw (refusal-text r h) (category-reply (refusal_category r) (refusal_text r))
 
--- what a desk replies is the text of what the reply tells
-pub says : SalesAreTexts → (asked : Wanted) (outcome : Outcome) (t : Told) → IsTellable asked t → Tells outcome t
-    → reply_bytes_of outcome false ≡ replies.reply_text t
-says texts asked (outcomes.Refused fault) t tellable h = absurd h
-says texts asked (outcomes.Faulty fault) t tellable h = fault_says fault t h
-says texts asked (outcomes.Replied form (Ok answer)) t tellable h = answer_says texts form answer asked t tellable h
-says texts asked (outcomes.Replied form (Err refusal)) t tellable h = refused_says refusal asked t tellable h
-says texts asked (outcomes.Found form (Ok it)) t tellable h = found_says texts form it asked t tellable h
-says texts asked (outcomes.Found form (Err refusal)) t tellable h = refused_says refusal asked t tellable h
+  paper_says : (text : List ℕ) (t : Told) → TellsPaper text t
+      → reply_text (record { status = 200; form = forms.Paper; dated = dated; allowed = None; closes = false }) text ≡ replies.reply_text date t
+  paper_says text (told.Granted (granted.Paper paper)) h = rw h (paper-reply text)
+  paper_says text (told.Granted granted.Done) h = absurd h
+  paper_says text (told.Granted (granted.Imported n)) h = absurd h
+  paper_says text (told.Granted (granted.Shift n)) h = absurd h
+  paper_says text (told.Granted (granted.Sale s)) h = absurd h
+  paper_says text (told.Granted (granted.Meter m)) h = absurd h
+  paper_says text (told.Granted (granted.Quote q)) h = absurd h
+  paper_says text (told.Granted (granted.Totals n t)) h = absurd h
+  paper_says text (told.Granted (granted.Page page)) h = absurd h
+  paper_says text (told.Refused r) h = absurd h
+  paper_says text told.NoMoment h = absurd h
+
+  -- a page, by the text that the desk writes of it
+  page_says : (page : Found) (t : Told) → TellsPage page t
+      → reply_text (record { status = 200; form = forms.Json; dated = dated; allowed = None; closes = false }) (page_as_read page) ≡ replies.reply_text date t
+  page_says page (told.Granted (granted.Page text)) h = rw h (json-reply (page_as_read page))
+  page_says page (told.Granted granted.Done) h = absurd h
+  page_says page (told.Granted (granted.Imported n)) h = absurd h
+  page_says page (told.Granted (granted.Shift n)) h = absurd h
+  page_says page (told.Granted (granted.Sale s)) h = absurd h
+  page_says page (told.Granted (granted.Meter m)) h = absurd h
+  page_says page (told.Granted (granted.Quote q)) h = absurd h
+  page_says page (told.Granted (granted.Totals n t)) h = absurd h
+  page_says page (told.Granted (granted.Paper paper)) h = absurd h
+  page_says page (told.Refused r) h = absurd h
+  page_says page told.NoMoment h = absurd h
+
+  sale_says : SalesAreTexts → (form : Form) (sale : Sale) (asked : Wanted) (t : Told) → IsTellable asked t → TellsReplySale form sale t
+      → reply_text (record { status = 200; form = form; dated = dated; allowed = None; closes = false }) (sale_body form sale) ≡ replies.reply_text date t
+  sale_says texts forms.Json sale asked t tellable h =
+      let is : IsTellable asked (told.Granted (granted.Sale (as_told sale))) = subst (IsTellable asked) h tellable in
+      let text : json_text (sale_members sale) ≡ sale_as_read (as_told sale) = texts sale (record {
+        operator = is.0.operator;
+        order_ref = is.0.order_ref;
+        meter = is.0.meter;
+        digits = is.0.digits;
+      }) in
+      json_says _ (granted.Sale (as_told sale)) refl text ∙ ap (replies.reply_text date) (sym h)
+  sale_says texts forms.Paper sale asked t tellable h = paper_says _ t h
+
+  answer_says : SalesAreTexts → (form : Form) (answer : Answer) (asked : Wanted) (t : Told) → IsTellable asked t → TellsReplyAnswer form answer t
+      → reply_bytes_of dated (outcomes.Replied form (Ok answer)) false ≡ replies.reply_text date t
+  answer_says texts form answers.Done asked t tellable h = json_says _ granted.Done refl done-text ∙ ap (replies.reply_text date) (sym h)
+  answer_says texts form (answers.Imported n) asked t tellable h = json_says _ (granted.Imported n) refl (added-text n) ∙ ap (replies.reply_text date) (sym h)
+  answer_says texts form (answers.Opened n) asked t tellable h = json_says _ (granted.Shift n) refl (shift-text n) ∙ ap (replies.reply_text date) (sym h)
+  answer_says texts form (answers.Closed n) asked t tellable h = json_says _ (granted.Shift n) refl (shift-text n) ∙ ap (replies.reply_text date) (sym h)
+  answer_says texts form (answers.Sold sale) asked t tellable h = sale_says texts form sale asked t tellable h
+  answer_says texts form (answers.Reprinted sale) asked t tellable h = sale_says texts form sale asked t tellable h
+  answer_says texts form (answers.Report shift sales) asked t tellable h = paper_says _ t h
+
+  found_says : SalesAreTexts → (form : Form) (it : Found) (asked : Wanted) (t : Told) → IsTellable asked t → TellsReplyFound form it t
+      → reply_bytes_of dated (outcomes.Found form (Ok it)) false ≡ replies.reply_text date t
+  found_says texts form (found.SaleCount n) asked t tellable h = absurd h
+  found_says texts form (found.Meter m) asked t tellable h =
+      let is : IsTellable asked (told.Granted (granted.Meter m)) = subst (IsTellable asked) h tellable in
+      json_says _ (granted.Meter m) refl (meter-text m is.0) ∙ ap (replies.reply_text date) (sym h)
+  found_says texts form (found.Sale sale) asked t tellable h = sale_says texts form sale asked t tellable h
+  found_says texts form (found.Quote q) asked t tellable h =
+      let is : IsTellable asked (told.Granted (granted.Quote q)) = subst (IsTellable asked) h tellable in
+      json_says _ (granted.Quote q) refl (quote-text q is.0) ∙ ap (replies.reply_text date) (sym h)
+  found_says texts form (found.ShiftTotals n totals) asked t tellable h =
+      json_says _ (granted.Totals n totals) refl (totals-text n totals) ∙ ap (replies.reply_text date) (sym h)
+  found_says texts form (found.Tariffs page) asked t tellable h = page_says (found.Tariffs page) t h
+  found_says texts form (found.Meters page) asked t tellable h = page_says (found.Meters page) t h
+  found_says texts form (found.Shifts page) asked t tellable h = page_says (found.Shifts page) t h
+  found_says texts form (found.Sales page) asked t tellable h = page_says (found.Sales page) t h
+
+  fault_says : (fault : DeskFault) (t : Told) → TellsFault fault t → reply_bytes_of dated (outcomes.Faulty fault) false ≡ replies.reply_text date t
+  fault_says faults.NoRoute t h = absurd h
+  fault_says (faults.Method allowed) t h = absurd h
+  fault_says faults.Clock t h = rw (h, clock-text) (category-reply categories.Unable (codes "{\"error\":\"Clock\"}"))
+  fault_says faults.Body t h = absurd h
+
+  refused_says : (r : Refusal) (asked : Wanted) (t : Told) → IsTellable asked t → t ≡ told.Refused r
+      → reply_text (record { status = category_status (refusal_category r); form = forms.Json; dated = dated; allowed = None; closes = false }) (json_text (refusal_members r))
+      ≡ replies.reply_text date t
+  refused_says r asked t tellable h = refusal_says r asked (subst (IsTellable asked) h tellable) ∙ ap (replies.reply_text date) (sym h)
+
+  -- what a desk replies is the text of what the reply tells
+  pub says : SalesAreTexts → (asked : Wanted) (outcome : Outcome) (t : Told) → IsTellable asked t → Tells outcome t
+      → reply_bytes_of dated outcome false ≡ replies.reply_text date t
+  says texts asked (outcomes.Refused fault) t tellable h = absurd h
+  says texts asked (outcomes.Faulty fault) t tellable h = fault_says fault t h
+  says texts asked (outcomes.Replied form (Ok answer)) t tellable h = answer_says texts form answer asked t tellable h
+  says texts asked (outcomes.Replied form (Err refusal)) t tellable h = refused_says refusal asked t tellable h
+  says texts asked (outcomes.Found form (Ok it)) t tellable h = found_says texts form it asked t tellable h
+  says texts asked (outcomes.Found form (Err refusal)) t tellable h = refused_says refusal asked t tellable h
 
 -- where a text is a reply, it is read as a whole one
 pub is_whole : (asked : Wanted) (text : List ℕ) (t : Told) (reading : Reading) → IsReply asked text t → IsReplyReading asked text reading
@@ -210,7 +229,31 @@ is_whole asked text t (readings.NeedBody missing) reply h =
     absurd (omega (arith, h.0, none))
 is_whole asked text t readings.OutOfForm reply h = absurd (h [] t (subst (λ (x : List ℕ). IsReply asked x t) (sym (append-nil text)) reply))
 
+-- the date of a reply, by what the clock gave
+abbrev pub date_given : Option ℤ → Option (List ℕ)
+date_given now = option_map http_date (moment_given now)
+
+-- is one that HTTP has
+pub given_dated : ((moment : ℕ) → IsMoment moment → IsDateAt moment (http_date moment)) → (now : Option ℤ) → IsDated (date_given now)
+given_dated dates None = tt
+given_dated dates (Some (negsuc n)) = tt
+given_dated dates (Some (pos n)) = by (nat_le first_moment n && nat_le n last_moment) refl
+  where
+    by : (t : Bool) → (nat_le first_moment n && nat_le n last_moment) ≡ t → IsDated (option_map http_date (if t then Some n else None))
+    by true e =
+        let date = dates n (grind (arith, nat_tests), grind (arith, nat_tests)) in
+        (date.0, date.2)
+    by false e = tt
+
 -- a reply that is not too long is one that is read
-pub is_reply : SalesAreTexts → (asked : Wanted) (outcome : Outcome) (t : Told) → Tells outcome t → IsTellable asked t
-    → length (told_text t) ≤ longest_reply_body → IsReply asked (reply_bytes_of outcome false) t
-is_reply texts asked outcome t h tellable few = record { tellable = tellable; short = few; is_text = says texts asked outcome t tellable h }
+pub is_reply : SalesAreTexts → ((moment : ℕ) → IsMoment moment → IsDateAt moment (http_date moment))
+    → (asked : Wanted) (now : Option ℤ) (outcome : Outcome) (t : Told) → Tells outcome t → IsTellable asked t
+    → length (told_text t) ≤ longest_reply_body → IsReply asked (reply_bytes_of (moment_given now) outcome false) t
+is_reply texts dates asked now outcome t h tellable few =
+    record {
+      tellable = tellable;
+      short = few;
+      dated = date_given now;
+      is_dated = given_dated dates now;
+      is_text = says (moment_given now) texts asked outcome t tellable h;
+    }

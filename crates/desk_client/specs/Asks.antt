@@ -33,13 +33,15 @@ use Rattle.desk_client.specs.declared.question.Question.TheVariants.{Receipt, Sh
 use Rattle.desk_client.specs.declared.question.Question.TheVariants.{LastSale, SaleOfRef, Quote}
 use Rattle.desk_client.specs.declared.question.Question.TheVariants.{Tariffs, Meters, Shifts, Sales}
 
--- the message that asks a question; the conversation goes on after it
+-- the message that asks a question; the conversation goes on after it, and it expects no interim
+-- reply
 abbrev pub question_message : Question → Message
 question_message question = record {
   method = question_method question;
   target = concat (target_pieces question);
   body = concat (body_pieces question);
   closes = false;
+  expects = false;
 }
 
 -- the names and the tender of an order keep their rules

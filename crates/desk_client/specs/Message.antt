@@ -46,7 +46,8 @@ abbrev pub longest_target : ℕ
 longest_target = 8000
 
 -- A message that can be sent so: its target is a path, in visible bytes, within the length that a
--- desk reads with the rest of a head, its body is within the desk's limit, and it asks for no end.
+-- desk reads with the rest of a head, its body is within the desk's limit, it asks for no end, and
+-- it expects no interim reply.
 pub record IsSendable (m : Message) : Type 0 where
   pub some : 0 < length m.target
   pub short : length m.target ≤ longest_target
@@ -55,3 +56,4 @@ pub record IsSendable (m : Message) : Type 0 where
   pub path : path_of m.target ≡ m.target
   pub body : HasBodyOf m.method m.body
   pub goes_on : m.closes ≡ false
+  pub needs_none : m.expects ≡ false

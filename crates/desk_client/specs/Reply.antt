@@ -1,6 +1,6 @@
 -- Whole replies, and what their first bytes are.
-use Rattle.std.specs.Prelude.{◌≡◌, ◌+◌, ◌<◌, ◌≤◌, ℕ, List, ◌++◌, length, decimal, ⊤}
-use Rattle.desk_client.specs.Start.{head_end, start_text}
+use Rattle.std.specs.Prelude.{◌≡◌, ◌+◌, ◌<◌, ◌≤◌, ℕ, List, ◌++◌, length, decimal, Option, ⊤}
+use Rattle.desk_client.specs.Start.{IsDated, head_end, start_text}
 use Rattle.desk_client.specs.Told.{IsTellable, told_start, told_text}
 use Rattle.desk_client.specs.declared.reply.Reading.{Reading}
 use Rattle.desk_client.specs.declared.reply.Reading.TheVariants.{Whole, NeedHead, NeedBody}
@@ -11,20 +11,21 @@ use Rattle.desk_client.specs.declared.start.Start.TheVariants.{Unfit, Unable}
 use Rattle.desk_client.specs.declared.told.Told.{Told}
 use Rattle.desk_client.specs.declared.told.Wanted.{Wanted}
 
--- a start, the length of a body, an empty line and what follows
-abbrev pub head_bytes : Start → ℕ → List ℕ → List ℕ
-head_bytes start len rest = start_text start ++ (decimal len ++ (head_end ++ rest))
+-- a start, the length of a body, perhaps a date, an empty line and what follows
+abbrev pub head_bytes : Start → ℕ → Option (List ℕ) → List ℕ → List ℕ
+head_bytes start len dated rest = start_text start ++ (decimal len ++ (head_end dated ++ rest))
 
--- the bytes of the whole reply that tells this
-abbrev pub reply_text : Told → List ℕ
-reply_text told = head_bytes (told_start told) (length (told_text told)) (told_text told)
+-- the bytes of the whole reply that tells this, with a date or without
+abbrev pub reply_text : Option (List ℕ) → Told → List ℕ
+reply_text dated told =
+    head_bytes (told_start told) (length (told_text told)) dated (told_text told)
 
 -- the most bytes of a body, and more than any head has
 abbrev pub longest_reply_body : ℕ
 longest_reply_body = 67108864
 
 abbrev pub longest_reply_head : ℕ
-longest_reply_head = 100
+longest_reply_head = 140
 
 -- the start is a refusal's
 abbrev pub IsRefusing : Start → Type 0
@@ -35,11 +36,13 @@ IsRefusing Forbidden = ⊤
 IsRefusing Unfit = ⊤
 IsRefusing Unable = ⊤
 
--- the text is a whole reply to a message that wants this
+-- the text is a whole reply to a message that wants this, whatever its date
 pub record IsReply (asked : Wanted) (text : List ℕ) (told : Told) : Type 0 where
   pub tellable : IsTellable asked told
   pub short : length (told_text told) ≤ longest_reply_body
-  pub is_text : text ≡ reply_text told
+  pub dated : Option (List ℕ)
+  pub is_dated : IsDated dated
+  pub is_text : text ≡ reply_text dated told
 
 -- what each answer says of the bytes that came so far
 abbrev pub IsReplyReading : Wanted → List ℕ → Reading → Type 0

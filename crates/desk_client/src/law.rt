@@ -1,5 +1,6 @@
-ghost use Rattle.std.specs.Prelude.{◌≡◌, ◌≤◌, ◌++◌, ℕ, List, [], false, length};
+ghost use Rattle.std.specs.Prelude.{◌≡◌, ◌≤◌, ◌++◌, ℕ, ℤ, List, [], Option, false, length};
 ghost use Rattle.desk_messages.specs.declared.reply.outcome.Outcome.{Outcome};
+ghost use Rattle.desk_messages.specs.reply.HttpDate.{moment_given};
 ghost use Rattle.desk_messages.specs.reply.Text.{reply_bytes_of};
 ghost use Rattle.desk_client.specs.Alike.{TellAlike};
 ghost use Rattle.desk_client.specs.Reply.{IsReplyReading, IsReply, longest_reply_body};
@@ -10,15 +11,16 @@ ghost use Rattle.desk_client.specs.declared.reply.Reading.TheVariants.{Whole};
 ghost use Rattle.desk_client.specs.declared.told.Told.{Told};
 ghost use Rattle.desk_client.specs.declared.told.Wanted.{Wanted};
 
-use desk_messages::reply_law;
+use desk_messages::{date_law, reply_law};
 use sts_fields::amount_law;
 
-/// What a desk replies, where the conversation goes on, is the text of what the reply tells; it is
-/// read as a whole reply; one text tells one thing, value for value; and no reply begins another.
+/// What a desk replies, where the conversation goes on, whatever its clock gave, is the text of what
+/// the reply tells; it is read as a whole reply; one text tells one thing, value for value; and no reply begins another.
 pub fn told_law()
-    ensures text { (asked : Wanted) (outcome : Outcome) (told : Told) → Tells outcome told
-        → IsTellable asked told → length (told_text told) ≤ longest_reply_body
-        → IsReply asked (reply_bytes_of outcome false) told }
+    ensures text { (asked : Wanted) (now : Option ℤ) (outcome : Outcome) (told : Told)
+        → Tells outcome told → IsTellable asked told
+        → length (told_text told) ≤ longest_reply_body
+        → IsReply asked (reply_bytes_of (moment_given now) outcome false) told }
     ensures read { (asked : Wanted) (text : List ℕ) (told : Told) (reading : Reading)
         → IsReply asked text told → IsReplyReading asked text reading
         → (read : Told) × (reading ≡ Whole read) × IsReply asked text read }
@@ -28,5 +30,6 @@ pub fn told_law()
         → IsReply asked text told → IsReply asked (text ++ more) other → more ≡ [] }
 {
     reply_law();
+    date_law();
     amount_law();
 }

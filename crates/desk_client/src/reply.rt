@@ -1,7 +1,8 @@
 //! The replies of a desk, as they come.
 
-ghost use Rattle.std.specs.Prelude.{◌≡◌, ◌≢◌, ◌^◌, ◌<◌, ℕ, List, MatchOption};
+ghost use Rattle.std.specs.Prelude.{◌≡◌, ◌≢◌, ◌^◌, ◌<◌, ℕ, List, MatchOption, Option};
 ghost use Rattle.desk_client.specs.Reply.{IsReplyReading, IsRefusing, head_bytes};
+ghost use Rattle.desk_client.specs.Start.{IsDated};
 ghost use Rattle.desk_client.specs.Told.{IsStart};
 ghost use Rattle.desk_client.specs.declared.start.Start.{Start};
 
@@ -9,7 +10,7 @@ use crate::start::{Start, head_at};
 use crate::told::{Told, Wanted, read_told};
 
 /// The bytes of a head, at most: the longest that a desk writes has fewer.
-pub const MAX_HEAD: usize = 100;
+pub const MAX_HEAD: usize = 140;
 
 /// The bytes of a body, at most: 64 MiB, which is the report of a shift with hundreds of thousands
 /// of sales. All other bodies are short.
@@ -51,10 +52,12 @@ pub fn reply_in(input: &[u8], wanted: Wanted) -> Reading<'_>
 // The head that stands at the front of an input.
 fn find_head(input: &[u8], wanted: Wanted) -> Option<Head<'_>>
     ensures { MatchOption result
-        ((start : Start) (len : ℕ) (rest : List ℕ) → IsStart wanted start → len < 2 ^ 64
-        → input.now ≢ head_bytes start len rest)
+        ((start : Start) (len : ℕ) (dated : Option (List ℕ)) (rest : List ℕ)
+        → IsStart wanted start → len < 2 ^ 64 → IsDated dated
+        → input.now ≢ head_bytes start len dated rest)
         (λ head. IsStart wanted head.start × (head.len < 2 ^ 64)
-        × (input.now ≡ head_bytes head.start head.len head.rest.now)) }
+        × (dated : Option (List ℕ)) × IsDated dated
+        × (input.now ≡ head_bytes head.start head.len dated head.rest.now)) }
 {
     let start = wanted.start();
     if let Some((len, rest)) = head_at(input, start) {
@@ -66,10 +69,12 @@ fn find_head(input: &[u8], wanted: Wanted) -> Option<Head<'_>>
 // The head of a refusal that stands there.
 fn find_refusal(input: &[u8]) -> Option<Head<'_>>
     ensures { MatchOption result
-        ((start : Start) (len : ℕ) (rest : List ℕ) → IsRefusing start → len < 2 ^ 64
-        → input.now ≢ head_bytes start len rest)
+        ((start : Start) (len : ℕ) (dated : Option (List ℕ)) (rest : List ℕ)
+        → IsRefusing start → len < 2 ^ 64 → IsDated dated
+        → input.now ≢ head_bytes start len dated rest)
         (λ head. IsRefusing head.start × (head.len < 2 ^ 64)
-        × (input.now ≡ head_bytes head.start head.len head.rest.now)) }
+        × (dated : Option (List ℕ)) × IsDated dated
+        × (input.now ≡ head_bytes head.start head.len dated head.rest.now)) }
 {
     if let Some((len, rest)) = head_at(input, Start::Missing) {
         return Some(Head {
@@ -106,8 +111,8 @@ fn find_refusal(input: &[u8]) -> Option<Head<'_>>
 fn body_in<'b>(head: &Head<'b>, wanted: Wanted) -> Reading<'b>
     requires start { IsStart wanted head.now.start }
     requires len { head.now.len < 2 ^ 64 }
-    ensures { IsReplyReading wanted
-        (head_bytes head.now.start head.now.len head.now.rest.now) result }
+    ensures { (dated : Option (List ℕ)) → IsDated dated → IsReplyReading wanted
+        (head_bytes head.now.start head.now.len dated head.now.rest.now) result }
 {
     let have = head.rest.len() as u64;
     if head.len > MAX_BODY {

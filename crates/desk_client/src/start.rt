@@ -1,9 +1,15 @@
-ghost use Rattle.std.specs.Prelude.{◌≡◌, ◌≢◌, ◌++◌, ◌^◌, ◌<◌, ℕ, List, MatchOption, decimal};
+ghost use Rattle.std.specs.Prelude.{◌≡◌, ◌≢◌, ◌++◌, ◌∷◌, ◌^◌, ◌<◌, ◌↔◌, ℕ, List, MatchOption};
+ghost use Rattle.std.specs.Prelude.{IsTrue, Option, decimal};
 ghost use Rattle.office_rules.specs.Decision.Refusals.{refusal_category};
-ghost use Rattle.desk_client.specs.Start.{category_start, head_end, start_text};
+ghost use Rattle.desk_client.specs.Start.{IsDated, IsHttpDate, category_start, date_end};
+ghost use Rattle.desk_client.specs.Start.{head_end, start_text};
 
-use crate::text::{number, value_at};
+use crate::text::{behind, number, value_at};
+use httpdate::HttpDate;
 use office_rules::{Category, Refusal};
+
+// The bytes of a date.
+const DATE_LEN: usize = 29;
 
 // What a reply begins with, up to the length of its body: what is granted is told as JSON or as a
 // paper, and a refusal as JSON, by a status for its category.
@@ -51,18 +57,74 @@ impl Start {
     }
 }
 
+// What follows a head, behind the line with the length: there may be a date before the empty line.
+fn behind_date(text: &[u8]) -> Option<&[u8]>
+    ensures { MatchOption result
+        ((dated : Option (List ℕ)) (rest : List ℕ) → IsDated dated
+        → text.now ≢ date_end dated ++ rest)
+        (λ rest. (dated : Option (List ℕ)) × IsDated dated
+        × (text.now ≡ date_end dated ++ rest.now)) }
+{
+    if let Some(rest) = behind(text, b"\r\n") {
+        return Some(rest);
+    }
+    let Some(value) = behind(text, b"Date: ") else {
+        return None;
+    };
+    match behind_value(value) {
+        Some(rest) => Some(rest),
+        None => None,
+    }
+}
+
+// What follows a date and an empty line.
+fn behind_value(text: &[u8]) -> Option<&[u8]>
+    ensures { MatchOption result
+        ((date rest : List ℕ) → IsHttpDate date
+        → text.now ≢ date ++ (13 ∷ 10 ∷ 13 ∷ 10 ∷ rest))
+        (λ rest. (date : List ℕ) × IsHttpDate date
+        × (text.now ≡ date ++ (13 ∷ 10 ∷ 13 ∷ 10 ∷ rest.now))) }
+{
+    if text.len() < DATE_LEN {
+        return None;
+    }
+    let (date, rest) = text.split_at(DATE_LEN);
+    if !is_date(date) {
+        return None;
+    }
+    match behind(rest, b"\r\n\r\n") {
+        Some(rest) => Some(rest),
+        None => None,
+    }
+}
+
+// The text is a date as HTTP writes it today: the older forms are no such text.
+fn is_date(text: &[u8]) -> bool
+    ensures { IsTrue result ↔ IsHttpDate text.now }
+{
+    let Ok(date) = HttpDate::parse_ascii(text) else {
+        return false;
+    };
+    let shown = date.to_bytes();
+    shown.as_slice() == text
+}
+
 // The length of the body that a head of this start tells, and what follows the head.
 pub(crate) fn head_at(input: &[u8], start: Start) -> Option<(u64, &[u8])>
     ensures { MatchOption result
-        ((len : ℕ) (rest : List ℕ) → len < 2 ^ 64
-        → input.now ≢ start_text start ++ (decimal len ++ (head_end ++ rest)))
-        (λ found. (found.0 < 2 ^ 64)
-        × (input.now ≡ start_text start ++ (decimal found.0 ++ (head_end ++ found.1.now)))) }
+        ((len : ℕ) (dated : Option (List ℕ)) (rest : List ℕ) → len < 2 ^ 64 → IsDated dated
+        → input.now ≢ start_text start ++ (decimal len ++ (head_end dated ++ rest)))
+        (λ found. (found.0 < 2 ^ 64) × (dated : Option (List ℕ)) × IsDated dated
+        × (input.now
+        ≡ start_text start ++ (decimal found.0 ++ (head_end dated ++ found.1.now)))) }
 {
     let Some(rest) = input.strip_prefix(start.text().as_bytes()) else {
         return None;
     };
-    let Some((digits, rest)) = value_at(rest, b"\r\n\r\n") else {
+    let Some((digits, rest)) = value_at(rest, b"\r\n") else {
+        return None;
+    };
+    let Some(rest) = behind_date(rest) else {
         return None;
     };
     match number(digits) {

@@ -1,6 +1,7 @@
 pub mod ArrayLemmas
 pub mod AskingLemmas
 pub mod BodyLemmas
+pub mod HttpDateLemmas
 pub mod MemberLemmas
 pub mod PageLemmas
 pub mod ParameterLemmas

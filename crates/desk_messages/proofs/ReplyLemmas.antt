@@ -3,15 +3,15 @@ use Rattle.std.proofs.Common.{◌≡◌, ◌∙◌, ◌++◌, ℕ, List, [], ◌
 use Rattle.desk_messages.specs.declared.reply.form.Form.{Form}
 use Rattle.std.specs.Fmt.{decimal, digits}
 use Rattle.desk_messages.specs.declared.reply.head.ReplyHead.{ReplyHead}
-use Rattle.desk_messages.specs.reply.Text.{allow_line, connection_line, field_line, head_text, media_type, status_line}
+use Rattle.desk_messages.specs.reply.Text.{allow_line, connection_line, date_line, field_line, head_text, media_type, status_line}
 
 -- each part of a reply stands behind those before it
-pub are_parts : (head : ReplyHead) (len : ℕ) (sent none a b c d e text : List ℕ) → none ≡ []
+pub are_parts : (head : ReplyHead) (len : ℕ) (sent none a b at c d e text : List ℕ) → none ≡ []
     → a ≡ none ++ status_line head.status
     → b ≡ a ++ field_line (codes "Content-Type") (media_type head.form) ++ field_line (codes "Content-Length") (decimal len)
-    → c ≡ b ++ allow_line head.allowed → d ≡ c ++ connection_line head.closes
+    → at ≡ b ++ date_line head.dated → c ≡ at ++ allow_line head.allowed → d ≡ c ++ connection_line head.closes
     → e ≡ d ++ 13 ∷ 10 ∷ [] → text ≡ e ++ sent → text ≡ head_text head len ++ sent
-are_parts head len sent none a b c d e text e0 e1 e2 e3 e4 e5 e6 = rw (e6, e5, e4, e3, e2, e1, e0) refl
+are_parts head len sent none a b at c d e text e0 e1 e2 e3 e4 e5 e6 e7 = rw (e7, e6, e5, e4, e3, e2, e1, e0) refl
 
 -- the line of the status that most replies have
 pub ok_line : status_line 200 ≡ codes "HTTP/1.1 200 OK" ++ 13 ∷ 10 ∷ []

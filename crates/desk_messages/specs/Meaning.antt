@@ -1,8 +1,9 @@
 -- What messages mean: the request that one asks of the office and its moment, or what it looks up
 -- there, or why it does neither.
 --
--- A target and a method are looked at first, then the clock, and then the body.
-use Rattle.std.specs.Prelude.{◌≡◌, ◌≢◌, ℕ, ℤ, pos, Option, None, Some, Ok, Err, ⊤}
+-- The clock is read for each message. A target and a method are looked at first, then what the clock
+-- gave, and then the body.
+use Rattle.std.specs.Prelude.{◌≡◌, ◌≢◌, ℕ, ℤ, pos, Option, Some, Ok, Err, ⊤}
 use Rattle.sts_fields.specs.Moment.{IsMoment}
 use Rattle.office_rules.specs.declared.decision.refusal.Refusal.TheVariants.{ImportRow}
 use Rattle.office_rules.specs.declared.decision.request.Request.{Request}
@@ -83,13 +84,15 @@ pub record ComesOutside (m : Message) (now : Option ℤ) : Type 0 where
   pub given : now ≡ Some second
   pub outside : (moment : ℕ) → IsMoment moment → pos moment ≢ second
 
--- why a message asks nothing of the office; the clock is not read for one that has no route
+-- why a message asks nothing of the office; for one that has no route it does not matter what the
+-- clock gave
 abbrev pub MessageHasFault : Message → Option ℤ → DeskFault → Type 0
 MessageHasFault m now faults.Clock = ComesOutside m now
 MessageHasFault m now faults.Body =
     (route : Route) × (moment : ℕ) × ComesAt m now route moment × AsksRequest route
     × BodyAsks route m.body (Err OutsideRule)
-MessageHasFault m now fault = IsRouted m.target m.method (Err fault) × (now ≡ None)
+MessageHasFault m now fault =
+    IsRouted m.target m.method (Err fault) × ((second : ℤ) × (now ≡ Some second))
 
 -- what comes of a message that asks nothing of the office: its fault, or the refusal of its first
 -- row that is outside the rules

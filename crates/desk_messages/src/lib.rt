@@ -18,6 +18,7 @@ pub use meaning::Meaning;
 pub use reply::body::found_json;
 pub use reply::dates::put_day;
 pub use reply::form::Form;
+pub use reply::http_date::{date_law, http_date, moment_given};
 pub use reply::law::{head_law, list_law, reply_law};
 pub use reply::outcome::Outcome;
 pub use reply::steps_text::put_steps;

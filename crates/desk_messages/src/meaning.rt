@@ -1,7 +1,6 @@
 //! What a message means, before the office is asked.
 
-ghost use Rattle.std.specs.Prelude.{◌≡◌, ◌≢◌, ℤ, IfSome, MatchOption, Option, Some, Ok, pos};
-ghost use Rattle.conversation.specs.Exchanges.{ReadsClock};
+ghost use Rattle.std.specs.Prelude.{◌≡◌, MatchOption, Some, pos};
 ghost use Rattle.conversation.specs.message.Next.{message_of};
 ghost use Rattle.book_states.specs.declared.lookup.Lookup.{Lookup};
 ghost use Rattle.desk_messages.specs.Meaning.{AsksRequest, IsFor, IsMeaning, lookup_form};
@@ -16,7 +15,7 @@ use crate::reply::outcome::Outcome;
 use crate::route::Route;
 use crate::route::routes::Routes;
 use book_states::Lookup;
-use conversation::{Clock, Received};
+use conversation::Received;
 use office_rules::{Moment, Refusal, Request};
 use std::alloc::Global;
 
@@ -34,22 +33,12 @@ pub enum Meaning {
 }
 
 impl Routes {
-    /// What a message means. The clock is read once where it has a route, and else not; the moment
-    /// is the one that it gave.
-    pub fn meaning_of<C: Clock>(
-        &self,
-        alloc: Global,
-        clock: &mut C,
-        message: &Received<'_>,
-    ) -> Meaning
-        ensures meaning { (now : Option ℤ)
-            × ReadsClock (C.answers clock.old) now (C.answers clock.new)
-            × IfSome now (C.reads clock.old)
-            × IsMeaning (message_of message.now) now result }
-        ensures stays { (given : ℤ) → C.reads clock.new given → C.reads clock.old given }
+    /// What a message means at this second, which the clock gave for it.
+    pub fn meaning_of(&self, alloc: Global, second: i64, message: &Received<'_>) -> Meaning
+        ensures { IsMeaning (message_of message.now) (Some second) result }
     {
         match self.route_of(message.target, message.method) {
-            Ok(route) => meaning_at(alloc, route, clock.now(), message),
+            Ok(route) => meaning_at(alloc, route, second, message),
             Err(fault) => Meaning::Told(Outcome::Faulty(fault)),
         }
     }

@@ -6,6 +6,7 @@ pub(crate) mod dates;
 pub(crate) mod form;
 mod found;
 mod head;
+pub(crate) mod http_date;
 pub(crate) mod law;
 mod members;
 pub(crate) mod outcome;

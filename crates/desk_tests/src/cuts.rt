@@ -84,7 +84,7 @@ fn each_beginning(
 fn an_input_that_ends_or_fails_after_any_byte(rt: HostRuntime) -> Result<(), Fail> {
     let input = joined(rt.alloc(), SALE, RECEIPT)?;
     assert_eq!(rt; (SALE.len(), input.len()), (117, 159));
-    assert_eq!(rt; (SOLD.len(), PRINTED.len()), (261, 184));
+    assert_eq!(rt; (SOLD.len(), PRINTED.len()), (298, 221));
     for size in [usize::MAX, 1] {
         for fails in [false, true] {
             each_beginning(&rt, &input, size, fails)?;
@@ -155,7 +155,7 @@ fn pieces_of_any_length_and_a_writer_that_fails(rt: HostRuntime) -> Result<(), F
     let alloc = rt.alloc();
     let input = joined(alloc, SALE, RECEIPT)?;
     let replies = joined(alloc, SOLD, PRINTED)?;
-    for room in 0..=445_usize {
+    for room in 0..=519_usize {
         let mut books = prepared(alloc)?;
         let mut reader = Pieces {
             rest: &input,
@@ -167,7 +167,7 @@ fn pieces_of_any_length_and_a_writer_that_fails(rt: HostRuntime) -> Result<(), F
             room,
         };
         let end = hold(alloc, &mut books, &mut reader, &mut writer).ok_or("no desk")?;
-        let ends = if room < 445 {
+        let ends = if room < 519 {
             End::WriteFault
         } else {
             End::Closed
@@ -191,8 +191,8 @@ fn a_reply_leaves_before_more_is_asked_for(rt: HostRuntime) -> Result<(), Fail> 
         (0, 8192, head),
         (0, 64, front),
         (0, 4, back),
-        (261, 8192, calls.as_slice()),
-        (629, 8189, b"".as_slice()),
+        (298, 8192, calls.as_slice()),
+        (740, 8189, b"".as_slice()),
     ];
     let mut reader = Asking {
         steps: &steps,
@@ -206,7 +206,7 @@ fn a_reply_leaves_before_more_is_asked_for(rt: HostRuntime) -> Result<(), Fail> 
     let end = hold(alloc, &mut books, &mut reader, &mut writer).ok_or("no desk")?;
     assert_eq!(rt; end, End::BadMessage);
     assert_eq!(rt; (reader.late, reader.greedy), (false, false));
-    assert_eq!(rt; (reader.count, written.get()), (5, 629 + NO_HEAD.len()));
+    assert_eq!(rt; (reader.count, written.get()), (5, 740 + NO_HEAD.len()));
     Ok(())
 }
 

@@ -12,6 +12,8 @@ mod bodies;
 #[cfg(test)]
 mod cuts;
 #[cfg(test)]
+mod interim;
+#[cfg(test)]
 mod listed;
 #[cfg(test)]
 mod lists;

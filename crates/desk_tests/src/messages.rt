@@ -25,10 +25,17 @@ Get,/,,true,51 = GET / HTTP/1.1~Host: d~Connection: te , CLOSE~~
 Get,/,,false,50 = GET / HTTP/1.1~Host: d~Connection: closed, x~~
 Get,/,,false,48 = GET / HTTP/1.1~Host: d~Connection: x close~~
 Get,/,,true,36 = GET / HTTP/1.0~Host: d~Host: e~~
-NeedBody(64) = POST / HTTP/1.1~Host: d~Content-Length: 0064~~
-NeedBody(7) = POST / HTTP/1.1~Host: d~CONTENT-LENGTH: \t7 \t~~
-NeedBody(12) = GET / HTTP/1.1~Host: d~Content-Length:12~~
-NeedBody(1) = POST / HTTP/1.0~Content-Length: 000000000000000000000000000001~~
+NeedBody { missing: 64, expects: false } = POST / HTTP/1.1~Host: d~Content-Length: 0064~~
+NeedBody { missing: 7, expects: false } = POST / HTTP/1.1~Host: d~CONTENT-LENGTH: \t7 \t~~
+NeedBody { missing: 12, expects: false } = GET / HTTP/1.1~Host: d~Content-Length:12~~
+NeedBody { missing: 1, expects: false } = POST / HTTP/1.0~Content-Length: 000000000000000000000000000001~~
+NeedBody { missing: 2, expects: true } = POST / HTTP/1.1~Host: d~Content-Length: 2~Expect: 100-continue~~
+NeedBody { missing: 1, expects: true } = POST / HTTP/1.1~expect:\t100-Continue ~Host: d~Content-Length: 2~~x
+NeedBody { missing: 2, expects: true } = POST / HTTP/1.1~Host: d~Content-Length: 2~Expect: x, 100-continue~~
+NeedBody { missing: 2, expects: true } = POST / HTTP/1.1~Host: d~Content-Length: 2~Expect: x~Expect: 100-CONTINUE~~
+NeedBody { missing: 2, expects: false } = POST / HTTP/1.1~Host: d~Content-Length: 2~Expect: 100-continued~~
+NeedBody { missing: 2, expects: false } = POST / HTTP/1.1~Host: d~Content-Length: 2~Expect: 100~~
+NeedBody { missing: 2, expects: false } = POST / HTTP/1.0~Content-Length: 2~Expect: 100-continue~~
 Head,/,,true,19 = HEAD / HTTP/1.0~~
 Get,/sales/1,,true,36 = GET http://d:80/sales/1 HTTP/1.0~~
 Get,/sales?after=0,,true,42 = GET HTTPS://d@e/sales?after=0 HTTP/1.0~~
@@ -87,7 +94,7 @@ fn what_each_message_says(rt: HostRuntime) -> Result<(), Fail> {
         let found = named(rt.alloc(), next_of(&text))?;
         assert_eq!(rt; found.as_str(), wanted, "{line}");
     }
-    assert_eq!(rt; messages().lines().count(), 51);
+    assert_eq!(rt; messages().lines().count(), 58);
     Ok(())
 }
 
@@ -99,6 +106,7 @@ fn a_sale_cut_after_every_byte(rt: HostRuntime) {
         target: b"/sales",
         body: &SALE[53..],
         closes: false,
+        expects: false,
         len: 117,
     });
     assert_eq!(rt; next_of(SALE), sale);
@@ -107,7 +115,11 @@ fn a_sale_cut_after_every_byte(rt: HostRuntime) {
         if cut < 53 {
             assert_eq!(rt; next, Next::NeedHead, "{cut}");
         } else {
-            assert_eq!(rt; next, Next::NeedBody(117 - cut), "{cut}");
+            let lacking = Next::NeedBody {
+                missing: 117 - cut,
+                expects: false,
+            };
+            assert_eq!(rt; next, lacking, "{cut}");
         }
     }
 }

@@ -6,7 +6,7 @@ use crate::lists::asks::asks;
 use crate::lists::later::{again, later};
 use crate::lists::looks::{looks, looks_later};
 use crate::lists::talks::{after_asks, with_clocks};
-use crate::texts::{bytes, message, reply};
+use crate::texts::{bytes, message, reply_at};
 use books::Books;
 use desk::{Desk, End, Script};
 use office_testing::both::{Both, agree, in_memory};
@@ -59,10 +59,11 @@ fn nothing(alloc: Global) -> Held {
     }
 }
 
-fn add_moment(held: &mut Held, text: &str) -> Result<(), Fail> {
+fn add_moment(held: &mut Held, text: &str) -> Result<i64, Fail> {
     let seconds: u32 = text.parse()?;
-    held.moments.push(i64::from(seconds))?;
-    Ok(())
+    let second = i64::from(seconds);
+    held.moments.push(second)?;
+    Ok(second)
 }
 
 // It has this end, named as in the program, and this output.
@@ -90,7 +91,7 @@ fn add_row<T: BlockTransform>(
     let mut lines = row.lines();
     let line = lines.next().unwrap_or("");
     let (moment, request) = line.split_once(' ').unwrap_or((line, ""));
-    add_moment(held, moment)?;
+    let second = add_moment(held, moment)?;
     if !request.is_empty() {
         let wanted = lines.next().unwrap_or("").strip_prefix("  ");
         let told = answer(rt.alloc(), lists, line)?;
@@ -98,7 +99,7 @@ fn add_row<T: BlockTransform>(
     }
     let sent = message(rt.alloc(), lines.next().unwrap_or(""))?;
     held.input.extend_from_slice(&sent)?;
-    let told = reply(rt.alloc(), lines.next().unwrap_or(""))?;
+    let told = reply_at(rt.alloc(), second, lines.next().unwrap_or(""))?;
     held.output.extend_from_slice(&told)?;
     Ok(())
 }
@@ -118,11 +119,17 @@ fn row_comes_to<S: Alter, T: BlockTransform>(
         .split_once(' ')
         .ok_or("no moment")?;
     for moment in moments.split(' ') {
-        add_moment(&mut held, moment)?;
+        let _ = add_moment(&mut held, moment)?;
     }
     held.input = bytes(alloc, lines.next().unwrap_or(""))?;
-    for line in lines {
-        held.output.extend_from_slice(&reply(alloc, line)?)?;
+    // Each message takes an answer of the clock, which repeats the last one.
+    let mut second = *held.moments.first().ok_or("no moment")?;
+    for (number, line) in lines.enumerate() {
+        if let Some(next) = held.moments.get(number) {
+            second = *next;
+        }
+        held.output
+            .extend_from_slice(&reply_at(alloc, second, line)?)?;
     }
     comes_to(rt, books, &held, end)
 }

@@ -130,9 +130,9 @@ fn reads_and_replies_in_turn(rt: HostRuntime) -> Result<(), Fail> {
     let expected = [
         Passed::Read(1024, 60),
         Passed::Read(57, 57),
-        Passed::Sent(261),
+        Passed::Sent(298),
         Passed::Read(1024, 45),
-        Passed::Sent(184),
+        Passed::Sent(221),
         Passed::Read(1024, 0),
         Passed::Sent(NO_HEAD.len()),
     ];

@@ -17,16 +17,17 @@ pub(crate) const SALE: &[u8] = b"POST /sales HTTP/1.1\r\nHost: d\r\nContent-Leng
 /// A call for the receipt of sale 1.
 pub(crate) const RECEIPT: &[u8] = b"GET /sales/1/receipt HTTP/1.1\r\nHost: d\r\n\r\n";
 
-/// What is written for the sale: 261 bytes.
+/// What is written for the sale: 298 bytes.
 pub(crate) const SOLD: &[u8] = b"HTTP/1.1 200 OK\r\nContent-Type: application/json\r\n\
-    Content-Length: 189\r\n\r\n\
+    Content-Length: 189\r\nDate: Wed, 01 Jan 2014 00:00:30 GMT\r\n\r\n\
     {\"base\":2014,\"change\":0,\"meter\":\"12345678903\",\"moment\":1388534430,\"number\":1,\
     \"operator\":\"ann\",\"price\":10,\"ref\":\"A-1\",\"shift\":1,\"tender\":10,\"tenths\":1,\
     \"tid\":2,\"token\":\"00072057602627981690\"}";
 
-/// What is written for its receipt: 184 bytes.
+/// What is written for its receipt: 221 bytes.
 pub(crate) const PRINTED: &[u8] =
-    b"HTTP/1.1 200 OK\r\nContent-Type: text/plain\r\nContent-Length: 118\r\n\r\n\
+    b"HTTP/1.1 200 OK\r\nContent-Type: text/plain\r\nContent-Length: 118\r\n\
+    Date: Wed, 01 Jan 2014 00:00:30 GMT\r\n\r\n\
     SALE 1\nMETER 12345678903\nTIME 2014-01-01T00:00:30Z\nKWH 0.1\nPRICE 10\nTENDER 10\n\
     CHANGE 0\nTOKEN 0007 2057 6026 2798 1690\n";
 

@@ -1,10 +1,10 @@
 //! Replies, byte for byte.
 
 use crate::listed::{listed_meters, listed_shifts, listed_tariffs};
-use crate::texts::reply;
+use crate::texts::{reply, reply_at};
 use desk::{
     DeskFault, Form, Found, MessageFault, MeterSummary, Method, Outcome, Quote, Totals, found_json,
-    reply_bytes,
+    http_date, moment_given, reply_bytes,
 };
 use office_rules::{
     Answer, MeterNo, Moment, Operator, Ref, Refusal, RowCause, Sale, Sales, Shift, TariffName,
@@ -329,7 +329,7 @@ fn each_outcome(rt: HostRuntime) -> Result<(), Fail> {
     let mut lines = replies().lines();
     for (outcome, closes) in &outcomes {
         let line = lines.next().ok_or("no reply")?;
-        let found = reply_bytes(alloc, outcome, *closes)?;
+        let found = reply_bytes(alloc, None, outcome, *closes)?;
         assert_eq!(rt; found, reply(alloc, line)?, "{line}");
     }
     assert!(rt; lines.next().is_none());
@@ -342,7 +342,7 @@ fn each_body(rt: HostRuntime) -> Result<(), Fail> {
     let alloc = rt.alloc();
     for found in findings(alloc)? {
         let body = found_json(alloc, &found)?;
-        let reply = reply_bytes(alloc, &Outcome::Found(Form::Json, Ok(found)), false)?;
+        let reply = reply_bytes(alloc, None, &Outcome::Found(Form::Json, Ok(found)), false)?;
         assert!(rt; reply.as_slice().ends_with(&body));
         assert!(rt; body.as_slice().starts_with(b"{"));
     }
@@ -357,10 +357,35 @@ fn a_receipt(rt: HostRuntime) -> Result<(), Fail> {
     let alloc = rt.alloc();
     let printed = Outcome::Replied(Form::Paper, Ok(Answer::Reprinted(first_sale()?)));
     assert_eq!(rt;
-        reply_bytes(alloc, &printed, false)?,
+        reply_bytes(alloc, None, &printed, false)?,
         reply(alloc, RECEIPT)?
     );
     let found = Outcome::Found(Form::Paper, Ok(Found::Sale(first_sale()?)));
-    assert_eq!(rt; reply_bytes(alloc, &found, false)?, reply(alloc, RECEIPT)?);
+    assert_eq!(rt;
+        reply_bytes(alloc, None, &found, false)?,
+        reply(alloc, RECEIPT)?
+    );
+    Ok(())
+}
+
+// The second of the example in RFC 9110, 5.6.7, and the last one: its date is the one that another
+// program gives.
+#[test]
+fn a_date(rt: HostRuntime) -> Result<(), Fail> {
+    let alloc = rt.alloc();
+    let outcome = Outcome::Faulty(DeskFault::NoRoute);
+    let line = "404 Not Found, 19 = {'error':'NoRoute'}";
+    for second in [784_111_777, 4_102_444_799] {
+        let dated = moment_given(second);
+        assert!(rt; dated.is_some());
+        let found = reply_bytes(alloc, dated, &outcome, false)?;
+        assert_eq!(rt; found, reply_at(alloc, second, line)?);
+    }
+    assert!(rt; moment_given(4_102_444_800).is_none());
+    let moment = Moment::of_secs(784_111_777).ok_or("a moment")?;
+    assert_eq!(rt;
+        http_date(moment).as_slice(),
+        b"Sun, 06 Nov 1994 08:49:37 GMT".as_slice()
+    );
     Ok(())
 }

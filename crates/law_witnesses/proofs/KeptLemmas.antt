@@ -12,6 +12,12 @@ same_files {M} found files logs dbs =
     let with_db : M → Files M = λ db. record files { db = db } in
     ap with_log logs ∙ ap with_db dbs
 
+-- files that are found where there are these are these
+pub found_these : {M : Type 0} (log db : M) (found : Files M) → ((found.log ≡ log) × (found.db ≡ db)) ⊎ ((found.log ≡ log) × (found.db ≡ db))
+    → found ≡ record { log = log; db = db }
+found_these log db found (inl is) = same_files found (record { log = log; db = db }) is.0 is.1
+found_these log db found (inr is) = same_files found (record { log = log; db = db }) is.0 is.1
+
 -- what two files in memory hold
 abbrev pub held_by : (log db : Memory) → Image
 held_by log db = record { log = memory_bytes log; db = memory_bytes db }

@@ -1,3 +1,5 @@
+mod AnsweringLemmas
+mod AskingLemmas
 mod AuditLemmas
 mod CrashLemmas
 mod FileLemmas

@@ -102,7 +102,7 @@ module _ {P D R W : Type 0} (here : Here P D R W) (law : KeepsEachRun here) wher
         law.goes_on start lives o it.run office lead (law.finds start lives it.run (subst Holds (sym it.with_ports) mine)) (law.clean it.run always)
 
     -- what was told of a sale is what was printed
-    printed_of : (s : Sale) → PrintsSale s it.run.o it.run.end → printed ≡ receipt_of s
+    pub printed_of : (s : Sale) → PrintsSale s it.run.o it.run.end → printed ≡ receipt_of s
     printed_of s prints = taken_whole it.run.o.old it.run.o.new (receipt_of s) printed prints.0 it.before it.sound it.whole it.after
 
     -- where words say an order that was sold, a run by them that ends as done asks it and gets that sale

@@ -72,6 +72,6 @@ talk_of law {B} {see} {gives} {old} {new} {unread} {left} {held} {holds} {uses} 
     let Goal : List ℕ → Type 0 = λ i. (talk : IsTalk i (see new.0)) × (text ≡ conversation_text talk.exchanges talk.ending) in
     subst Goal (sym closed.1)
     (elim closed.2 [
-      | inl s ↦ said law forward old.1 after (see new.0) clean lives.2 text closed.0 finished s
+      | inl (expects, s) ↦ said law forward old.1 after (see new.0) clean lives.2 text closed.0 (finished expects) s
       | inr s ↦ said law forward old.1 after (see new.0) clean lives.2 text closed.0 closing s
     ])

@@ -1,4 +1,5 @@
 -- What the witnesses conclude, and what they make values of.
+pub mod Asking
 pub mod Offices
 pub mod Older
 pub mod Printed

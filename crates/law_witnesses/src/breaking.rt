@@ -7,7 +7,7 @@ use crate::kept::{Kept, KeptFile, Nothing};
 use crate::offices::day;
 use crate::runs::{Later, Then, WORDS, back_of, order_said, ports_on, ran, sold_on_files};
 use command_line::Address;
-use conversation::Script;
+use conversation::{End, Script};
 use desk_client::Question;
 use office_lines::values::{FIRST_DAY, METER, moment, order};
 use office_rules::{Moment, Request, Sale, Stamped};
@@ -61,7 +61,7 @@ impl<'a> Door for BreakingDoor<'a> {
 
     ghost refuses = { λ _ _. ⊤ };
 
-    ghost ends = { λ _ _ _ _. ⊤ };
+    ghost ends = { λ _ _ _ _ _. ⊤ };
 
     ghost leaves = { λ _ _. ⊤ };
 
@@ -81,7 +81,7 @@ impl<'a> Door for BreakingDoor<'a> {
         Some((self.text, Breaking { room: self.room }))
     }
 
-    fn end<R: Drop, W: Drop>(reader: R, writer: W)
+    fn end(&mut self, reader: Self::Reader, writer: Self::Writer, _end: End)
         ensures { ⊤ }
     {
         drop(reader);

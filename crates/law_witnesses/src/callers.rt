@@ -2,6 +2,7 @@
 ghost use Rattle.std.specs.Prelude.{◌≡◌, ⊤, false, true};
 
 use command_line::Address;
+use conversation::End;
 use std::alloc::Global;
 use vend_commands::Door;
 
@@ -40,7 +41,7 @@ impl<'a> Door for OneCaller<'a> {
 
     ghost refuses = { λ _ _. ⊤ };
 
-    ghost ends = { λ _ _ _ _. ⊤ };
+    ghost ends = { λ _ _ _ _ _. ⊤ };
 
     ghost leaves = { λ _ _. ⊤ };
 
@@ -56,7 +57,7 @@ impl<'a> Door for OneCaller<'a> {
         Some((self.text, Vec::new(self.alloc)))
     }
 
-    fn end<R: Drop, W: Drop>(reader: R, writer: W)
+    fn end(&mut self, reader: Self::Reader, writer: Self::Writer, _end: End)
         ensures { ⊤ }
     {
         drop(reader);

@@ -41,8 +41,7 @@ fn read_at_desk(alloc: Global, routes: &Routes, order: &Order, moment: Moment) -
     let Next::Whole(received) = next_of(&text) else {
         return None;
     };
-    let mut clock = Script::new(moment.secs(), &[]);
-    match routes.meaning_of(alloc, &mut clock, &received) {
+    match routes.meaning_of(alloc, moment.secs(), &received) {
         Meaning::Asks(_, _, request) => Some(request),
         _ => None,
     }
@@ -88,8 +87,9 @@ const MESSAGES: &[u8] = b"POST /tariffs HTTP/1.1\r\nHost: d\r\nContent-Length: 3
     GET /health HTTP/1.1\r\nHost: d\r\n\r\n";
 
 const REPLIES: &[u8] = b"HTTP/1.1 200 OK\r\nContent-Type: application/json\r\n\
-    Content-Length: 13\r\n\r\n{\"done\":true}\
-    HTTP/1.1 200 OK\r\nContent-Type: application/json\r\nContent-Length: 22\r\n\r\n\
+    Content-Length: 13\r\nDate: Wed, 01 Jan 2014 00:00:30 GMT\r\n\r\n{\"done\":true}\
+    HTTP/1.1 200 OK\r\nContent-Type: application/json\r\nContent-Length: 22\r\n\
+    Date: Wed, 01 Jan 2014 00:00:30 GMT\r\n\r\n\
     {\"format\":4,\"sales\":0}";
 
 #[test]

@@ -4,7 +4,7 @@ ghost use Rattle.sqlite_disk.specs.Memory.{memory_bytes, memory_is_usable};
 
 use books::OpenFault;
 use command_line::Address;
-use conversation::Script;
+use conversation::{End, Script};
 use sqlite::Files;
 use sqlite_disk::Memory;
 use std::io::{self, ErrorKind, Read, Write};
@@ -181,7 +181,7 @@ impl Door for Nothing {
 
     ghost refuses = { λ _ _. ⊤ };
 
-    ghost ends = { λ _ _ _ _. ⊤ };
+    ghost ends = { λ _ _ _ _ _. ⊤ };
 
     ghost leaves = { λ _ _. ⊤ };
 
@@ -193,7 +193,7 @@ impl Door for Nothing {
         None
     }
 
-    fn end<R: Drop, W: Drop>(reader: R, writer: W)
+    fn end(&mut self, reader: Self::Reader, writer: Self::Writer, _end: End)
         ensures { ⊤ }
     {
         drop(reader);

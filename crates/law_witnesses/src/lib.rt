@@ -3,6 +3,10 @@
 #![tactic(auto)]
 
 #[cfg(test)]
+mod answering;
+#[cfg(test)]
+mod asking;
+#[cfg(test)]
 mod breaking;
 #[cfg(test)]
 mod callers;
@@ -18,6 +22,8 @@ mod desks;
 mod files;
 #[cfg(test)]
 mod kept;
+#[cfg(test)]
+mod lapses;
 #[cfg(test)]
 mod messages;
 #[cfg(test)]

@@ -42,7 +42,7 @@ fn taken_back(alloc: Global, files: Files<Memory>, sql: &str) -> Option<Files<Me
 }
 
 // Another file of the same bytes.
-fn copied(alloc: Global, file: &Memory) -> Option<Memory>
+pub(crate) fn copied(alloc: Global, file: &Memory) -> Option<Memory>
     ensures bytes { IfSome result (λ copy. memory_bytes copy ≡ memory_bytes file.now) }
     ensures usable { IfSome result (λ copy. IsTrue (memory_is_usable copy)) }
 {

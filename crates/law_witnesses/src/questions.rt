@@ -1,5 +1,6 @@
 //! The laws of what a command sends to a desk, and of what it understands of the reply.
-ghost use Rattle.std.specs.Prelude.{◌≡◌, false, IfSome};
+ghost use Rattle.std.specs.Prelude.{◌≡◌, false, IfSome, Some};
+ghost use Rattle.desk_messages.specs.reply.HttpDate.{moment_given};
 ghost use Rattle.desk_messages.specs.reply.Text.{reply_bytes_of};
 ghost use Rattle.law_witnesses.specs.Sold.{told_sold};
 
@@ -8,40 +9,47 @@ use book_states::{Found, ListedMeter};
 use desk_client::{
     Granted, PageKind, Reading, Told, Wanted, page_in, page_law, reply_in, told_law,
 };
-use desk_messages::{Form, Outcome, found_json, reply_bytes};
+use desk_messages::{Form, Outcome, found_json, moment_given, reply_bytes};
+use office_lines::values::FIRST_DAY;
 use office_rules::{Answer, Sale};
 use std::alloc::Global;
 use std::test::Fail;
 
-// The reply of a desk that sold this.
-fn reply_of(alloc: Global, sale: &Sale) -> Option<Vec<u8>>
-    ensures { IfSome result (λ text. text.items ≡ reply_bytes_of (told_sold sale.now) false) }
+// The reply of a desk that sold this, and whose clock gave this second.
+fn reply_of(alloc: Global, second: i64, sale: &Sale) -> Option<Vec<u8>>
+    ensures { IfSome result (λ text. text.items
+        ≡ reply_bytes_of (moment_given (Some second)) (told_sold sale.now) false) }
 {
     let outcome = Outcome::Replied(Form::Json, Ok(Answer::Sold(*sale)));
-    match reply_bytes(alloc, &outcome, false) {
+    match reply_bytes(alloc, moment_given(second), &outcome, false) {
         Ok(text) => Some(text),
         Err(_) => None,
     }
 }
 
-// The reply of a desk that sold what a reply tells.
-fn sale_again(alloc: Global, reply: &[u8]) -> Option<Vec<u8>>
-    ensures { IfSome result (λ again. again.items ≡ reply.now) }
+// The sale that a reply tells, and the one that the reply of a desk tells which sold it at this
+// second of its clock. The two may have different dates.
+fn sale_again(alloc: Global, second: i64, reply: &[u8]) -> Option<(Sale, Sale)>
+    ensures { IfSome result (λ both. both.0 ≡ both.1) }
 {
     told_law();
     let Reading::Whole(Told::Granted(Granted::Sale(sale))) = reply_in(reply, Wanted::Sale) else {
         return None;
     };
-    match reply_of(alloc, &sale) {
-        Some(again) => Some(again),
-        None => None,
+    let Some(text) = reply_of(alloc, second, &sale) else {
+        return None;
+    };
+    match reply_in(&text, Wanted::Sale) {
+        Reading::Whole(Told::Granted(Granted::Sale(again))) => Some((sale, again)),
+        _ => None,
     }
 }
 
 #[test]
 fn a_reply_tells_one_sale(rt: HostRuntime) -> Result<(), Fail> {
-    let again = sale_again(rt.alloc(), SOLD).ok_or("no sale")?;
-    assert_eq!(rt; again.as_slice(), SOLD);
+    let (sale, again) = sale_again(rt.alloc(), FIRST_DAY, SOLD).ok_or("no sale")?;
+    assert_eq!(rt; sale.number, 1);
+    assert_eq!(rt; again, sale);
     Ok(())
 }
 

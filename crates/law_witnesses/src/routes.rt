@@ -8,10 +8,12 @@ use book_states::{Found, ListedMeter};
 use conversation::Method;
 use desk_client::{Granted, PageKind, Reading, Told, Wanted, page_in, reply_in};
 use desk_messages::{
-    DeskFault, Form, JsonKind, Outcome, Route, Routes, asking_law, found_json, head_law, list_law,
-    put_day, reply_law, reply_to, request_of, route_law,
+    DeskFault, Form, JsonKind, Outcome, Route, Routes, asking_law, date_law, found_json, head_law,
+    http_date, list_law, put_day, reply_law, reply_to, request_of, route_law,
 };
-use office_rules::{Request, Sale};
+use httpdate::HttpDate;
+use office_lines::values::{FIRST_DAY, moment};
+use office_rules::{Moment, Request, Sale};
 use std::alloc::Global;
 use std::test::Fail;
 use sts_fields::{Day, day_law};
@@ -65,20 +67,21 @@ fn a_body_asks_one_request(rt: HostRuntime) -> Result<(), Fail> {
     Ok(())
 }
 
-// The replies of one outcome, to GET and to HEAD.
-fn replied_to_both(alloc: Global, outcome: &Outcome) -> Option<(Vec<u8>, Vec<u8>)>
+// The replies of one outcome at a moment, to GET and to HEAD.
+fn replied_to_both(alloc: Global, moment: Moment, outcome: &Outcome) -> Option<(Vec<u8>, Vec<u8>)>
     ensures { IfSome result (λ both. both.0.items ≡ both.1.items ++ body_of outcome.now) }
 {
     head_law();
-    let whole = reply_to(alloc, Method::Get, outcome, false).ok()?;
-    let head = reply_to(alloc, Method::Head, outcome, false).ok()?;
+    let whole = reply_to(alloc, Method::Get, Some(moment), outcome, false).ok()?;
+    let head = reply_to(alloc, Method::Head, Some(moment), outcome, false).ok()?;
     Some((whole, head))
 }
 
 #[test]
 fn a_head_lacks_the_body_alone(rt: HostRuntime) -> Result<(), Fail> {
     let outcome = Outcome::Found(Form::Json, Ok(Found::SaleCount(0)));
-    let (whole, head) = replied_to_both(rt.alloc(), &outcome).ok_or("no reply")?;
+    let moment = moment(FIRST_DAY)?;
+    let (whole, head) = replied_to_both(rt.alloc(), moment, &outcome).ok_or("no reply")?;
     assert_eq!(rt; head.as_slice(), HEALTH_HEAD);
     assert_eq!(rt;
         &whole[head.len()..],
@@ -88,7 +91,30 @@ fn a_head_lacks_the_body_alone(rt: HostRuntime) -> Result<(), Fail> {
 }
 
 const HEALTH_HEAD: &[u8] = b"HTTP/1.1 200 OK\r\nContent-Type: application/json\r\n\
-    Content-Length: 22\r\n\r\n";
+    Content-Length: 22\r\nDate: Wed, 01 Jan 2014 00:00:30 GMT\r\n\r\n";
+
+// The seconds that HTTP reads in the date of a moment: those of the moment.
+fn date_read(moment: Moment) -> Option<u64>
+    ensures { IfSome result (λ read. read ≡ moment) }
+{
+    date_law();
+    let seconds = moment.secs();
+    match HttpDate::parse_ascii(&http_date(moment)) {
+        Ok(date) if seconds >= 0 => Some(date.unix_secs()),
+        _ => None,
+    }
+}
+
+#[test]
+fn a_date_is_that_of_its_moment(rt: HostRuntime) -> Result<(), Fail> {
+    let read = date_read(moment(784_111_777)?).ok_or("no date")?;
+    assert_eq!(rt; read, 784_111_777);
+    assert_eq!(rt;
+        http_date(moment(784_111_777)?).as_slice(),
+        b"Sun, 06 Nov 1994 08:49:37 GMT".as_slice()
+    );
+    Ok(())
+}
 
 // The text that a desk writes of a sale.
 fn text_of(alloc: Global, sale: &Sale) -> Option<Vec<u8>>

@@ -1,6 +1,5 @@
 -- What is known of files that were met.
-use Rattle.std.proofs.Common.{◌≡◌, ◌∙◌, ◌≤◌, ℕ, Bool, true, List, length, Option, Some, None, inl, inr, refl, sym, ap, subst, arith}
-use Rattle.std.proofs.lemmas.Bool.{and_parts}
+use Rattle.std.proofs.Common.{◌≡◌, ◌∙◌, ◌≤◌, ℕ, Bool, true, Option, Some, None, inl, inr, refl, sym, ap, subst, arith}
 use Rattle.std.proofs.lemmas.Bool.Decides.{nat_tests}
 use Rattle.std.specs.Option.{option_eq}
 use Rattle.std.specs.Prelude.{◌↔◌, IsTrue, nat_eq}
@@ -10,12 +9,12 @@ use Rattle.sqlite.specs.Held.{Held}
 use Rattle.sqlite.specs.State.{HasCleanDisk, IsLive, Opens}
 use Rattle.sqlite.specs.declared.error.Error.TheVariants.{SqliteFailure}
 use Rattle.sqlite.specs.declared.error.ErrorCode.TheVariants.{OutOfMemory}
-use Rattle.sqlite_disk.specs.Disk.{Only}
 use Rattle.sqlite_disk.specs.declared.Disk.{Ghosts}
 use Rattle.sqlite_disk.specs.declared.Files.{Files}
 use Rattle.sqlite_schema.specs.declared.schema.Schema.{Schema}
 use Rattle.sqlite_store.specs.declared.store.FileStore.{FileStore}
-use Rattle.sqlite_wal.specs.Files.{seen_image}
+use Rattle.sqlite_wal.specs.Files.{outcomes}
+use Rattle.sqlite_wal.specs.Reads.{AreClean}
 use Rattle.sqlite_wal.specs.Recovery.{Image}
 use Rattle.office_rules.specs.Office.{Office, empty_office}
 use Rattle.book_tables.specs.Holds.{HasOfficeOf, IsUntaken}
@@ -31,25 +30,22 @@ use Rattle.command_line.specs.Transform.{forward_of, shipped}
 use Rattle.command_line.specs.declared.transform.Shipped.{Shipped}
 use Rattle.office_commands.specs.office.Opened.{OpensThere}
 use Rattle.office_commands.specs.office.Visited.{IsOpened}
-use Rattle.office_commands.specs.office.Vacant.{AreMeasured, IsBlank, IsConnection, IsThere, IsWithout}
+use Rattle.office_commands.specs.office.Vacant.{AreMeasured, IsBlank, IsConnection, IsThere, IsTooShort, IsWithout}
 
-module _ {D : Type 0} (g : Ghosts D) where
-  -- files hold what they held once a length was taken
-  pub measured_image : (image : Image) (log found db : D) → seen_image g log found ≡ image → g.seen db ≡ g.seen found
-      → seen_image g log db ≡ image
-  measured_image image log found db held seen =
-      subst (λ (bytes : List ℕ). record { log = g.seen log; db = bytes } ≡ image) (sym seen) held
+-- what is too short for a database is none yet
+too_short : (image : Image) → IsTooShort image → IsNothing image
+too_short image (inl empty) = inl (inl empty)
+too_short image (inr (byte, brief)) = inl (inr (inl (inl brief, refl), (inl byte, inl byte)))
 
-  -- an empty database file that leaves nothing else is no database yet
-  pub blank_left : (image : Image) (log found db : D) → seen_image g log found ≡ image → g.seen db ≡ g.seen found
-      → Only (g.seen found) (g.may_leave db) × (IsTrue (g.is_clean db) → length (g.seen found) ≡ 0) → IsBlank g image (record { log = log; db = db })
-  blank_left image log found db held seen (only, empty) =
-      let same = measured_image image log found db held seen in
-      record {
-        seen = same;
-        nothing = λ clean. subst IsNothing same (inl (inl (subst (λ (bytes : List ℕ). length bytes ≡ 0) (sym seen) (empty (and_parts _ _ clean).1))));
-        crash = λ clean after out. inl (inl (subst (λ (bytes : List ℕ). length bytes ≡ 0) (sym (only after.db out.1)) (empty (and_parts _ _ clean).1)));
-      }
+-- files that are too short for a database, and leave nothing else, are no database yet
+pub blank_left : {D : Type 0} (g : Ghosts D) (image was : Image) (files : Files D) → was ≡ image → image_of g files ≡ was
+    → ((after : Image) → outcomes g files.log files.db after → after ≡ was) × (AreClean g files.log files.db → IsTooShort was)
+    → IsBlank g image files
+blank_left g image was files held seen (only, short) = record {
+  seen = seen ∙ held;
+  nothing = λ clean. subst IsNothing held (too_short was (short clean));
+  crash = λ clean after out. subst IsNothing (sym (only after out)) (too_short was (short clean));
+}
 
 module _ {D : Type 0} {g : Ghosts D} (image : Image) (conn : Held (FileStore D g)) (made : IsConnection g image conn)
     (opens : (c : Held (FileStore D g)) (o : Office) → Opens (file_state c) → IsLive (file_state c)

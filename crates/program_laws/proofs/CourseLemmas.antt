@@ -8,6 +8,7 @@ use Rattle.desk.specs.Answering.{answers_by, life_serves, message_refusal_of}
 use Rattle.conversation.specs.Exchanges.{Exchanged, GaveUp, MessageExchange, Timed, clocked, timed}
 use Rattle.conversation.specs.message.Messages.{BeginsMessage, Message}
 use Rattle.conversation.specs.Run.{IsRun}
+use Rattle.conversation.proofs.InterimLemmas.{leaves_office}
 use Rattle.conversation.proofs.WiderLemmas.{run_wider, unclocked}
 use Rattle.conversation.specs.declared.end.End as conversation
 use Rattle.conversation.specs.declared.end.End.TheVariants.{Closed, BadMessage, ReadFault, WriteFault, Memory}
@@ -40,15 +41,15 @@ late_opening rest mid new (inr (m, after, begins, (now, reads, inr (reply, step)
 
 run_opening : (old new : Timed Life) (unread left held holds : Option (List ℕ)) (end : conversation.End)
     → IsRun (answers_by life_serves) message_refusal_of old new unread left held holds end → new.0.opening ≡ old.0.opening
-run_opening old new unread left held holds Closed (input, all, inl said) = exchanged_opening old new said.conversation.exchanges said.conversation.served
+run_opening old new unread left held holds Closed (input, all, inl (expects, said)) = exchanged_opening old new said.conversation.exchanges said.conversation.served
 run_opening old new unread left held holds Closed (input, all, inr said) = exchanged_opening old new said.conversation.exchanges said.conversation.served
 run_opening old new unread left held holds BadMessage (input, all, fault, said) = exchanged_opening old new said.conversation.exchanges said.conversation.served
-run_opening old new unread left held holds ReadFault (input, taken, said) = exchanged_opening old new said.conversation.exchanges said.conversation.served
+run_opening old new unread left held holds ReadFault (input, taken, expects, said) = exchanged_opening old new said.conversation.exchanges said.conversation.served
 run_opening old new unread left held holds WriteFault (input, all, text, appends, cut) =
     let before = exchanged_opening old cut.mid cut.before.exchanges cut.before.served in
     elim cut.is_last [
       | inl reply ↦ answered_opening cut.mid new reply.exchange reply.answered ∙ before
-      | inr refusal ↦ ap (λ l. l.0.opening) refusal.same ∙ before
+      | inr other ↦ ap (λ l. l.0.opening) (leaves_office message_refusal_of cut.rest cut.mid cut.last new other) ∙ before
     ]
 run_opening old new unread left held holds Memory (input, all, text, appends, given) =
     late_opening given.rest given.mid new given.after ∙ exchanged_opening old given.mid given.before.exchanges given.before.served
@@ -118,6 +119,7 @@ module _ {D R W B : Type 0} (way : Way D R W) (gives : ℤ → Type 0) (forward 
               read = one.read;
               written = one.written;
               end = one.end;
+              held = one.held;
               accepted = one.accepted;
               run = run;
               ended = one.ended;

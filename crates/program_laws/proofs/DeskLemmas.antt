@@ -9,7 +9,8 @@ use Rattle.command_line.specs.declared.transform.Shipped.TheVariants.{Plain}
 use Rattle.desk.specs.Answering.{answers_by, life_serves, message_refusal_of}
 use Rattle.conversation.specs.Exchanges.{Exchanged, GaveUp, MessageExchange, Timed, timed}
 use Rattle.conversation.specs.message.Messages.{BeginsMessage, Message}
-use Rattle.conversation.specs.Conversation.{IsRefusal, IsMessageReply}
+use Rattle.conversation.specs.Conversation.{IsNextText}
+use Rattle.conversation.proofs.InterimLemmas.{leaves_office}
 use Rattle.conversation.specs.Run.{IsRun}
 use Rattle.conversation.specs.declared.end.End as conversation
 use Rattle.conversation.specs.declared.end.End.TheVariants.{Closed, BadMessage, ReadFault, WriteFault, Memory}
@@ -64,19 +65,19 @@ module _ (laws : HandingLaws) (s : Sale) where
 
   run_keeps : (old new : Timed Life) (unread left held holds : Option (List ℕ)) (end : conversation.End)
       → IsRun (answers_by life_serves) message_refusal_of old new unread left held holds end → HandsOut old.0 s → HandsOut new.0 s
-  run_keeps old new unread left held holds Closed (input, all, inl said) hands =
+  run_keeps old new unread left held holds Closed (input, all, inl (expects, said)) hands =
       exchanged_keeps old new said.conversation.exchanges said.conversation.served hands
   run_keeps old new unread left held holds Closed (input, all, inr said) hands =
       exchanged_keeps old new said.conversation.exchanges said.conversation.served hands
   run_keeps old new unread left held holds BadMessage (input, all, fault, said) hands =
       exchanged_keeps old new said.conversation.exchanges said.conversation.served hands
-  run_keeps old new unread left held holds ReadFault (input, taken, said) hands =
+  run_keeps old new unread left held holds ReadFault (input, taken, expects, said) hands =
       exchanged_keeps old new said.conversation.exchanges said.conversation.served hands
   run_keeps old new unread left held holds WriteFault (input, all, text, appends, cut) hands =
       let before = exchanged_keeps old cut.mid cut.before.exchanges cut.before.served hands in
       elim cut.is_last [
         | inl reply ↦ answered_keeps cut.mid new reply.exchange reply.answered before
-        | inr refusal ↦ subst (λ (l : Timed Life). HandsOut l.0 s) (sym refusal.same) before
+        | inr other ↦ subst (λ (l : Timed Life). HandsOut l.0 s) (sym (leaves_office message_refusal_of cut.rest cut.mid cut.last new other)) before
       ]
   run_keeps old new unread left held holds Memory (input, all, text, appends, given) hands =
       late_keeps given.rest given.mid new given.after (exchanged_keeps old given.mid given.before.exchanges given.before.served hands)
@@ -95,19 +96,19 @@ module _ (laws : HandingLaws) (s : Sale) where
   exchanges_hand old new (x ∷ xs) (mid, first, later) (inr told) = exchanges_hand mid new xs later told
 
   cut_reply_hands : (old new : Timed Life) (rest last : List ℕ)
-      (is : IsMessageReply (timed (answers_by life_serves)) rest old last new ⊎ IsRefusal message_refusal_of rest old last new)
+      (is : IsNextText (timed (answers_by life_serves)) message_refusal_of rest old last new)
       → CutReplyTells is s → HandsOut new.0 s
   cut_reply_hands old new rest last (inl reply) told = exchange_hands old.0 new.0 reply.exchange told
-  cut_reply_hands old new rest last (inr refusal) told = absurd told
+  cut_reply_hands old new rest last (inr other) told = absurd told
 
   run_hands : (old new : Timed Life) (unread left held holds : Option (List ℕ)) (end : conversation.End)
       (run : IsRun (answers_by life_serves) message_refusal_of old new unread left held holds end)
       → RunTells old new unread left held holds end run s → HandsOut new.0 s
-  run_hands old new unread left held holds Closed (input, all, inl said) told = exchanges_hand old new said.conversation.exchanges said.conversation.served told
+  run_hands old new unread left held holds Closed (input, all, inl (expects, said)) told = exchanges_hand old new said.conversation.exchanges said.conversation.served told
   run_hands old new unread left held holds Closed (input, all, inr said) told = exchanges_hand old new said.conversation.exchanges said.conversation.served told
   run_hands old new unread left held holds BadMessage (input, all, fault, said) told =
       exchanges_hand old new said.conversation.exchanges said.conversation.served told
-  run_hands old new unread left held holds ReadFault (input, taken, said) told =
+  run_hands old new unread left held holds ReadFault (input, taken, expects, said) told =
       exchanges_hand old new said.conversation.exchanges said.conversation.served told
   run_hands old new unread left held holds WriteFault (input, all, text, appends, cut) (inr told) =
       cut_reply_hands cut.mid new cut.rest cut.last cut.is_last told
@@ -115,7 +116,7 @@ module _ (laws : HandingLaws) (s : Sale) where
       let before = exchanges_hand old cut.mid cut.before.exchanges cut.before.served told in
       elim cut.is_last [
         | inl reply ↦ answered_keeps cut.mid new reply.exchange reply.answered before
-        | inr refusal ↦ subst (λ (l : Timed Life). HandsOut l.0 s) (sym refusal.same) before
+        | inr other ↦ subst (λ (l : Timed Life). HandsOut l.0 s) (sym (leaves_office message_refusal_of cut.rest cut.mid cut.last new other)) before
       ]
   run_hands old new unread left held holds Memory (input, all, text, appends, given) told =
       late_keeps given.rest given.mid new given.after (exchanges_hand old given.mid given.before.exchanges given.before.served told)

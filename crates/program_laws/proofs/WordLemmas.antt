@@ -3,16 +3,18 @@ pub mod AnswerLemmas
 pub mod AtDeskLemmas
 pub mod OrderLemmas
 pub mod ReceiptLemmas
-use Rattle.std.proofs.Common.{◌≡◌, List, Option, Some, None, codes, eqb, inl, inr, sym, subst}
-use Rattle.std.specs.Prelude.{take}
+use Rattle.std.proofs.Common.{◌≡◌, ◌||◌, Bool, true, false, List, Option, Some, None, codes, eqb, refl}
+use Rattle.std.specs.Prelude.{if◌then◌else◌, is_some, not}
+use Rattle.std.specs.Borrow.{Bor}
 use Rattle.std.proofs.Math.Dec.{T}
 use Rattle.std.specs.Cmp.Lexicographic.{pointwise}
 use Rattle.clap.specs.Walk.{Row}
 use Rattle.sts_fields.specs.Text.{Text}
-use Rattle.command_line.specs.Commands.{SaysDeskQuestion}
-use Rattle.command_line.specs.Said.{IsArgument}
-use Rattle.command_line.specs.declared.commands.at_desk.DeskQuestion.{DeskQuestion}
-use Rattle.command_line.specs.declared.commands.at_desk.DeskQuestion.TheVariants as desk
+use Rattle.command_line.specs.Address.{SaysAddress}
+use Rattle.command_line.specs.Place.{asks_office, is_given, lacks_place}
+use Rattle.command_line.specs.Said.{IsArgument, parsed_argument}
+use Rattle.command_line.specs.Values.{SaysText}
+use Rattle.command_line.specs.declared.address.Address.{Address}
 
 -- an argument says one value, where its text does
 pub one_argument : {V : Type 0} (Says : Text → V → Type 0) → ((text : Text) (v w : V) → Says text v → Says text w → v ≡ w)
@@ -24,22 +26,23 @@ one_argument Says one (Some text) v w a b = one text v w a b
 abbrev pub IsNamed : Text → Text → Type 0
 IsNamed word name = T (pointwise eqb name word)
 
--- the name is that of a command that asks a desk
-abbrev pub IsDeskName : Text → Type 0
-IsDeskName name = T (pointwise eqb (take 5 name) (codes "desk-"))
+-- an argument that says a value is given
+is_there : {V : Type 0} (Says : Text → V → Type 0) (x : Option Text) (v : V) → IsArgument Says x v → is_some x ≡ true
+is_there Says None v says = absurd says
+is_there Says (Some text) v says = refl
 
--- each question to a desk is asked by such a command
-pub desk_named : (name : Text) (rows : List Row) (q : DeskQuestion) → SaysDeskQuestion name rows q → IsDeskName name
-desk_named name rows (desk.Import kind csv) says = subst IsDeskName (sym says.0) tt
-desk_named name rows (desk.SetTariff meter tariff) says = subst IsDeskName (sym says.0) tt
-desk_named name rows (desk.MoveBase meter base) says = subst IsDeskName (sym says.0) tt
-desk_named name rows (desk.OpenShift operator) says = subst IsDeskName (sym says.0) tt
-desk_named name rows (desk.CloseShift operator) says = subst IsDeskName (sym says.0) tt
-desk_named name rows (desk.Sell order) says = subst IsDeskName (sym says.0) tt
-desk_named name rows (desk.ShiftReport number) says = subst IsDeskName (sym says.0) tt
-desk_named name rows (desk.Receipt number) says = subst IsDeskName (sym says.0) tt
-desk_named name rows (desk.ShiftTotals number) says = subst IsDeskName (sym says.0) tt
-desk_named name rows (desk.Show shown json) says = subst IsDeskName (sym says.0) tt
-desk_named name rows (desk.Offer meter tender json) says = subst IsDeskName (sym says.0) tt
-desk_named name rows (desk.List members json) (inl says) = subst IsDeskName (sym says.0) tt
-desk_named name rows (desk.List members json) (inr says) = subst IsDeskName (sym says.0) tt
+-- a file and a desk are two offices
+two_places : (asks desk file rest : Bool) → asks ≡ true → desk ≡ true → file ≡ true
+    → (if asks then (if desk then file || rest else not file) else false) ≡ false → ⊥
+two_places true true true rest asks desk file place = cc
+two_places false desk file rest asks is_desk is_file place = cc
+two_places true false file rest asks is_desk is_file place = cc
+two_places true true false rest asks is_desk is_file place = cc
+
+-- words that name one office name no file beside a desk
+pub not_both : (name : Text) (rows : List Row) (file : Bor Text) (desk : Address) → asks_office name ≡ true → lacks_place name rows ≡ false
+    → IsArgument SaysText (parsed_argument (codes "file") rows) file → IsArgument SaysAddress (parsed_argument (codes "desk") rows) desk → ⊥
+unfolding lacks_place
+not_both name rows file desk asks place is_file is_desk =
+    two_places (asks_office name) (is_given (codes "desk") rows) (is_given (codes "file") rows) _ asks (is_there SaysAddress _ desk is_desk)
+    (is_there SaysText _ file is_file) place

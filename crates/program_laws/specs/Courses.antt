@@ -28,18 +28,20 @@ IsNext forward old new = (new ≡ old)
     × (new ≡ course (with_last old.over old.life) (opened forward o)))
 
 module _ {D R W : Type 0} (way : Way D R W) where
-  -- a connection came in, the life went on by the conversation over its bytes, and it was let go
+  -- A connection came in, the life went on by the conversation over its bytes, and it was let go by
+  -- a door that knew how that had ended.
   pub record GoesOnBy (old new : Service D Course) : Type 0 where
     pub reader : R
     pub writer : W
     pub read : R
     pub written : W
     pub end : conversation.End
-    pub accepted : way.accepts old.door reader writer new.door
+    pub held : D
+    pub accepted : way.accepts old.door reader writer held
     pub run : IsRun (answers_by life_serves) message_refusal_of (old.books.life, old.answers)
         (new.books.life, new.answers) (way.remaining reader) (way.remaining read)
         (way.contents writer) (way.contents written) end
-    pub ended : way.ends read written
+    pub ended : way.ends held read written end new.door
     pub over : new.books.over ≡ old.books.over
 
   -- by so many connections, one after another

@@ -6,7 +6,7 @@ use Rattle.book_states.specs.declared.lookup.Found.{Found}
 use Rattle.book_states.specs.declared.lookup.Found.TheVariants as found
 use Rattle.books.specs.Looking.{IsFoundAt}
 use Rattle.conversation.specs.Exchanges.{Exchanged, MessageExchange, Timed, timed}
-use Rattle.conversation.specs.Conversation.{IsRefusal, IsMessageReply}
+use Rattle.conversation.specs.Conversation.{IsNextText}
 use Rattle.conversation.specs.Run.{IsRun}
 use Rattle.conversation.specs.declared.end.End.{End}
 use Rattle.conversation.specs.declared.end.End.TheVariants.{Closed, BadMessage, ReadFault}
@@ -58,10 +58,10 @@ ExchangesTell old (x ∷ xs) new (mid, first, later) s =
 
 -- the last text was a reply that told it, though the writer took a beginning of it alone
 abbrev pub CutReplyTells : {old new : Timed Life} → {rest last : List ℕ}
-    → IsMessageReply (timed (answers_by life_serves)) rest old last new
-    ⊎ IsRefusal message_refusal_of rest old last new → Sale → Type 0
+    → IsNextText (timed (answers_by life_serves)) message_refusal_of rest old last new → Sale
+    → Type 0
 CutReplyTells {old} {new} (inl reply) s = ExchangeTells old.0 reply.exchange new.0 s
-CutReplyTells (inr refusal) s = ⊥
+CutReplyTells (inr other) s = ⊥
 
 -- One of the exchanges of a connection told it whose reply was written: whole, or up to where the
 -- writer failed. Where memory was short it was one of those before.
@@ -69,13 +69,13 @@ abbrev pub RunTells : (old new : Timed Life) → (unread left held holds : Optio
     → (end : End)
     → IsRun (answers_by life_serves) message_refusal_of old new unread left held holds end
     → Sale → Type 0
-RunTells old new unread left held holds Closed (input, all, inl said) s =
+RunTells old new unread left held holds Closed (input, all, inl (expects, said)) s =
     ExchangesTell old said.conversation.exchanges new said.conversation.served s
 RunTells old new unread left held holds Closed (input, all, inr said) s =
     ExchangesTell old said.conversation.exchanges new said.conversation.served s
 RunTells old new unread left held holds BadMessage (input, all, fault, said) s =
     ExchangesTell old said.conversation.exchanges new said.conversation.served s
-RunTells old new unread left held holds ReadFault (input, taken, said) s =
+RunTells old new unread left held holds ReadFault (input, taken, expects, said) s =
     ExchangesTell old said.conversation.exchanges new said.conversation.served s
 RunTells old new unread left held holds WriteFault (input, all, text, appends, cut) s =
     ExchangesTell old cut.before.exchanges cut.mid cut.before.served s

@@ -95,7 +95,7 @@ ghost use Rattle.vend_ports.specs.print.Printed.{clock_line};
 use book_tables::PRESENT_FORMAT;
 use books::{found_law, opening_law};
 use command_line::{DeskQuestion, Listed};
-use desk::{Clock, conversation_law, reply_law, route_law};
+use desk::{Clock, conversation_law, date_law, reply_law, route_law};
 use desk_client::{page_law, question_law, told_law};
 use office_commands::lost_law;
 use office_rules::store_law;
@@ -270,6 +270,7 @@ pub fn program_law<M: Machine, N: Machine>()
     route_law();
     conversation_law();
     reply_law();
+    date_law();
     told_law();
     question_law();
     page_law();
@@ -398,6 +399,7 @@ pub fn at_desk_law()
     route_law();
     conversation_law();
     reply_law();
+    date_law();
     told_law();
     question_law();
     page_law();

@@ -10,8 +10,8 @@ use Rattle.terminal_advice.specs.declared.advice.Advice.TheVariants.{IdentifierA
 use Rattle.terminal_advice.specs.declared.advice.Advice.TheVariants.{OfficeFull, NoSale}
 use Rattle.terminal_advice.specs.declared.advice.Advice.TheVariants.{NoSuchShift, Memory, Store}
 use Rattle.terminal_advice.specs.declared.advice.Advice.TheVariants.{Stopped, NotLater, DayPast}
-use Rattle.terminal_advice.specs.declared.advice.Advice.TheVariants.{Amount, Clock, Value, File}
-use Rattle.terminal_advice.specs.declared.advice.Advice.TheVariants.{Net, NotAnOffice, OpenStore}
+use Rattle.terminal_advice.specs.declared.advice.Advice.TheVariants.{Amount, Clock, Value, Place}
+use Rattle.terminal_advice.specs.declared.advice.Advice.TheVariants.{File, Net, NotAnOffice, OpenStore}
 use Rattle.terminal_advice.specs.declared.advice.Advice.TheVariants.{OpenMemory, DeskStopped}
 use Rattle.terminal_advice.specs.declared.advice.Advice.TheVariants.{RowHeader, RowColumns}
 use Rattle.terminal_advice.specs.declared.advice.Advice.TheVariants.{RowField, RowTooMany}
@@ -33,7 +33,11 @@ use Rattle.terminal_advice.specs.declared.advice.Advice.TheVariants.{NoText, Fil
 use Rattle.terminal_advice.specs.declared.advice.Advice.TheVariants.{FileBarred, FileFolder}
 use Rattle.terminal_advice.specs.declared.advice.Advice.TheVariants.{FileTooLong, NetTaken}
 use Rattle.terminal_advice.specs.declared.advice.Advice.TheVariants.{NetNotHere, NetNobody}
-use Rattle.terminal_advice.specs.declared.advice.Advice.TheVariants.{NetSilent, ShutInUse}
+use Rattle.terminal_advice.specs.declared.advice.Advice.TheVariants.{NetSilent, NetRubbish}
+use Rattle.terminal_advice.specs.declared.advice.Advice.TheVariants.{ShutInUse, ShutByVend}
+use Rattle.terminal_advice.specs.declared.advice.Advice.TheVariants.{ShutByOther, ShutTrigger}
+use Rattle.terminal_advice.specs.declared.advice.Advice.TheVariants.{ShutVirtual, ShutIndex}
+use Rattle.terminal_advice.specs.declared.advice.Advice.TheVariants.{ShutFull, StoreFull}
 use Rattle.terminal_advice.specs.declared.advice.Advice.TheVariants.{ShutBarred, ShutNoFolder}
 use Rattle.terminal_advice.specs.declared.advice.Advice.TheVariants.{ShutFolder, ShutNoDatabase}
 use Rattle.terminal_advice.specs.declared.advice.Advice.TheVariants.{ShutLinked, ShutJournal}
@@ -86,6 +90,8 @@ reason_of Clock =
     codes "The computer's clock is outside the years 1993 to 2099."
 reason_of Value =
     codes "A value is outside its rule."
+reason_of Place =
+    codes "The command needs one office: a file, or a running desk."
 reason_of File =
     codes "The file cannot be read."
 reason_of Net =
@@ -183,9 +189,15 @@ reason_of NetNotHere =
 reason_of NetNobody =
     codes "Nobody listens at this address."
 reason_of NetSilent =
-    codes "No whole answer came. The request may have been done."
+    codes "No whole answer came in time. The request may have been done."
+reason_of NetRubbish =
+    codes "The answer broke off, or is none of a desk's. The request may have been done."
 reason_of ShutInUse =
     codes "Another program has the file: a desk, a command or sqlite3."
+reason_of ShutByVend =
+    codes "Another vend has the file: a desk, or a command that has not ended."
+reason_of ShutByOther =
+    codes "Another program has the file, such as sqlite3 or a backup."
 reason_of ShutBarred =
     codes "You have no right to read and write the file and its folder."
 reason_of ShutNoFolder =
@@ -200,6 +212,16 @@ reason_of ShutJournal =
     codes "A journal is beside the file: another program writes to it, or was killed."
 reason_of ShutVacuum =
     codes "The file has auto_vacuum."
+reason_of ShutTrigger =
+    codes "The file has a trigger on a table of the office."
+reason_of ShutVirtual =
+    codes "The file has a virtual table, as of FTS or R-tree."
+reason_of ShutIndex =
+    codes "The file has an index with WHERE on a table of the office."
+reason_of ShutFull =
+    codes "The disk is full."
+reason_of StoreFull =
+    codes "The office's disk is full."
 reason_of ColumnMeter =
     codes "The column meter has to be eleven digits, the last the check digit."
 reason_of ColumnBase =
@@ -259,6 +281,8 @@ remedy_of Clock =
     codes "Set it right. With --file you can give --at instead."
 remedy_of Value =
     codes "The command's --help has the rules."
+remedy_of Place =
+    codes "Give --file, or --desk without --wait, --at and --transform."
 remedy_of File =
     codes "Correct its name or its rights."
 remedy_of Net =
@@ -357,8 +381,14 @@ remedy_of NetNobody =
     codes "Start the desk, or correct the address. Give the same command again, with the same --ref."
 remedy_of NetSilent =
     codes "Give the same command again, with the same --ref."
+remedy_of NetRubbish =
+    codes "Correct the address, if no desk is there. Give the same command again, with the same --ref."
 remedy_of ShutInUse =
     codes "Ask a desk by --desk. End another program, or give a longer --wait."
+remedy_of ShutByVend =
+    codes "Ask the desk by --desk, or give a longer --wait."
+remedy_of ShutByOther =
+    codes "End it, or give a longer --wait."
 remedy_of ShutBarred =
     codes "Use a user who has both."
 remedy_of ShutNoFolder =
@@ -373,6 +403,16 @@ remedy_of ShutJournal =
     codes "End that program. If the journal stays, let sqlite3 read the file: SELECT count(*) FROM sales;"
 remedy_of ShutVacuum =
     codes "Undo it in sqlite3: PRAGMA auto_vacuum=0; VACUUM;"
+remedy_of ShutTrigger =
+    codes "Undo it in sqlite3: DROP TRIGGER name;"
+remedy_of ShutVirtual =
+    codes "Undo it in sqlite3: DROP TABLE name;"
+remedy_of ShutIndex =
+    codes "Undo it in sqlite3: DROP INDEX name;"
+remedy_of ShutFull =
+    codes "Make room, and try again."
+remedy_of StoreFull =
+    codes "Make room, and try the same again."
 remedy_of ColumnMeter =
     codes "Correct it, and send the file again."
 remedy_of ColumnBase =
@@ -426,7 +466,10 @@ general_of NetTaken = Net
 general_of NetNotHere = Net
 general_of NetNobody = Net
 general_of NetSilent = Net
+general_of NetRubbish = Net
 general_of ShutInUse = OpenStore
+general_of ShutByVend = OpenStore
+general_of ShutByOther = OpenStore
 general_of ShutBarred = OpenStore
 general_of ShutNoFolder = OpenStore
 general_of ShutFolder = OpenStore
@@ -434,6 +477,11 @@ general_of ShutNoDatabase = OpenStore
 general_of ShutLinked = OpenStore
 general_of ShutJournal = OpenStore
 general_of ShutVacuum = OpenStore
+general_of ShutTrigger = OpenStore
+general_of ShutVirtual = OpenStore
+general_of ShutIndex = OpenStore
+general_of ShutFull = OpenStore
+general_of StoreFull = Store
 general_of ColumnMeter = RowField
 general_of ColumnBase = RowField
 general_of ColumnTariff = RowField

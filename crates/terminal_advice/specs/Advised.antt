@@ -12,7 +12,7 @@ use Rattle.terminal_advice.specs.Lines.{advice_of}
 use Rattle.terminal_advice.specs.declared.advice.Advice.{Advice}
 use Rattle.terminal_advice.specs.declared.advice.Advice.TheVariants as advices
 use Rattle.command_line.specs.declared.words.BadWords.{BadWords}
-use Rattle.command_line.specs.declared.words.BadWords.TheVariants.{Memory}
+use Rattle.command_line.specs.declared.words.BadWords.TheVariants.{Place, Memory}
 
 -- the second line
 abbrev pub advice_line : Advice → Text
@@ -49,4 +49,5 @@ pub record IsAdvised (at_terminal : Bool) (old printed new : Held) : Type 0 wher
 -- what is said of arguments that were not had
 abbrev pub fault_advice : BadWords → Advice
 fault_advice Memory = advices.Memory
+fault_advice Place = advices.Place
 fault_advice fault = advices.NoText

@@ -13,8 +13,8 @@ use Rattle.terminal_advice.specs.declared.advice.Advice.TheVariants.{IdentifierA
 use Rattle.terminal_advice.specs.declared.advice.Advice.TheVariants.{OfficeFull, NoSale}
 use Rattle.terminal_advice.specs.declared.advice.Advice.TheVariants.{NoSuchShift, Memory, Store}
 use Rattle.terminal_advice.specs.declared.advice.Advice.TheVariants.{Stopped, NotLater, DayPast}
-use Rattle.terminal_advice.specs.declared.advice.Advice.TheVariants.{Amount, Clock, Value, File}
-use Rattle.terminal_advice.specs.declared.advice.Advice.TheVariants.{Net, NotAnOffice, OpenStore}
+use Rattle.terminal_advice.specs.declared.advice.Advice.TheVariants.{Amount, Clock, Value, Place}
+use Rattle.terminal_advice.specs.declared.advice.Advice.TheVariants.{File, Net, NotAnOffice, OpenStore}
 use Rattle.terminal_advice.specs.declared.advice.Advice.TheVariants.{OpenMemory, DeskStopped}
 use Rattle.terminal_advice.specs.declared.advice.Advice.TheVariants.{RowHeader, RowColumns}
 use Rattle.terminal_advice.specs.declared.advice.Advice.TheVariants.{RowField, RowTooMany}
@@ -55,6 +55,7 @@ other_line line =
     if pointwise eqb line (codes "refused amount") then Some Amount
     else if pointwise eqb line (codes "refused clock") then Some Clock
     else if pointwise eqb line (codes "bad word") then Some Value
+    else if pointwise eqb line (codes "give --file or --desk") then Some Place
     else if pointwise eqb line (codes "file") then Some File
     else if pointwise eqb line (codes "net") then Some Net
     else if pointwise eqb line (codes "open 1 NotAnOffice") then Some NotAnOffice

@@ -25,6 +25,7 @@ pub enum Advice {
     Amount,
     Clock,
     Value,
+    Place,
     File,
     Net,
     NotAnOffice,
@@ -74,7 +75,10 @@ pub enum Advice {
     NetNotHere,
     NetNobody,
     NetSilent,
+    NetRubbish,
     ShutInUse,
+    ShutByVend,
+    ShutByOther,
     ShutBarred,
     ShutNoFolder,
     ShutFolder,
@@ -82,6 +86,11 @@ pub enum Advice {
     ShutLinked,
     ShutJournal,
     ShutVacuum,
+    ShutTrigger,
+    ShutVirtual,
+    ShutIndex,
+    ShutFull,
+    StoreFull,
     ColumnMeter,
     ColumnBase,
     ColumnTariff,
@@ -122,6 +131,7 @@ impl Advice {
             Advice::Amount => "No token carries this amount, or it is 0.",
             Advice::Clock => "The computer's clock is outside the years 1993 to 2099.",
             Advice::Value => "A value is outside its rule.",
+            Advice::Place => "The command needs one office: a file, or a running desk.",
             Advice::File => "The file cannot be read.",
             Advice::Net => "The connection failed, or no whole answer came.",
             Advice::NotAnOffice => {
@@ -185,8 +195,15 @@ impl Advice {
             Advice::NetTaken => "Another program listens at this address.",
             Advice::NetNotHere => "The desk cannot listen at this address.",
             Advice::NetNobody => "Nobody listens at this address.",
-            Advice::NetSilent => "No whole answer came. The request may have been done.",
+            Advice::NetSilent => "No whole answer came in time. The request may have been done.",
+            Advice::NetRubbish => {
+                "The answer broke off, or is none of a desk's. The request may have been done."
+            }
             Advice::ShutInUse => "Another program has the file: a desk, a command or sqlite3.",
+            Advice::ShutByVend => {
+                "Another vend has the file: a desk, or a command that has not ended."
+            }
+            Advice::ShutByOther => "Another program has the file, such as sqlite3 or a backup.",
             Advice::ShutBarred => "You have no right to read and write the file and its folder.",
             Advice::ShutNoFolder =>
                 "The folder of the file does not exist, or you have no right to write there.",
@@ -196,6 +213,11 @@ impl Advice {
             Advice::ShutJournal =>
                 "A journal is beside the file: another program writes to it, or was killed.",
             Advice::ShutVacuum => "The file has auto_vacuum.",
+            Advice::ShutTrigger => "The file has a trigger on a table of the office.",
+            Advice::ShutVirtual => "The file has a virtual table, as of FTS or R-tree.",
+            Advice::ShutIndex => "The file has an index with WHERE on a table of the office.",
+            Advice::ShutFull => "The disk is full.",
+            Advice::StoreFull => "The office's disk is full.",
             Advice::ColumnMeter => {
                 "The column meter has to be eleven digits, the last the check digit."
             }
@@ -244,6 +266,7 @@ impl Advice {
             Advice::Amount => "Choose another.",
             Advice::Clock => "Set it right. With --file you can give --at instead.",
             Advice::Value => "The command's --help has the rules.",
+            Advice::Place => "Give --file, or --desk without --wait, --at and --transform.",
             Advice::File => "Correct its name or its rights.",
             Advice::Net => "Give the same command again, with the same --ref.",
             Advice::NotAnOffice => "Name another file, or undo the change.",
@@ -297,8 +320,13 @@ impl Advice {
             Advice::NetNobody =>
                 "Start the desk, or correct the address. Give the same command again, with the same --ref.",
             Advice::NetSilent => "Give the same command again, with the same --ref.",
+            Advice::NetRubbish => {
+                "Correct the address, if no desk is there. Give the same command again, with the same --ref."
+            }
             Advice::ShutInUse =>
                 "Ask a desk by --desk. End another program, or give a longer --wait.",
+            Advice::ShutByVend => "Ask the desk by --desk, or give a longer --wait.",
+            Advice::ShutByOther => "End it, or give a longer --wait.",
             Advice::ShutBarred => "Use a user who has both.",
             Advice::ShutNoFolder =>
                 "Correct the name, or make the folder, or use a user who has the right.",
@@ -308,6 +336,11 @@ impl Advice {
             Advice::ShutJournal =>
                 "End that program. If the journal stays, let sqlite3 read the file: SELECT count(*) FROM sales;",
             Advice::ShutVacuum => "Undo it in sqlite3: PRAGMA auto_vacuum=0; VACUUM;",
+            Advice::ShutTrigger => "Undo it in sqlite3: DROP TRIGGER name;",
+            Advice::ShutVirtual => "Undo it in sqlite3: DROP TABLE name;",
+            Advice::ShutIndex => "Undo it in sqlite3: DROP INDEX name;",
+            Advice::ShutFull => "Make room, and try again.",
+            Advice::StoreFull => "Make room, and try the same again.",
             Advice::ColumnMeter => "Correct it, and send the file again.",
             Advice::ColumnBase => "Correct it, and send the file again.",
             Advice::ColumnTariff => "Correct it, and send the file again.",
@@ -354,8 +387,11 @@ impl Advice {
             | Advice::NoText => Advice::Value,
             Advice::FileMissing | Advice::FileBarred | Advice::FileFolder | Advice::FileTooLong =>
                 Advice::File,
-            Advice::NetTaken | Advice::NetNotHere | Advice::NetNobody | Advice::NetSilent =>
-                Advice::Net,
+            Advice::NetTaken
+            | Advice::NetNotHere
+            | Advice::NetNobody
+            | Advice::NetSilent
+            | Advice::NetRubbish => Advice::Net,
             Advice::ShutInUse
             | Advice::ShutBarred
             | Advice::ShutNoFolder
@@ -363,7 +399,14 @@ impl Advice {
             | Advice::ShutNoDatabase
             | Advice::ShutLinked
             | Advice::ShutJournal => Advice::OpenStore,
-            Advice::ShutVacuum => Advice::OpenStore,
+            Advice::ShutVacuum
+            | Advice::ShutByVend
+            | Advice::ShutByOther
+            | Advice::ShutTrigger
+            | Advice::ShutVirtual
+            | Advice::ShutIndex
+            | Advice::ShutFull => Advice::OpenStore,
+            Advice::StoreFull => Advice::Store,
             Advice::ColumnMeter
             | Advice::ColumnBase
             | Advice::ColumnTariff

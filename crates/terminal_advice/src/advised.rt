@@ -79,6 +79,7 @@ fn fault_advice(fault: BadWords) -> Advice
 {
     match fault {
         BadWords::Memory => Advice::Memory,
+        BadWords::Place => Advice::Place,
         _ => Advice::NoText,
     }
 }

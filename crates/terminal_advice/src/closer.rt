@@ -50,6 +50,10 @@ fn form_of(advice: Advice, general: Advice) -> Advice
             Advice::Net => advice,
             _ => general,
         },
+        Advice::Store => match advice.general() {
+            Advice::Store => advice,
+            _ => general,
+        },
         _ => general,
     }
 }
@@ -75,6 +79,7 @@ fn seen<L: Look>(
         Advice::File => file_fault(look, said),
         Advice::OpenStore => look.office(said.get_str("file")?),
         Advice::Net => net_fault(look, said),
+        Advice::Store => look.room(said.get_str("file")?),
         _ => None,
     }
 }

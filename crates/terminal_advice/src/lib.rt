@@ -10,6 +10,7 @@ mod lines;
 mod look;
 mod misread;
 mod remembering;
+mod schema;
 mod second_line;
 mod value_rules;
 
@@ -17,4 +18,4 @@ pub use advice::Advice;
 pub use advised::{refuse_advised, run_advised};
 pub use begun::{Begun, Unseen};
 pub use lines::advice_of;
-pub use look::Look;
+pub use look::{Here, Look};

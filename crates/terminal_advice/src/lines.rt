@@ -115,6 +115,8 @@ fn other_line(line: &[u8]) -> Option<Advice>
         Some(Advice::Clock)
     } else if line == b"bad word".as_slice() {
         Some(Advice::Value)
+    } else if line == b"give --file or --desk".as_slice() {
+        Some(Advice::Place)
     } else if line == b"file".as_slice() {
         Some(Advice::File)
     } else if line == b"net".as_slice() {

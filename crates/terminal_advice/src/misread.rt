@@ -60,10 +60,10 @@ fn misread_kind(name: &str, said: &ArgMatches) -> Option<Advice> {
     {
         return broken("rows", rows);
     }
-    if name.ends_with("show") {
+    if name == "show" {
         return misread_shown(what?, said);
     }
-    if name.ends_with("list") {
+    if name == "list" {
         return misread_listed(what?, said);
     }
     None

@@ -9,7 +9,7 @@ use std::io::IsTerminal;
 use std::process::ExitCode;
 use std::rt::Env;
 use std::{env, io};
-use terminal_advice::{Unseen, refuse_advised, run_advised};
+use terminal_advice::{Here, Unseen, refuse_advised, run_advised};
 use vend_commands::Computer;
 
 fn main(rt: HostRuntime) -> ExitCode {
@@ -53,6 +53,7 @@ fn run_given(rt: &HostRuntime, given: &[String]) -> u8 {
 
 // Runs on this computer. `start` stands for what the office's file holds.
 fn run_from<B: Start>(rt: &HostRuntime, start: B, words: &[&str]) -> u8 {
+    let here = Here::new(rt);
     let ports = Computer::ports(rt, rt, start);
     let (mut out, err) = (rt.stdout(), rt.stderr());
     let at_terminal = err.is_terminal();
@@ -60,7 +61,7 @@ fn run_from<B: Start>(rt: &HostRuntime, start: B, words: &[&str]) -> u8 {
         rt.alloc(),
         ports,
         words,
-        &rt,
+        &here,
         at_terminal,
         &mut out,
         err,

@@ -44,6 +44,7 @@ held_wider way few more see old new wider one =
       read = one.read;
       written = one.written;
       end = one.end;
+      held = one.held;
       accepted = one.accepted;
       run = run_wider (clocked few books) (clocked more books) on_books message_refusal_of (old.books, old.answers)
           (new.books, new.answers) _ _ _ _ one.end one.run;

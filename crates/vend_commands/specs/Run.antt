@@ -9,6 +9,7 @@ use Rattle.sts_fields.specs.Text.{Text}
 use Rattle.office_rules.specs.declared.decision.refusal.Refusal.TheVariants.{Memory}
 use Rattle.command_line.specs.Asked.{AskFor}
 use Rattle.command_line.specs.Line.{faults_in}
+use Rattle.command_line.specs.Place.{lack_place}
 use Rattle.command_line.specs.Transform.{forward_of}
 use Rattle.office_commands.specs.commands.Asked.{IsAskedAt}
 use Rattle.desk_commands.specs.AskedOfDesk.{IsAskedOfDesk}
@@ -19,10 +20,11 @@ use Rattle.office_commands.specs.commands.LookedUp.{IsShown, lookup_of}
 use Rattle.vend_commands.specs.serving.Listening.{IsServedTo}
 use Rattle.vend_ports.specs.commands.Metered.{IsMetered}
 use Rattle.vend_commands.specs.port.Machines.{IsAlone, IsMachineIdle, IsOffline, IsShut, Machine}
-use Rattle.vend_ports.specs.print.Printed.{bad_word_line, refusal_line}
+use Rattle.vend_ports.specs.print.Printed.{refusal_line}
 use Rattle.vend_ports.specs.commands.Quoted.{PrintsQuote}
 use Rattle.office_commands.specs.commands.Reported.{IsReported}
 use Rattle.vend_commands.specs.commands.Selfchecked.{IsSelfchecked}
+use Rattle.vend_commands.specs.commands.Unread.{unread_line}
 use Rattle.vend_ports.specs.commands.Timed.{IsTimed}
 use Rattle.vend_ports.specs.print.Told.{Outputs, IsTold}
 use Rattle.vend_ports.specs.commands.Tried.{IsTried}
@@ -78,15 +80,17 @@ IsExplained DisplayHelp text o end = IsTold o text [] Done end
 IsExplained DisplayVersion text o end = IsTold o text [] Done end
 IsExplained kind text o end = IsTold o [] text BadWords end
 
--- The words ask for something, and that is done; or they are a command's, and a value is outside
--- its rule; or `clap` has a fault of theirs, and says something of it; or there was no room to read
--- them, or for what is said of them. Where nothing is done nothing of the machine is used.
+-- The words ask for something, and that is done; or they are a command's that lacks its place, or
+-- has a value outside its rule; or `clap` has a fault of theirs, and says something of it; or there
+-- was no room to read them, or for what is said of them. Where nothing is done nothing of the
+-- machine is used.
 pub data IsProgramRun {S D R W : Type 0} (store : Ghosts S) (machine : Machine D R W)
     (words : List Text) (o : Outputs) (end : CommandEnd) : Type 0 where
   answered : (asked : Asked) → AskFor words asked → IsCarriedOut store machine asked o end
       → IsProgramRun store machine words o end
   bad_word : IsMachineIdle machine → faults_in words ≡ [] → ((asked : Asked) → ¬ AskFor words asked)
-      → IsTold o [] bad_word_line BadWords end → IsProgramRun store machine words o end
+      → IsTold o [] (unread_line (lack_place words)) BadWords end
+      → IsProgramRun store machine words o end
   explained : IsMachineIdle machine → (kind : ErrorKind) (text : Text)
       → IsAmong kind (faults_in words) → text ≢ [] → IsExplained kind text o end
       → IsProgramRun store machine words o end

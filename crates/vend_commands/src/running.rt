@@ -73,8 +73,9 @@ impl<'a, B: Start, T: TimeSource> Computer<'a, B, T> {
 /// Runs the command that some words give, the program's own name left out, with what some ports
 /// give, and answers the exit status.
 ///
-/// A value outside its rule is told as `bad word`; of words that are no command's `clap` tells what
-/// is wrong, or shows its help.
+/// A value outside its rule is told as `bad word`, and a command that names no one office as
+/// `give --file or --desk`; of words that are no command's `clap` tells what is wrong, or shows its
+/// help.
 pub fn run<M: Machine, O: Write, E: Write>(
     alloc: Global,
     ports: Ports<M>,
@@ -283,6 +284,10 @@ pub fn refuse<E: Write>(fault: BadWords, err: &mut Watched<'_, E>) -> CommandEnd
     match fault {
         BadWords::Value => {
             put_line(&[b"bad", b"word"], err);
+            CommandEnd::BadWords
+        }
+        BadWords::Place => {
+            put_line(&[b"give", b"--file", b"or", b"--desk"], err);
             CommandEnd::BadWords
         }
         BadWords::Memory => {

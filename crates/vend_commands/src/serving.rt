@@ -119,7 +119,7 @@ fn hold<S: Alter, D: Door, C: Clock>(
     let Some((mut reader, mut writer)) = door.accept() else {
         return false;
     };
-    let _ = desk.run(alloc, &mut reader, &mut writer, books, clock);
-    D::end(reader, writer);
+    let end = desk.run(alloc, &mut reader, &mut writer, books, clock);
+    door.end(reader, writer, end);
     true
 }

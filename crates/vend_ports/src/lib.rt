@@ -13,6 +13,7 @@ mod trials;
 
 pub use clock::moment_or_now;
 pub use command_end::CommandEnd;
+pub use port::command_stream::CommandStream;
 pub use port::door::Door;
 pub use port::file_fault::FileFault;
 pub use port::loopback::Loopback;
@@ -24,7 +25,7 @@ pub use port::queue::{Listening, Queue};
 pub use port::text_files::TextFiles;
 pub use print::lines::{
     address_text, put_added, put_line, put_no_moment, put_open, put_opened, put_progress,
-    put_quote, put_read_fault, put_refusal, put_row, put_shift, put_stopped,
+    put_quote, put_read_fault, put_refusal, put_row, put_shift, put_stopped, put_waiting,
 };
 pub use print::watched::Watched;
 pub use trials::{TrialFault, trial};

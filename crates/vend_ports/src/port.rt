@@ -1,5 +1,6 @@
 //! What a command has of the machine, and the machine's own.
 
+pub(crate) mod command_stream;
 pub(crate) mod door;
 pub(crate) mod file_fault;
 pub(crate) mod loopback;

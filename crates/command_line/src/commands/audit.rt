@@ -22,7 +22,6 @@ pub(crate) const COMMAND: Description = Description {
     about: "Checks every row of a file, changes none, and prints what the file has, or the first \
         row that breaks a rule",
     example: "Example: vend audit --file office.db",
-    is_hidden: false,
     arguments: &[
         options::PRESENT_FILE,
         options::WAIT,

@@ -16,10 +16,10 @@ pub(crate) const COMMAND: Description = Description {
     name: "base",
     about: ABOUT,
     example: "Example: vend base --file office.db --meter 12345678903 --base 2035",
-    is_hidden: false,
     arguments: &[
         options::TRANSFORM,
         options::FILE_OR_DESK,
+        options::DESK,
         options::WAIT,
         options::METER,
         options::BASE,

@@ -35,10 +35,10 @@ pub(crate) const COMMAND: Description = Description {
     name: "import",
     about: ABOUT,
     example: "Example: vend import --file office.db tariffs tariffs.csv",
-    is_hidden: false,
     arguments: &[
         options::TRANSFORM,
         options::FILE_OR_DESK,
+        options::DESK,
         options::WAIT,
         options::AT,
         KIND,

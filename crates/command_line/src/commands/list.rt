@@ -49,9 +49,9 @@ pub(crate) const COMMAND: Description = Description {
     name: "list",
     about: ABOUT,
     example: "Example: vend list --file office.db meters",
-    is_hidden: false,
     arguments: &[
         options::PRESENT_FILE_OR_DESK,
+        options::DESK,
         options::WAIT,
         options::AT,
         AFTER,

@@ -21,7 +21,6 @@ pub(crate) const COMMAND: Description = Description {
     about: "Enters tokens into a new simulated meter, and prints its answer to each and its \
         credit",
     example: "Example: vend meter --key 0000000000000000 00072057602627981690",
-    is_hidden: false,
     arguments: &[options::TRANSFORM, options::KEY, TOKENS],
 };
 

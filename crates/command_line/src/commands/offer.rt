@@ -34,9 +34,9 @@ pub(crate) const COMMAND: Description = Description {
     name: "offer",
     about: ABOUT,
     example: "Example: vend quote --file office.db --meter 12345678903 1000",
-    is_hidden: false,
     arguments: &[
         options::PRESENT_FILE_OR_DESK,
+        options::DESK,
         options::WAIT,
         options::AT,
         options::METER,

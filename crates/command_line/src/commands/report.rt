@@ -40,8 +40,13 @@ pub(crate) const COMMAND: Description = Description {
     name: "report",
     about: ABOUT,
     example: "Example: vend report --file office.db --kind receipt --number 7",
-    is_hidden: false,
-    arguments: &[options::PRESENT_FILE_OR_DESK, options::WAIT, KIND, NUMBER],
+    arguments: &[
+        options::PRESENT_FILE_OR_DESK,
+        options::DESK,
+        options::WAIT,
+        KIND,
+        NUMBER,
+    ],
 };
 
 /// `--kind`.

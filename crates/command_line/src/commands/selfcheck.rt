@@ -17,7 +17,6 @@ pub(crate) const COMMAND: Description = Description {
     about: "Tests the HTTP server over loopback with an office in memory, and prints 'selfcheck \
         ok'",
     example: "Example: vend selfcheck",
-    is_hidden: false,
     arguments: &[options::TRANSFORM],
 };
 

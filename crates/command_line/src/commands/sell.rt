@@ -19,10 +19,10 @@ pub(crate) const COMMAND: Description = Description {
     about: ABOUT,
     example: "Example: vend sell --file office.db --operator ann --ref A-1 --meter 12345678903 \
         --tender 1000",
-    is_hidden: false,
     arguments: &[
         options::TRANSFORM,
         options::FILE_OR_DESK,
+        options::DESK,
         options::WAIT,
         options::OPERATOR,
         ORDER_REF,

@@ -32,7 +32,6 @@ pub(crate) const COMMAND: Description = Description {
     about: "Answers HTTP/1.1 requests, one connection after another, and prints on standard error \
         where it listens",
     example: "Example: vend serve --file office.db --listen 127.0.0.1:8080 --connections 1000000",
-    is_hidden: false,
     arguments: &[
         options::TRANSFORM,
         options::FILE,

@@ -17,10 +17,10 @@ pub(crate) const COMMAND: Description = Description {
     name: "tariff",
     about: ABOUT,
     example: "Example: vend tariff --file office.db --meter 12345678903 --tariff night",
-    is_hidden: false,
     arguments: &[
         options::TRANSFORM,
         options::FILE_OR_DESK,
+        options::DESK,
         options::WAIT,
         options::METER,
         TARIFF,

@@ -16,10 +16,10 @@ pub(crate) const COMMAND: Description = Description {
     name: "shift",
     about: ABOUT,
     example: "Example: vend shift --file office.db --operator ann open",
-    is_hidden: false,
     arguments: &[
         options::TRANSFORM,
         options::FILE_OR_DESK,
+        options::DESK,
         options::WAIT,
         options::OPERATOR,
         options::AT,

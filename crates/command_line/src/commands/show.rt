@@ -44,9 +44,9 @@ pub(crate) const COMMAND: Description = Description {
     name: "show",
     about: ABOUT,
     example: "Example: vend show --file office.db meter --meter 12345678903",
-    is_hidden: false,
     arguments: &[
         options::PRESENT_FILE_OR_DESK,
+        options::DESK,
         options::WAIT,
         options::AT,
         METER,

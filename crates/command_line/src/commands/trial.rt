@@ -28,7 +28,6 @@ pub(crate) const COMMAND: Description = Description {
     about: "Sells amounts to one meter in memory, without a file, and prints a token a line; \
         'sell --base ..' means the same",
     example: "Example: vend trial --base 2014 --key 0000000000000000 105",
-    is_hidden: false,
     arguments: &[
         options::TRANSFORM,
         options::BASE,

@@ -9,7 +9,7 @@ use std::test::Fail;
 use vend_commands::CommandEnd;
 
 const FAILED_REPLY: &str = "HTTP/1.1 503 Service Unavailable\r\nContent-Type: application/json\r\n\
-    Content-Length: 30\r\n\r\n{\"error\":\"Store\",\"refusal\":16}";
+    Content-Length: 30\r\nDate: Wed, 01 Jan 2014 00:00:30 GMT\r\n\r\n{\"error\":\"Store\",\"refusal\":16}";
 
 // The calls of the opening fail: nobody is served.
 fn is_unopened(ran: &Outcome) -> bool {

@@ -4,7 +4,7 @@ ghost use Rattle.std.specs.Prelude.{◌≡◌, ⊤, [], IfSome};
 use crate::lapses::lapse::{Faults, Lapse, NO_FAULTS};
 use books::OpenFault;
 use command_line::Address;
-use desk::Script;
+use desk::{End, Script};
 use sqlite_disk::Memory;
 use std::alloc::Global;
 use std::fs::OpenOptions;
@@ -216,7 +216,7 @@ impl<'a> Door for Texts<'a> {
 
     ghost refuses = { λ _ _. ⊤ };
 
-    ghost ends = { λ _ _ _ _. ⊤ };
+    ghost ends = { λ _ _ _ _ _. ⊤ };
 
     ghost leaves = { λ _ _. ⊤ };
 
@@ -236,7 +236,7 @@ impl<'a> Door for Texts<'a> {
         Some((reader, Replies { rt: self.rt }))
     }
 
-    fn end<R: Drop, W: Drop>(reader: R, writer: W)
+    fn end(&mut self, reader: Self::Reader, writer: Self::Writer, _end: End)
         ensures { ⊤ }
     {
         drop(reader);

@@ -1,6 +1,6 @@
--- How long the body of a message is and whether the conversation ends after it, from its head: the
--- method, the minor version and the header fields.
-use Rattle.std.specs.Prelude.{ℕ, Bool, ◌&&◌, ◌||◌, List, [], ◌∷◌, map, length, Result, Ok, Err}
+-- How long the body of a message is, whether the conversation ends after it and whether it expects
+-- an interim reply, from its head: the method, the minor version and the header fields.
+use Rattle.std.specs.Prelude.{ℕ, Bool, not, ◌&&◌, ◌||◌, List, [], ◌∷◌, map, length, Result, Ok, Err}
 use Rattle.std.specs.Prelude.{if◌then◌else◌, ◌==◌, nat_lt, nat_le, bytes_eq, codes}
 use Rattle.std.specs.List.{list_all}
 use Rattle.std.specs.Char.{is_ascii_digit}
@@ -61,6 +61,16 @@ lists_close fields = has_option (codes "close") (elements_named (codes "connecti
 abbrev pub is_last : ℕ → List (List ℕ × List ℕ) → Bool
 is_last minor fields = (minor == 0) || lists_close fields
 
+-- an `Expect` field lists `100-continue`, in any case, alone or among other expectations
+abbrev pub lists_continue : List (List ℕ × List ℕ) → Bool
+lists_continue fields =
+    has_option (codes "100-continue") (elements_named (codes "expect") fields)
+
+-- An interim reply is expected before the body is sent: by a message of HTTP/1.1 that has a body,
+-- where an `Expect` field asks for it (RFC 9110, section 10.1.1).
+abbrev pub expects_interim : ℕ → ℕ → List (List ℕ × List ℕ) → Bool
+expects_interim minor len fields = not (minor == 0) && (nat_lt 0 len && lists_continue fields)
+
 -- a step of reading a head that may find a fault
 infixl 10 ◌>>=◌
 abbrev pub ◌>>=◌ : {A B : Type 0} → Result A MessageFault → (A → Result B MessageFault)
@@ -79,7 +89,12 @@ framing name minor fields = do
   _ ← unless (names_its_host minor fields) faults.Host
   _ ← unless (is_uncoded fields) faults.Coding
   body ← body_len (values_of (codes "content-length") fields)
-  Ok (record { method = method; body = body; closes = is_last minor fields })
+  Ok (record {
+    method = method;
+    body = body;
+    closes = is_last minor fields;
+    expects = expects_interim minor body fields;
+  })
 
 -- the same of a head
 abbrev pub framing_of : RequestHead → Result Framing MessageFault

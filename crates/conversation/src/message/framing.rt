@@ -4,8 +4,8 @@ ghost use Rattle.std.specs.List.{list_all};
 ghost use Rattle.httparse.specs.Spans.{IsHeaderWithin};
 ghost use Rattle.conversation.specs.message.Fields.{fields_at, values_of};
 ghost use Rattle.conversation.specs.message.Framing.{body_len, framing, is_number, is_uncoded};
-ghost use Rattle.conversation.specs.message.Framing.{length_of, lists_close, method_of};
-ghost use Rattle.conversation.specs.message.Framing.{names_its_host};
+ghost use Rattle.conversation.specs.message.Framing.{length_of, lists_close, lists_continue};
+ghost use Rattle.conversation.specs.message.Framing.{method_of, names_its_host};
 
 use crate::message::fields::{Only, only_value};
 use crate::message::message_fault::MessageFault;
@@ -24,6 +24,8 @@ pub struct Framing {
     pub body: usize,
     /// Whether the conversation ends after this message.
     pub closes: bool,
+    /// Whether an interim reply is expected before the body is sent.
+    pub expects: bool,
 }
 
 // What a head says, from its method, its minor version and its fields, or its first fault.
@@ -45,10 +47,12 @@ pub(crate) fn framing_of(
         return Err(MessageFault::Coding);
     }
     let body = body_len(input, spans)?;
+    let options = options_of(input, spans);
     Ok(Framing {
         method,
         body,
-        closes: minor == 0 || lists_close(input, spans),
+        closes: minor == 0 || options.0,
+        expects: minor != 0 && body > 0 && options.1,
     })
 }
 
@@ -93,13 +97,15 @@ fn body_len(input: &[u8], spans: &[HeaderSpan]) -> Result<usize, MessageFault>
     }
 }
 
-// Whether a `Connection` field lists `close`.
+// Whether a `Connection` field lists `close`, and whether an `Expect` field lists `100-continue`.
 #[tactic(auto, unfolding(http1::specs::Fields::known_fields))]
-fn lists_close(input: &[u8], spans: &[HeaderSpan]) -> bool
+fn options_of(input: &[u8], spans: &[HeaderSpan]) -> (bool, bool)
     requires { All (IsHeaderWithin (length input.now)) spans.now }
-    ensures { result ≡ lists_close (fields_at input.now spans.now) }
+    ensures close { result.0 ≡ lists_close (fields_at input.now spans.now) }
+    ensures continues { result.1 ≡ lists_continue (fields_at input.now spans.now) }
 {
-    KnownFields::from_spans(input, spans).close
+    let known = KnownFields::from_spans(input, spans);
+    (known.close, known.expect_continue)
 }
 
 // The length of a body that the value writes. It is compared as a number, leading zeros and all.

@@ -19,8 +19,9 @@ pub enum Next<'b> {
     Refused(MessageFault),
     /// Fewer than `MAX_HEAD` bytes that aren't a head yet, and may become one.
     NeedHead,
-    /// A head, and a body that lacks so many bytes: at least one.
-    NeedBody(usize),
+    /// A head, and a body that lacks so many bytes: at least one. The sender may expect an interim
+    /// reply before it sends them.
+    NeedBody { missing: usize, expects: bool },
 }
 
 /// Reads the front of an input of which more may come: a whole message, or why there can be none
@@ -58,13 +59,16 @@ fn next_after<'b>(input: &'b [u8], spans: RequestSpans, fields: &[HeaderSpan]) -
     let target = path_of(spans.path.of(input));
     let after = &input[spans.len..];
     if after.len() < framing.body {
-        return Next::NeedBody(framing.body - after.len());
+        let missing = framing.body - after.len();
+        let expects = framing.expects;
+        return Next::NeedBody { missing, expects };
     }
     Next::Whole(Received {
         method: framing.method,
         target,
         body: &after[..framing.body],
         closes: framing.closes,
+        expects: framing.expects,
         len: spans.len + framing.body,
     })
 }

@@ -9,6 +9,8 @@ pub struct Received<'b> {
     pub body: &'b [u8],
     /// Whether the conversation ends after the reply to this message.
     pub closes: bool,
+    /// Whether an interim reply is expected before the body is sent.
+    pub expects: bool,
     /// How many bytes of the input the message takes, its head included.
     pub len: usize,
 }

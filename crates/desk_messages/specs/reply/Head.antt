@@ -65,23 +65,54 @@ found_form form (found.Meters page) = Json
 found_form form (found.Shifts page) = Json
 found_form form (found.Sales page) = Json
 
--- the head for what came of a message, after which the conversation ends or not; a message that is
--- refused always ends it
-abbrev pub head_of : Outcome → Bool → ReplyHead
-head_of (Refused fault) closes =
-    record { status = message_fault_status fault; form = Json; allowed = None; closes = true }
-head_of (Faulty fault) closes =
+-- the head for what came of a message at this moment, if the clock gave one, after which the
+-- conversation ends or not; a message that is refused always ends it
+abbrev pub head_of : Option ℕ → Outcome → Bool → ReplyHead
+head_of dated (Refused fault) closes =
+    record {
+      status = message_fault_status fault;
+      form = Json;
+      dated = dated;
+      allowed = None;
+      closes = true;
+    }
+head_of dated (Faulty fault) closes =
     record {
       status = desk_fault_status fault;
       form = Json;
+      dated = dated;
       allowed = allowed_by fault;
       closes = closes;
     }
-head_of (Replied form (Ok answer)) closes =
-    record { status = 200; form = answer_form form answer; allowed = None; closes = closes }
-head_of (Replied form (Err refusal)) closes =
-    record { status = refusal_status refusal; form = Json; allowed = None; closes = closes }
-head_of (outcomes.Found form (Ok found)) closes =
-    record { status = 200; form = found_form form found; allowed = None; closes = closes }
-head_of (outcomes.Found form (Err refusal)) closes =
-    record { status = refusal_status refusal; form = Json; allowed = None; closes = closes }
+head_of dated (Replied form (Ok answer)) closes =
+    record {
+      status = 200;
+      form = answer_form form answer;
+      dated = dated;
+      allowed = None;
+      closes = closes;
+    }
+head_of dated (Replied form (Err refusal)) closes =
+    record {
+      status = refusal_status refusal;
+      form = Json;
+      dated = dated;
+      allowed = None;
+      closes = closes;
+    }
+head_of dated (outcomes.Found form (Ok found)) closes =
+    record {
+      status = 200;
+      form = found_form form found;
+      dated = dated;
+      allowed = None;
+      closes = closes;
+    }
+head_of dated (outcomes.Found form (Err refusal)) closes =
+    record {
+      status = refusal_status refusal;
+      form = Json;
+      dated = dated;
+      allowed = None;
+      closes = closes;
+    }

@@ -10,6 +10,7 @@ use Rattle.desk_messages.specs.declared.reply.outcome.Outcome.{Outcome}
 use Rattle.desk_messages.specs.declared.reply.head.ReplyHead.{ReplyHead}
 use Rattle.desk_messages.specs.reply.Body.{body_of}
 use Rattle.desk_messages.specs.reply.Head.{head_of}
+use Rattle.desk_messages.specs.reply.HttpDate.{http_date}
 
 abbrev pub line_end : List ℕ
 line_end = 13 ∷ 10 ∷ []
@@ -26,6 +27,11 @@ field_line name value = name ++ codes ": " ++ value ++ line_end
 abbrev pub media_type : Form → List ℕ
 media_type Json = codes "application/json"
 media_type Paper = codes "text/plain"
+
+-- the date, where the clock gave a moment
+abbrev pub date_line : Option ℕ → List ℕ
+date_line None = []
+date_line (Some moment) = field_line (codes "Date") (http_date moment)
 
 -- the methods that are allowed, where another one was used: with GET, HEAD is
 abbrev pub allow_line : Option Method → List ℕ
@@ -44,6 +50,7 @@ head_text head len =
     status_line head.status
     ++ field_line (codes "Content-Type") (media_type head.form)
     ++ field_line (codes "Content-Length") (decimal len)
+    ++ date_line head.dated
     ++ allow_line head.allowed
     ++ connection_line head.closes
     ++ line_end
@@ -52,12 +59,14 @@ head_text head len =
 unfoldable pub reply_text : ReplyHead → List ℕ → List ℕ
 reply_text head body = head_text head (length body) ++ body
 
--- the reply that tells what came of a message, and after which the conversation ends or not
-abbrev pub reply_bytes_of : Outcome → Bool → List ℕ
-reply_bytes_of outcome closes = reply_text (head_of outcome closes) (body_of outcome)
+-- the reply of this moment that tells what came of a message, and after which the conversation ends
+-- or not
+abbrev pub reply_bytes_of : Option ℕ → Outcome → Bool → List ℕ
+reply_bytes_of dated outcome closes = reply_text (head_of dated outcome closes) (body_of outcome)
 
 -- the reply to a message of this method: to HEAD it has no body
-abbrev pub reply_to : Method → Outcome → Bool → List ℕ
-reply_to Get outcome closes = reply_bytes_of outcome closes
-reply_to Head outcome closes = head_text (head_of outcome closes) (length (body_of outcome))
-reply_to Post outcome closes = reply_bytes_of outcome closes
+abbrev pub reply_to : Method → Option ℕ → Outcome → Bool → List ℕ
+reply_to Get dated outcome closes = reply_bytes_of dated outcome closes
+reply_to Head dated outcome closes =
+    head_text (head_of dated outcome closes) (length (body_of outcome))
+reply_to Post dated outcome closes = reply_bytes_of dated outcome closes

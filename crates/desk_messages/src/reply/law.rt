@@ -1,4 +1,4 @@
-ghost use Rattle.std.specs.Prelude.{◌≡◌, ◌++◌, ℕ, Bool, List, map};
+ghost use Rattle.std.specs.Prelude.{◌≡◌, ◌++◌, ℕ, Bool, List, Option, map};
 ghost use Rattle.serde_json.specs.Data.{Data};
 ghost use Rattle.serde_json.specs.Written.{compact_text};
 ghost use Rattle.sts_fields.specs.Day.{IsDay, IsDayText};
@@ -34,8 +34,9 @@ pub fn reply_law()
 /// A reply to GET is that to HEAD, and then its body.
 #[tactic(auto, unfolding(crate::specs::reply::Text::reply_text))]
 pub fn head_law()
-    ensures { (outcome : Outcome) (closes : Bool) → reply_to Method.Get outcome closes
-        ≡ reply_to Method.Head outcome closes ++ body_of outcome }
+    ensures { (dated : Option ℕ) (outcome : Outcome) (closes : Bool)
+        → reply_to Method.Get dated outcome closes
+        ≡ reply_to Method.Head dated outcome closes ++ body_of outcome }
 {}
 
 /// What the lists of an office are as JSON, written out: the texts of their items in order, with

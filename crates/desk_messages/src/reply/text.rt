@@ -1,31 +1,40 @@
-ghost use Rattle.std.specs.Prelude.{◌≡◌, ◌++◌, IfOk, OnOk, codes, decimal, length};
+ghost use Rattle.std.specs.Prelude.{◌≡◌, ◌++◌, IfOk, OnOk, Some, codes, decimal, length};
 ghost use Rattle.http.specs.StatusCode.{IsStatusCode};
 ghost use Rattle.desk_messages.specs.reply.Body.{body_of};
 ghost use Rattle.desk_messages.specs.reply.Head.{head_of};
-ghost use Rattle.desk_messages.specs.reply.Text.{allow_line, connection_line, field_line};
-ghost use Rattle.desk_messages.specs.reply.Text.{head_text, media_type, reply_bytes_of};
-ghost use Rattle.desk_messages.specs.reply.Text.{reply_text, reply_to, status_line};
+ghost use Rattle.desk_messages.specs.reply.Text.{allow_line, connection_line, date_line};
+ghost use Rattle.desk_messages.specs.reply.Text.{field_line, head_text, media_type};
+ghost use Rattle.desk_messages.specs.reply.Text.{reply_bytes_of, reply_text, reply_to};
+ghost use Rattle.desk_messages.specs.reply.Text.{status_line};
 
 use crate::reply::body::{body_of, plain_sale};
 use crate::reply::form::Form;
 use crate::reply::head::ReplyHead;
+use crate::reply::http_date::http_date;
 use crate::reply::outcome::Outcome;
 use crate::reply::sale_text::sale_text;
 use conversation::Method;
 use http::StatusCode;
 use itoa::Buffer;
 use std::alloc::{AllocError, Global};
+use sts_fields::Moment;
 
 // More bytes than the longest head takes.
-const HEAD_ROOM: usize = 160;
+const HEAD_ROOM: usize = 200;
 
 /// The bytes of the whole reply that tells what came of a message (`docs/DESK.md`, "Replies"), or
-/// want of memory. Where the conversation ends after it the reply says so: that is where it is to
-/// close, and always after a message that is refused.
-pub fn reply_bytes(alloc: Global, outcome: &Outcome, closes: bool) -> Result<Vec<u8>, AllocError>
-    ensures { IfOk result (λ text. text.items ≡ reply_bytes_of outcome.now closes) }
+/// want of memory. It has the date of the moment, if the clock gave one. Where the conversation ends
+/// after it the reply says so: that is where it is to close, and always after a message that is
+/// refused.
+pub fn reply_bytes(
+    alloc: Global,
+    dated: Option<Moment>,
+    outcome: &Outcome,
+    closes: bool,
+) -> Result<Vec<u8>, AllocError>
+    ensures { IfOk result (λ text. text.items ≡ reply_bytes_of dated outcome.now closes) }
 {
-    let head = ReplyHead::of(outcome, closes);
+    let head = ReplyHead::of(dated, outcome, closes);
     if let Some(sale) = plain_sale(outcome) {
         return reply_text(alloc, head, &sale_text(sale));
     }
@@ -38,25 +47,31 @@ pub fn reply_bytes(alloc: Global, outcome: &Outcome, closes: bool) -> Result<Vec
 pub fn reply_to(
     alloc: Global,
     method: Method,
+    dated: Option<Moment>,
     outcome: &Outcome,
     closes: bool,
 ) -> Result<Vec<u8>, AllocError>
-    ensures { IfOk result (λ text. text.items ≡ reply_to method outcome.now closes) }
+    ensures { IfOk result (λ text. text.items ≡ reply_to method dated outcome.now closes) }
 {
     match method {
-        Method::Get | Method::Post => reply_bytes(alloc, outcome, closes),
-        Method::Head => bodiless_reply(alloc, outcome, closes),
+        Method::Get | Method::Post => reply_bytes(alloc, dated, outcome, closes),
+        Method::Head => bodiless_reply(alloc, dated, outcome, closes),
     }
 }
 
 // The head of that reply alone.
 #[cold]
 #[inline(never)]
-fn bodiless_reply(alloc: Global, outcome: &Outcome, closes: bool) -> Result<Vec<u8>, AllocError>
+fn bodiless_reply(
+    alloc: Global,
+    dated: Option<Moment>,
+    outcome: &Outcome,
+    closes: bool,
+) -> Result<Vec<u8>, AllocError>
     ensures { IfOk result (λ text. text.items
-        ≡ head_text (head_of outcome.now closes) (length (body_of outcome.now))) }
+        ≡ head_text (head_of dated outcome.now closes) (length (body_of outcome.now))) }
 {
-    let head = ReplyHead::of(outcome, closes);
+    let head = ReplyHead::of(dated, outcome, closes);
     let body = body_of(alloc, outcome)?;
     head_and(alloc, head, body.len(), &[])
 }
@@ -80,6 +95,7 @@ fn head_and(alloc: Global, head: ReplyHead, len: usize, sent: &[u8]) -> Result<V
     let mut text = Vec::with_capacity(alloc, HEAD_ROOM + sent.len())?;
     put_status(alloc, &mut text, head.status)?;
     put_content(&mut text, head.form, len)?;
+    put_date(&mut text, head.dated)?;
     put_allowed(&mut text, head.allowed)?;
     put_closing(&mut text, head.closes)?;
     text.extend_from_slice(b"\r\n")?;
@@ -126,6 +142,26 @@ fn put_content(text: &mut Vec<u8>, form: Form, len: usize) -> Result<(), AllocEr
     text.extend_from_slice(digits.format(len).as_bytes())?;
     text.extend_from_slice(b"\r\n")?;
     Ok(())
+}
+
+// Adds the date, where the clock gave a moment.
+#[inline(always)]
+fn put_date(text: &mut Vec<u8>, dated: Option<Moment>) -> Result<(), AllocError>
+    ensures { OnOk result (text.new.items ≡ text.old.items ++ date_line dated) }
+{
+    match dated {
+        None => Ok(()),
+        Some(moment) => put_date_at(text, moment),
+    }
+}
+
+// Adds the date of a moment.
+fn put_date_at(text: &mut Vec<u8>, moment: Moment) -> Result<(), AllocError>
+    ensures { OnOk result (text.new.items ≡ text.old.items ++ date_line (Some moment)) }
+{
+    text.extend_from_slice(b"Date: ")?;
+    text.extend_from_slice(&http_date(moment))?;
+    text.extend_from_slice(b"\r\n")
 }
 
 // Adds the line of a field.

@@ -66,7 +66,7 @@ GET /sales/1 HTTP/1.1~~
 }
 
 /// Of a new office: clocks outside the calendar, methods, texts, and a clock of several answers.
-/// Each message that has a route takes the next one, and no other does.
+/// Each whole message takes the next one.
 pub(crate) fn with_clocks() -> &'static str {
     "\
 Each
@@ -93,7 +93,7 @@ POST /tariffs HTTP/1.1~Host: d~Content-Length: 30~~{'name':'flat',\
     'key':'0000000000000000','meter':'12345678903','tariff':'flat'}
 200 OK, 13 = {'done':true}
 200 OK, 13 = {'done':true}
-> Closed 1388534430 1391212799 1391212800
+> Closed 1388534430 1388534430 1391212799 1391212799 1391212800
 POST /imports/tariffs HTTP/1.1~Host: d~Content-Length: 37~~name,steps,from|flat,:200,2014-02-01|\
     GET /nowhere HTTP/1.1~Host: d~~POST /sales HTTP/1.1~Host: d~Content-Length: 64~~\
     {'meter':'12345678903','operator':'ann','ref':'A-1','tender':10}GET /sales HTTP/1.1~Host: d~~\

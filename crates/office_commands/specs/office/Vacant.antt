@@ -1,5 +1,5 @@
 -- A file that is looked at and not made, and one that has no office.
-use Rattle.std.specs.Prelude.{◌≡◌, false, ℕ, List, None}
+use Rattle.std.specs.Prelude.{◌≡◌, ◌<◌, ◌≤◌, ◌⊎◌, false, length, None}
 use Rattle.sqlite.specs.Files.{IsBlankAs, IsNothing, file_state, image_of}
 use Rattle.sqlite.specs.Held.{Held}
 use Rattle.sqlite.specs.State.{HasCleanDisk}
@@ -7,7 +7,7 @@ use Rattle.sqlite_disk.specs.declared.Disk.{Ghosts}
 use Rattle.sqlite_disk.specs.declared.Files.{Files}
 use Rattle.sqlite_store.specs.FileStore.{view}
 use Rattle.sqlite_store.specs.declared.store.FileStore.{FileStore}
-use Rattle.sqlite_wal.specs.Files.{outcomes}
+use Rattle.sqlite_wal.specs.Files.{outcomes, seen_image}
 use Rattle.sqlite_wal.specs.Reads.{AreClean}
 use Rattle.sqlite_wal.specs.Recovery.{Image}
 use Rattle.book_tables.specs.Holds.{IsUntaken}
@@ -15,14 +15,20 @@ use Rattle.books.specs.Path.{AreTakenFrom, IsConnected, StandsIn}
 use Rattle.books.specs.declared.refused_files.RefusedFiles.TheVariants.{Connected}
 use Rattle.office_rules.specs.Office.{Office, empty_office}
 
--- These files were met, and since then only the length of the database file was taken: they hold
--- what they held, and a crash leaves nothing new.
+-- These files were met, and since then only their lengths were taken: they hold what they held, and
+-- a crash leaves nothing new.
 pub record AreMeasured {D : Type 0} (g : Ghosts D) (meets : D → D → Type 0) (log db : D) : Type 0
   where
-    pub found : D
-    pub met : meets log found
-    pub seen : g.seen db ≡ g.seen found
-    pub crash : (bytes : List ℕ) → g.may_leave db bytes → g.may_leave found bytes
+    pub found : Files D
+    pub met : meets found.log found.db
+    pub seen : seen_image g log db ≡ image_of g found
+    pub crash : (after : Image) → outcomes g log db after → outcomes g found.log found.db after
+
+-- There is too little for a database: the database file is empty, or it has one byte, as one that is
+-- just being made, and no frame stands in the log.
+abbrev pub IsTooShort : Image → Type 0
+IsTooShort image =
+    (length image.db ≡ 0) ⊎ ((length image.db ≤ 1) × (length image.log < 56))
 
 module _ {D : Type 0} (g : Ghosts D) where
   -- nothing was ever written in these files: they hold what was found, which is no database yet,

@@ -1,5 +1,5 @@
 -- The files that keep offices, each at its path.
-use Rattle.std.specs.Prelude.{◌≡◌, ℕ, false, Option, None, Result}
+use Rattle.std.specs.Prelude.{◌≡◌, ◌⊎◌, ℕ, false, Option, None, Result}
 use Rattle.sqlite_disk.specs.Disk.{MoreFaults}
 use Rattle.sqlite_disk.specs.declared.Disk as disk
 use Rattle.sqlite_disk.specs.declared.Files.{Files}
@@ -22,12 +22,17 @@ use Rattle.office_commands.specs.port.Back.{lets_go_giving}
 use Rattle.office_commands.specs.declared.port.ports.OfficeFile as file
 use Rattle.office_commands.specs.declared.port.ports.SaltSource as source
 
--- No office was opened in two files: a call of the database file failed, or there was no salt for a
--- new log, and they were let go as they were found; or the office was refused. Then the files are
+-- a call of one of the files failed, since it was this
+abbrev pub HasFailed : {D : Type 0} → disk.Ghosts D → (before : D) → Files D → Type 0
+HasFailed disk before found = MoreFaults (disk.faults before) (disk.faults found.log)
+    ⊎ MoreFaults (disk.faults before) (disk.faults found.db)
+
+-- No office was opened in two files: a call of one of them failed, or there was no salt for a new
+-- log, and they were let go as they were found; or the office was refused. Then the files are
 -- taken from what the refusal gave back, which says what they hold, and let go.
 pub data IsUnopenedIn {D S : Type 0} (disk : disk.Ghosts D) (salts : source.Ghosts S)
     (lets_go : D → D → Type 0) (found : Files D) (fault : OpenFault) : Type 0 where
-  unread : (before : D) → MoreFaults (disk.faults before) (disk.faults found.db)
+  unread : (before : D) → HasFailed disk before found
       → fault ≡ Store → lets_go found.log found.db → IsUnopenedIn disk salts lets_go found fault
   unsalted : (it : S) → salts.lacks it → fault ≡ Store → lets_go found.log found.db
       → IsUnopenedIn disk salts lets_go found fault

@@ -1,18 +1,20 @@
 //! A file that is looked for and is not made: what is there.
 
-ghost use Rattle.std.specs.Prelude.{◌≡◌, ◌↔◌, ◌≤◌, ℕ, List, length, IfErr, IfNone, IfOk, IfSome};
+ghost use Rattle.std.specs.Prelude.{◌≡◌, ◌↔◌, ◌≤◌, ℕ, List, IfErr, IfNone, IfOk, IfSome};
 ghost use Rattle.std.specs.Prelude.{false, IsTrue, None};
 ghost use Rattle.sqlite.specs.Files.{image_of};
-ghost use Rattle.sqlite_disk.specs.Disk.{MoreFaults, Only};
 ghost use Rattle.sqlite_disk.specs.declared.Files.{Files};
+ghost use Rattle.sqlite_wal.specs.Files.{outcomes, seen_image};
+ghost use Rattle.sqlite_wal.specs.Reads.{AreClean};
+ghost use Rattle.sqlite_wal.specs.Recovery.{Image};
 ghost use Rattle.book_tables.specs.Holds.{HasOfficeOf, IsUntaken};
 ghost use Rattle.book_tables.specs.row.Rows.{present_format};
 ghost use Rattle.books.specs.Path.{AreTakenFrom};
 ghost use Rattle.books.specs.declared.refused_files.RefusedFiles.TheVariants.{Connected};
 ghost use Rattle.office_commands.specs.office.Met.{IsMet};
-ghost use Rattle.office_commands.specs.office.Vacant.{IsConnection, IsThere};
+ghost use Rattle.office_commands.specs.office.Vacant.{IsConnection, IsThere, IsTooShort};
 ghost use Rattle.office_commands.specs.port.Back.{lets_go_giving};
-ghost use Rattle.office_commands.specs.port.Places.{IsUnopenedIn, places_of};
+ghost use Rattle.office_commands.specs.port.Places.{HasFailed, IsUnopenedIn, places_of};
 
 use crate::office::met::Met;
 use crate::office::opening::options_of;
@@ -25,6 +27,9 @@ use sqlite_disk::{Disk, Files};
 use sqlite_schema::schema::Schema;
 use std::alloc::{AllocError, Global};
 use std::io;
+
+// A log that is shorter has no frame: no page of a database.
+const SHORTEST_LOG: usize = 56;
 
 /// Connects with the database in the file at a path, where there is one with tables of an office.
 /// No table is made. A file that has none is left as it was. Waits up to so many seconds while
@@ -52,10 +57,10 @@ pub(crate) fn meet<H: OfficeFile>(
         Ok(found) => found,
         Err(fault) => return Err(fault),
     };
-    let Some((log, mut db)) = found else {
+    let Some((mut log, mut db)) = found else {
         return Ok(Met::Nothing);
     };
-    match is_blank(&mut db) {
+    match is_blank(&mut log, &mut db) {
         Ok(false) => {}
         Ok(true) => {
             H::let_go_looked(log, db, salts, &new_log);
@@ -77,24 +82,54 @@ pub(crate) fn meet<H: OfficeFile>(
     }
 }
 
-// Whether a database file is empty, and stays so in a crash. Nothing is written.
-fn is_blank<D: Disk>(db: &mut D) -> io::Result<bool>
-    requires { IsTrue (D.Disk.is_usable db.old) }
-    ensures seen { D.Disk.seen db.new ≡ D.Disk.seen db.old }
-    ensures crash { (bytes : List ℕ) → D.Disk.may_leave db.new bytes
-        → D.Disk.may_leave db.old bytes }
-    ensures usable { IfOk result (λ _. IsTrue (D.Disk.is_usable db.new)) }
-    ensures blank { IfOk result (λ is. IsTrue is → Only (D.Disk.seen db.old)
-        (D.Disk.may_leave db.new)
-        × (IsTrue (D.Disk.is_clean db.new) → length (D.Disk.seen db.old) ≡ 0)) }
-    ensures failed { IfErr result
-        (λ _. (before : D) × MoreFaults (D.Disk.faults before) (D.Disk.faults db.new)) }
+// Whether two files are too short for a database, and stay so in a crash. Nothing is written.
+fn is_blank<D: Disk>(log: &mut D, db: &mut D) -> io::Result<bool>
+    requires log { IsTrue (D.Disk.is_usable log.old) }
+    requires db { IsTrue (D.Disk.is_usable db.old) }
+    ensures seen { seen_image D.Disk log.new db.new ≡ seen_image D.Disk log.old db.old }
+    ensures crash { (after : Image) → outcomes D.Disk log.new db.new after
+        → outcomes D.Disk log.old db.old after }
+    ensures usable_log { IfOk result (λ _. IsTrue (D.Disk.is_usable log.new)) }
+    ensures usable_db { IfOk result (λ _. IsTrue (D.Disk.is_usable db.new)) }
+    ensures blank { IfOk result (λ is. IsTrue is
+        → ((after : Image) → outcomes D.Disk log.new db.new after
+        → after ≡ seen_image D.Disk log.old db.old)
+        × (AreClean D.Disk log.new db.new → IsTooShort (seen_image D.Disk log.old db.old))) }
+    ensures failed { IfErr result (λ _. (before : D)
+        × HasFailed D.Disk before (record { log = log.new; db = db.new })) }
 {
-    if db.len()? != 0 {
-        return Ok(false);
+    match are_short(log, db) {
+        Ok(true) => {}
+        other => return other,
     }
+    log.sync()?;
     db.sync()?;
     Ok(true)
+}
+
+// Whether two files are too short for a database. Only their lengths are taken.
+fn are_short<D: Disk>(log: &mut D, db: &mut D) -> io::Result<bool>
+    requires log { IsTrue (D.Disk.is_usable log.old) }
+    requires db { IsTrue (D.Disk.is_usable db.old) }
+    ensures seen_log { D.Disk.seen log.new ≡ D.Disk.seen log.old }
+    ensures seen_db { D.Disk.seen db.new ≡ D.Disk.seen db.old }
+    ensures crash_log { (bytes : List ℕ) → D.Disk.may_leave log.new bytes
+        → D.Disk.may_leave log.old bytes }
+    ensures crash_db { (bytes : List ℕ) → D.Disk.may_leave db.new bytes
+        → D.Disk.may_leave db.old bytes }
+    ensures usable_log { IsTrue (D.Disk.is_usable log.new) }
+    ensures usable_db { IsTrue (D.Disk.is_usable db.new) }
+    ensures short { IfOk result (λ is. IsTrue is → IsTrue (D.Disk.is_clean log.new)
+        → IsTrue (D.Disk.is_clean db.new) → IsTooShort (seen_image D.Disk log.old db.old)) }
+    ensures failed { IfErr result (λ _. (before : D)
+        × HasFailed D.Disk before (record { log = log.new; db = db.new })) }
+{
+    match db.len()? {
+        0 => Ok(true),
+        // SQLite takes one byte for an empty database, where no log goes with it.
+        1 => Ok(log.len()? < SHORTEST_LOG),
+        _ => Ok(false),
+    }
 }
 
 // Connects with the database in two files, or lets them go.

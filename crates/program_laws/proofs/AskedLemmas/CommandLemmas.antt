@@ -124,7 +124,7 @@ module _ (laws : DeskLaws) (one : OnePage) where
   says_of : (words : DeskWords) (command : Option (Text × List Row)) → CommandAsks command (asks.Desk words)
       → (name : Text) × (rows : List Row) × SaysDeskWords name rows words
   says_of words None says = absurd says
-  says_of words (Some (name, rows)) says = (name, rows, says)
+  says_of words (Some (name, rows)) says = (name, rows, says.1)
 
   carried_said : {S D R W : Type 0} (store : Ghosts S) (m : Machine D R W) (asked : Asked) (o : Outputs) (end : CommandEnd)
       (is : IsCarriedOut store m asked o end) (words : List Text) → AskFor words asked → (question : DeskQuestion) (rounds : List Round)

@@ -9,6 +9,7 @@ use Rattle.conversation.specs.message.Messages.{BeginsMessage, Message}
 use Rattle.conversation.specs.Run.{IsRun}
 use Rattle.conversation.specs.declared.end.End as conversation
 use Rattle.conversation.specs.declared.end.End.TheVariants.{Closed, BadMessage, ReadFault, WriteFault, Memory}
+use Rattle.conversation.proofs.InterimLemmas.{leaves_office}
 use Rattle.desk.specs.Answering.{answers_by, life_serves, message_refusal_of}
 use Rattle.office_rules.specs.Decision.Fold.{replies_to, reply, step}
 use Rattle.office_rules.specs.Decision.Requests.{IsStamped}
@@ -133,15 +134,16 @@ late_goes rest mid new (inr (m, after, begins, (now, reads, inr (reply, step))))
 -- and along a whole conversation
 pub run_goes : (old new : Timed Life) (unread left held holds : Option (List ℕ)) (end : conversation.End)
     → IsRun (answers_by life_serves) message_refusal_of old new unread left held holds end → GoesFrom old.0 new.0
-run_goes old new unread left held holds Closed (input, all, inl said) = exchanged_goes old new said.conversation.exchanges said.conversation.served
+run_goes old new unread left held holds Closed (input, all, inl (expects, said)) = exchanged_goes old new said.conversation.exchanges said.conversation.served
 run_goes old new unread left held holds Closed (input, all, inr said) = exchanged_goes old new said.conversation.exchanges said.conversation.served
 run_goes old new unread left held holds BadMessage (input, all, fault, said) = exchanged_goes old new said.conversation.exchanges said.conversation.served
-run_goes old new unread left held holds ReadFault (input, taken, said) = exchanged_goes old new said.conversation.exchanges said.conversation.served
+run_goes old new unread left held holds ReadFault (input, taken, expects, said) = exchanged_goes old new said.conversation.exchanges said.conversation.served
 run_goes old new unread left held holds WriteFault (input, all, text, appends, cut) =
     let before = exchanged_goes old cut.mid cut.before.exchanges cut.before.served in
     elim cut.is_last [
       | inl reply ↦ goes_through old.0 cut.mid.0 new.0 before (answered_goes cut.mid new reply.exchange reply.answered)
-      | inr refusal ↦ goes_through old.0 cut.mid.0 new.0 before (goes_none cut.mid.0 new.0 (ap (λ (l : Timed Life). l.0) refusal.same))
+      | inr other ↦ goes_through old.0 cut.mid.0 new.0 before
+          (goes_none cut.mid.0 new.0 (ap (λ (l : Timed Life). l.0) (leaves_office message_refusal_of cut.rest cut.mid cut.last new other)))
     ]
 run_goes old new unread left held holds Memory (input, all, text, appends, given) =
     goes_through old.0 given.mid.0 new.0 (exchanged_goes old given.mid given.before.exchanges given.before.served)

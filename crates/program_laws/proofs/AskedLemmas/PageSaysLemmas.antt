@@ -15,17 +15,19 @@ use Rattle.desk_messages.specs.declared.desk_fault.DeskFault.TheVariants as faul
 use Rattle.desk_messages.specs.declared.reply.form.Form.TheVariants as forms
 use Rattle.desk_messages.specs.declared.reply.outcome.Outcome.{Outcome}
 use Rattle.desk_messages.specs.declared.reply.outcome.Outcome.TheVariants as outcomes
+use Rattle.desk_messages.specs.reply.HttpDate.{moment_given}
 use Rattle.desk_messages.specs.reply.Text.{reply_bytes_of}
 use Rattle.desk_client.specs.Alike.{TellAlike}
 use Rattle.desk_client.specs.Asks.{question_message}
 use Rattle.desk_client.specs.Page.{IsToldPage, page_as_read}
 use Rattle.desk_client.specs.Reply.{reply_text}
+use Rattle.desk_client.specs.Start.{IsDated}
 use Rattle.desk_client.specs.Told.{IsTellable}
 use Rattle.desk_client.specs.declared.told.Granted.TheVariants as granted
 use Rattle.desk_client.specs.declared.told.Told.{Told}
 use Rattle.desk_client.specs.declared.told.Told.TheVariants as told
 use Rattle.desk_client.specs.declared.told.Wanted.TheVariants as wants
-use Rattle.desk_client.proofs.TellsLemmas.{says}
+use Rattle.desk_client.proofs.TellsLemmas.{date_given, given_dated, says}
 use Rattle.command_line.specs.declared.commands.list.Listed.{Listed}
 use Rattle.desk_commands.specs.ListedAtDesk.{page_kind, page_question}
 use Rattle.desk_commands.specs.print.Pages.{list_behind, page_lookup}
@@ -50,7 +52,9 @@ pub record PageThere (list : Listed) (page : Found) (old new : Life) (x : Messag
 
 pub record PageSays (list : Listed) (old new : Life) (x : MessageExchange) : Type 0 where
   pub said : Told
-  pub text : x.reply ≡ reply_text said
+  pub date : Option (List ℕ)
+  pub is_date : IsDated date
+  pub text : x.reply ≡ reply_text date said
   pub tellable : IsTellable wants.Page said
   pub page : (body : Bor (List ℕ)) (page : Found) → TellAlike (told.Granted (granted.Page body)) said → IsToldPage (page_kind list) page
       → body.now ≡ page_as_read page → PageThere list page old new x
@@ -67,11 +71,14 @@ module _ (laws : DeskLaws) (old new : Timed Life) (x : MessageExchange) (opening
       let office : IsOffice (present old.0) = present_is laws.along old.0 (subst IsLife r.3 life) opening in
       let u = told_look forms.Json r.0 in
       let keeps = page_tellable laws old.0 office moment list r.0 r.2 in
-      let text : x.reply ≡ reply_bytes_of (outcomes.Found forms.Json r.0) false = c.text ∙ ap (λ (x : Outcome). reply_bytes_of x false) r.1 in
+      let text : x.reply ≡ reply_bytes_of (moment_given now) (outcomes.Found forms.Json r.0) false =
+      c.text ∙ ap (λ (x : Outcome). reply_bytes_of (moment_given now) x false) r.1 in
       record {
         said = u;
+        date = date_given now;
+        is_date = given_dated laws.dates now;
         text =
-            text ∙ says laws.texts wants.Page (outcomes.Found forms.Json r.0) u keeps
+            text ∙ says (moment_given now) laws.texts wants.Page (outcomes.Found forms.Json r.0) u keeps
             (look_tells forms.Json r.0 (no_count forms.Json wants.Page r.0 (λ e. absurd cc) keeps));
         tellable = keeps;
         page = λ body page alike is_told as_read.
@@ -99,8 +106,8 @@ module _ (laws : DeskLaws) (old new : Timed Life) (x : MessageExchange) (opening
                   lookup = page_lookup list;
                   looks = looks_so laws old new x opening life moment is_moment given (page_question list) forms.Json (page_lookup list) asked looks;
                   told =
-                      told_open laws old new x opening life (page_question list) (outcomes.Found forms.Json (Ok it.0)) asked
-                      (text ∙ ap (λ (x : Result Found Refusal). reply_bytes_of (outcomes.Found forms.Json x) false) it.1);
+                      told_open laws old new x opening life (page_question list) now (outcomes.Found forms.Json (Ok it.0)) asked given
+                      (text ∙ ap (λ (x : Result Found Refusal). reply_bytes_of (moment_given now) (outcomes.Found forms.Json x) false) it.1);
                 },
                 found,
                 r.3,
@@ -116,7 +123,9 @@ module _ (laws : DeskLaws) (old new : Timed Life) (x : MessageExchange) (opening
     | inl (moment, is_moment, given, c) ↦ page_says_at moment is_moment given one list askable asked c
     | inr none ↦ record {
       said = told.NoMoment;
-      text = none ∙ says laws.texts wants.Page (outcomes.Faulty faults.Clock) told.NoMoment tt refl;
+      date = date_given x.now;
+      is_date = given_dated laws.dates x.now;
+      text = none ∙ says (moment_given x.now) laws.texts wants.Page (outcomes.Faulty faults.Clock) told.NoMoment tt refl;
       tellable = tt;
       page = λ body page alike is_told as_read. absurd alike;
     }

@@ -1,5 +1,5 @@
 -- What a command printed of the conversation of a connection that carried what it sent and what came.
-use Rattle.std.proofs.Common.{◌≡◌, ◌∙◌, ℕ, ◌<◌, ◌≤◌, ◌^◌, Bool, false, List, [], ◌∷◌, ◌++◌, length, Option, Some, Ok, inl, inr, sym, ap, subst, append-nil, append_assoc, length-append, arith}
+use Rattle.std.proofs.Common.{◌≡◌, ◌∙◌, ℕ, ◌<◌, ◌≤◌, ◌^◌, Bool, false, List, [], ◌∷◌, ◌++◌, length, Option, Some, Ok, inl, inr, refl, sym, ap, subst, append-nil, append_assoc, length-append, arith}
 use Rattle.std.specs.Prelude.{Contains, IfSome, drop, take}
 use Rattle.std.specs.List.{flat_map}
 use Rattle.std.proofs.lemmas.List.{length-take-le, take-append-drop}
@@ -8,14 +8,16 @@ use Rattle.office_rules.specs.Office.{IsOffice}
 use Rattle.office_rules.specs.declared.office.sale.Sale.{Sale}
 use Rattle.vend_core.specs.Law.Life.{IsLife, Life}
 use Rattle.book_states.specs.declared.lookup.Found.{Found}
-use Rattle.conversation.specs.Conversation.{messages_of, replies_of}
+use Rattle.conversation.specs.Conversation.{messages_of, replies_of, text_of}
 use Rattle.conversation.specs.Exchanges.{Exchanged, MessageExchange, Timed, timed}
 use Rattle.conversation.specs.message.Messages.{BeginsMessage, Message}
+use Rattle.conversation.proofs.InterimLemmas.{expects_none, reply_alone}
 use Rattle.conversation.proofs.ReadingLemmas.{message_unique}
 use Rattle.desk.specs.Answering.{answers_by, life_serves}
 use Rattle.desk_client.specs.Asks.{IsAskable, question_message}
 use Rattle.desk_client.specs.Question.{question_text, wanted_by}
 use Rattle.desk_client.specs.Reply.{IsReply, longest_reply_body, reply_text}
+use Rattle.desk_client.specs.Start.{IsDated}
 use Rattle.desk_client.specs.Told.{told_text}
 use Rattle.desk_client.specs.declared.question.Question.{Question}
 use Rattle.desk_client.specs.declared.told.Granted.TheVariants as granted
@@ -43,7 +45,7 @@ use Rattle.program_laws.proofs.AskedLemmas.LifeLemmas.{GoesFrom, exchanged_goes,
 use Rattle.program_laws.proofs.AskedLemmas.PageSaysLemmas.{page_says}
 use Rattle.program_laws.proofs.AskedLemmas.SaysLemmas.{Sells, exchange_says, sells_later}
 use Rattle.program_laws.proofs.AskedLemmas.TalkLemmas.{Reads, Stops, Talk}
-use Rattle.program_laws.proofs.AskedLemmas.TalkLemmas.Stops.{cut_short, no_more, unsaid}
+use Rattle.program_laws.proofs.AskedLemmas.TalkLemmas.Stops.{cut_short, expecting, no_more, unsaid}
 
 -- what holds of the sales in what was printed
 pub map_prints : (A B : Sale → Type 0) (o : Outputs) (end : CommandEnd) → ((s : Sale) → A s → B s) → PrintsOfDesk A o end → PrintsOfDesk B o end
@@ -56,19 +58,19 @@ map_prints A B o end gives (nothing errors is) = nothing errors is
 -- ---- replies at the front of what was written
 
 -- a reply has some bytes
-some_reply : (t : Told) (came behind tail : List ℕ) → came ≡ reply_text t → came ++ behind ≡ tail → tail ≡ [] → ⊥
-some_reply t came behind tail is text none = omega (arith, ap length (text ∙ none), length-append came behind, ap length is, reply_length t)
+some_reply : (d : Option (List ℕ)) (t : Told) (came behind tail : List ℕ) → came ≡ reply_text d t → came ++ behind ≡ tail → tail ≡ [] → ⊥
+some_reply d t came behind tail is text none = omega (arith, ap length (text ∙ none), length-append came behind, ap length is, reply_length d t)
 
 -- One that came whole was not cut off.
-not_cut : (t u : Told) (reply came behind : List ℕ) (part : ℕ) → length (told_text t) ≤ longest_reply_body → came ≡ reply_text t → reply ≡ reply_text u
-    → part < length reply → length reply < 2 ^ 64 → came ++ behind ≡ take part reply → ⊥
-not_cut t u reply came behind part short is says shorter few text =
-    let both : reply_text t ++ (behind ++ drop part reply) ≡ reply_text u ++ [] =
-    sym (append_assoc (reply_text t) behind (drop part reply)) ∙ ap (λ (bytes : List ℕ). (bytes ++ behind) ++ drop part reply) (sym is)
-    ∙ ap (λ (bytes : List ℕ). bytes ++ drop part reply) text ∙ take-append-drop part reply ∙ says ∙ sym (append-nil (reply_text u)) in
-    let most : length (reply_text u ++ []) < 2 ^ 64 =
-    subst (λ (bytes : List ℕ). length bytes < 2 ^ 64) (says ∙ sym (append-nil (reply_text u))) few in
-    let cut = cut_reply t u (behind ++ drop part reply) [] short most both in
+not_cut : (d f : Option (List ℕ)) (t u : Told) (reply came behind : List ℕ) (part : ℕ) → IsDated d → IsDated f → length (told_text t) ≤ longest_reply_body
+    → came ≡ reply_text d t → reply ≡ reply_text f u → part < length reply → length reply < 2 ^ 64 → came ++ behind ≡ take part reply → ⊥
+not_cut d f t u reply came behind part dated date short is says shorter few text =
+    let both : reply_text d t ++ (behind ++ drop part reply) ≡ reply_text f u ++ [] =
+    sym (append_assoc (reply_text d t) behind (drop part reply)) ∙ ap (λ (bytes : List ℕ). (bytes ++ behind) ++ drop part reply) (sym is)
+    ∙ ap (λ (bytes : List ℕ). bytes ++ drop part reply) text ∙ take-append-drop part reply ∙ says ∙ sym (append-nil (reply_text f u)) in
+    let most : length (reply_text f u ++ []) < 2 ^ 64 =
+    subst (λ (bytes : List ℕ). length bytes < 2 ^ 64) (says ∙ sym (append-nil (reply_text f u))) few in
+    let cut = cut_reply d f t u (behind ++ drop part reply) [] dated date short most both in
     omega (
       arith,
       shorter,
@@ -81,13 +83,13 @@ not_cut t u reply came behind part short is says shorter few text =
     )
 
 -- one that came is the first that was written
-first_came : (t u : Told) (reply came behind more : List ℕ) → length (told_text t) ≤ longest_reply_body → came ≡ reply_text t → reply ≡ reply_text u
-    → came ++ behind ≡ reply ++ more → length (came ++ behind) < 2 ^ 64
-    → (reply_text t ≡ reply_text u) × (behind ≡ more)
-first_came t u reply came behind more short is says text few =
-    let both : reply_text t ++ behind ≡ reply_text u ++ more =
+first_came : (d f : Option (List ℕ)) (t u : Told) (reply came behind more : List ℕ) → IsDated d → IsDated f → length (told_text t) ≤ longest_reply_body
+    → came ≡ reply_text d t → reply ≡ reply_text f u → came ++ behind ≡ reply ++ more → length (came ++ behind) < 2 ^ 64
+    → (reply_text d t ≡ reply_text f u) × (behind ≡ more)
+first_came d f t u reply came behind more dated date short is says text few =
+    let both : reply_text d t ++ behind ≡ reply_text f u ++ more =
     ap (λ (bytes : List ℕ). bytes ++ behind) (sym is) ∙ text ∙ ap (λ (bytes : List ℕ). bytes ++ more) says in
-    cut_reply t u behind more short
+    cut_reply d f t u behind more dated date short
     (subst (λ (bytes : List ℕ). length bytes < 2 ^ 64) (ap (λ (bytes : List ℕ). bytes ++ behind) is ∙ both) few) both
 
 module _ (laws : DeskLaws) where
@@ -102,21 +104,28 @@ module _ (laws : DeskLaws) where
         → PrintsOfDesk (ExchangesTell old xs mid served) o end × Sells q new.0 o end
     by_exchanges [] mid same goes later tail behind (no_more none) text few =
         absurd (none (question_message q) later (laws.sent q later askable))
-    by_exchanges [] mid same goes later tail behind (unsaid none) text few = absurd (some_reply t came behind tail is.is_text text none)
+    by_exchanges [] mid same goes later tail behind (unsaid none) text few = absurd (some_reply is.dated t came behind tail is.is_text text none)
     by_exchanges [] mid same goes later tail behind (cut_short x after begins step part shorter most cut) text few =
         let asked = (message_unique (question_text q ++ later) x.message (question_message q) after later begins (laws.sent q later askable)).0 in
         let begun : IsOffice mid.0.opening = subst (λ (l : Timed Life). IsOffice l.0.opening) (sym same) opening in
         let says = exchange_says laws mid new x begun life q askable asked step in
-        absurd (not_cut t says.said x.reply came behind part is.short is.is_text says.text shorter most (text ∙ cut))
+        let alone : text_of x ≡ x.reply = reply_alone x (ap (λ (m : Message). m.expects) asked) in
+        absurd (not_cut is.dated says.date t says.said (text_of x) came behind part is.is_dated says.is_date is.short is.is_text (alone ∙ says.text)
+        shorter most (text ∙ cut))
+    by_exchanges [] mid same goes later tail behind (expecting expects) text few =
+        absurd (expects_none (question_text q ++ later) (question_message q) later (laws.sent q later askable) refl expects)
     by_exchanges (x ∷ xs) mid (next, step, rest) goes later tail behind (after, begins, on) text few =
         let asked = (message_unique (question_text q ++ later) x.message (question_message q) after later begins (laws.sent q later askable)).0 in
         let its_life = life_from next.0 new.0 (goes_through next.0 mid.0 new.0 (exchanged_goes next mid xs rest) goes) life in
         let says = exchange_says laws old next x opening its_life q askable asked step in
         let first =
-        first_came t says.said x.reply came behind (replies_of xs ++ tail) is.short is.is_text says.text (text ∙ append_assoc x.reply (replies_of xs) tail) few in
+        first_came is.dated says.date t says.said (text_of x) came behind (replies_of xs ++ tail) is.is_dated says.is_date is.short is.is_text
+        (reply_alone x (ap (λ (m : Message). m.expects) asked) ∙ says.text) (text ∙ append_assoc (text_of x) (replies_of xs) tail) few in
         let other : IsReply (wanted_by q) came says.said = record {
           tellable = says.tellable;
-          short = same_body t says.said is.short first.0;
+          short = same_body is.dated says.date t says.said is.is_dated says.is_date is.short first.0;
+          dated = says.date;
+          is_dated = says.is_date;
           is_text = is.is_text ∙ first.0;
         } in
         let alike = laws.alike (wanted_by q) came t says.said is other in
@@ -164,7 +173,7 @@ module _ (laws : DeskLaws) where
         absurd (none (question_message (page_question list)) (sent_in rounds ++ later) (sent_first list askable round rounds later message))
     rounds_tell new life old opening (Some list) left askable (round ∷ rounds) (page ∷ pages) (message, tell, tells) [] mid same goes later tail behind
         (unsaid none) text few =
-        absurd (some_reply (told.Granted (granted.Page tell.body)) round.came (came_in rounds ++ behind) tail tell.reply.reply.is_text
+        absurd (some_reply tell.reply.reply.dated (told.Granted (granted.Page tell.body)) round.came (came_in rounds ++ behind) tail tell.reply.reply.is_text
         (sym (append_assoc round.came (came_in rounds) behind) ∙ text) none)
     rounds_tell new life old opening (Some list) left askable (round ∷ rounds) (page ∷ pages) (message, tell, tells) [] mid same goes later tail behind
         (cut_short x after begins step part shorter most cut) text few =
@@ -175,8 +184,14 @@ module _ (laws : DeskLaws) where
         (sent_first list askable round rounds later message)).0 in
         let begun : IsOffice mid.0.opening = subst (λ (l : Timed Life). IsOffice l.0.opening) (sym same) opening in
         let says = page_says laws mid new x begun life one list askable asked step in
-        absurd (not_cut t says.said x.reply round.came (came_in rounds ++ behind) part tell.reply.reply.short tell.reply.reply.is_text says.text shorter most
-        (sym (append_assoc round.came (came_in rounds) behind) ∙ text ∙ cut))
+        let alone : text_of x ≡ x.reply = reply_alone x (ap (λ (m : Message). m.expects) asked) in
+        absurd (not_cut tell.reply.reply.dated says.date t says.said (text_of x) round.came (came_in rounds ++ behind) part
+        tell.reply.reply.is_dated says.is_date tell.reply.reply.short tell.reply.reply.is_text (alone ∙ says.text)
+        shorter most (sym (append_assoc round.came (came_in rounds) behind) ∙ text ∙ cut))
+    rounds_tell new life old opening (Some list) left askable (round ∷ rounds) (page ∷ pages) (message, tell, tells) [] mid same goes later tail behind
+        (expecting expects) text few =
+        absurd (expects_none (sent_in (round ∷ rounds) ++ later) (question_message (page_question list)) (sent_in rounds ++ later)
+        (sent_first list askable round rounds later message) refl expects)
     rounds_tell new life old opening (Some list) left askable (round ∷ rounds) (page ∷ pages) (message, tell, tells) (x ∷ xs) mid (next, step, rest) goes later
         tail behind (after, begins, on) text few =
         let q = page_question list in
@@ -189,13 +204,19 @@ module _ (laws : DeskLaws) where
         let whole : length (round.came ++ (came_in rounds ++ behind)) < 2 ^ 64 =
         subst (λ (bytes : List ℕ). length bytes < 2 ^ 64) (append_assoc round.came (came_in rounds) behind) few in
         let first =
-        first_came t says.said x.reply round.came (came_in rounds ++ behind) (replies_of xs ++ tail) tell.reply.reply.short tell.reply.reply.is_text says.text
-        (sym (append_assoc round.came (came_in rounds) behind) ∙ text ∙ append_assoc x.reply (replies_of xs) tail) whole in
+        first_came tell.reply.reply.dated says.date t says.said (text_of x) round.came (came_in rounds ++ behind) (replies_of xs ++ tail)
+        tell.reply.reply.is_dated says.is_date tell.reply.reply.short tell.reply.reply.is_text
+        (reply_alone x (ap (λ (m : Message). m.expects) same.0) ∙ says.text)
+        (sym (append_assoc round.came (came_in rounds) behind) ∙ text ∙ append_assoc (text_of x) (replies_of xs) tail) whole in
         let wanted : IsReply wants.Page round.came t = subst (λ w. IsReply w round.came t) (page_wanted list) tell.reply.reply in
         let other : IsReply wants.Page round.came says.said = record {
           tellable = says.tellable;
-          short = same_body t says.said wanted.short first.0;
-          is_text = wanted.is_text ∙ first.0;
+          short =
+              same_body tell.reply.reply.dated says.date t says.said tell.reply.reply.is_dated says.is_date tell.reply.reply.short
+              first.0;
+          dated = says.date;
+          is_dated = says.is_date;
+          is_text = tell.reply.reply.is_text ∙ first.0;
         } in
         let here = says.page tell.body page (laws.alike wants.Page round.came t says.said wanted other) tell.told tell.text in
         let closes : x.message.closes ≡ false = ap (λ (m : Message). m.closes) same.0 in

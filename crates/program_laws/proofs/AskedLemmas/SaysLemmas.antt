@@ -35,10 +35,12 @@ use Rattle.desk_messages.specs.declared.reply.form.Form.{Form}
 use Rattle.desk_messages.specs.declared.reply.form.Form.TheVariants as forms
 use Rattle.desk_messages.specs.declared.reply.outcome.Outcome.{Outcome}
 use Rattle.desk_messages.specs.declared.reply.outcome.Outcome.TheVariants as outcomes
+use Rattle.desk_messages.specs.reply.HttpDate.{moment_given}
 use Rattle.desk_messages.specs.reply.Text.{reply_bytes_of, reply_to}
 use Rattle.desk_client.specs.Asks.{IsAskable, question_message}
 use Rattle.desk_client.specs.Question.{wanted_by}
 use Rattle.desk_client.specs.Reply.{reply_text}
+use Rattle.desk_client.specs.Start.{IsDated}
 use Rattle.desk_client.specs.Told.{IsTellable}
 use Rattle.desk_client.specs.declared.question.Question.{Question}
 use Rattle.desk_client.specs.declared.question.Question.TheVariants as questions
@@ -46,7 +48,7 @@ use Rattle.desk_client.specs.declared.told.Told.{Told}
 use Rattle.desk_client.specs.declared.told.Told.TheVariants as told
 use Rattle.desk_client.specs.declared.told.Wanted.{Wanted}
 use Rattle.desk_client.specs.declared.told.Wanted.TheVariants as wants
-use Rattle.desk_client.proofs.TellsLemmas.{says}
+use Rattle.desk_client.proofs.TellsLemmas.{date_given, given_dated, says}
 use Rattle.desk_commands.specs.AskedOfDesk.{SaleNeedsRoom, TellsTold, told_sale_text}
 use Rattle.office_commands.specs.commands.LookedUp.{TellsFound}
 use Rattle.vend_ports.specs.print.Printed.{clock_line, refusal_line}
@@ -59,7 +61,7 @@ use Rattle.program_laws.specs.SalesTold.{ExchangeTells, sales_found}
 use Rattle.program_laws.specs.runs.Asked.{PrintsOfDesk, PrintsSaleOrWhy}
 use Rattle.program_laws.specs.runs.Asked.PrintsOfDesk.{a_find, a_reply, nothing, totals}
 use Rattle.program_laws.proofs.AskedLemmas.LifeLemmas.{GoesFrom}
-use Rattle.program_laws.proofs.AtDeskLemmas.LineLemmas.{clock_read}
+use Rattle.program_laws.proofs.AtDeskLemmas.LineLemmas.{clock_read, no_fault}
 use Rattle.program_laws.proofs.AtDeskLemmas.MeaningLemmas.{ComesOfRows, IsRead, came_rows, looked, replied}
 use Rattle.program_laws.proofs.AtDeskLemmas.OneLemmas.{Came, DeskLaws, few_rows, has_body, import_for, may_be, row_tellable}
 use Rattle.program_laws.proofs.AtDeskLemmas.PrintedLemmas.{prints_last, prints_meter, prints_quote, prints_reply, prints_sale_of_ref, prints_totals}
@@ -118,17 +120,22 @@ order_sells order old new o end (Err refusal) at asks goes may is = inr (refusal
 -- or what was found, whose sales the exchange told.
 pub record DeskSays (q : Question) (old new : Life) (x : MessageExchange) : Type 0 where
   pub said : Told
-  pub text : x.reply ≡ reply_text said
+  pub date : Option (List ℕ)
+  pub is_date : IsDated date
+  pub text : x.reply ≡ reply_text date said
   pub tellable : IsTellable (wanted_by q) said
   pub prints : (json : Bool) (o : Outputs) (end : CommandEnd) → IsAskedByOne json q → TellsTold json q said o end
       → PrintsOfDesk (ExchangeTells old x new) o end × Sells q new o end
 
 module _ (laws : DeskLaws) (old new : Timed Life) (x : MessageExchange) (opening : IsOffice old.0.opening) (life : IsLife new.0) where
   -- its message was the question's, which is none of HEAD and closes nothing
-  pub told_open : (q : Question) (outcome : Outcome) → x.message ≡ question_message q → x.reply ≡ reply_bytes_of outcome false
-      → x.reply ≡ reply_to x.message.method outcome x.message.closes
-  told_open q outcome asked text =
-      text ∙ sym (has_body laws q outcome) ∙ ap (λ (m : Message). reply_to m.method outcome m.closes) (sym asked)
+  pub told_open : (q : Question) (now : Option ℤ) (outcome : Outcome) → x.message ≡ question_message q → x.now ≡ now
+      → x.reply ≡ reply_bytes_of (moment_given now) outcome false
+      → x.reply ≡ reply_to x.message.method (moment_given x.now) outcome x.message.closes
+  told_open q now outcome asked given text =
+      text ∙ sym (has_body laws q (moment_given now) outcome)
+      ∙ ap (λ (m : Message). reply_to m.method (moment_given now) outcome m.closes) (sym asked)
+      ∙ ap (λ (now : Option ℤ). reply_to x.message.method (moment_given now) outcome x.message.closes) (sym given)
 
   -- ---- at a moment
   module _ (moment : ℕ) (is_moment : IsMoment moment) (given : x.now ≡ Some (pos moment)) where
@@ -163,10 +170,13 @@ module _ (laws : DeskLaws) (old new : Timed Life) (x : MessageExchange) (opening
         let may = may_be laws old.0 new.0 moment request r.0 life opening r.2 in
         let u = told_reply forms.Json r.0 in
         let keeps : IsTellable (wanted_by q) u = subst (λ (w : Wanted). IsTellable w u) (sym wanted) (tellable_reply request r.0 ask may.1 may.0) in
-        let text : x.reply ≡ reply_bytes_of (outcomes.Replied forms.Json r.0) false = c.text ∙ ap (λ (x : Outcome). reply_bytes_of x false) r.1 in
+        let text : x.reply ≡ reply_bytes_of (moment_given now) (outcomes.Replied forms.Json r.0) false =
+        c.text ∙ ap (λ (x : Outcome). reply_bytes_of (moment_given now) x false) r.1 in
         record {
           said = u;
-          text = text ∙ says laws.texts (wanted_by q) (outcomes.Replied forms.Json r.0) u keeps (reply_tells forms.Json r.0);
+          date = date_given now;
+          is_date = given_dated laws.dates now;
+          text = text ∙ says (moment_given now) laws.texts (wanted_by q) (outcomes.Replied forms.Json r.0) u keeps (reply_tells forms.Json r.0);
           tellable = keeps;
           prints = λ json o end one is.
               let printed = prints_reply json q (sold json) (small json) o end forms.Json r.0 is in (
@@ -176,7 +186,7 @@ module _ (laws : DeskLaws) (old new : Timed Life) (x : MessageExchange) (opening
                   record {
                     form = forms.Json;
                     asks = asks_so q forms.Json request r.0 r.2.0 asked asks r.2.1;
-                    told = told_open q (outcomes.Replied forms.Json r.0) asked text;
+                    told = told_open q now (outcomes.Replied forms.Json r.0) asked given text;
                   },
                   r.2.2,
                   there,
@@ -202,11 +212,14 @@ module _ (laws : DeskLaws) (old new : Timed Life) (x : MessageExchange) (opening
         let u = told_look (lookup_form lookup) r.0 in
         let keeps : IsTellable (wanted_look lookup) u = tellable_look laws.ranges old.0 office moment lookup r.0 may r.2 in
         let tellable : IsTellable (wanted_by q) u = subst (λ (w : Wanted). IsTellable w u) (sym wanted) keeps in
-        let text : x.reply ≡ reply_bytes_of (outcomes.Found (lookup_form lookup) r.0) false = c.text ∙ ap (λ (x : Outcome). reply_bytes_of x false) r.1 in
+        let text : x.reply ≡ reply_bytes_of (moment_given now) (outcomes.Found (lookup_form lookup) r.0) false =
+        c.text ∙ ap (λ (x : Outcome). reply_bytes_of (moment_given now) x false) r.1 in
         record {
           said = u;
+          date = date_given now;
+          is_date = given_dated laws.dates now;
           text =
-              text ∙ says laws.texts (wanted_by q) (outcomes.Found (lookup_form lookup) r.0) u tellable
+              text ∙ says (moment_given now) laws.texts (wanted_by q) (outcomes.Found (lookup_form lookup) r.0) u tellable
               (look_tells (lookup_form lookup) r.0 (no_count (lookup_form lookup) (wanted_look lookup) r.0 some keeps));
           tellable = tellable;
           prints = λ json o end one is. (
@@ -217,7 +230,7 @@ module _ (laws : DeskLaws) (old new : Timed Life) (x : MessageExchange) (opening
                 moment = moment;
                 lookup = lookup;
                 looks = looks_so q (lookup_form lookup) lookup asked looks;
-                told = told_open q (outcomes.Found (lookup_form lookup) r.0) asked text;
+                told = told_open q now (outcomes.Found (lookup_form lookup) r.0) asked given text;
               },
               r.2,
               r.3,
@@ -239,13 +252,16 @@ module _ (laws : DeskLaws) (old new : Timed Life) (x : MessageExchange) (opening
             → ComesOfRows moment read c.outcome old.0 new.0 → DeskSays (questions.Import kind csv) old.0 new.0 x
         by_rows (Ok rows) read (r, outcome, replies) =
             let q = questions.Import kind csv in
+            let now = Some (pos moment) in
             let may = may_be laws old.0 new.0 moment (requests.Import rows) r life opening replies in
             let keeps = tellable_reply (requests.Import rows) r (few_rows laws kind _ rows read) may.1 may.0 in
             record {
               said = told_reply forms.Json r;
+              date = date_given now;
+              is_date = given_dated laws.dates now;
               text =
-                  c.text ∙ ap (λ (x : Outcome). reply_bytes_of x false) outcome
-                  ∙ says laws.texts wants.Imported (outcomes.Replied forms.Json r) (told_reply forms.Json r) keeps (reply_tells forms.Json r);
+                  c.text ∙ ap (λ (x : Outcome). reply_bytes_of (moment_given now) x false) outcome
+                  ∙ says (moment_given now) laws.texts wants.Imported (outcomes.Replied forms.Json r) (told_reply forms.Json r) keeps (reply_tells forms.Json r);
               tellable = keeps;
               prints = λ json o end one is. (
                 a_reply r (prints_reply json q (λ s. refl) (λ s none. none) o end forms.Json r is)
@@ -255,12 +271,15 @@ module _ (laws : DeskLaws) (old new : Timed Life) (x : MessageExchange) (opening
             }
         by_rows (Err (row_faults.At row cause)) read (outcome, same) =
             let r : Result Answer Refusal = Err (ImportRow row cause) in
+            let now = Some (pos moment) in
             let keeps = row_tellable laws kind _ row cause read in
             record {
               said = told.Refused (ImportRow row cause);
+              date = date_given now;
+              is_date = given_dated laws.dates now;
               text =
-                  c.text ∙ ap (λ (x : Outcome). reply_bytes_of x false) outcome
-                  ∙ says laws.texts wants.Imported (outcomes.Replied forms.Json r) (told.Refused (ImportRow row cause)) keeps refl;
+                  c.text ∙ ap (λ (x : Outcome). reply_bytes_of (moment_given now) x false) outcome
+                  ∙ says (moment_given now) laws.texts wants.Imported (outcomes.Replied forms.Json r) (told.Refused (ImportRow row cause)) keeps refl;
               tellable = keeps;
               prints = λ json o end one is. (nothing (refusal_line (ImportRow row cause)) is, tt);
             }
@@ -353,37 +372,39 @@ module _ (laws : DeskLaws) (old new : Timed Life) (x : MessageExchange) (opening
 
   -- a moment, or the desk's clock has none
   abbrev AtMoment : ℤ → Type 0
-  AtMoment second = ((moment : ℕ) × IsMoment moment × (second ≡ pos moment)) ⊎ (x.reply ≡ reply_bytes_of (outcomes.Faulty faults.Clock) false)
+  AtMoment second = ((moment : ℕ) × IsMoment moment × (second ≡ pos moment)) ⊎ (x.reply ≡ reply_bytes_of (moment_given x.now) (outcomes.Faulty faults.Clock) false)
 
   given_moment : (second : ℤ) (moment : ℕ) → IsMoment moment → Some second ≡ Some (pos moment) → AtMoment second
   given_moment second moment is_moment same = let seconds : second ≡ pos moment = cc in inl (moment, is_moment, seconds)
 
-  idle_moment : (m : Message) (second : ℤ) (outcome : Outcome) → IsIdle m (Some second) outcome → x.reply ≡ reply_bytes_of outcome false → AtMoment second
-  idle_moment m second (outcomes.Faulty faults.Clock) idle text = inr text
-  idle_moment m second (outcomes.Faulty faults.Body) (route, moment, comes, asks, body) text = given_moment second moment comes.is_moment comes.given
-  idle_moment m second (outcomes.Faulty faults.NoRoute) (routed, none) text = absurd cc
-  idle_moment m second (outcomes.Faulty (faults.Method allowed)) (routed, none) text = absurd cc
-  idle_moment m second (outcomes.Replied form (Err (ImportRow row cause))) (is_json, (route, moment, comes, body)) text =
+  idle_moment : (q : Question) → IsAskable q → (second : ℤ) (outcome : Outcome) → IsIdle (question_message q) (Some second) outcome
+      → x.reply ≡ reply_bytes_of (moment_given x.now) outcome false → AtMoment second
+  idle_moment q askable second (outcomes.Faulty faults.Clock) idle text = inr text
+  idle_moment q askable second (outcomes.Faulty faults.Body) (route, moment, comes, asks, body) text = given_moment second moment comes.is_moment comes.given
+  idle_moment q askable second (outcomes.Faulty faults.NoRoute) (routed, read) text = absurd (no_fault laws q askable faults.NoRoute routed)
+  idle_moment q askable second (outcomes.Faulty (faults.Method allowed)) (routed, read) text =
+      absurd (no_fault laws q askable (faults.Method allowed) routed)
+  idle_moment q askable second (outcomes.Replied form (Err (ImportRow row cause))) (is_json, (route, moment, comes, body)) text =
       given_moment second moment comes.is_moment comes.given
-  idle_moment m second outcome idle text = absurd idle
+  idle_moment q askable second outcome idle text = absurd idle
 
-  at_moment : (m : Message) (second : ℤ) (outcome : Outcome) → Comes life_serves m (Some second) outcome old.0 new.0 → x.reply ≡ reply_bytes_of outcome false
-      → AtMoment second
-  at_moment m second outcome (inl (idle, same)) text = idle_moment m second outcome idle text
-  at_moment m second outcome (inr (inl (form, moment, request, reply, is, asks, replies))) text =
+  at_moment : (q : Question) → IsAskable q → (second : ℤ) (outcome : Outcome) → Comes life_serves (question_message q) (Some second) outcome old.0 new.0
+      → x.reply ≡ reply_bytes_of (moment_given x.now) outcome false → AtMoment second
+  at_moment q askable second outcome (inl (idle, same)) text = idle_moment q askable second outcome idle text
+  at_moment q askable second outcome (inr (inl (form, moment, request, reply, is, asks, replies))) text =
       given_moment second moment asks.comes.is_moment asks.comes.given
-  at_moment m second outcome (inr (inr (form, moment, lookup, found, is, looks, finds))) text =
+  at_moment q askable second outcome (inr (inr (form, moment, lookup, found, is, looks, finds))) text =
       given_moment second moment looks.comes.is_moment looks.comes.given
 
   module _ (q : Question) (askable : IsAskable q) (asked : x.message ≡ question_message q) (answered : timed (answers_by life_serves) old x new) where
     -- the exchange was at a moment, and this came of it; or the desk's clock had none
     pub dated : ((moment : ℕ) × IsMoment moment × (x.now ≡ Some (pos moment)) × Came laws q (pos moment) old new x.reply)
-        ⊎ (x.reply ≡ reply_bytes_of (outcomes.Faulty faults.Clock) false)
+        ⊎ (x.reply ≡ reply_bytes_of (moment_given x.now) (outcomes.Faulty faults.Clock) false)
     dated = by_now x.now refl
       where
         by_now : (now : Option ℤ) → x.now ≡ now
             → ((moment : ℕ) × IsMoment moment × (x.now ≡ Some (pos moment)) × Came laws q (pos moment) old new x.reply)
-            ⊎ (x.reply ≡ reply_bytes_of (outcomes.Faulty faults.Clock) false)
+            ⊎ (x.reply ≡ reply_bytes_of (moment_given x.now) (outcomes.Faulty faults.Clock) false)
         by_now None is =
             absurd (clock_read laws q askable answered.0.0 old.0 new.0
             (subst (λ (m : Message). Comes life_serves m None answered.0.0 old.0 new.0) asked
@@ -393,9 +414,10 @@ module _ (laws : DeskLaws) (old new : Timed Life) (x : MessageExchange) (opening
             let comes : Comes life_serves m (Some second) answered.0.0 old.0 new.0 =
             subst (λ (m : Message). Comes life_serves m (Some second) answered.0.0 old.0 new.0) asked
             (subst (λ (now : Option ℤ). Comes life_serves x.message now answered.0.0 old.0 new.0) is answered.0.1) in
-            let text : x.reply ≡ reply_bytes_of answered.0.0 false =
-            answered.0.2 ∙ ap (λ (m : Message). reply_to m.method answered.0.0 m.closes) asked ∙ has_body laws q answered.0.0 in
-            elim (at_moment m second answered.0.0 comes text) [
+            let text : x.reply ≡ reply_bytes_of (moment_given x.now) answered.0.0 false =
+            answered.0.2 ∙ ap (λ (m : Message). reply_to m.method (moment_given x.now) answered.0.0 m.closes) asked
+            ∙ has_body laws q (moment_given x.now) answered.0.0 in
+            elim (at_moment q askable second answered.0.0 comes text) [
               | inl (moment, is_moment, same) ↦ inl (
                 moment,
                 is_moment,
@@ -403,7 +425,8 @@ module _ (laws : DeskLaws) (old new : Timed Life) (x : MessageExchange) (opening
                 record {
                   outcome = answered.0.0;
                   comes = subst (λ (s : ℤ). Comes life_serves m (Some s) answered.0.0 old.0 new.0) same comes;
-                  text = text;
+                  text =
+                      text ∙ ap (λ (now : Option ℤ). reply_bytes_of (moment_given now) answered.0.0 false) (is ∙ ap (λ (s : ℤ). Some s) same);
                 },
               )
               | inr none ↦ inr none
@@ -415,7 +438,9 @@ module _ (laws : DeskLaws) (old new : Timed Life) (x : MessageExchange) (opening
       | inl (moment, is_moment, given, c) ↦ question_says moment is_moment given q askable asked c
       | inr none ↦ record {
         said = told.NoMoment;
-        text = none ∙ says laws.texts (wanted_by q) (outcomes.Faulty faults.Clock) told.NoMoment tt refl;
+        date = date_given x.now;
+        is_date = given_dated laws.dates x.now;
+        text = none ∙ says (moment_given x.now) laws.texts (wanted_by q) (outcomes.Faulty faults.Clock) told.NoMoment tt refl;
         tellable = tt;
         prints = λ json o end one is. (nothing clock_line is, none_sells q new.0 o end clock_line is);
       }

@@ -1,15 +1,16 @@
 -- What the conversation of a connection is for the one who asked on it, however it ended.
-use Rattle.std.proofs.Common.{◌≡◌, ◌⊎◌, ◌∙◌, ℕ, ◌<◌, ◌^◌, Bool, false, List, [], ◌∷◌, ◌++◌, length, take, Option, inl, inr, refl, sym, ap, subst, append-nil, length-append, arith}
+use Rattle.std.proofs.Common.{◌≡◌, ◌⊎◌, ◌∙◌, ℕ, ◌<◌, ◌^◌, Bool, true, false, List, [], ◌∷◌, ◌++◌, length, take, Option, inl, inr, refl, sym, ap, subst, append-nil, length-append, arith}
 use Rattle.std.specs.Prelude.{MatchBool}
 use Rattle.std.proofs.lemmas.List.{length-take-le}
-use Rattle.conversation.specs.Conversation.{Conversation, IsCutOff, IsGivenUp, IsRefusal, IsMessageReply, last_words, messages_of, replies_of}
+use Rattle.conversation.specs.Conversation.{Conversation, IsCutOff, IsGivenUp, IsNextText, interim_for, last_words, messages_of, replies_of, text_of}
 use Rattle.conversation.specs.Exchanges.{BeginsMessages, Exchanged, GaveUp, MessageExchange, Timed, timed}
 use Rattle.conversation.specs.Run.{IsRun}
 use Rattle.conversation.specs.declared.end.End as conversation
 use Rattle.conversation.specs.declared.end.End.TheVariants.{Closed, BadMessage, ReadFault, WriteFault, Memory}
 use Rattle.conversation.specs.declared.message.message_fault.MessageFault.TheVariants as faults
 use Rattle.conversation.specs.message.Heads.{BeginsWithHead}
-use Rattle.conversation.specs.message.Messages.{BeginsMessage, EndsAs, Ending, Message, Messages, Stop, broken, closing, ended, failed, finished, refused}
+use Rattle.conversation.specs.message.Messages.{BeginsExpecting, BeginsMessage, EndsAs, Ending, IsTold, Message, Messages, Stop, broken, closing, ended, failed, finished, refused}
+use Rattle.conversation.proofs.InterimLemmas.{leaves_office}
 use Rattle.desk.specs.Answering.{answers_by, life_serves, message_refusal_of}
 use Rattle.office_rules.specs.declared.office.sale.Sale.{Sale}
 use Rattle.vend_core.specs.Law.Life.{Life}
@@ -22,10 +23,10 @@ use Rattle.program_laws.proofs.AskedLemmas.LifeLemmas.{GoesFrom, answered_goes, 
 
 -- an input that begins with a message does not end there, however it stops
 not_failed : (input : List ℕ) (m : Message) (rest : List ℕ) (e : Ending) → BeginsMessage input m rest → ¬ EndsAs failed input e
-not_failed input m rest finished begins ends = ends
+not_failed input m rest (finished expects) begins ends = ends
 not_failed input m rest closing begins ends = ends
-not_failed input m rest broken begins (inl (none, short)) = none begins.head (m.body ++ rest) begins.begins
-not_failed input m rest broken begins (inr cut) = no_cut input m rest begins cut
+not_failed input m rest (broken expects) begins (inl (none, short, untold)) = none begins.head (m.body ++ rest) begins.begins
+not_failed input m rest (broken expects) begins (inr cut) = no_cut input m rest expects begins cut
 not_failed input m rest (refused faults.Head) begins ends =
     ends [] begins.head (m.body ++ rest) (subst (λ (bytes : List ℕ). BeginsWithHead bytes begins.head (m.body ++ rest)) (sym (append-nil input)) begins.begins)
 not_failed input m rest (refused faults.Method) begins ends = no_fault input m rest faults.Method begins ends
@@ -62,12 +63,18 @@ reads_front input (m ∷ ms) rest (after, begins, stays, more) Then last = (afte
 -- ---- what the one who asks has of it
 
 -- Why there are no further whole replies: no message follows; or nothing was written; or the next
--- reply was cut off, whose bytes a number of 64 bits can count.
+-- message expects an interim reply; or what is written for it was cut off, whose bytes a number of
+-- 64 bits can count.
 pub data Stops (rest tail : List ℕ) (mid new : Timed Life) : Type 0 where
   no_more : ((m : Message) (after : List ℕ) → ¬ BeginsMessage rest m after) → Stops rest tail mid new
   unsaid : tail ≡ [] → Stops rest tail mid new
   cut_short : (x : MessageExchange) (after : List ℕ) → BeginsMessage rest x.message after → timed (answers_by life_serves) mid x new → (part : ℕ)
-      → part < length x.reply → length x.reply < 2 ^ 64 → tail ≡ take part x.reply → Stops rest tail mid new
+      → part < length (text_of x) → length (text_of x) < 2 ^ 64 → tail ≡ take part (text_of x) → Stops rest tail mid new
+  expecting : BeginsExpecting rest → Stops rest tail mid new
+
+told_stops : (rest : List ℕ) (told : Bool) (mid new : Timed Life) → IsTold rest told → Stops rest (interim_for told) mid new
+told_stops rest true mid new expects = expecting expects
+told_stops rest false mid new none = unsaid refl
 
 -- The exchanges of a connection, on which this was sent and came, and the sales that they told.
 pub record Talk (old new : Timed Life) (sent came : List ℕ) (Tells : Sale → Type 0) : Type 0 where
@@ -119,7 +126,7 @@ module _ (old new : Timed Life) (sent came : List ℕ) (Tells : Sale → Type 0)
         served = cut.before.served;
         goes = elim cut.is_last [
           | inl reply ↦ answered_goes cut.mid new reply.exchange reply.answered
-          | inr refusal ↦ goes_none cut.mid.0 new.0 (ap (λ (l : Timed Life). l.0) refusal.same)
+          | inr other ↦ goes_none cut.mid.0 new.0 (ap (λ (l : Timed Life). l.0) (leaves_office message_refusal_of cut.rest cut.mid cut.last new other))
         ];
         later = carries.later;
         tail = tail;
@@ -143,12 +150,13 @@ module _ (old new : Timed Life) (sent came : List ℕ) (Tells : Sale → Type 0)
       }
     where
       stops : length cut.last < 2 ^ 64
-          → IsMessageReply (timed (answers_by life_serves)) cut.rest cut.mid cut.last new ⊎ IsRefusal message_refusal_of cut.rest cut.mid cut.last new
+          → IsNextText (timed (answers_by life_serves)) message_refusal_of cut.rest cut.mid cut.last new
           → Stops cut.rest (take cut.part cut.last) cut.mid new
       stops most (inl reply) =
           cut_short reply.exchange reply.rest reply.begins reply.answered cut.part (subst (λ (bytes : List ℕ). cut.part < length bytes) reply.text_is cut.short)
           (subst (λ (bytes : List ℕ). length bytes < 2 ^ 64) reply.text_is most) (ap (λ (bytes : List ℕ). take cut.part bytes) reply.text_is)
-      stops most (inr refusal) =
+      stops most (inr (inr told)) = expecting told.expects
+      stops most (inr (inl refusal)) =
           no_more (λ m after begins. goes_on ended cut.rest m after (refused refusal.fault) begins refusal.is_refused)
 
   -- one that was given up for want of memory
@@ -161,13 +169,13 @@ module _ (old new : Timed Life) (sent came : List ℕ) (Tells : Sale → Type 0)
     served = given.before.served;
     goes = late_goes given.rest given.mid new given.after;
     later = carries.later;
-    tail = [];
+    tail = interim_for given.told;
     reads =
         reads_front (sent ++ carries.later) (messages_of given.before.exchanges) given.rest
         (subst (λ (bytes : List ℕ). BeginsMessages bytes (messages_of given.before.exchanges) given.rest) carries.reads given.before.begins)
-        (λ rest. Stops rest [] given.mid new) (unsaid refl);
+        (λ rest. Stops rest (interim_for given.told) given.mid new) (told_stops given.rest given.told given.mid new given.expects);
     behind = carries.behind;
-    text = sym carries.writes ∙ given.before.text_is ∙ sym (append-nil (replies_of given.before.exchanges));
+    text = sym carries.writes ∙ given.text_is ∙ ap (λ (whole : List ℕ). whole ++ interim_for given.told) given.before.text_is;
     few = subst (λ (bytes : List ℕ). length bytes < 2 ^ 64) carries.writes carries.few;
     tells = tells;
   }
@@ -177,8 +185,9 @@ pub talk : (old new : Timed Life) (unread left held holds : Option (List ℕ)) (
     (run : IsRun (answers_by life_serves) message_refusal_of old new unread left held holds end) (sent came : List ℕ)
     → RunCarries old new unread left held holds end run sent came
     → Talk old new sent came (RunTells old new unread left held holds end run)
-talk old new unread left held holds Closed (input, all, inl said) sent came carries =
-    said_talk old new sent came (RunTells old new unread left held holds Closed (input, all, inl said)) ended input said.text finished said.conversation carries
+talk old new unread left held holds Closed (input, all, inl (expects, said)) sent came carries =
+    said_talk old new sent came (RunTells old new unread left held holds Closed (input, all, inl (expects, said))) ended input said.text (finished expects)
+    said.conversation carries
     (λ s told. told)
 talk old new unread left held holds Closed (input, all, inr said) sent came carries =
     said_talk old new sent came (RunTells old new unread left held holds Closed (input, all, inr said)) ended input said.text closing said.conversation carries
@@ -186,8 +195,9 @@ talk old new unread left held holds Closed (input, all, inr said) sent came carr
 talk old new unread left held holds BadMessage (input, all, fault, said) sent came carries =
     said_talk old new sent came (RunTells old new unread left held holds BadMessage (input, all, fault, said)) ended input said.text (refused fault)
     said.conversation carries (λ s told. told)
-talk old new unread left held holds ReadFault (input, taken, said) sent came carries =
-    said_talk old new sent came (RunTells old new unread left held holds ReadFault (input, taken, said)) failed input said.text broken said.conversation carries
+talk old new unread left held holds ReadFault (input, taken, expects, said) sent came carries =
+    said_talk old new sent came (RunTells old new unread left held holds ReadFault (input, taken, expects, said)) failed input said.text (broken expects)
+    said.conversation carries
     (λ s told. told)
 talk old new unread left held holds WriteFault (input, all, text, appends, cut) sent came carries =
     cut_talk old new sent came (RunTells old new unread left held holds WriteFault (input, all, text, appends, cut)) input text cut carries (λ s told. inl told)

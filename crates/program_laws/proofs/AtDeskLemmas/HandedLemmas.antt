@@ -31,6 +31,7 @@ use Rattle.desk_messages.specs.Meaning.{MessageAsks, lookup_form}
 use Rattle.desk_messages.specs.declared.reply.form.Form.TheVariants as forms
 use Rattle.desk_messages.specs.declared.reply.outcome.Outcome.{Outcome}
 use Rattle.desk_messages.specs.declared.reply.outcome.Outcome.TheVariants as outcomes
+use Rattle.desk_messages.specs.reply.HttpDate.{moment_given}
 use Rattle.desk_messages.specs.reply.Text.{reply_bytes_of}
 use Rattle.desk_client.specs.Alike.{TellAlike}
 use Rattle.desk_client.specs.Asks.{IsAskable, question_message}
@@ -118,9 +119,9 @@ module _ (laws : DeskLaws) (hands : (life : Life) (at : Stamped) (reply : Result
       let may = may_be laws old.0 new.0 moment request r.0 life opening r.2 in
       let u = told_reply forms.Json r.0 in
       let tellable : IsTellable (wanted_by q) u = subst (λ (w : Wanted). IsTellable w u) (sym wanted) (tellable_reply request r.0 ask may.1 may.0) in
-      let text : IsReply (wanted_by q) (reply_bytes_of (outcomes.Replied forms.Json r.0) false) (it_tells s) =
-      subst (λ (x : List ℕ). IsReply (wanted_by q) x (it_tells s)) (c.text ∙ ap (λ (x : Outcome). reply_bytes_of x false) r.1) is in
-      let alike = same_told laws (wanted_by q) (outcomes.Replied forms.Json r.0) (it_tells s) u text tellable (reply_tells forms.Json r.0) in
+      let text : IsReply (wanted_by q) (reply_bytes_of (moment_given (Some (pos moment))) (outcomes.Replied forms.Json r.0) false) (it_tells s) =
+      subst (λ (x : List ℕ). IsReply (wanted_by q) x (it_tells s)) (c.text ∙ ap (λ (x : Outcome). reply_bytes_of (moment_given (Some (pos moment))) x false) r.1) is in
+      let alike = same_told laws (wanted_by q) (Some (pos moment)) (outcomes.Replied forms.Json r.0) (it_tells s) u text tellable (reply_tells forms.Json r.0) in
       let t = told_as s r.0 alike in
       record { sale = t.0; same = t.1; reply = r.0; is = t.2; replies = r.2 }
 
@@ -142,10 +143,10 @@ module _ (laws : DeskLaws) (hands : (life : Life) (at : Stamped) (reply : Result
       let office : IsOffice (present old.0) = present_is laws.along old.0 (subst IsLife r.3 life) opening in
       let u = told_look forms.Json r.0 in
       let keeps : IsTellable (wanted_by q) u = tellable_look laws.ranges old.0 office moment lookup r.0 tt r.2 in
-      let text : IsReply (wanted_by q) (reply_bytes_of (outcomes.Found forms.Json r.0) false) (it_tells s) =
-      subst (λ (x : List ℕ). IsReply (wanted_by q) x (it_tells s)) (c.text ∙ ap (λ (x : Outcome). reply_bytes_of x false) r.1) is in
+      let text : IsReply (wanted_by q) (reply_bytes_of (moment_given (Some (pos moment))) (outcomes.Found forms.Json r.0) false) (it_tells s) =
+      subst (λ (x : List ℕ). IsReply (wanted_by q) x (it_tells s)) (c.text ∙ ap (λ (x : Outcome). reply_bytes_of (moment_given (Some (pos moment))) x false) r.1) is in
       let alike =
-      same_told laws (wanted_by q) (outcomes.Found forms.Json r.0) (it_tells s) u text keeps
+      same_told laws (wanted_by q) (Some (pos moment)) (outcomes.Found forms.Json r.0) (it_tells s) u text keeps
       (look_tells forms.Json r.0 (no_count forms.Json (wanted_by q) r.0 (λ e. absurd cc) keeps)) in
       let t = found_as s r.0 alike in
       let there = ref_stands old.0 moment operator order_ref t.0 (subst (IsFoundAt old.0 moment lookup) t.2 r.2) in

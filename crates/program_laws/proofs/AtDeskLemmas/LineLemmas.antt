@@ -1,11 +1,12 @@
 -- A conversation over what one question sends is one exchange, that of the question.
-use Rattle.std.proofs.Common.{◌≡◌, ◌≢◌, ◌∙◌, ℕ, ℤ, pos, List, [], ◌∷◌, ◌++◌, Option, None, Some, Ok, Err, inl, inr, refl, sym, ap, subst, append-nil, arith}
+use Rattle.std.proofs.Common.{◌≡◌, ◌≢◌, ◌∙◌, ℕ, ℤ, pos, false, List, [], ◌∷◌, ◌++◌, Option, None, Some, Ok, Err, inl, inr, refl, sym, ap, subst, append-nil, arith}
 use Rattle.sts_fields.specs.Moment.{IsMoment}
 use Rattle.vend_core.specs.Law.Life.{Life}
 use Rattle.office_rules.specs.declared.decision.refusal.Refusal.TheVariants.{ImportRow}
-use Rattle.conversation.specs.Conversation.{Conversation, last_words, messages_of, replies_of}
+use Rattle.conversation.specs.Conversation.{Conversation, last_words, messages_of, replies_of, text_of}
 use Rattle.conversation.specs.Exchanges.{Exchanged, MessageExchange, Timed, timed}
 use Rattle.conversation.specs.message.Messages.{BeginsMessage, Ending, Message, Messages, ended, finished}
+use Rattle.conversation.proofs.InterimLemmas.{reply_alone}
 use Rattle.conversation.proofs.ReadingLemmas.{one_reading}
 use Rattle.desk.specs.Answering.{Comes, answers_by, life_serves, message_refusal_of}
 use Rattle.desk_messages.specs.Meaning.{IsFor, IsIdle}
@@ -29,7 +30,8 @@ module _ (laws : DeskLaws) (q : Question) (askable : IsAskable q) where
       let out = laws.outside q (pos 0) askable far in
       (out.route, out.is_for)
 
-  no_fault : (fault : DeskFault) → ¬ IsRouted (question_message q).target (question_message q).method (Err fault)
+  -- so the routes have no fault to say of it
+  pub no_fault : (fault : DeskFault) → ¬ IsRouted (question_message q).target (question_message q).method (Err fault)
   no_fault fault routed =
       let l = leads in
       let same : Ok l.0 ≡ Err fault = laws.routed (question_message q).target (question_message q).method (Ok l.0) (Err fault) l.1 routed in
@@ -72,8 +74,8 @@ module _ (laws : DeskLaws) (q : Question) (askable : IsAskable q) where
       (subst (λ (now : Option ℤ). Comes life_serves x.message now answered.0.0 old.0 new.0) given answered.0.1)))
 
   -- its bytes are one message, and then nothing
-  whole_message : Messages ended (question_text q) (question_message q ∷ []) finished
-  whole_message = ([], subst (λ (text : List ℕ). BeginsMessage text (question_message q) []) (append-nil (question_text q)) (laws.sent q [] askable), inl refl)
+  whole_message : Messages ended (question_text q) (question_message q ∷ []) (finished false)
+  whole_message = ([], subst (λ (text : List ℕ). BeginsMessage text (question_message q) []) (append-nil (question_text q)) (laws.sent q [] askable), inl (refl, refl))
 
   one_exchange : (old new : Timed Life) (came : List ℕ) (xs : List MessageExchange) → messages_of xs ≡ question_message q ∷ []
       → Exchanged (timed (answers_by life_serves)) old xs new
@@ -83,14 +85,14 @@ module _ (laws : DeskLaws) (q : Question) (askable : IsAskable q) where
   one_exchange old new came (x ∷ []) messages (mid, step, same) text =
       let message : x.message ≡ question_message q = cc in
       at_second old new came x x.now refl message (subst (λ (o : Timed Life). timed (answers_by life_serves) old x o) (sym same) step)
-      (text ∙ append-nil x.reply)
+      (text ∙ append-nil (text_of x) ∙ reply_alone x (ap (λ (m : Message). m.expects) message))
 
   -- where a desk read just these bytes, and all that it wrote came, it answered the question
   pub line_answers : (old new : Timed Life) (came : List ℕ) (ending : Ending)
       → Conversation (timed (answers_by life_serves)) message_refusal_of ended (question_text q) old came ending new
       → (second : ℤ) × IsAnsweredAt second old (question_text q) came new
   line_answers old new came ending held =
-      let same = one_reading ended (question_text q) (messages_of held.exchanges) (question_message q ∷ []) ending finished held.messages whole_message in
+      let same = one_reading ended (question_text q) (messages_of held.exchanges) (question_message q ∷ []) ending (finished false) held.messages whole_message in
       let words : last_words message_refusal_of ending ≡ [] = ap (λ e. last_words message_refusal_of e) same.1 in
       one_exchange old new came held.exchanges same.0 held.served
       (held.text_is ∙ ap (λ (text : List ℕ). replies_of held.exchanges ++ text) words ∙ append-nil (replies_of held.exchanges))

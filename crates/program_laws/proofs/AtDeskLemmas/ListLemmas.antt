@@ -18,6 +18,7 @@ use Rattle.desk_messages.specs.Meaning.{MessageLooks}
 use Rattle.desk_messages.specs.declared.reply.form.Form.TheVariants as forms
 use Rattle.desk_messages.specs.declared.reply.outcome.Outcome.{Outcome}
 use Rattle.desk_messages.specs.declared.reply.outcome.Outcome.TheVariants as outcomes
+use Rattle.desk_messages.specs.reply.HttpDate.{moment_given}
 use Rattle.desk_messages.specs.reply.Text.{reply_bytes_of}
 use Rattle.desk_client.specs.Alike.{TellAlike}
 use Rattle.desk_client.specs.Answers.{Answers, IsReplyTo}
@@ -135,7 +136,7 @@ module _ (laws : DeskLaws) where
     pub found : IsFoundAt old moment (page_lookup list) result
     pub tellable : IsTellable wants.Page (told_look forms.Json result)
     pub tells : Tells (outcomes.Found forms.Json result) (told_look forms.Json result)
-    pub text : came ≡ reply_bytes_of (outcomes.Found forms.Json result) false
+    pub text : came ≡ reply_bytes_of (moment_given (Some (pos moment))) (outcomes.Found forms.Json result) false
     pub same : new ≡ old
 
   -- a question for a page has the desk look the page up, and what it finds can be told
@@ -153,7 +154,7 @@ module _ (laws : DeskLaws) where
         found = r.2;
         tellable = keeps;
         tells = look_tells forms.Json r.0 (no_count forms.Json wants.Page r.0 (λ e. absurd cc) keeps);
-        text = c.text ∙ ap (λ (x : Outcome). reply_bytes_of x false) r.1;
+        text = c.text ∙ ap (λ (x : Outcome). reply_bytes_of (moment_given (Some (pos moment))) x false) r.1;
         same = r.3;
       }
 
@@ -188,7 +189,7 @@ module _ (laws : DeskLaws) where
       let reads : Reads wants.Page (outcomes.Found forms.Json l.result) =
       record { told = told_look forms.Json l.result; tellable = l.tellable; tells = l.tells } in
       came_page moment old.0 list came office (plausible_present laws.one_step laws.plausible old.0 life opening plausible) l.result l.found l.tellable
-      (whole_reply laws wants.Page (outcomes.Found forms.Json l.result) came l.text few reads)
+      (whole_reply laws wants.Page (Some (pos moment)) (outcomes.Found forms.Json l.result) came l.text few reads)
 
   -- ---- a page that a desk told is one of its office
   module _ (one : OnePage) where
@@ -202,11 +203,11 @@ module _ (laws : DeskLaws) where
         → (tells : IsPageReply list came page)
         → (it : Found) × Finds (present old) moment (page_lookup list) (Ok it) × (pages.page_as_read page ≡ pages.page_as_read it)
     told_page moment old new list came page office l tells =
-        let text : IsReply wants.Page (reply_bytes_of (outcomes.Found forms.Json l.result) false) (told.Granted (granted.Page tells.body)) =
+        let text : IsReply wants.Page (reply_bytes_of (moment_given (Some (pos moment))) (outcomes.Found forms.Json l.result) false) (told.Granted (granted.Page tells.body)) =
         subst (λ (x : List ℕ). IsReply wants.Page x (told.Granted (granted.Page tells.body))) l.text
         (subst (λ w. IsReply w came (told.Granted (granted.Page tells.body))) (page_wanted list) tells.reply.reply) in
         let alike =
-        same_told laws wants.Page (outcomes.Found forms.Json l.result) (told.Granted (granted.Page tells.body))
+        same_told laws wants.Page (Some (pos moment)) (outcomes.Found forms.Json l.result) (told.Granted (granted.Page tells.body))
         (told_look forms.Json l.result) text l.tellable l.tells in
         let it = page_of tells.body l.result alike in (
           it.0,

@@ -104,6 +104,10 @@ module _ (routed : (target : List ℕ) (method : Method) (a b : Result Route Des
       let same : Ok route ≡ Ok (routes.Import kind) = routed m.target m.method (Ok route) (Ok (routes.Import kind)) other is_for in
       cc
 
+  not_routed : (fault : DeskFault) → ¬ IsRouted m.target m.method (Err fault)
+  not_routed fault other =
+      let same : Ok (routes.Import kind) ≡ Err fault = routed m.target m.method (Ok (routes.Import kind)) (Err fault) is_for other in absurd (cc)
+
   the_body : (route : Route) (r : Result Request BodyFault) → IsFor m route → BodyAsks route m.body r → BodyAsks (routes.Import kind) m.body r
   the_body route r other asks = subst (λ (x : Route). BodyAsks x m.body r) (the_route route other) asks
 
@@ -143,8 +147,8 @@ module _ (routed : (target : List ℕ) (method : Method) (a b : Result Route Des
     idle_rows (outcomes.Faulty faults.Body) (route, later, comes, asks, body) same =
         let read = import_body kind m.body (Err body_faults.OutsideRule) (the_body route (Err body_faults.OutsideRule) comes.is_for body) in
         absurd (no_fault read.0 read.2)
-    idle_rows (outcomes.Faulty faults.NoRoute) (fault, none) same = absurd cc
-    idle_rows (outcomes.Faulty (faults.Method allowed)) (fault, none) same = absurd cc
+    idle_rows (outcomes.Faulty faults.NoRoute) (fault, read) same = absurd (not_routed faults.NoRoute fault)
+    idle_rows (outcomes.Faulty (faults.Method allowed)) (fault, read) same = absurd (not_routed (faults.Method allowed) fault)
     idle_rows (outcomes.Replied form (Err (ImportRow row cause))) (is_json, (route, later, comes, body)) same =
         let read = import_body kind m.body (Err (body_faults.Row row cause)) (the_body route (Err (body_faults.Row row cause)) comes.is_for body) in (
           read.0,

@@ -51,13 +51,14 @@ use Rattle.desk_messages.specs.declared.reply.outcome.Outcome.{Outcome}
 use Rattle.desk_messages.specs.declared.reply.outcome.Outcome.TheVariants as outcomes
 use Rattle.desk_messages.specs.declared.route.Route.{Route}
 use Rattle.desk_messages.specs.declared.route.Route.TheVariants.{Import}
+use Rattle.desk_messages.specs.reply.HttpDate.{IsDateAt, http_date, moment_given}
 use Rattle.desk_messages.specs.reply.Text.{reply_bytes_of, reply_to}
 use Rattle.desk_messages.specs.route.Route.{IsRouted}
 use Rattle.desk_client.specs.Alike.{TellAlike}
 use Rattle.desk_client.specs.Asks.{IsAskable, IsNoMoment, MeansAsked, asked_by, question_message}
 use Rattle.desk_client.specs.Question.{question_method, question_text, wanted_by}
 use Rattle.desk_client.specs.Reply.{IsReply, longest_reply_body, reply_text}
-use Rattle.desk_client.specs.Start.{category_start, head_end, start_text}
+use Rattle.desk_client.specs.Start.{IsDated, category_start, head_end, start_text}
 use Rattle.desk_client.specs.Tells.{Tells}
 use Rattle.desk_client.specs.Told.{IsTellable, granted_start, told_start, told_text, wanted_of}
 use Rattle.desk_client.specs.declared.question.Question.{Question}
@@ -68,9 +69,9 @@ use Rattle.desk_client.specs.declared.told.Told.{Told}
 use Rattle.desk_client.specs.declared.told.Told.TheVariants as told
 use Rattle.desk_client.specs.declared.told.Wanted.{Wanted}
 use Rattle.desk_client.specs.declared.told.Wanted.TheVariants as wants
-use Rattle.desk_client.proofs.HeadLemmas.{one_head}
+use Rattle.desk_client.proofs.HeadLemmas.{one_head, short_end}
 use Rattle.desk_client.proofs.TargetLemmas.{found_imports_meters, found_imports_tariffs}
-use Rattle.desk_client.proofs.TellsLemmas.{SalesAreTexts, says}
+use Rattle.desk_client.proofs.TellsLemmas.{SalesAreTexts, date_given, given_dated, says}
 use Rattle.desk_client.proofs.WordLemmas.{seen_text}
 use Rattle.program_laws.specs.AtDesk.{IsAnsweredAt, IsAskedByOne, PrintsAdded, PrintsAsOnFile, PrintsFound, PrintsImport, PrintsReply, PrintsTotals}
 use Rattle.desk_commands.specs.AskedOfDesk.{SaleNeedsRoom, TellsTold, told_sale_text}
@@ -98,6 +99,7 @@ pub record DeskLaws : Type 0 where
   pub meaning : (m : Message) (now : Option ℤ) → HasOneMeaning m now
   pub routed : (target : List ℕ) (method : Method) (a b : Result Route DeskFault) → IsRouted target method a → IsRouted target method b → a ≡ b
   pub texts : SalesAreTexts
+  pub dates : (moment : ℕ) → IsMoment moment → IsDateAt moment (http_date moment)
   -- of what a desk is sent, and what it replies
   pub sent : (question : Question) (rest : List ℕ) → IsAskable question → BeginsMessage (question_text question ++ rest) (question_message question) rest
   pub means : (question : Question) (moment : ℕ) → IsAskable question → IsMoment moment → MeansAsked (asked_by question) (question_message question) moment
@@ -137,68 +139,82 @@ short_start (told.Refused refusal) = short_category (refusal_category refusal)
 short_start told.NoMoment = omega arith
 
 -- a reply is as long as its start, its length's digits, the end of its head and its body
-pub reply_length : (t : Told)
-    → length (reply_text t) ≡ length (start_text (told_start t)) + (length (decimal (length (told_text t))) + (length head_end + length (told_text t)))
-reply_length t =
+pub reply_length : (d : Option (List ℕ)) (t : Told)
+    → length (reply_text d t)
+    ≡ length (start_text (told_start t)) + (length (decimal (length (told_text t))) + (length (head_end d) + length (told_text t)))
+reply_length d t =
     omega (
       arith,
-      length-append (start_text (told_start t)) (decimal (length (told_text t)) ++ (head_end ++ told_text t)),
-      length-append (decimal (length (told_text t))) (head_end ++ told_text t),
-      length-append head_end (told_text t),
+      length-append (start_text (told_start t)) (decimal (length (told_text t)) ++ (head_end d ++ told_text t)),
+      length-append (decimal (length (told_text t))) (head_end d ++ told_text t),
+      length-append (head_end d) (told_text t),
     )
 
-short_reply : (t : Told) → length (told_text t) ≤ longest_reply_body → length (reply_text t) ≤ longest_reply_body + 95
-short_reply t short =
-    omega (arith, reply_length t, short_start t, length-decimal-le 8 (length (told_text t)) (omega arith) (omega (arith, short)) (omega (arith, short)), short)
+short_reply : (d : Option (List ℕ)) (t : Told) → IsDated d → length (told_text t) ≤ longest_reply_body
+    → length (reply_text d t) ≤ longest_reply_body + 132
+short_reply d t is short =
+    omega (
+      arith,
+      reply_length d t,
+      short_start t,
+      short_end d is,
+      length-decimal-le 8 (length (told_text t)) (omega arith) (omega (arith, short)) (omega (arith, short)),
+      short,
+    )
 
 -- two replies with one text have one body
-pub same_body : (t u : Told) → length (told_text t) ≤ longest_reply_body → reply_text t ≡ reply_text u → length (told_text u) ≤ longest_reply_body
-same_body t u short same =
-    let most : length (told_text u) < 2 ^ 64 = omega (arith, short_reply t short, ap length same, reply_length u) in
+pub same_body : (d f : Option (List ℕ)) (t u : Told) → IsDated d → IsDated f → length (told_text t) ≤ longest_reply_body
+    → reply_text d t ≡ reply_text f u → length (told_text u) ≤ longest_reply_body
+same_body d f t u is are short same =
+    let most : length (told_text u) < 2 ^ 64 = omega (arith, short_reply d t is short, ap length same, reply_length f u) in
     let heads =
-    one_head (told_start t) (told_start u) (length (told_text t)) (length (told_text u)) (told_text t) (told_text u) (omega (arith, short)) most same in
+    one_head (told_start t) (told_start u) (length (told_text t)) (length (told_text u)) d f (told_text t) (told_text u) (omega (arith, short)) most is are same in
     omega (arith, heads.1, short)
 
 module _ (laws : DeskLaws) where
   -- what was read of the reply to what came of a message is what this tells
-  pub same_told : (asked : Wanted) (outcome : Outcome) (t u : Told) → IsReply asked (reply_bytes_of outcome false) t → IsTellable asked u → Tells outcome u
-      → TellAlike t u
-  same_told asked outcome t u is tellable tells =
-      let text = says laws.texts asked outcome u tellable tells in
-      let other : IsReply asked (reply_bytes_of outcome false) u = record {
+  pub same_told : (asked : Wanted) (now : Option ℤ) (outcome : Outcome) (t u : Told) → IsReply asked (reply_bytes_of (moment_given now) outcome false) t
+      → IsTellable asked u → Tells outcome u → TellAlike t u
+  same_told asked now outcome t u is tellable tells =
+      let text = says (moment_given now) laws.texts asked outcome u tellable tells in
+      let dated = given_dated laws.dates now in
+      let other : IsReply asked (reply_bytes_of (moment_given now) outcome false) u = record {
         tellable = tellable;
-        short = same_body t u is.short (sym is.is_text ∙ text);
+        short = same_body is.dated (date_given now) t u is.is_dated dated is.short (sym is.is_text ∙ text);
+        dated = date_given now;
+        is_dated = dated;
         is_text = text;
       } in
-      laws.alike asked (reply_bytes_of outcome false) t u is other
+      laws.alike asked (reply_bytes_of (moment_given now) outcome false) t u is other
 
   -- ---- the message
 
   -- no question is asked by HEAD, so its reply has its body
-  pub has_body : (question : Question) (outcome : Outcome) → reply_to (question_method question) outcome false ≡ reply_bytes_of outcome false
-  has_body (questions.Import kind csv) outcome = refl
-  has_body (questions.SetTariff meter tariff) outcome = refl
-  has_body (questions.MoveBase meter base) outcome = refl
-  has_body (questions.OpenShift operator) outcome = refl
-  has_body (questions.CloseShift operator) outcome = refl
-  has_body (questions.Sell order) outcome = refl
-  has_body (questions.ShiftReport number) outcome = refl
-  has_body (questions.Receipt number) outcome = refl
-  has_body (questions.ShiftTotals number) outcome = refl
-  has_body (questions.Meter meter) outcome = refl
-  has_body (questions.LastSale meter) outcome = refl
-  has_body (questions.SaleOfRef operator order_ref) outcome = refl
-  has_body (questions.Quote meter tender) outcome = refl
-  has_body (questions.Tariffs after) outcome = refl
-  has_body (questions.Meters after) outcome = refl
-  has_body (questions.Shifts after) outcome = refl
-  has_body (questions.Sales after) outcome = refl
+  pub has_body : (question : Question) (dated : Option ℕ) (outcome : Outcome)
+      → reply_to (question_method question) dated outcome false ≡ reply_bytes_of dated outcome false
+  has_body (questions.Import kind csv) dated outcome = refl
+  has_body (questions.SetTariff meter tariff) dated outcome = refl
+  has_body (questions.MoveBase meter base) dated outcome = refl
+  has_body (questions.OpenShift operator) dated outcome = refl
+  has_body (questions.CloseShift operator) dated outcome = refl
+  has_body (questions.Sell order) dated outcome = refl
+  has_body (questions.ShiftReport number) dated outcome = refl
+  has_body (questions.Receipt number) dated outcome = refl
+  has_body (questions.ShiftTotals number) dated outcome = refl
+  has_body (questions.Meter meter) dated outcome = refl
+  has_body (questions.LastSale meter) dated outcome = refl
+  has_body (questions.SaleOfRef operator order_ref) dated outcome = refl
+  has_body (questions.Quote meter tender) dated outcome = refl
+  has_body (questions.Tariffs after) dated outcome = refl
+  has_body (questions.Meters after) dated outcome = refl
+  has_body (questions.Shifts after) dated outcome = refl
+  has_body (questions.Sales after) dated outcome = refl
 
   -- the message that a question asks came to the desk, and this came of it
   pub record Came (question : Question) (second : ℤ) (old new : Timed Life) (came : List ℕ) : Type 0 where
     pub outcome : Outcome
     pub comes : Comes life_serves (question_message question) (Some second) outcome old.0 new.0
-    pub text : came ≡ reply_bytes_of outcome false
+    pub text : came ≡ reply_bytes_of (moment_given (Some second)) outcome false
 
   -- what came back for a question is the reply to its own message
   pub came_of : (question : Question) (second : ℤ) (old new : Timed Life) (came : List ℕ) → IsAskable question
@@ -216,7 +232,10 @@ module _ (laws : DeskLaws) where
       record {
         outcome = outcome;
         comes = comes;
-        text = at.whole ∙ at.answered.0.2 ∙ ap (λ (m : Message). reply_to m.method outcome m.closes) same ∙ has_body question outcome;
+        text =
+            at.whole ∙ at.answered.0.2 ∙ ap (λ (m : Message). reply_to m.method (moment_given x.now) outcome m.closes) same
+            ∙ has_body question (moment_given x.now) outcome
+            ∙ ap (λ (now : Option ℤ). reply_bytes_of (moment_given now) outcome false) at.given;
       }
 
   -- ---- a request
@@ -283,9 +302,9 @@ module _ (laws : DeskLaws) where
         let may = may_be old.0 new.0 moment request r.0 life opening r.2 in
         let u = told_reply forms.Json r.0 in
         let tellable : IsTellable (wanted_by q) u = subst (λ (w : Wanted). IsTellable w u) (sym wanted) (tellable_reply request r.0 ask may.1 may.0) in
-        let text : IsReply (wanted_by q) (reply_bytes_of (outcomes.Replied forms.Json r.0) false) t =
-        subst (λ (x : List ℕ). IsReply (wanted_by q) x t) (c.text ∙ ap (λ (x : Outcome). reply_bytes_of x false) r.1) is in
-        let alike = same_told (wanted_by q) (outcomes.Replied forms.Json r.0) t u text tellable (reply_tells forms.Json r.0) in
+        let text : IsReply (wanted_by q) (reply_bytes_of (moment_given (Some (pos moment))) (outcomes.Replied forms.Json r.0) false) t =
+        subst (λ (x : List ℕ). IsReply (wanted_by q) x t) (c.text ∙ ap (λ (x : Outcome). reply_bytes_of (moment_given (Some (pos moment))) x false) r.1) is in
+        let alike = same_told (wanted_by q) (Some (pos moment)) (outcomes.Replied forms.Json r.0) t u text tellable (reply_tells forms.Json r.0) in
         record {
           reply = r.0;
           replied = r.2;
@@ -310,10 +329,10 @@ module _ (laws : DeskLaws) where
         let u = told_look (lookup_form lookup) r.0 in
         let keeps : IsTellable (wanted_look lookup) u = tellable_look laws.ranges old.0 office moment lookup r.0 may r.2 in
         let tellable : IsTellable (wanted_by q) u = subst (λ (w : Wanted). IsTellable w u) (sym wanted) keeps in
-        let text : IsReply (wanted_by q) (reply_bytes_of (outcomes.Found (lookup_form lookup) r.0) false) t =
-        subst (λ (x : List ℕ). IsReply (wanted_by q) x t) (c.text ∙ ap (λ (x : Outcome). reply_bytes_of x false) r.1) is in
+        let text : IsReply (wanted_by q) (reply_bytes_of (moment_given (Some (pos moment))) (outcomes.Found (lookup_form lookup) r.0) false) t =
+        subst (λ (x : List ℕ). IsReply (wanted_by q) x t) (c.text ∙ ap (λ (x : Outcome). reply_bytes_of (moment_given (Some (pos moment))) x false) r.1) is in
         let alike =
-        same_told (wanted_by q) (outcomes.Found (lookup_form lookup) r.0) t u text tellable
+        same_told (wanted_by q) (Some (pos moment)) (outcomes.Found (lookup_form lookup) r.0) t u text tellable
         (look_tells (lookup_form lookup) r.0 (no_count (lookup_form lookup) (wanted_look lookup) r.0 some keeps)) in
         record { result = r.0; found = r.2; same = r.3; printed = tell_alike json q o end t u alike told }
 
@@ -321,13 +340,13 @@ module _ (laws : DeskLaws) where
 
     -- a reply to the rows of a file is printed as it is told
     json_prints : (kind : FileKind) (csv : Bor (List ℕ)) (r : Result Answer Refusal) → IsTellable wants.Imported (told_reply forms.Json r)
-        → came ≡ reply_bytes_of (outcomes.Replied forms.Json r) false → IsReply wants.Imported came t → TellsTold json (questions.Import kind csv) t o end
+        → came ≡ reply_bytes_of (moment_given (Some (pos moment))) (outcomes.Replied forms.Json r) false → IsReply wants.Imported came t → TellsTold json (questions.Import kind csv) t o end
         → TellsReply r o end
     json_prints kind csv r tellable text is told =
         let q = questions.Import kind csv in
-        let reply : IsReply wants.Imported (reply_bytes_of (outcomes.Replied forms.Json r) false) t =
+        let reply : IsReply wants.Imported (reply_bytes_of (moment_given (Some (pos moment))) (outcomes.Replied forms.Json r) false) t =
         subst (λ (x : List ℕ). IsReply wants.Imported x t) text is in
-        let alike = same_told wants.Imported (outcomes.Replied forms.Json r) t (told_reply forms.Json r) reply tellable (reply_tells forms.Json r) in
+        let alike = same_told wants.Imported (Some (pos moment)) (outcomes.Replied forms.Json r) t (told_reply forms.Json r) reply tellable (reply_tells forms.Json r) in
         prints_reply json q (λ s. refl) (λ s none. none) o end forms.Json r (tell_alike json q o end t (told_reply forms.Json r) alike told)
 
     -- what came of the rows of a file is printed as `import` prints it
@@ -348,11 +367,11 @@ module _ (laws : DeskLaws) where
               reply = r;
               replied = replies;
               told = json_prints kind csv r tellable
-                  (c.text ∙ ap (λ (x : Outcome). reply_bytes_of x false) outcome) is told;
+                  (c.text ∙ ap (λ (x : Outcome). reply_bytes_of (moment_given (Some (pos moment))) x false) outcome) is told;
             }
         by_rows (Err (row_faults.At row cause)) read (outcome, same) = (
           json_prints kind csv (Err (ImportRow row cause)) (row_tellable kind _ row cause read)
-              (c.text ∙ ap (λ (x : Outcome). reply_bytes_of x false) outcome) is told,
+              (c.text ∙ ap (λ (x : Outcome). reply_bytes_of (moment_given (Some (pos moment))) x false) outcome) is told,
           same,
         )
         by_rows (Err row_faults.Memory) read none = absurd none
@@ -452,7 +471,7 @@ module _ (laws : DeskLaws) where
       let idle =
       idled m (Some second) (laws.meaning m (Some second)) (outcomes.Faulty faults.Clock)
       (laws.outside q second askable none) c.outcome old.0 new.0 c.comes in
-      let text : IsReply (wanted_by q) (reply_bytes_of (outcomes.Faulty faults.Clock) false) t =
-      subst (λ (x : List ℕ). IsReply (wanted_by q) x t) (c.text ∙ ap (λ (x : Outcome). reply_bytes_of x false) idle.0) is in
-      let alike = same_told (wanted_by q) (outcomes.Faulty faults.Clock) t told.NoMoment text tt refl in
+      let text : IsReply (wanted_by q) (reply_bytes_of (moment_given (Some second)) (outcomes.Faulty faults.Clock) false) t =
+      subst (λ (x : List ℕ). IsReply (wanted_by q) x t) (c.text ∙ ap (λ (x : Outcome). reply_bytes_of (moment_given (Some second)) x false) idle.0) is in
+      let alike = same_told (wanted_by q) (Some second) (outcomes.Faulty faults.Clock) t told.NoMoment text tt refl in
       (tell_alike json q o end t told.NoMoment alike printed, idle.1)

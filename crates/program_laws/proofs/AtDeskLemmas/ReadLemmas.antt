@@ -1,5 +1,5 @@
 -- What a desk answers to a question is read whole.
-use Rattle.std.proofs.Common.{◌≡◌, ◌≢◌, ◌∙◌, ℕ, pos, ◌≤◌, false, List, length, Some, Result, Ok, Err, inl, inr, refl, sym, ap, subst, arith}
+use Rattle.std.proofs.Common.{◌≡◌, ◌≢◌, ◌∙◌, ℕ, ℤ, pos, ◌≤◌, false, List, length, Option, Some, Result, Ok, Err, inl, inr, refl, sym, ap, subst, arith}
 use Rattle.std.specs.Borrow.{Bor}
 use Rattle.sts_fields.specs.Day.{day_at}
 use Rattle.sts_fields.specs.Moment.{IsMoment}
@@ -28,6 +28,7 @@ use Rattle.desk_messages.specs.declared.reply.form.Form.{Form}
 use Rattle.desk_messages.specs.declared.reply.form.Form.TheVariants as forms
 use Rattle.desk_messages.specs.declared.reply.outcome.Outcome.{Outcome}
 use Rattle.desk_messages.specs.declared.reply.outcome.Outcome.TheVariants as outcomes
+use Rattle.desk_messages.specs.reply.HttpDate.{moment_given}
 use Rattle.desk_messages.specs.reply.Text.{reply_bytes_of}
 use Rattle.desk_client.specs.Answers.{Answers, IsReplyTo, IsRowRefused}
 use Rattle.desk_client.specs.Asks.{IsAskable, question_message}
@@ -40,7 +41,7 @@ use Rattle.desk_client.specs.declared.question.Question.TheVariants as questions
 use Rattle.desk_client.specs.declared.told.Told.{Told}
 use Rattle.desk_client.specs.declared.told.Wanted.{Wanted}
 use Rattle.desk_client.specs.declared.told.Wanted.TheVariants as wants
-use Rattle.desk_client.proofs.TellsLemmas.{says}
+use Rattle.desk_client.proofs.TellsLemmas.{date_given, given_dated, says}
 use Rattle.program_laws.specs.AtDesk.{IsAnsweredAt}
 use Rattle.program_laws.proofs.AtDeskLemmas.OneLemmas.{Came, DeskLaws, came_of, few_fields, few_rows, import_for, may_be, reply_length, row_tellable}
 use Rattle.program_laws.proofs.AtDeskLemmas.PaperLemmas.{last_to}
@@ -220,11 +221,19 @@ module _ (laws : DeskLaws) (moment : ℕ) (is_moment : IsMoment moment) (old new
       (λ office there. shows_sales (present old.0) after) c
 
 -- a reply that is not too long tells it
-pub whole_reply : (laws : DeskLaws) (w : Wanted) (outcome : Outcome) (came : List ℕ) → came ≡ reply_bytes_of outcome false → length came ≤ longest_reply_body
+pub whole_reply : (laws : DeskLaws) (w : Wanted) (now : Option ℤ) (outcome : Outcome) (came : List ℕ)
+    → came ≡ reply_bytes_of (moment_given now) outcome false → length came ≤ longest_reply_body
     → (reads : Reads w outcome) → IsReply w came reads.told
-whole_reply laws w outcome came is few reads =
-    let text : came ≡ reply_text reads.told = is ∙ says laws.texts w outcome reads.told reads.tellable reads.tells in
-    record { tellable = reads.tellable; short = omega (arith, few, ap length text, reply_length reads.told); is_text = text }
+whole_reply laws w now outcome came is few reads =
+    let date = date_given now in
+    let text : came ≡ reply_text date reads.told = is ∙ says (moment_given now) laws.texts w outcome reads.told reads.tellable reads.tells in
+    record {
+      tellable = reads.tellable;
+      short = omega (arith, few, ap length text, reply_length date reads.told);
+      dated = date;
+      is_dated = given_dated laws.dates now;
+      is_text = text;
+    }
 
 -- what a desk answers to a question is read whole
 pub question_read : (laws : DeskLaws) (q : Question) (moment : ℕ) (old new : Timed Life) (came : List ℕ) → IsAskable q → IsMoment moment
@@ -233,4 +242,4 @@ pub question_read : (laws : DeskLaws) (q : Question) (moment : ℕ) (old new : T
 question_read laws q moment old new came askable is_moment opening plausible life at few =
     let c = came_of laws q (pos moment) old new came askable at in
     let reads = question_reads laws moment is_moment old new came opening plausible life q askable c in
-    (reads.reads.told, record { reply = whole_reply laws (wanted_by q) c.outcome came c.text few reads.reads; answers = reads.answers })
+    (reads.reads.told, record { reply = whole_reply laws (wanted_by q) (Some (pos moment)) c.outcome came c.text few reads.reads; answers = reads.answers })

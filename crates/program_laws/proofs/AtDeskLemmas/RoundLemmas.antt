@@ -1,11 +1,12 @@
 -- A conversation over what the rounds of a list send is their exchanges.
 use Rattle.std.proofs.Common.{◌≡◌, ◌∙◌, ℕ, ℤ, pos, ◌^◌, ◌<◌, ◌≤◌, Bool, false, List, [], ◌∷◌, ◌++◌, length, Option, Some, Result, Ok, Err, inl, inr, refl, sym, ap, subst, append-nil, append_assoc, length-append, arith}
 use Rattle.std.specs.Prelude.{All, IfSome, MatchBool, decimal}
+use Rattle.std.proofs.lemmas.List.{append_cancel_right}
 use Rattle.std.proofs.lemmas.List.Elements.{All-head, All-tail}
 use Rattle.vend_core.specs.Law.Life.{IsLife, Life, present}
 use Rattle.office_rules.specs.Office.{IsOffice}
 use Rattle.book_states.specs.declared.lookup.Found.{Found}
-use Rattle.conversation.specs.Conversation.{Conversation, last_words, messages_of, replies_of}
+use Rattle.conversation.specs.Conversation.{Conversation, last_words, messages_of, replies_of, text_of}
 use Rattle.conversation.specs.Exchanges.{Exchanged, MessageExchange, Timed, timed}
 use Rattle.conversation.specs.declared.message.framing.Framing.{Framing}
 use Rattle.conversation.specs.declared.message.message_fault.MessageFault.{MessageFault}
@@ -13,22 +14,24 @@ use Rattle.conversation.specs.declared.message.message_fault.MessageFault.TheVar
 use Rattle.conversation.specs.message.Framing.{framing_of}
 use Rattle.conversation.specs.message.Heads.{BeginsWithHead}
 use Rattle.conversation.specs.message.Messages.{BeginsMessage, BeginsFaulty, EndsAs, Ending, IsCutMessage, Message, Messages, broken, closing, ended, finished, refused}
+use Rattle.conversation.proofs.InterimLemmas.{reply_alone}
 use Rattle.conversation.proofs.ReadingLemmas.{head_unique, message_unique, no_empty_head}
 use Rattle.desk.specs.Answering.{answers_by, life_serves, message_refusal_of}
 use Rattle.desk_client.specs.Asks.{IsAskable, question_message}
 use Rattle.desk_client.specs.Question.{question_text}
-use Rattle.desk_client.specs.Reply.{head_bytes, longest_reply_body, reply_text}
-use Rattle.desk_client.specs.Start.{start_text}
+use Rattle.desk_client.specs.Reply.{longest_reply_body, reply_text}
+use Rattle.desk_client.specs.Start.{IsDated, head_end, start_text}
 use Rattle.desk_client.specs.Told.{told_start, told_text}
 use Rattle.desk_client.specs.declared.told.Granted.TheVariants as granted
 use Rattle.desk_client.specs.declared.told.Told.{Told}
 use Rattle.desk_client.specs.declared.told.Told.TheVariants as told
 use Rattle.desk_client.proofs.HeadLemmas.{one_head}
-use Rattle.desk_client.proofs.TellsLemmas.{says}
+use Rattle.desk_client.proofs.TellsLemmas.{date_given, given_dated, says}
 use Rattle.command_line.specs.declared.commands.list.Listed.{Listed}
 use Rattle.desk_client.specs.declared.told.Wanted.TheVariants as wants
 use Rattle.desk_messages.specs.declared.reply.form.Form.TheVariants as forms
 use Rattle.desk_messages.specs.declared.reply.outcome.Outcome.TheVariants as outcomes
+use Rattle.desk_messages.specs.reply.HttpDate.{moment_given}
 use Rattle.program_laws.specs.AtDesk.{AreAnsweredOn, IsAnsweredAt, IsGivenOn, came_in, sent_in}
 use Rattle.desk_commands.specs.ListedAtDesk.{TellPages, page_question}
 use Rattle.desk_commands.specs.Exchanged.{Round}
@@ -42,16 +45,16 @@ use Rattle.program_laws.proofs.AtDeskLemmas.TellableLemmas.{told_look}
 -- ---- an input that begins with a message does not end there
 
 -- its message is whole
-pub no_cut : (input : List ℕ) (m : Message) (rest : List ℕ) → BeginsMessage input m rest → ¬ IsCutMessage input
-no_cut input m rest begins (missing, cut) =
+pub no_cut : (input : List ℕ) (m : Message) (rest : List ℕ) (expects : Bool) → BeginsMessage input m rest → ¬ IsCutMessage input expects
+no_cut input m rest expects begins (missing, cut) =
     let heads = head_unique input begins.head cut.head (m.body ++ rest) cut.body begins.begins cut.begins in
-    let framings : Ok (record { method = m.method; body = length m.body; closes = m.closes }) ≡ Ok cut.framing =
+    let framings : Ok (record { method = m.method; body = length m.body; closes = m.closes; expects = m.expects }) ≡ Ok cut.framing =
     sym begins.framed ∙ ap framing_of heads.0 ∙ cut.framed in
     let long : length m.body ≡ cut.framing.body = cc in
     omega (arith, long, cut.lacks, cut.some, ap length heads.1, length-append m.body rest)
 
 abbrev framed_as : Message → Result Framing MessageFault
-framed_as m = Ok (record { method = m.method; body = length m.body; closes = m.closes })
+framed_as m = Ok (record { method = m.method; body = length m.body; closes = m.closes; expects = m.expects })
 
 abbrev faulty_as : MessageFault → Result Framing MessageFault
 faulty_as fault = Err fault
@@ -65,10 +68,10 @@ no_fault input m rest fault begins faulty =
 
 -- so an input that ended did not end there
 pub not_end : (input : List ℕ) (m : Message) (rest : List ℕ) (e : Ending) → 0 < length input → BeginsMessage input m rest → ¬ EndsAs ended input e
-not_end input m rest finished some begins (inl none) = omega (arith, some, ap length none)
-not_end input m rest finished some begins (inr cut) = no_cut input m rest begins cut
+not_end input m rest (finished expects) some begins (inl (none, untold)) = omega (arith, some, ap length none)
+not_end input m rest (finished expects) some begins (inr cut) = no_cut input m rest expects begins cut
 not_end input m rest closing some begins ends = ends
-not_end input m rest broken some begins ends = ends
+not_end input m rest (broken expects) some begins ends = ends
 not_end input m rest (refused faults.Head) some begins ends = ends.1 begins.head (m.body ++ rest) begins.begins
 not_end input m rest (refused faults.Method) some begins ends = no_fault input m rest faults.Method begins ends
 not_end input m rest (refused faults.Host) some begins ends = no_fault input m rest faults.Host begins ends
@@ -78,27 +81,21 @@ not_end input m rest (refused faults.Body) some begins ends = no_fault input m r
 
 -- ---- a reply is cut off a text in one way
 
-one_more : (x : ℕ) (xs ys : List ℕ) → (x ∷ xs) ++ ys ≡ x ∷ (xs ++ ys)
-one_more x xs ys = refl
-
-regroup : (s d r more : List ℕ) → (s ++ (d ++ 13 ∷ 10 ∷ 13 ∷ 10 ∷ r)) ++ more ≡ s ++ (d ++ 13 ∷ 10 ∷ 13 ∷ 10 ∷ (r ++ more))
-regroup s d r more = simp (append_assoc, one_more)
+regroup : (s d e r more : List ℕ) → (s ++ (d ++ (e ++ r))) ++ more ≡ s ++ (d ++ (e ++ (r ++ more)))
+regroup s d e r more = simp append_assoc
 
 -- two replies at the front of one text are one, and so is what follows them
-pub cut_reply : (t u : Told) (a b : List ℕ) → length (told_text t) ≤ longest_reply_body → length (reply_text u ++ b) < 2 ^ 64 → reply_text t
-    ++ a ≡ reply_text u ++ b
-    → (reply_text t ≡ reply_text u) × (a ≡ b)
-cut_reply t u a b short few same =
-    let small : length (told_text u) < 2 ^ 64 = omega (arith, few, length-append (reply_text u) b, reply_length u) in
+pub cut_reply : (d f : Option (List ℕ)) (t u : Told) (a b : List ℕ) → IsDated d → IsDated f → length (told_text t) ≤ longest_reply_body
+    → length (reply_text f u ++ b) < 2 ^ 64 → reply_text d t ++ a ≡ reply_text f u ++ b
+    → (reply_text d t ≡ reply_text f u) × (a ≡ b)
+cut_reply d f t u a b is are short few same =
+    let small : length (told_text u) < 2 ^ 64 = omega (arith, few, length-append (reply_text f u) b, reply_length f u) in
     let heads =
-    one_head (told_start t) (told_start u) (length (told_text t)) (length (told_text u)) (told_text t ++ a) (told_text u ++ b) (omega (arith, short)) small
-    (sym (regroup (start_text (told_start t)) (decimal (length (told_text t))) (told_text t) a) ∙ same ∙ regroup (start_text (told_start u))
-    (decimal (length (told_text u))) (told_text u) b) in
+    one_head (told_start t) (told_start u) (length (told_text t)) (length (told_text u)) d f (told_text t ++ a) (told_text u ++ b) (omega (arith, short)) small is are
+    (sym (regroup (start_text (told_start t)) (decimal (length (told_text t))) (head_end d) (told_text t) a) ∙ same
+    ∙ regroup (start_text (told_start u)) (decimal (length (told_text u))) (head_end f) (told_text u) b) in
     let front = front_same (told_text t) (told_text u) a b heads.1 heads.2 in
-    let texts : reply_text t ≡ reply_text u =
-    ap (λ s. head_bytes s (length (told_text t)) (told_text t)) heads.0 ∙ ap (λ (n : ℕ). head_bytes (told_start u) n (told_text t)) heads.1
-    ∙ ap (λ (text : List ℕ). head_bytes (told_start u) (length (told_text u)) text) front.0 in
-    (texts, front.1)
+    (append_cancel_right (reply_text d t) (reply_text f u) b (ap (λ (x : List ℕ). reply_text d t ++ x) (sym front.1) ∙ same), front.1)
   where
     front_same : (x y p q : List ℕ) → length x ≡ length y → x ++ p ≡ y ++ q → (x ≡ y) × (p ≡ q)
     front_same [] [] p q long same = (refl, same)
@@ -157,6 +154,7 @@ module _ (laws : DeskLaws) (one : OnePage) (day : ℕ) where
       subst (λ (text : List ℕ). BeginsMessage (text ++ sent_in rounds) m (sent_in rounds)) (sym message) (laws.sent q (sent_in rounds) askable) in
       let same = message_unique input x.message m rest (sent_in rounds) begins sent in
       let closes : x.message.closes ≡ false = ap (λ (m : Message). m.closes) same.0 in
+      let no_more : text_of x ≡ x.reply = reply_alone x (ap (λ (m : Message). m.expects) same.0) in
       let others : Messages ended (sent_in rounds) (messages_of xs) ending =
       subst (λ (bytes : List ℕ). Messages ended bytes (messages_of xs) ending) same.1
       (subst (λ (b : Bool). MatchBool b ((messages_of xs ≡ []) × (ending ≡ closing)) (Messages ended rest (messages_of xs) ending)) closes match) in
@@ -173,23 +171,28 @@ module _ (laws : DeskLaws) (one : OnePage) (day : ℕ) where
       let looked = looks_up laws at.0 old mid list x.reply at.1 office askable mine in
       let u = told_look forms.Json looked.result in
       let t = told.Granted (granted.Page tell.body) in
-      let words : x.reply ≡ reply_text u = looked.text ∙ says laws.texts wants.Page (outcomes.Found forms.Json looked.result) u looked.tellable looked.tells in
+      let now = Some (pos at.0) in
+      let wrote = date_given now in
+      let words : x.reply ≡ reply_text wrote u =
+      looked.text ∙ says (moment_given now) laws.texts wants.Page (outcomes.Found forms.Json looked.result) u looked.tellable looked.tells in
       let behind : List ℕ = replies_of xs ++ last_words message_refusal_of ending in
-      let both : reply_text t ++ came_in rounds ≡ reply_text u ++ behind =
-      ap (λ (bytes : List ℕ). bytes ++ came_in rounds) (sym tell.reply.reply.is_text) ∙ text ∙ append_assoc x.reply (replies_of xs)
+      let date = tell.reply.reply.dated in
+      let both : reply_text date t ++ came_in rounds ≡ reply_text wrote u ++ behind =
+      ap (λ (bytes : List ℕ). bytes ++ came_in rounds) (sym tell.reply.reply.is_text) ∙ text ∙ append_assoc (text_of x) (replies_of xs)
       (last_words message_refusal_of ending)
-      ∙ ap (λ (bytes : List ℕ). bytes ++ behind) words in
-      let total : length (reply_text u ++ behind) < 2 ^ 64 =
+      ∙ ap (λ (bytes : List ℕ). bytes ++ behind) (no_more ∙ words) in
+      let total : length (reply_text wrote u ++ behind) < 2 ^ 64 =
       omega (
         arith,
         few,
         ap length both,
         length-append round.came (came_in rounds),
-        length-append (reply_text t)
+        length-append (reply_text date t)
             (came_in rounds),
         ap length tell.reply.reply.is_text,
       ) in
-      let cut = cut_reply t u (came_in rounds) behind tell.reply.reply.short total both in
+      let cut =
+      cut_reply date wrote t u (came_in rounds) behind tell.reply.reply.is_dated (given_dated laws.dates now) tell.reply.reply.short total both in
       let came : round.came ≡ x.reply = tell.reply.reply.is_text ∙ cut.0 ∙ sym words in
       let answered : IsAnsweredAt (pos at.0) old (question_text q) round.came mid =
       came_so (pos at.0) old mid (question_text q) round.came x.reply came mine in

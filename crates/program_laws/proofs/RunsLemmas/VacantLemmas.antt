@@ -173,15 +173,12 @@ empty_tells Wants Sales wants o end (inr told) q is = absurd is
 
 -- ---- what was made
 
--- files of which only the length was taken hold what was found, and leave nothing else
+-- files of which only the lengths were taken hold what was found, and leave nothing else
 pub measured_so : {M : Type 0} (disk : disk.Ghosts M) (Before : Image → Type 0) (meets : M → M → Type 0)
     → ((found : Files M) → meets found.log found.db → AreFoundSo disk found Before) → (files : Files M)
     → AreMeasured disk meets files.log files.db → AreFoundSo disk files Before
 measured_so disk Before meets held files it =
-    let so = held (record { log = files.log; db = it.found }) it.met in (
-      subst (λ (bytes : List ℕ). Before (record { log = disk.seen files.log; db = bytes })) (sym it.seen) so.0,
-      λ image out. so.1 image (out.0, it.crash image.db out.1),
-    )
+    let so = held it.found it.met in (subst Before (sym it.seen) so.0, λ image out. so.1 image (it.crash image out))
 
 module _ {start : Office} (laws : Laws start) (Before : Image → Type 0) (lives : List Life) {M : Type 0} {disk : disk.Ghosts M}
     (opens : (c : Held (FileStore M disk)) (o : Office) → Opens (file_state c) → IsLive (file_state c)

@@ -1,15 +1,17 @@
 -- Words that ask a desk to sell an order ask it that.
-use Rattle.std.proofs.Common.{◌≡◌, ◌⊎◌, List, [], Option, Some, None, codes, inl, inr, refl, ap, subst}
+use Rattle.std.proofs.Common.{◌≡◌, ◌⊎◌, false, List, [], Option, Some, None, codes, inl, inr, refl, ap, subst}
 use Rattle.clap.specs.Kinds.{IsAmong}
 use Rattle.clap.specs.Walk.{Row}
 use Rattle.sqlite_trees.specs.declared.store.Store.{Ghosts}
 use Rattle.sts_fields.specs.Text.{Text}
 use Rattle.office_rules.specs.declared.decision.refusal.Refusal.TheVariants.{Memory}
 use Rattle.office_rules.specs.declared.decision.request.Order.{Order}
-use Rattle.office_rules.specs.declared.decision.request.Request.{Request}
-use Rattle.office_rules.specs.declared.decision.request.Request.TheVariants as requests
+use Rattle.command_line.specs.Address.{SaysAddress}
 use Rattle.command_line.specs.Asked.{ArgumentsSay, CommandAsks}
-use Rattle.command_line.specs.Commands.{SaysDeskQuestion, SaysOrder, SaysRequest}
+use Rattle.command_line.specs.Commands.{SaysDeskQuestion, SaysOrder}
+use Rattle.command_line.specs.Place.{lacks_place}
+use Rattle.command_line.specs.Said.{IsArgument, parsed_argument}
+use Rattle.command_line.specs.declared.address.Address.{Address}
 use Rattle.command_line.specs.declared.asked.Asked.{Asked}
 use Rattle.command_line.specs.declared.asked.Asked.TheVariants as asks
 use Rattle.command_line.specs.declared.commands.at_desk.DeskQuestion.{DeskQuestion}
@@ -24,11 +26,11 @@ use Rattle.vend_ports.specs.print.Told.{IsTold, Outputs}
 use Rattle.vend_ports.specs.declared.command_end.CommandEnd.{CommandEnd}
 use Rattle.vend_ports.specs.declared.command_end.CommandEnd.TheVariants.{Refused}
 use Rattle.program_laws.specs.runs.Asked.{AsksDeskSo, AsksIn, WordsSellAtDesk}
-use Rattle.program_laws.proofs.WordLemmas.{IsNamed}
+use Rattle.program_laws.proofs.WordLemmas.{IsNamed, not_both}
 use Rattle.program_laws.proofs.WordLemmas.OrderLemmas.{one_order}
 
 abbrev IsSell : Text → Type 0
-IsSell name = IsNamed (codes "desk-sell") name
+IsSell name = IsNamed (codes "sell") name
 
 -- a desk is asked to sell this
 abbrev SellsAtDesk : Order → Asked → Type 0
@@ -36,7 +38,7 @@ SellsAtDesk order (asks.Desk words) = questions.Sell order ≡ words.question
 SellsAtDesk order it = ⊥
 
 -- by those words a desk is asked that order
-is_order : (rows : List Row) (order : Order) (q : DeskQuestion) → SaysOrder rows order → SaysDeskQuestion (codes "desk-sell") rows q → questions.Sell order ≡ q
+is_order : (rows : List Row) (order : Order) (q : DeskQuestion) → SaysOrder rows order → SaysDeskQuestion (codes "sell") rows q → questions.Sell order ≡ q
 is_order rows order (questions.Sell other) one says = ap questions.Sell (one_order rows order other one says.1)
 is_order rows order (questions.Import kind csv) one says = absurd (subst IsSell says.0 tt)
 is_order rows order (questions.SetTariff meter tariff) one says = absurd (subst IsSell says.0 tt)
@@ -51,37 +53,31 @@ is_order rows order (questions.Offer meter tender json) one says = absurd (subst
 is_order rows order (questions.List members json) one (inl says) = absurd (subst IsSell says.0 tt)
 is_order rows order (questions.List members json) one (inr says) = absurd (subst IsSell says.0 tt)
 
--- no request is made to a file by them
-no_request : (rows : List Row) (r : Request) → ¬ SaysRequest (codes "desk-sell") rows r
-no_request rows (requests.Sell order) says = absurd (subst IsSell says.0 tt)
-no_request rows (requests.SetTariff meter tariff) says = absurd (subst IsSell says.0 tt)
-no_request rows (requests.MoveBase meter base) says = absurd (subst IsSell says.0 tt)
-no_request rows (requests.OpenShift operator) says = absurd (subst IsSell says.0 tt)
-no_request rows (requests.CloseShift operator) says = absurd (subst IsSell says.0 tt)
-no_request rows request says = says
-
 -- nor is anything else asked for
-sells : (rows : List Row) (order : Order) (it : Asked) → SaysOrder rows order → ArgumentsSay (codes "desk-sell") rows it → SellsAtDesk order it
-sells rows order (asks.Desk words) one says = is_order rows order words.question one says.question
-sells rows order (asks.Request words) one says = absurd (no_request rows words.request says.request)
-sells rows order (asks.Trial words) one says = absurd (subst IsSell says.0 tt)
-sells rows order (asks.Import words) one says = absurd (subst IsSell says.0 tt)
-sells rows order (asks.Report words) one says = absurd (subst IsSell says.0 tt)
-sells rows order (asks.Show words) one says = absurd (subst IsSell says.0 tt)
-sells rows order (asks.List words) one says = absurd (subst IsSell says.0 tt)
-sells rows order (asks.Meter words) one says = absurd (subst IsSell says.0 tt)
-sells rows order (asks.Quote words) one says = absurd (subst IsSell says.0 tt)
-sells rows order (asks.Offer words) one says = absurd (subst IsSell says.0 tt)
-sells rows order (asks.Serve words) one says = absurd (subst IsSell says.0 tt)
-sells rows order (asks.Selfcheck words) one says = absurd (subst IsSell says.0 tt)
-sells rows order (asks.Audit words) one says = absurd (subst IsSell says.0 tt)
+sells : (rows : List Row) (order : Order) (desk : Address) (it : Asked) → lacks_place (codes "sell") rows ≡ false
+    → IsArgument SaysAddress (parsed_argument (codes "desk") rows) desk → SaysOrder rows order → ArgumentsSay (codes "sell") rows it
+    → SellsAtDesk order it
+sells rows order desk (asks.Desk words) place there one says = is_order rows order words.question one says.question
+sells rows order desk (asks.Request words) place there one says = absurd (not_both (codes "sell") rows words.file desk refl place says.file there)
+sells rows order desk (asks.Trial words) place there one says = absurd (subst IsSell says.0 tt)
+sells rows order desk (asks.Import words) place there one says = absurd (subst IsSell says.0 tt)
+sells rows order desk (asks.Report words) place there one says = absurd (subst IsSell says.0 tt)
+sells rows order desk (asks.Show words) place there one says = absurd (subst IsSell says.0 tt)
+sells rows order desk (asks.List words) place there one says = absurd (subst IsSell says.0 tt)
+sells rows order desk (asks.Meter words) place there one says = absurd (subst IsSell says.0 tt)
+sells rows order desk (asks.Quote words) place there one says = absurd (subst IsSell says.0 tt)
+sells rows order desk (asks.Offer words) place there one says = absurd (subst IsSell says.0 tt)
+sells rows order desk (asks.Serve words) place there one says = absurd (subst IsSell says.0 tt)
+sells rows order desk (asks.Selfcheck words) place there one says = absurd (subst IsSell says.0 tt)
+sells rows order desk (asks.Audit words) place there one says = absurd (subst IsSell says.0 tt)
 
 same_command : (found : Option (Text × List Row)) (order : Order) (words : DeskWords) (it : Asked) → CommandAsks found (asks.Desk words)
     → words.question ≡ questions.Sell order → CommandAsks found it → SellsAtDesk order it
 same_command None order words it one question says = absurd one
 same_command (Some (name, rows)) order words it one question says =
-    let sold = subst (λ (q : DeskQuestion). SaysDeskQuestion name rows q) question one.question in
-    sells rows order it sold.1 (subst (λ (n : Text). ArgumentsSay n rows it) sold.0 says)
+    let sold = subst (λ (q : DeskQuestion). SaysDeskQuestion name rows q) question one.1.question in
+    sells rows order words.desk it (subst (λ (n : Text). lacks_place n rows ≡ false) sold.0 one.0) one.1.desk sold.1
+    (subst (λ (n : Text). ArgumentsSay n rows it) sold.0 says.1)
 
 carried_sells : {S D R W : Type 0} (store : Ghosts S) (m : Machine D R W) (order : Order) (it : Asked) (o : Outputs) (end : CommandEnd)
     (done : IsCarriedOut store m it o end) → SellsAtDesk order it

@@ -1,5 +1,6 @@
 -- The same words of `sell` ask the same order.
-use Rattle.std.proofs.Common.{◌≡◌, ◌∙◌, List, Option, Some, None, codes, sym, ap, subst}
+use Rattle.std.proofs.Common.{◌≡◌, ◌∙◌, false, List, Option, Some, None, codes, refl, sym, ap, subst}
+use Rattle.std.specs.Borrow.{Bor}
 use Rattle.clap.specs.Walk.{Row}
 use Rattle.sts_fields.specs.Text.{Text}
 use Rattle.office_rules.specs.declared.decision.request.Order.{Order}
@@ -7,14 +8,16 @@ use Rattle.office_rules.specs.declared.decision.request.Request.{Request}
 use Rattle.office_rules.specs.declared.decision.request.Request.TheVariants as requests
 use Rattle.command_line.specs.Asked.{ArgumentsSay, AskFor, CommandAsks}
 use Rattle.command_line.specs.Commands.{SaysOrder, SaysRequest}
-use Rattle.command_line.specs.Values.{SaysMeterNo, SaysOperator, SaysRef, SaysTender}
+use Rattle.command_line.specs.Place.{lacks_place}
+use Rattle.command_line.specs.Said.{IsArgument, parsed_argument}
+use Rattle.command_line.specs.Values.{SaysMeterNo, SaysOperator, SaysRef, SaysTender, SaysText}
 use Rattle.command_line.specs.declared.asked.Asked.{Asked}
 use Rattle.command_line.specs.declared.asked.Asked.TheVariants as asks
 use Rattle.command_line.specs.declared.commands.report.Paper.{Paper}
 use Rattle.command_line.specs.declared.commands.report.Paper.TheVariants.{Receipt, Sales, Shift, Totals}
 use Rattle.command_line.specs.declared.request_words.RequestWords.{RequestWords}
 use Rattle.program_laws.specs.runs.Words.{Reports, Requests, WordsRequest}
-use Rattle.program_laws.proofs.WordLemmas.{IsNamed, desk_named, one_argument}
+use Rattle.program_laws.proofs.WordLemmas.{IsNamed, not_both, one_argument}
 
 -- some rows say one order
 pub one_order : (rows : List Row) (a b : Order) → SaysOrder rows a → SaysOrder rows b → a ≡ b
@@ -42,30 +45,32 @@ is_order rows order (requests.SetTariff number name) one says = absurd (subst Is
 is_order rows order (requests.Reprint number) one says = absurd says
 is_order rows order (requests.ShiftReport number) one says = absurd says
 
--- by the words of `sell` nothing but that order is asked for
-sells : (rows : List Row) (order : Order) (asked : Asked) → SaysOrder rows order → ArgumentsSay (codes "sell") rows asked
+-- by the words of `sell` on a file nothing but that order is asked for
+sells : (rows : List Row) (order : Order) (file : Bor Text) (asked : Asked) → lacks_place (codes "sell") rows ≡ false
+    → IsArgument SaysText (parsed_argument (codes "file") rows) file → SaysOrder rows order → ArgumentsSay (codes "sell") rows asked
     → Requests asked (requests.Sell order)
-sells rows order (asks.Request words) one says = is_order rows order words.request one says.request
-sells rows order (asks.Trial words) one says = absurd (subst IsSell says.0 tt)
-sells rows order (asks.Import words) one says = absurd (subst IsSell says.0 tt)
-sells rows order (asks.Report words) one says = absurd (subst IsSell says.0 tt)
-sells rows order (asks.Show words) one says = absurd (subst IsSell says.0 tt)
-sells rows order (asks.List words) one says = absurd (subst IsSell says.0 tt)
-sells rows order (asks.Meter words) one says = absurd (subst IsSell says.0 tt)
-sells rows order (asks.Quote words) one says = absurd (subst IsSell says.0 tt)
-sells rows order (asks.Offer words) one says = absurd (subst IsSell says.0 tt)
-sells rows order (asks.Serve words) one says = absurd (subst IsSell says.0 tt)
-sells rows order (asks.Selfcheck words) one says = absurd (subst IsSell says.0 tt)
-sells rows order (asks.Audit words) one says = absurd (subst IsSell says.0 tt)
-sells rows order (asks.Desk words) one says = absurd (desk_named (codes "sell") rows words.question says.question)
+sells rows order file (asks.Request words) place there one says = is_order rows order words.request one says.request
+sells rows order file (asks.Trial words) place there one says = absurd (subst IsSell says.0 tt)
+sells rows order file (asks.Import words) place there one says = absurd (subst IsSell says.0 tt)
+sells rows order file (asks.Report words) place there one says = absurd (subst IsSell says.0 tt)
+sells rows order file (asks.Show words) place there one says = absurd (subst IsSell says.0 tt)
+sells rows order file (asks.List words) place there one says = absurd (subst IsSell says.0 tt)
+sells rows order file (asks.Meter words) place there one says = absurd (subst IsSell says.0 tt)
+sells rows order file (asks.Quote words) place there one says = absurd (subst IsSell says.0 tt)
+sells rows order file (asks.Offer words) place there one says = absurd (subst IsSell says.0 tt)
+sells rows order file (asks.Serve words) place there one says = absurd (subst IsSell says.0 tt)
+sells rows order file (asks.Selfcheck words) place there one says = absurd (subst IsSell says.0 tt)
+sells rows order file (asks.Audit words) place there one says = absurd (subst IsSell says.0 tt)
+sells rows order file (asks.Desk words) place there one says = absurd (not_both (codes "sell") rows file words.desk refl place there says.desk)
 
 -- so words that ask for an order once ask for it each time
 same_command : (found : Option (Text × List Row)) (order : Order) (words : RequestWords) (asked : Asked) → CommandAsks found (asks.Request words)
     → words.request ≡ requests.Sell order → CommandAsks found asked → Requests asked (requests.Sell order)
 same_command None order words asked one request says = absurd one
 same_command (Some (name, rows)) order words asked one request says =
-    let sold = subst (λ (r : Request). SaysRequest name rows r) request one.request in
-    sells rows order asked sold.1 (subst (λ (n : Text). ArgumentsSay n rows asked) sold.0 says)
+    let sold = subst (λ (r : Request). SaysRequest name rows r) request one.1.request in
+    sells rows order words.file asked (subst (λ (n : Text). lacks_place n rows ≡ false) sold.0 one.0) one.1.file sold.1
+    (subst (λ (n : Text). ArgumentsSay n rows asked) sold.0 says.1)
 
 -- no paper asks an order
 sells_nothing : (paper : Paper) (order : Order) → ¬ Reports paper (requests.Sell order)

@@ -1,5 +1,5 @@
 -- The same words of `report` ask for the same receipt.
-use Rattle.std.proofs.Common.{◌≡◌, ◌∙◌, ℕ, List, Option, Some, None, codes, eqb, sym, ap, subst}
+use Rattle.std.proofs.Common.{◌≡◌, ◌∙◌, ℕ, false, List, Option, Some, None, codes, eqb, refl, sym, ap, subst}
 use Rattle.std.proofs.Math.Dec.{T}
 use Rattle.std.specs.Cmp.Lexicographic.{pointwise}
 use Rattle.clap.specs.Walk.{Row}
@@ -8,6 +8,7 @@ use Rattle.office_rules.specs.declared.decision.request.Request.{Request}
 use Rattle.office_rules.specs.declared.decision.request.Request.TheVariants as requests
 use Rattle.command_line.specs.Asked.{ArgumentsSay, AskFor, CommandAsks}
 use Rattle.command_line.specs.Commands.{SaysPaper, SaysRequest}
+use Rattle.command_line.specs.Place.{lacks_place}
 use Rattle.command_line.specs.Said.{parsed_argument}
 use Rattle.command_line.specs.Values.{SaysItem}
 use Rattle.command_line.specs.declared.asked.Asked.{Asked}
@@ -17,7 +18,7 @@ use Rattle.command_line.specs.declared.commands.report.Paper.TheVariants.{Receip
 use Rattle.command_line.specs.declared.commands.report.ReportWords.{ReportWords}
 use Rattle.command_line.specs.declared.request_words.RequestWords.{RequestWords}
 use Rattle.program_laws.specs.runs.Words.{Reports, Requests, WordsRequest}
-use Rattle.program_laws.proofs.WordLemmas.{IsNamed, desk_named, one_argument}
+use Rattle.program_laws.proofs.WordLemmas.{IsNamed, not_both, one_argument}
 
 -- the kind is a receipt's
 abbrev IsReceiptKind : Option Text → Type 0
@@ -50,32 +51,34 @@ requests_nothing rows (requests.Reprint number) says = says
 requests_nothing rows (requests.ShiftReport number) says = says
 
 -- by these words nothing but that receipt is asked for
-reprints : (rows : List Row) (n : ℕ) (asked : Asked) → (words : ReportWords) → ArgumentsSay (codes "report") rows (asks.Report words)
+reprints : (rows : List Row) (n : ℕ) (asked : Asked) → (words : ReportWords) → lacks_place (codes "report") rows ≡ false
+    → ArgumentsSay (codes "report") rows (asks.Report words)
     → words.paper ≡ Receipt n → ArgumentsSay (codes "report") rows asked → Requests asked (requests.Reprint n)
-reprints rows n (asks.Report other) words one paper says =
+reprints rows n (asks.Report other) words place one paper says =
     let kind = parsed_argument (codes "kind") rows in
     let number = parsed_argument (codes "number") rows in
     one_receipt kind number n other.paper (subst (λ (p : Paper). SaysPaper kind number p) paper one.1.paper) says.1.paper
-reprints rows n (asks.Request other) words one paper says = absurd (requests_nothing rows other.request says.request)
-reprints rows n (asks.Trial other) words one paper says = absurd (subst IsReport says.0 tt)
-reprints rows n (asks.Import other) words one paper says = absurd (subst IsReport says.0 tt)
-reprints rows n (asks.Show other) words one paper says = absurd (subst IsReport says.0 tt)
-reprints rows n (asks.List other) words one paper says = absurd (subst IsReport says.0 tt)
-reprints rows n (asks.Meter other) words one paper says = absurd (subst IsReport says.0 tt)
-reprints rows n (asks.Quote other) words one paper says = absurd (subst IsReport says.0 tt)
-reprints rows n (asks.Offer other) words one paper says = absurd (subst IsReport says.0 tt)
-reprints rows n (asks.Serve other) words one paper says = absurd (subst IsReport says.0 tt)
-reprints rows n (asks.Selfcheck other) words one paper says = absurd (subst IsReport says.0 tt)
-reprints rows n (asks.Audit other) words one paper says = absurd (subst IsReport says.0 tt)
-reprints rows n (asks.Desk other) words one paper says = absurd (desk_named (codes "report") rows other.question says.question)
+reprints rows n (asks.Request other) words place one paper says = absurd (requests_nothing rows other.request says.request)
+reprints rows n (asks.Trial other) words place one paper says = absurd (subst IsReport says.0 tt)
+reprints rows n (asks.Import other) words place one paper says = absurd (subst IsReport says.0 tt)
+reprints rows n (asks.Show other) words place one paper says = absurd (subst IsReport says.0 tt)
+reprints rows n (asks.List other) words place one paper says = absurd (subst IsReport says.0 tt)
+reprints rows n (asks.Meter other) words place one paper says = absurd (subst IsReport says.0 tt)
+reprints rows n (asks.Quote other) words place one paper says = absurd (subst IsReport says.0 tt)
+reprints rows n (asks.Offer other) words place one paper says = absurd (subst IsReport says.0 tt)
+reprints rows n (asks.Serve other) words place one paper says = absurd (subst IsReport says.0 tt)
+reprints rows n (asks.Selfcheck other) words place one paper says = absurd (subst IsReport says.0 tt)
+reprints rows n (asks.Audit other) words place one paper says = absurd (subst IsReport says.0 tt)
+reprints rows n (asks.Desk other) words place one paper says = absurd (not_both (codes "report") rows words.file other.desk refl place one.1.file says.desk)
 
 -- so words that ask for a receipt once ask for it each time
 same_command : (found : Option (Text × List Row)) (n : ℕ) (words : ReportWords) (asked : Asked) → CommandAsks found (asks.Report words)
     → words.paper ≡ Receipt n → CommandAsks found asked → Requests asked (requests.Reprint n)
 same_command None n words asked one paper says = absurd one
 same_command (Some (name, rows)) n words asked one paper says =
-    reprints rows n asked words (subst (λ (x : Text). ArgumentsSay x rows (asks.Report words)) one.0 one) paper
-    (subst (λ (x : Text). ArgumentsSay x rows asked) one.0 says)
+    let named = one.1.0 in
+    reprints rows n asked words (subst (λ (x : Text). lacks_place x rows ≡ false) named one.0)
+    (subst (λ (x : Text). ArgumentsSay x rows (asks.Report words)) named one.1) paper (subst (λ (x : Text). ArgumentsSay x rows asked) named says.1)
 
 -- a paper that asks for a sale is its receipt
 is_receipt : (paper : Paper) (n : ℕ) → Reports paper (requests.Reprint n) → paper ≡ Receipt n
@@ -88,7 +91,7 @@ is_receipt Sales n is = absurd is
 never_requested : (found : Option (Text × List Row)) (n : ℕ) (words : RequestWords) → CommandAsks found (asks.Request words)
     → ¬ (requests.Reprint n ≡ words.request)
 never_requested None n words one is = one
-never_requested (Some (name, rows)) n words one is = subst (λ (r : Request). SaysRequest name rows r) (sym is) one.request
+never_requested (Some (name, rows)) n words one is = subst (λ (r : Request). SaysRequest name rows r) (sym is) one.1.request
 
 -- words by which a receipt was asked are those of `report`
 reported_by : (words : List Text) (n : ℕ) → WordsRequest words (requests.Reprint n)

@@ -74,13 +74,13 @@ abbrev pub RunCarries : (old new : Timed Life) → (unread left held holds : Opt
     → (end : End)
     → IsRun (answers_by life_serves) message_refusal_of old new unread left held holds end
     → (sent came : Text) → Type 0
-RunCarries old new unread left held holds Closed (input, all, inl said) sent came =
+RunCarries old new unread left held holds Closed (input, all, inl (expects, said)) sent came =
     Carries input said.text said.text sent came
 RunCarries old new unread left held holds Closed (input, all, inr said) sent came =
     Carries input said.text said.text sent came
 RunCarries old new unread left held holds BadMessage (input, all, fault, said) sent came =
     Carries input said.text said.text sent came
-RunCarries old new unread left held holds ReadFault (input, taken, said) sent came =
+RunCarries old new unread left held holds ReadFault (input, taken, expects, said) sent came =
     Carries input said.text said.text sent came
 RunCarries old new unread left held holds WriteFault (input, all, text, appends, cut) sent came =
     Carries input text (cut.whole ++ cut.last) sent came

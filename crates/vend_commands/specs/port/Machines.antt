@@ -9,6 +9,7 @@ use Rattle.command_line.specs.Transform.{forward_of, shipped}
 use Rattle.command_line.specs.declared.address.Address.{Address}
 use Rattle.command_line.specs.declared.transform.Shipped.{Shipped}
 use Rattle.conversation.specs.declared.clock.Clock as clocks
+use Rattle.conversation.specs.declared.end.End as conversation
 use Rattle.desk_commands.specs.Exchanged.{Calls, calls_of}
 use Rattle.office_commands.specs.port.Back.{is_untouched}
 use Rattle.office_commands.specs.port.Places.{Places, places_of}
@@ -25,14 +26,14 @@ use Rattle.vend_commands.specs.commands.Selfchecked.{AgreesOver, Disagrees}
 use Rattle.vend_commands.specs.declared.selfcheck.fault.SelfcheckFault.{SelfcheckFault}
 
 -- What a door tells: where it listens or that it could not, which connection came in or that none
--- could be had, that it was let go, and that the door was left; and what is known of the bytes of
--- its halves.
+-- could be had, that it was let go and how its conversation ended, and that the door was left; and
+-- what is known of the bytes of its halves.
 pub record Way (D R W : Type 0) : Type 1 where
   pub listens : D → Address → ℕ → D → Type 0
   pub fails : D → Address → D → Type 0
   pub accepts : D → R → W → D → Type 0
   pub refuses : D → D → Type 0
-  pub ends : R → W → Type 0
+  pub ends : D → R → W → conversation.End → D → Type 0
   pub leaves : D → Type 0
   pub remaining : R → Held
   pub contents : W → Held
@@ -43,7 +44,7 @@ way {D} {R} {W} of remaining contents = record {
   fails = of.fails;
   accepts = of.accepts;
   refuses = of.refuses;
-  ends = of.ends R W;
+  ends = of.ends;
   leaves = of.leaves D;
   remaining = remaining;
   contents = contents;

@@ -33,16 +33,18 @@ GoOn old new Goes = HasCleanDisk new.state → (life : Life) → Represents life
 
 module _ {D R W B : Type 0} (way : Way D R W) (gives : ℤ → Type 0) (see : B → Seen) where
   -- A connection came in, the desk held its conversation over what it sends and what it is sent,
-  -- at moments that the clock gives, and it was let go as the conversation left it. No more was
-  -- read than the desk may ask for, nor before the replies to what came before it were written.
-  -- Every life that the books kept goes on by that, and by nothing beside.
+  -- at moments that the clock gives, and it was let go as the conversation left it, by a door that
+  -- knew how that had ended. No more was read than the desk may ask for, nor before the replies to
+  -- what came before it were written. Every life that the books kept goes on by that, and by nothing
+  -- beside.
   pub record IsHeld (old new : Service D B) : Type 0 where
     pub reader : R
     pub writer : W
     pub read : R
     pub written : W
     pub end : conversation.End
-    pub accepted : way.accepts old.door reader writer new.door
+    pub held : D
+    pub accepted : way.accepts old.door reader writer held
     pub run : IsRun (clocked gives (answers_by (books_serve see))) message_refusal_of
         (old.books, old.answers) (new.books, new.answers) (way.remaining reader)
         (way.remaining read) (way.contents writer) (way.contents written) end
@@ -54,7 +56,7 @@ module _ {D R W B : Type 0} (way : Way D R W) (gives : ℤ → Type 0) (see : B 
         IsRun (clocked gives (answers_by life_serves)) message_refusal_of (life, old.answers)
         (after, new.answers) (way.remaining reader) (way.remaining read) (way.contents writer)
         (way.contents written) end)
-    pub ended : way.ends read written
+    pub ended : way.ends held read written end new.door
 
 module _ {D R W B : Type 0} (way : Way D R W) (see : B → Seen) where
   -- no connection could be had, and nothing else has changed

@@ -1,27 +1,56 @@
 -- For how long a use of a connection may wait, in nanoseconds.
-use Rattle.std.specs.Prelude.{◌≡◌, ℕ, ◌+◌, ◌<◌, ◌≤◌, ◌⊎◌, Bool, true, false, Option, None, Some}
+use Rattle.std.specs.Prelude.{◌≡◌, ℕ, ◌+◌, ◌<◌, ◌≤◌, ◌⊎◌, Bool, true, false, Option, None, Some, min}
 use Rattle.std.specs.Duration.{as_nanos}
 use Rattle.std.specs.declared.time.Duration.{Duration}
 
--- the longest wait of one use: 30 seconds
+-- the longest wait of one use, in all: 30 seconds
 abbrev pub longest_wait : ℕ
 longest_wait = 30000000000
 
--- A use that begins when so much of its time has passed may wait so long: for some time, no longer
--- than one use may, and not beyond its time.
-pub record MayWait (most passed wait : ℕ) : Type 0 where
+-- of a time so much is left once so much of it has passed: some
+abbrev pub IsLeft : (most passed left : ℕ) → Type 0
+IsLeft most passed left = (0 < left) × (passed + left ≡ most)
+
+-- A use of whose time so much has passed, and which has waited for so long in vain, may wait so
+-- long: for some time, with what it waited no longer than one use may, and not beyond its time.
+pub record MayWait (most passed vain wait : ℕ) : Type 0 where
   pub some : 0 < wait
-  pub within : wait ≤ longest_wait
+  pub within : vain + wait ≤ longest_wait
   pub in_time : passed + wait ≤ most
 
--- For how long the next use may wait, of whose time so much has passed: within its time; once that
--- is over not at all if somebody else waits, and else as long as any use. So it may, too, where
--- nothing tells how much has passed.
-abbrev pub IsNextWait : (tells : Bool → Type 0) → (most : ℕ) → Option Duration → Option Duration
-    → Type 0
-IsNextWait tells most None None = ⊥
-IsNextWait tells most None (Some wait) = as_nanos wait ≡ longest_wait
-IsNextWait tells most (Some passed) None = (most ≤ as_nanos passed) × tells true
-IsNextWait tells most (Some passed) (Some wait) =
-    MayWait most (as_nanos passed) (as_nanos wait)
-    ⊎ ((most ≤ as_nanos passed) × tells false × (as_nanos wait ≡ longest_wait))
+-- For how long a use may wait next, of whose time so much has passed, and which has waited for so
+-- long in vain: within its time; once that is over not at all if somebody else waits, and else for
+-- what is left of the longest wait. So it may, too, where nothing tells how much has passed. It may
+-- not once nothing is left of the longest wait.
+abbrev pub IsNextWait : (tells : Bool → Type 0) → (most vain : ℕ) → Option Duration
+    → Option Duration → Type 0
+IsNextWait tells most vain None None = longest_wait ≤ vain
+IsNextWait tells most vain None (Some wait) = IsLeft longest_wait vain (as_nanos wait)
+IsNextWait tells most vain (Some passed) None =
+    (longest_wait ≤ vain) ⊎ ((most ≤ as_nanos passed) × tells true)
+IsNextWait tells most vain (Some passed) (Some wait) =
+    MayWait most (as_nanos passed) vain (as_nanos wait)
+    ⊎ ((most ≤ as_nanos passed) × tells false × IsLeft longest_wait vain (as_nanos wait))
+
+-- ---- at a desk
+
+-- the time that a command has at a desk for all that it does there, from its call: 120 seconds
+abbrev pub command_time : ℕ
+command_time = 120000000000
+
+-- For how long the command may still wait, of whose time so much has passed: for what is left of
+-- it, if anything is; for the whole of it where nothing tells how much has passed.
+abbrev pub IsWaitLeft : Option Duration → Option Duration → Type 0
+IsWaitLeft None None = ⊥
+IsWaitLeft None (Some wait) = as_nanos wait ≡ command_time
+IsWaitLeft (Some passed) None = command_time ≤ as_nanos passed
+IsWaitLeft (Some passed) (Some wait) = IsLeft command_time (as_nanos passed) (as_nanos wait)
+
+-- nothing is told of the first two seconds of a wait
+abbrev pub quiet_time : ℕ
+quiet_time = 2000000000
+
+-- so much of a wait is waited at once: all, but where it is still to be told no more than that
+abbrev pub IsSlice : (tells : Bool) → (left slice : ℕ) → Type 0
+IsSlice true left slice = slice ≡ min left quiet_time
+IsSlice false left slice = slice ≡ left

@@ -89,6 +89,10 @@ progress_line printed all =
 abbrev pub opened_line : Text
 opened_line = line_of (codes "opened" ∷ [])
 
+abbrev pub waiting_line : Text
+waiting_line =
+    line_of (codes "waiting" ∷ codes "for" ∷ codes "the" ∷ codes "desk" ∷ [])
+
 abbrev pub shift_line : ℕ → Text
 shift_line number = line_of (codes "shift" ∷ decimal number ∷ [])
 

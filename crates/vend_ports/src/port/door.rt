@@ -2,9 +2,11 @@
 
 ghost use Rattle.std.specs.Prelude.{ℕ, IfSome, IfNone};
 ghost use Rattle.command_line.specs.declared.address.Address.{Address};
+ghost use Rattle.conversation.specs.declared.end.End.{End};
 ghost use Rattle.vend_ports.specs.port.Port.{IsPortFor};
 
 use command_line::Address;
+use conversation::End;
 use std::io::{Read, Write};
 
 /// Where connections come in, one after another. Each has a half that is read and one that is
@@ -29,8 +31,9 @@ pub trait Door: Drop {
     /// No connection could be had, and the door is another one then.
     ghost refuses: { Self → Self → Type 0 };
 
-    /// The connection of these halves was let go.
-    ghost ends: { (R W : Type 0) → R → W → Type 0 };
+    /// The connection of these halves was let go, as a conversation that ended so left them, and
+    /// the door is another one then.
+    ghost ends: { Self → Self.Reader → Self.Writer → End → Self → Type 0 };
 
     /// The door was left: nobody comes in by it any more.
     ghost leaves: { (T : Type 0) → T → Type 0 };
@@ -46,9 +49,9 @@ pub trait Door: Drop {
         ensures accepts { IfSome result (λ ends. accepts self.old ends.0 ends.1 self.new) }
         ensures refuses { IfNone result (refuses self.old self.new) };
 
-    /// Lets the halves of a connection go. Whatever this is given, it can do nothing else with it.
-    fn end<R: Drop, W: Drop>(reader: R, writer: W)
-        ensures { ends R W reader writer };
+    /// Lets the halves of a connection go, as a conversation that ended so left them.
+    fn end(&mut self, reader: Self::Reader, writer: Self::Writer, end: End)
+        ensures { ends self.old reader writer end self.new };
 
     /// Leaves the door, which may never have listened. Whatever this is given, it can do nothing
     /// else with it.

@@ -5,13 +5,14 @@ ghost use Rattle.sts_fields.specs.Text.{Text};
 ghost use Rattle.command_line.specs.declared.address.Address.{Address};
 ghost use Rattle.vend_ports.specs.port.Sent.{IsSent};
 
+use crate::port::command_stream::CommandStream;
 use command_line::Address;
 use std::io::{self, Read, Write};
-use std::net::{Net, OpenListener, OpenStream, Shutdown, TcpListener, TcpStream};
-use std::time::Duration;
+use std::net::{Net, OpenListener, OpenStream, TcpListener, TcpStream};
+use std::time::{Duration, Instant};
 
-// For so many seconds a desk may let a caller wait: for the connection, and for each byte.
-const PATIENCE: u64 = 10;
+// For so many seconds a desk may let a caller wait for the connection.
+const CONNECTING: u64 = 10;
 
 /// What the one connection that a command makes comes of: of the machine with itself, where the
 /// command has both ends, or with a desk. It is had once.
@@ -48,8 +49,9 @@ pub trait Loopback: Drop {
             (λ ends. IsSent Self.Stream.contents (joins self) text.now ends.0) }
         ensures lacks { IfErr result (λ error. lacks self) };
 
-    /// Has a connection with the desk at an address. A desk that lets it wait for ten seconds, when
-    /// it is called, written to or read from, counts as silent: the call fails.
+    /// Has a connection with the desk at an address. A desk that takes no call for ten seconds
+    /// counts as silent: the call fails. So does each use of the connection once 120 seconds have
+    /// passed since the call.
     fn call(self, address: Address) -> io::Result<Self::Stream>
         ensures calls { IfOk result (calls self address) }
         ensures misses { IfErr result (λ error. misses self address) };
@@ -63,8 +65,11 @@ pub trait Loopback: Drop {
         ensures { leaves T it };
 }
 
-impl<N: Net> Loopback for &N {
-    type Stream = N::Stream;
+// A stream of this machine.
+type HostStream = <HostRuntime as Net>::Stream;
+
+impl<'a> Loopback for &'a HostRuntime {
+    type Stream = CommandStream<'a, HostStream>;
 
     ghost joins = { λ _ _. ⊤ };
 
@@ -80,25 +85,26 @@ impl<N: Net> Loopback for &N {
 
     ghost leaves = { λ _ _. ⊤ };
 
-    fn connect(self, text: &[u8]) -> io::Result<(N::Stream, N::Stream, N::Stream)> {
+    fn connect(self, text: &[u8]) -> io::Result<(Self::Stream, Self::Stream, Self::Stream)> {
+        let began = Instant::now(self).ok();
         let listener = TcpListener::bind(self, "127.0.0.1:0")?;
-        let mut near = TcpStream::connect(self, listener.local_addr()?)?;
+        let stream = TcpStream::connect(self, listener.local_addr()?)?;
+        let mut near = CommandStream::new(self, began, stream);
         near.write_all(text)?;
-        near.shutdown(Shutdown::Write)?;
+        near.end_writing()?;
         let (far, _) = listener.accept()?;
         // Else each reply but the first waits for the one before to be acknowledged.
         far.set_nodelay(true)?;
-        let reader = far.try_clone()?;
+        let reader = CommandStream::new(self, began, far.try_clone()?);
+        let far = CommandStream::new(self, began, far);
         Ok((near, reader, far))
     }
 
-    fn call(self, address: Address) -> io::Result<N::Stream> {
-        let patience = Duration::from_secs(PATIENCE);
+    fn call(self, address: Address) -> io::Result<Self::Stream> {
+        let began = Instant::now(self).ok();
+        let patience = Duration::from_secs(CONNECTING);
         let stream = TcpStream::connect_timeout(self, &address.socket(), patience)?;
-        // Without them a desk that hangs would hold the command for ever.
-        stream.set_read_timeout(Some(patience))?;
-        stream.set_write_timeout(Some(patience))?;
-        Ok(stream)
+        Ok(CommandStream::new(self, began, stream))
     }
 
     fn end<S: Drop>(stream: S)

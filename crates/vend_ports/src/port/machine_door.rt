@@ -8,6 +8,7 @@ use crate::port::patient_writer::PatientWriter;
 use crate::port::queue::Listening;
 use crate::port::wait::PATIENCE;
 use command_line::Address;
+use conversation::End;
 use std::alloc::Global;
 use std::io;
 use std::net::{Net, OpenListener, OpenStream, TcpListener};
@@ -46,7 +47,7 @@ impl<'a, N: Net + Clock> Door for MachineDoor<'a, N> {
 
     ghost refuses = { λ _ _. ⊤ };
 
-    ghost ends = { λ _ _ _ _. ⊤ };
+    ghost ends = { λ old _ _ _ new. new ≡ old };
 
     ghost leaves = { λ _ _. ⊤ };
 
@@ -70,7 +71,7 @@ impl<'a, N: Net + Clock> Door for MachineDoor<'a, N> {
         Some((reader, writer))
     }
 
-    fn end<R: Drop, W: Drop>(reader: R, writer: W) {
+    fn end(&mut self, reader: Self::Reader, writer: Self::Writer, _end: End) {
         drop(reader);
         drop(writer);
     }

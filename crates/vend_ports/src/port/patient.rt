@@ -2,6 +2,8 @@
 //! patience.
 
 ghost use Rattle.std.specs.Prelude.{◌≡◌};
+ghost use Rattle.std.specs.Io.{ReadsAtMost};
+ghost use Rattle.std.specs.Io.KnownBytes.{ReadConsumes};
 
 use crate::port::machine_door::HasOptions;
 use crate::port::queue::Queue;
@@ -50,10 +52,43 @@ impl<'a, K: Clock, Q: Queue, R: Read> PatientReader<'a, K, Q, R> {
         }
     }
 
-    // For how long the next read may wait, if one may begin.
-    fn next_wait(&self) -> Option<Duration> {
+    // For how long a read may wait next that has waited for so long in vain, if it may.
+    fn next_wait(&self, vain: Duration) -> Option<Duration> {
         let most = Duration::from_secs(READING);
-        next_wait(&self.queue, most, passed_since(self.began, self.clock))
+        next_wait(
+            &self.queue,
+            most,
+            passed_since(self.began, self.clock),
+            vain,
+        )
+    }
+}
+
+impl<K: Clock, Q: Queue, R: Read + HasOptions> PatientReader<'_, K, Q, R> {
+    // Reads some bytes as soon as they come. After each wait in which none came it looks again
+    // whether it may wait: so a client that is alone is not left for those who might have waited.
+    fn read_in_time(&mut self, buf: &mut [u8]) -> io::Result<usize>
+        ensures bound { ReadsAtMost result buf.new }
+        ensures bytes { ReadConsumes (R.remaining self.old.inner) (R.remaining self.new.inner)
+            result buf.new }
+    {
+        let mut vain = Duration::from_secs(0);
+        for _ in 0..u64::MAX {
+            let Some(wait) = self.next_wait(vain) else {
+                return Err(ErrorKind::TimedOut.into());
+            };
+            if wait != self.wait {
+                let _ = self.inner.read_within(wait);
+                self.wait = wait;
+            }
+            match self.inner.read(buf) {
+                Err(error) if error.kind() == ErrorKind::WouldBlock => {
+                    vain = vain.saturating_add(wait);
+                }
+                result => return result,
+            }
+        }
+        Err(ErrorKind::TimedOut.into())
     }
 }
 
@@ -64,14 +99,7 @@ impl<K: Clock, Q: Queue + Drop, R: Read + HasOptions> Read for PatientReader<'_,
         if self.little >= MANY {
             self.clock.sleep(Duration::from_millis(PAUSE));
         }
-        let Some(wait) = self.next_wait() else {
-            return Err(ErrorKind::TimedOut.into());
-        };
-        if wait != self.wait {
-            let _ = self.inner.read_within(wait);
-            self.wait = wait;
-        }
-        let result = self.inner.read(buf);
+        let result = self.read_in_time(buf);
         self.little = match &result {
             Ok(count) if *count < LITTLE => self.little.saturating_add(1).min(MANY),
             _ => self.little.saturating_sub(1),

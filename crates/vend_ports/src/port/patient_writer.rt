@@ -1,6 +1,8 @@
 //! A stream that is written to for so long while others wait.
 
 ghost use Rattle.std.specs.Prelude.{◌≡◌};
+ghost use Rattle.std.specs.Io.{WritesAtMost};
+ghost use Rattle.std.specs.Io.KnownBytes.{WriteAppends};
 
 use crate::port::machine_door::HasOptions;
 use crate::port::queue::Queue;
@@ -37,9 +39,52 @@ impl<'a, K: Clock, Q: Queue, W: Write> PatientWriter<'a, K, Q, W> {
         }
     }
 
-    // For how long the next write may wait, if one may begin.
-    fn next_wait(&self) -> Option<Duration> {
-        next_wait(&self.queue, Duration::from_secs(WRITING), Some(self.waited))
+    // For how long a write may wait next that has waited for so long in vain, if it may.
+    fn next_wait(&self, vain: Duration) -> Option<Duration> {
+        let most = Duration::from_secs(WRITING);
+        next_wait(&self.queue, most, Some(self.waited), vain)
+    }
+}
+
+impl<K: Clock, Q: Queue, W: Write + HasOptions> PatientWriter<'_, K, Q, W> {
+    // Writes once, and counts how long that took.
+    fn write_timed(&mut self, buf: &[u8]) -> io::Result<usize>
+        ensures bound { WritesAtMost result buf.now }
+        ensures bytes { WriteAppends (W.contents self.old.inner) (W.contents self.new.inner)
+            result buf.now }
+    {
+        let began = Instant::now(self.clock).ok();
+        let result = self.inner.write(buf);
+        if let Some(passed) = passed_since(began, self.clock) {
+            self.waited = self.waited.saturating_add(passed);
+        }
+        result
+    }
+
+    // Writes some bytes as soon as the peer takes them. After each wait in which it took none this
+    // looks again whether it may wait.
+    fn write_in_time(&mut self, buf: &[u8]) -> io::Result<usize>
+        ensures bound { WritesAtMost result buf.now }
+        ensures bytes { WriteAppends (W.contents self.old.inner) (W.contents self.new.inner)
+            result buf.now }
+    {
+        let mut vain = Duration::from_secs(0);
+        for _ in 0..u64::MAX {
+            let Some(wait) = self.next_wait(vain) else {
+                return Err(ErrorKind::TimedOut.into());
+            };
+            if wait != self.wait {
+                let _ = self.inner.write_within(wait);
+                self.wait = wait;
+            }
+            match self.write_timed(buf) {
+                Err(error) if error.kind() == ErrorKind::WouldBlock => {
+                    vain = vain.saturating_add(wait);
+                }
+                result => return result,
+            }
+        }
+        Err(ErrorKind::TimedOut.into())
     }
 }
 
@@ -47,19 +92,7 @@ impl<K: Clock, Q: Queue + Drop, W: Write + HasOptions> Write for PatientWriter<'
     ghost contents = { λ writer. W.contents writer.inner };
 
     fn write(&mut self, buf: &[u8]) -> io::Result<usize> {
-        let Some(wait) = self.next_wait() else {
-            return Err(ErrorKind::TimedOut.into());
-        };
-        if wait != self.wait {
-            let _ = self.inner.write_within(wait);
-            self.wait = wait;
-        }
-        let began = Instant::now(self.clock).ok();
-        let result = self.inner.write(buf);
-        if let Some(passed) = passed_since(began, self.clock) {
-            self.waited = self.waited.saturating_add(passed);
-        }
-        result
+        self.write_in_time(buf)
     }
 
     fn flush(&mut self) -> io::Result<()> {

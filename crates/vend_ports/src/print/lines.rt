@@ -7,7 +7,7 @@ ghost use Rattle.vend_ports.specs.print.Printed.{open_line};
 ghost use Rattle.vend_ports.specs.print.Printed.{opened_line, pair_text, progress_line, quote_line};
 ghost use Rattle.vend_ports.specs.print.Printed.{read_fault_line, refusal_line, table_row_of};
 ghost use Rattle.vend_ports.specs.print.Printed.{shift_line};
-ghost use Rattle.vend_ports.specs.print.Printed.{stopped_line, token_line};
+ghost use Rattle.vend_ports.specs.print.Printed.{stopped_line, token_line, waiting_line};
 ghost use Rattle.vend_ports.specs.print.Told.{IsPutOn, Takes};
 
 use crate::port::file_fault::FileFault;
@@ -142,6 +142,13 @@ pub fn put_opened<W: Write>(out: &mut Watched<'_, W>)
     ensures { Takes out.old out.new opened_line }
 {
     put_line(&[b"opened"], out);
+}
+
+/// Prints that a command waits for a desk.
+pub fn put_waiting<W: Write>(out: &mut Watched<'_, W>)
+    ensures { Takes out.old out.new waiting_line }
+{
+    put_line(&[b"waiting", b"for", b"the", b"desk"], out);
 }
 
 /// Prints the number of a shift.

@@ -1,9 +1,7 @@
 use Rattle.std.proofs.Common.{◌≡◌, ℤ, List}
-use Rattle.conversation.specs.Conversation.{Progress}
-use Rattle.conversation.specs.Exchanges.{clocked, timed}
+use Rattle.conversation.specs.Exchanges.{clocked}
 use Rattle.conversation.specs.Uses.{AreOpen, Use, reads_in, received, written}
-use Rattle.conversation.specs.Wants.{IsAwaited}
-use Rattle.conversation.proofs.RunLemmas.{Used}
+use Rattle.conversation.proofs.RunLemmas.{Answered, Used}
 use Rattle.conversation.proofs.conversation.run.Given as goal
 
 -- of what was read all whole messages were answered, and this is left of it
@@ -15,8 +13,7 @@ invariant-reads g l = record {
       (g.L.Line.uses l.line)
       (g.R.Read.remaining l.fn.reader) (g.R.Read.remaining l.reader) (g.W.Write.contents l.fn.writer) (g.W.Write.contents l.writer) uses;
   still_open : AreOpen uses;
-  progress : Progress (timed (clocked (g.C.Clock.reads l.fn.clock) g.S.Service.step)) (received uses) l.unanswered.bytes.items
-      (l.fn.office, g.C.Clock.answers l.fn.clock) (written uses) (l.office, g.C.Clock.answers l.clock);
-  awaited : IsAwaited l.unanswered.bytes.items l.wants;
+  answered : Answered (clocked (g.C.Clock.reads l.fn.clock) g.S.Service.step) (l.fn.office, g.C.Clock.answers l.fn.clock)
+      (received uses) (written uses) l.unanswered.bytes.items l.wants (l.office, g.C.Clock.answers l.clock);
   counted : reads_in uses ≡ l.made;
 }

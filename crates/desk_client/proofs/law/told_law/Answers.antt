@@ -4,7 +4,7 @@ use Rattle.desk_client.proofs.TellsLemmas.{is_reply, is_whole}
 use Rattle.desk_client.proofs.law.told_law.Goals as goal
 
 pub returns-clause-text : goal.returns-clause-text
-returns-clause-text c = is_reply c.reply_law.ensures
+returns-clause-text c = is_reply c.reply_law.ensures c.date_law.ensures
 
 pub returns-clause-read : goal.returns-clause-read
 returns-clause-read c = is_whole

@@ -1,4 +1,4 @@
-use Rattle.std.proofs.Common.{◌≡◌, ◌++◌, ◌⊎◌, ℕ, List, [], inl, inr, subst}
+use Rattle.std.proofs.Common.{◌≡◌, ◌++◌, ◌⊎◌, ℕ, List, [], append-nil, arith, inl, inr, subst, sym}
 use Rattle.desk_client.specs.Reply.{IsReply, IsReplyReading}
 use Rattle.desk_client.specs.declared.reply.Reading.{Reading}
 use Rattle.desk_client.specs.declared.reply.Reading.TheVariants as readings
@@ -15,6 +15,17 @@ goes_no_further alone asked came reading (inl (whole, is)) reads more told reply
     alone asked came more whole told (subst (λ (r : Reading). IsReplyReading asked came r) is reads) reply
 goes_no_further alone asked came reading (inr is) reads more told reply =
     absurd ((subst (λ (r : Reading). IsReplyReading asked came r) is reads) more told reply)
+
+-- what lacks bytes is no reply yet
+lacks_bytes : (asked : Wanted) (came : List ℕ) (missing : ℕ) → IsReplyReading asked came (readings.NeedBody missing)
+    → (told : Told) → ¬ IsReply asked came told
+lacks_bytes asked came missing reads told reply =
+    let none : 0 ≡ missing = reads.1 [] told (subst (λ (text : List ℕ). IsReply asked text told) (sym (append-nil came)) reply) in
+    omega (arith, none, reads.0)
+
+pub returns-in-NeedBody-clause-more : goal.returns-in-NeedBody-clause-more
+returns-in-NeedBody-clause-more c = λ some told reply.
+    lacks_bytes c.args.wanted c.args.came.now c.in-NeedBody.missing c.in-NeedBody.ensures told reply
 
 pub returns-in-Whole-clause-done : goal.returns-in-Whole-clause-done
 returns-in-Whole-clause-done c = λ none more told reply.

@@ -1,4 +1,4 @@
-use Rattle.std.proofs.Common.{◌≡◌, ◌∙◌, ◌++◌, ℕ, ℤ, pos, List, [], Option, Some, append-nil, subst, sym}
+use Rattle.std.proofs.Common.{◌≡◌, ◌∙◌, ◌++◌, ℕ, ℤ, pos, List, [], Option, Some, append-nil, subst, sym, w64, to_z, of_z}
 use Rattle.conversation.specs.message.Messages.{BeginsMessage, Message}
 use Rattle.desk_client.specs.Asks.{question_message}
 use Rattle.desk_client.specs.Question.{question_text}
@@ -17,13 +17,13 @@ returns-in-Asks c =
     let Begins : List ℕ → Type 0 = λ input. BeginsMessage input m [] in
     let begins : Begins c.deref.result.now = subst Begins (sym text) (c.question_law.ensures.sent question [] c.keeps_rules.ensures) in
     let whole = (c.in-Whole.ensures {u = tt}).finds.whole m [] begins in
-    let asked = (c.in-Asks.ensures {u = tt}).meaning in
+    let asked = c.in-Asks.ensures {u = tt} in
     let form = c.in-Asks.field-0 in
     let moment = c.in-Asks.field-1 in
     let request = c.in-Asks.request in
-    let comes = asked.3.comes in
-    let AsksOf : Message → Type 0 = λ message. MessageAsks message asked.0 form moment request in
+    let comes = asked.comes in
+    let AsksOf : Message → Type 0 = λ message. MessageAsks message (Some (to_z w64 (of_z w64 c.secs.result))) form moment request in
     let AsksAt : Option ℤ → Type 0 = λ given. MessageAsks m given form moment request in
-    let mine : AsksAt (Some (pos moment)) = subst AsksAt comes.given (subst AsksOf whole.0 asked.3) in
+    let mine : AsksAt (Some (pos moment)) = subst AsksAt comes.given (subst AsksOf whole.0 asked) in
     let yours = c.question_law.ensures.means question moment c.keeps_rules.ensures comes.is_moment in
     ((c.conversation_law.ensures.meaning m (Some (pos moment))).asks form Json moment moment request (requests.Sell c.args.order.now) mine yours).2

@@ -21,6 +21,7 @@ returns c =
       meaning = c.conversation_law.ensures.meaning;
       routed = c.route_law.ensures.one;
       texts = c.reply_law.ensures;
+      dates = c.date_law.ensures;
       sent = question.sent;
       means = question.means;
       outside = question.outside;

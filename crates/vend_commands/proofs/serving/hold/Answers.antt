@@ -2,16 +2,17 @@ use Rattle.vend_commands.proofs.serving.hold.Goals as goal
 
 pub returns-clause-held : goal.returns-clause-held
 returns-clause-held g c =
-    let converses = c.run.ensures.converses.1 in
+    let converses = c.run-end.ensures.converses.1 in
     record {
       reader = c.in-Some.reader;
       writer = c.in-Some.writer;
-      read = c.run.new.reader;
-      written = c.run.new.writer;
-      end = c.run.result;
+      read = c.run-end.new.reader;
+      written = c.run-end.new.writer;
+      end = c.run-end.result;
+      held = c.accept.new.self;
       accepted = c.in-Some.ensures.accepts;
       run = converses.run;
-      paced = (c.run.ensures.converses.0, converses.paced);
+      paced = (c.run-end.ensures.converses.0, converses.paced);
       clean = converses.clean;
       lives = converses.lives;
       ended = c.end.ensures;

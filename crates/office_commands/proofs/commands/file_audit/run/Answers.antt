@@ -17,7 +17,7 @@ returns-in-Ok-There g c =
     let there = subst (IsMet at (IsThere g.H.Medium.Disk image (g.H.OfficeFile.meets c.args.office path wait)))
     c.in-Ok-There.field-0-is c.in-Ok-There.ensures.met in
     let ended = c.end_audit-answer.ensures in
-    looked c.end_audit-answer.result.0 (there.files.log, there.measured.found, there.measured.met) (record {
+    looked c.end_audit-answer.result.0 (there.measured.found.log, there.measured.found.db, there.measured.met) (record {
       first = c.in-Ok-There.conn;
       last = ended.last;
       connected = there.made.connected;

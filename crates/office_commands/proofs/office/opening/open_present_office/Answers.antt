@@ -17,7 +17,7 @@ returns-in-Ok-clause-met g c =
     let there = subst (IsMet at (IsThere g.H.Medium.Disk image (g.H.OfficeFile.meets c.args.office c.args.path.now c.args.wait)))
     c.in-Ok-There.field-0-is c.in-Ok-There.ensures.met in (
       opened_there image c.in-Ok-There.conn there.made c.found_law.ensures.opens there.taken c.args.transform c.in-Ok.books c.in-Ok.ensures.opened,
-      (there.files.log, there.measured.found, there.measured.met),
+      (there.measured.found.log, there.measured.found.db, there.measured.met),
     )
 
 pub returns-in-Err-open_from-clause-refuses : goal.returns-in-Err-open_from-clause-refuses

@@ -1,0 +1,61 @@
+//! Which office the words of a command name.
+ghost use Rattle.std.specs.Prelude.{◌≡◌};
+ghost use Rattle.command_line.specs.Place.{asks_office, is_asked_to_do, is_asked_to_tell};
+ghost use Rattle.command_line.specs.Place.{is_given, is_of_file, lacks_place};
+ghost use Rattle.command_line.specs.Said.{argument_rows};
+
+use crate::said;
+use clap::ArgMatches;
+
+/// Whether the words of the command of a name have to name one office, and do not.
+#[tactic(auto, unfolding(crate::specs::Place::lacks_place))]
+pub(crate) fn lacks_place(name: &str, matches: &ArgMatches) -> bool
+    ensures { result ≡ lacks_place name.now (argument_rows matches.now) }
+{
+    if !asks_office(name) {
+        return false;
+    }
+    if is_given(matches, "desk") {
+        is_of_file(matches)
+    } else {
+        !is_given(matches, "file")
+    }
+}
+
+// Whether a file or a running desk is asked by the command of this name.
+fn asks_office(name: &str) -> bool
+    ensures { result ≡ asks_office name.now }
+{
+    is_asked_to_do(name) || is_asked_to_tell(name)
+}
+
+// A command that changes an office.
+fn is_asked_to_do(name: &str) -> bool
+    ensures { result ≡ is_asked_to_do name.now }
+{
+    name == "import" || name == "shift" || name == "sell" || name == "tariff" || name == "base"
+}
+
+// A command that prints what an office has.
+fn is_asked_to_tell(name: &str) -> bool
+    ensures { result ≡ is_asked_to_tell name.now }
+{
+    name == "report" || name == "show" || name == "list" || name == "offer"
+}
+
+// Whether the words say what only a file has.
+fn is_of_file(matches: &ArgMatches) -> bool
+    ensures { result ≡ is_of_file (argument_rows matches.now) }
+{
+    is_given(matches, "file")
+        || is_given(matches, "wait")
+        || is_given(matches, "at")
+        || is_given(matches, "transform")
+}
+
+// Whether the words give an argument.
+fn is_given(matches: &ArgMatches, id: &str) -> bool
+    ensures { result ≡ is_given id.now (argument_rows matches.now) }
+{
+    said::text(matches, id).is_some()
+}
