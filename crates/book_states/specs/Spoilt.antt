@@ -110,11 +110,15 @@ IsSaleSpoilt moment order =
 
 -- ---- an import
 
+-- the steps of a later day: both questions are asked, whether the tariff stands or not
+abbrev pub AreStepsRowSpoilt : List ℕ → ℕ → Database → Type 0
+AreStepsRowSpoilt name day db =
+    HasSpoilt (the_tariff name) db ⊎ HasSpoiltSteps (the_steps_from name day) db
+
 -- what is under a row's name
 abbrev pub IsRowSpoilt : Row → Database → Type 0
 IsRowSpoilt (kinds.Tariff name steps) db = HasSpoiltSteps (the_steps name) db
-IsRowSpoilt (kinds.Steps name day steps) db =
-    HasSpoilt (the_tariff name) db ⊎ HasSpoiltSteps (the_steps_from name day) db
+IsRowSpoilt (kinds.Steps name day steps) db = AreStepsRowSpoilt name day db
 IsRowSpoilt (kinds.Meter number m) db = IsMeterSpoilt number m db
 
 -- a row that is spoilt, where nothing that differs is under the names of those before it
