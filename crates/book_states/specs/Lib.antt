@@ -4,4 +4,5 @@ pub mod Failing
 pub mod Members
 pub mod Others
 pub mod Same
+pub mod Spoilt
 pub mod Stores
