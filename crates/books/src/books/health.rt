@@ -1,7 +1,8 @@
 //! What the books know of their office without a read of the store.
 
 ghost use Rattle.std.specs.Prelude.{◌≡◌};
-ghost use Rattle.books.specs.Keeps.{health_of, seen};
+ghost use Rattle.vend_core.specs.Law.Life.{Life};
+ghost use Rattle.books.specs.Keeps.{Represents, health_of, seen};
 
 use super::Books;
 use book_states::Health;
@@ -27,5 +28,20 @@ impl<S: Alter, T: BlockTransform> Books<S, T> {
         ensures { result ≡ self.now.write_failed }
     {
         self.write_failed
+    }
+}
+
+impl<S: Alter, T: BlockTransform + Drop> Books<S, T> {
+    /// The same books, of which this is known of the last write: that of books that stopped, where
+    /// these opened their office again.
+    pub fn with_write_failed(self, write_failed: bool) -> Books<S, T>
+        ensures same { result ≡ record self { write_failed = write_failed } }
+        ensures keeps { (life : Life) → Represents life (seen self)
+            → Represents life (seen result) }
+    {
+        Books {
+            write_failed,
+            ..self
+        }
     }
 }
