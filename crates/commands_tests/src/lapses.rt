@@ -1,16 +1,15 @@
 //! A store that fails within `serve`: that it stopped is told, and that it is open again; the next
 //! connection is served, and a repeated ref is one sale. Or it fails for good: then nobody is
 //! served after it.
-mod lapse;
 mod look_ups;
 mod lost;
 mod ports;
 
 use crate::folder;
-use crate::lapses::lapse::{Faults, NO_FAULTS};
 use crate::lapses::ports::{LapsingOffice, NoTexts, ScriptedMachine, Texts, Trouble, Unseen};
 use crate::support::{Failing, words_of};
 use desk::Script;
+use disk_testing::{Faults, NO_FAULTS};
 use std::fs;
 use std::test::Fail;
 use vend_commands::{CommandEnd, Ports, Watched, run_over};
