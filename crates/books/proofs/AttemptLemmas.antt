@@ -81,7 +81,7 @@ last_pushed : (sales : List Sale) (s : Sale) → slice_get (sales ++ s ∷ []) (
 last_pushed sales s =
     let long = length-append sales (s ∷ []) in
     slice_get-get_or (sales ++ s ∷ []) (length (sales ++ s ∷ []) - 1) s (omega (arith, long))
-        ∙ ap (λ x. Some x) (get_or_push sales s s (length (sales ++ s ∷ []) - 1) (omega (arith, long)))
+    ∙ ap (λ x. Some x) (get_or_push sales s s (length (sales ++ s ∷ []) - 1) (omega (arith, long)))
 
 -- the last moment of the office is that of the sale that an edit adds, or as it was
 pub moment_goes : (edit : Edit) (o : Office) → last_moment (applied edit o) ≡ moment_after (Some edit) (last_moment o)

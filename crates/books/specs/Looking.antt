@@ -1,5 +1,8 @@
 -- What books find where something is looked up.
-use Rattle.std.specs.Prelude.{◌≡◌, ◌⊎◌, ◌≤◌, ℕ, false, List, Result, Ok, Err, Contains}
+use Rattle.std.specs.Prelude.{◌≡◌, ◌⊎◌, ◌≤◌, ℕ, true, false, List, Result, Ok, Err}
+use Rattle.std.specs.Prelude.{Contains}
+use Rattle.sqlite_trees.specs.declared.store.Store.{Ghosts}
+use Rattle.sts_token.specs.declared.transform.BlockTransform as block
 use Rattle.vend_core.specs.Law.Life.{Life, present}
 use Rattle.office_rules.specs.Office.{Office}
 use Rattle.office_rules.specs.declared.decision.refusal.Refusal.{Refusal}
@@ -11,8 +14,9 @@ use Rattle.book_states.specs.declared.lookup.Found.{Found}
 use Rattle.book_states.specs.declared.lookup.Found.TheVariants as found
 use Rattle.book_states.specs.declared.lookup.Lookup.{Lookup}
 use Rattle.book_states.specs.declared.lookup.Lookup.TheVariants as lookups
-use Rattle.books.specs.Keeps.{Seen, health_of}
+use Rattle.books.specs.Keeps.{Across, Seen, health_of, seen}
 use Rattle.books.specs.Reads.{ReadsBooks, ReadsOfLife}
+use Rattle.books.specs.declared.books.Books.{Books}
 
 -- that was found at the moment in the present office of the life, or there was no memory, or the
 -- store failed, or the books were stopped
@@ -39,6 +43,14 @@ abbrev pub TellsHealth : {B : Type 0} → (B → Seen) → Lookup → Result Fou
 TellsHealth see lookup found old new =
     lookup ≡ lookups.Health → (see old).stopped ≡ false
     → (found ≡ Ok (found.Health (health_of (see old)))) × (new ≡ old)
+
+-- Books found this of what was looked up at a moment, and told their health without a read. Books
+-- that were stopped stay as they are.
+pub record AnswersLookUp {S T : Type 0} {g : Ghosts S} {h : block.Ghosts T} (moment : ℕ)
+    (lookup : Lookup) (found : Result Found Refusal) (old new : Books S T g h) : Type 0 where
+  pub says : Across (FoundAt moment lookup found) old new
+  pub idle : old.stopped ≡ true → new ≡ old
+  pub health : TellsHealth seen lookup found old new
 
 -- the sale is the last one to a meter, by number
 pub record IsLastTo (o : Office) (number : List ℕ) (s : Sale) : Type 0 where

@@ -1,7 +1,6 @@
 //! A look-up.
 
-ghost use Rattle.books.specs.Keeps.{UnlessStopped, seen};
-ghost use Rattle.books.specs.Looking.{FoundAt, TellsHealth};
+ghost use Rattle.books.specs.Looking.{AnswersLookUp};
 
 use super::Books;
 use book_facts::look_up;
@@ -18,8 +17,7 @@ impl<S: Alter, T: BlockTransform> Books<S, T> {
     /// `Memory`; `Stopped`; and `Store`, after which the books are stopped too. It puts nothing in
     /// doubt.
     pub fn look_up(&mut self, moment: Moment, lookup: &Lookup) -> Result<Found, Refusal>
-        ensures found { UnlessStopped (FoundAt moment lookup.now result) self.old self.new }
-        ensures health { TellsHealth seen lookup.now result self.old self.new }
+        ensures { AnswersLookUp moment lookup.now result self.old self.new }
     {
         if self.stopped {
             return Err(Refusal::Stopped);
