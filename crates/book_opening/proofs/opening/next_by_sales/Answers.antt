@@ -55,8 +55,8 @@ returns-in-Ok-Some-sale_numbered-clause-given g c clean has o at =
     let shut = g.met.S.Store.shut_if_dirty c.last_sale_number.new.conn.store in
     let before = was_clean sales_kept it.ensures.reads shut c.sale_numbered.result c.sale_numbered.ensures.reads there clean in
     let runs = (it.ensures.reads.same before there).0.was_open in
-    ap (λ n. record { next_number = n + 1; last_moment = Some row.field-0-0.moment }) c.from.ensures
-    ∙ sold_up_to old has runs o at it.last row.field-0-0 (λ number some. c.store_law.ensures.sale_at o number at.office some)
+    ap (λ n. record { next_number = n + 1; last_moment = Some row.sale.moment }) c.from.ensures
+    ∙ sold_up_to old has runs o at it.last row.sale (λ number some. c.store_law.ensures.sale_at o number at.office some)
     (λ rows hold office. sym (ap (λ (x : Option ℕ). unwrap_or x 0) it.field-0-is) ∙ it.ensures.counted before rows hold office)
     (λ rows hold office. sym row.field-0-is ∙ row.ensures.given clean rows (rows_after sales_kept it.ensures.reads shut rows hold) office)
 
@@ -75,8 +75,8 @@ returns-in-Ok-Some-sale_numbered-clause-follows g c clean has =
       Some it.last,
       subst (ShowsFirst the_last_sale old.now) it.field-0-is (it.ensures.sees.seen before there),
       (
-        row.field-0-0,
-        subst (λ (db : Database). ShowsFirst (the_sale it.last) db (Some row.field-0-0)) same.0.now_is shown,
+        row.sale,
+        subst (λ (db : Database). ShowsFirst (the_sale it.last) db (Some row.sale)) same.0.now_is shown,
         ap (λ n. n + 1) c.from.ensures,
         refl,
       ),
