@@ -120,7 +120,7 @@ IsSaleFoundSpoilt operator order_ref db = HasSpoilt (the_sale_of_ref operator or
 
 -- at a moment; the count of the sales is in no row
 abbrev pub LookupSpoilt : ℕ → Lookup → Database → Type 0
-LookupSpoilt moment lookups.SaleCount db = ⊥
+LookupSpoilt moment lookups.Health db = ⊥
 LookupSpoilt moment (lookups.Meter number) db = IsMeterFoundSpoilt number moment db
 LookupSpoilt moment (lookups.LastSale number) db = IsLastFoundSpoilt number db
 LookupSpoilt moment (lookups.SaleOfRef operator order_ref) db =

@@ -28,9 +28,10 @@ use Rattle.audit_rows.specs.declared.office_rows.OfficeRows.{OfficeRows}
 use Rattle.audit_lists.specs.reached.Finds.{AreRowsOfOffice}
 use Rattle.audit.specs.Fails.{IsNoOffices, StandsForNone, StopsBy, by_lists, by_row}
 use Rattle.audit.specs.Shown.{AreOfficeRows}
-use Rattle.book_opening.specs.Opening.{BringsSound, FaultFitsStore, HasOfficesRows, IsNextSale, IsSoundWith, LeavesPresent, fault_of_audit}
+use Rattle.book_opening.specs.Opening.{BringsSound, FaultFitsStore, HasOfficesRows, IsSoldSoFar, IsSoundWith, LeavesPresent, fault_of_audit, sold_by}
 use Rattle.book_opening.specs.declared.fault.OpenFault.{OpenFault}
 use Rattle.book_opening.specs.declared.fault.OpenFault.TheVariants.{Memory, Store}
+use Rattle.book_opening.specs.declared.sold_so_far.SoldSoFar.{SoldSoFar}
 use Rattle.book_opening.proofs.EndingLemmas.{known_after}
 use Rattle.book_opening.proofs.LookingLemmas.{of_failure}
 
@@ -59,9 +60,10 @@ module _ (from : ℕ) (rows : OfficeRows) where
   pub hands_rows : (db : Database) → AreOfficeRows from db rows → HandsOver db rows.meters.items rows.sales.items
   hands_rows db are o stands = handed rows o (are.only o stands)
 
-  -- the number of the next sale, by those that were read
-  pub next_of_rows : (s : State) (next : ℕ) → next ≡ length rows.sales.items + 1 → IsTrue s.is_open → AreOfficeRows from s.now rows → IsNextSale s next
-  next_of_rows s next is runs are o at = is ∙ ap (λ (sales : List Sale). length sales + 1) (are.only o (at.now runs)).members.sales
+  -- what was sold, by the sales that were read
+  pub sold_of_rows : (s : State) (sold : SoldSoFar) → ((p : Office) → p.sales ≡ rows.sales.items → sold ≡ sold_by p) → IsTrue s.is_open
+      → AreOfficeRows from s.now rows → IsSoldSoFar s sold
+  sold_of_rows s sold is runs are o at = is o (sym (are.only o (at.now runs)).members.sales)
 
 -- the rows of an older file are as they were after the look at them, and are handed over
 module _ (from : ℕ) (rows : OfficeRows) (old mid : State) (shut : mid.is_clean ≡ false → mid.is_open ≡ false) (same : HasCleanDisk mid → IsUnchanged old mid)
@@ -98,9 +100,10 @@ module _ (db : Database) (has : HasOfficeOf 0 db.schema) where
     sales = refl;
   })
 
--- where there are no tables, the next sale is the first
-pub first_sale : (s : State) → IsTrue s.is_open → HasOfficeOf 0 s.now.schema → IsNextSale s 1
-first_sale s runs has o at = ap (λ (p : Office). length p.sales + 1) (sym (none_stands s.now has o (at.now runs)))
+-- where there are no tables, nothing was sold
+pub none_sold : (s : State) (sold : SoldSoFar) → ((p : Office) → p.sales ≡ [] → sold ≡ sold_by p) → IsTrue s.is_open → HasOfficeOf 0 s.now.schema
+    → IsSoldSoFar s sold
+none_sold s sold is runs has o at = is o (ap (λ (p : Office). p.sales) (none_stands s.now has o (at.now runs)))
 
 -- ---- what an audit found
 

@@ -1,12 +1,13 @@
 -- What looks at the store leave, and what their faults tell of it.
-use Rattle.std.proofs.Common.{◌≡◌, ◌≢◌, ◌⊎◌, ◌+◌, ◌==◌, ℕ, Bool, true, false, List, [], ◌∷◌, length, cond, Option, None, Some, option_map, unwrap_or, IsTrue, Ok, Err, refl, sym, ap, ◌∙◌, subst, inl, inr, arith}
-use Rattle.std.specs.Prelude.{find}
+use Rattle.std.proofs.Common.{◌≡◌, ◌≢◌, ◌⊎◌, ◌+◌, ◌-◌, ◌≤◌, ◌==◌, ℕ, Bool, true, false, List, [], ◌∷◌, length, cond, Option, None, Some, option_map, unwrap_or, IsTrue, Ok, Err, refl, sym, ap, ◌∙◌, subst, inl, inr, arith}
+use Rattle.std.specs.Prelude.{find, slice_get}
 use Rattle.std.specs.List.{last_or}
 use Rattle.std.proofs.lemmas.Bool.Decides.{nat_tests}
 use Rattle.sqlite.specs.Effect.{Database, IsDatabase}
 use Rattle.sqlite.specs.State.{HasCleanDisk, IsUnchanged, State, Survives}
 use Rattle.sqlite.specs.declared.error.Error.{Error}
 use Rattle.office_rules.specs.Office.{Office}
+use Rattle.office_rules.specs.Office.Lookup.{sale_numbered}
 use Rattle.office_rules.specs.declared.office.sale.Sale.{Sale}
 use Rattle.book_tables.specs.format.Making.{IsSoundOfFormat}
 use Rattle.book_tables.specs.Holds.{HasOfficeOf, HoldsMembers, StandsFor}
@@ -17,11 +18,13 @@ use Rattle.book_tables.specs.declared.error.TableError.{TableError}
 use Rattle.book_tables.specs.declared.error.TableError.TheVariants as table
 use Rattle.book_tables.proofs.HoldsLemmas.{held_as}
 use Rattle.book_tables.proofs.OfficeTableLemmas.{has_table_rows, sales_in}
+use Rattle.book_states.specs.Health.{last_moment}
 use Rattle.book_states.specs.Stores.{StoreStandsFor}
 use Rattle.book_states.specs.Same.{IsSame}
-use Rattle.book_opening.specs.Opening.{FaultFitsStore, Looks, fault_of_table}
+use Rattle.book_opening.specs.Opening.{FaultFitsStore, Looks, fault_of_table, sold_by}
 use Rattle.book_opening.specs.declared.fault.OpenFault.{OpenFault}
 use Rattle.book_opening.specs.declared.fault.OpenFault.TheVariants.{NotAnOffice, Store, Memory}
+use Rattle.book_opening.specs.declared.sold_so_far.SoldSoFar.{SoldSoFar}
 
 -- a fault that does not name the file
 pub of_failure : (s : State) (fault : OpenFault) → (fault ≡ Store) ⊎ (fault ≡ Memory) → FaultFitsStore s fault
@@ -112,6 +115,19 @@ none_last n o (x ∷ xs) before none = by_test (x.number == n) refl none (none_l
     by_test true is found rest = absurd (let e = found in cc)
     by_test false is none rest = rest (λ same. let number : x.number ≡ n = (let e = same in cc) in grind (arith, nat_tests)) none
 
+-- a number that counts the sales is that of the last one
+moment_at : (sales : List Sale) (last : ℕ) (sale : Sale) → last ≡ length sales
+    → (1 ≤ last → find (λ (s : Sale). s.number == last) sales ≡ slice_get sales (last - 1)) → Some sale ≡ find (λ (s : Sale). s.number == last) sales
+    → Some sale.moment ≡ option_map (λ (s : Sale). s.moment) (slice_get sales (length sales - 1))
+moment_at [] last sale counts place found = absurd (let e = found in cc)
+moment_at (x ∷ xs) last sale counts place found = ap (option_map (λ (s : Sale). s.moment))
+    (found ∙ place (omega (arith, counts)) ∙ ap (λ n. slice_get (x ∷ xs) (n - 1)) counts)
+
+-- where none are counted there is none
+none_there : (sales : List Sale) → 0 ≡ length sales → sales ≡ []
+none_there [] counts = refl
+none_there (x ∷ xs) counts = absurd (omega (arith, counts))
+
 -- what the rows of the sales say of the office that the store stands for
 module _ (old : State) (has : IsSoundOfFormat present_format old) (runs : IsTrue old.is_open) (o : Office) (at : StoreStandsFor old o) where
   held : HoldsMembers old.now o
@@ -124,9 +140,26 @@ module _ (old : State) (has : IsSoundOfFormat present_format old) (runs : IsTrue
   of_office = (o, at.office, held.2)
 
   -- the last number counts its sales
-  pub next_counted : (last : Option ℕ) → ((rows : Rows) → HasTableRows sales_kept old rows → AreOfOffice rows → unwrap_or last 0
-      ≡ length rows.sales) → unwrap_or last 0 + 1 ≡ length o.sales + 1
-  next_counted last counted = ap (λ n. n + 1) (counted held.0 sales_there of_office) ∙ ap (λ (sales : List Sale). length sales + 1) held.2.sales
+  counts_sales : (last : Option ℕ) → ((rows : Rows) → HasTableRows sales_kept old rows → AreOfOffice rows → unwrap_or last 0 ≡ length rows.sales)
+      → unwrap_or last 0 ≡ length o.sales
+  counts_sales last counted = counted held.0 sales_there of_office ∙ ap (λ (sales : List Sale). length sales) held.2.sales
+
+  -- where there is no last number nothing was sold
+  pub nothing_sold : (sold : SoldSoFar) → ((p : Office) → p.sales ≡ [] → sold ≡ sold_by p)
+      → ((rows : Rows) → HasTableRows sales_kept old rows → AreOfOffice rows → 0 ≡ length rows.sales) → sold ≡ sold_by o
+  nothing_sold sold is counted = is o (none_there o.sales (counts_sales None counted))
+
+  -- the sale of the last number is its last one
+  pub sold_up_to : (last : ℕ) (sale : Sale) → ((number : ℕ) → 1 ≤ number → sale_numbered o number ≡ slice_get o.sales (number - 1))
+      → ((rows : Rows) → HasTableRows sales_kept old rows → AreOfOffice rows → last ≡ length rows.sales)
+      → ((rows : Rows) → HasTableRows sales_kept old rows → AreOfOffice rows → Some sale ≡ find (λ (s : Sale). s.number == last) rows.sales)
+      → record { next_number = last + 1; last_moment = Some sale.moment } ≡ sold_by o
+  sold_up_to last sale at counted found =
+      let counts : last ≡ length o.sales = counts_sales (Some last) counted in
+      let here : Some sale ≡ sale_numbered o last = found held.0 sales_there of_office
+      ∙ ap (λ (sales : List Sale). find (λ (s : Sale). s.number == last) sales) held.2.sales in
+      let moment : Some sale.moment ≡ last_moment o = moment_at o.sales last sale counts (at last) here in
+      rw counts (rw moment refl)
 
   -- the sale of the last number is there
   pub last_there : (last : ℕ) → ((rows : Rows) → HasTableRows sales_kept old rows → AreOfOffice rows → Some last

@@ -8,7 +8,7 @@ use Rattle.office_rules.specs.declared.decision.refusal.Refusal.TheVariants.{Mem
 use Rattle.book_states.specs.Failing.{IsToldOfRead}
 use Rattle.book_states.specs.Others.{LeavesOthers}
 use Rattle.book_states.specs.Same.{ChangesNothing}
-use Rattle.books.specs.Keeps.{BooksHaveTables, Represents, Seen}
+use Rattle.books.specs.Keeps.{BooksHaveTables, KnowTheSame, Represents, Seen}
 
 -- Books were read, and gave this. Every life that they kept they keep, and nothing was written.
 -- They answer as stopped exactly where they were, and are stopped after a failure. Beside the
@@ -23,6 +23,7 @@ pub record ReadsBooks {A : Type 0} (Own : Refusal → Type 0)
   pub others : HasCleanDisk new.state → BooksHaveTables old → LeavesOthers old.state new.state
   pub nothing : HasCleanDisk new.state → BooksHaveTables old → ChangesNothing old.state new.state
   pub clean : HasCleanDisk new.state → HasCleanDisk old.state
+  pub health : KnowTheSame old new
   pub stopped : (given ≡ Err Stopped) ↔ (old.stopped ≡ true)
   pub stops : (new.stopped ≡ true) ↔ ((given ≡ Err Store) ⊎ (given ≡ Err Stopped))
   pub refusals : IfErr given
