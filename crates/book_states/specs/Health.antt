@@ -1,0 +1,7 @@
+-- What is told of an office without a read of the store.
+use Rattle.std.specs.Prelude.{ℕ, ◌-◌, Option, length, option_map, slice_get}
+use Rattle.office_rules.specs.Office.{Office}
+
+-- the moment of the office's last sale, where there is one
+abbrev pub last_moment : Office → Option ℕ
+last_moment o = option_map (λ s. s.moment) (slice_get o.sales (length o.sales - 1))
