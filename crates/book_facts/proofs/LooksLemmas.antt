@@ -1,5 +1,5 @@
 -- What is looked up by reads, one after another.
-use Rattle.std.proofs.Common.{◌≡◌, ◌∙◌, ◌⊎◌, ◌<◌, ◌+◌, ◌++◌, ◌∷◌, [], ℕ, suc, false, List, Option, Some, None, Result, Ok, Err, IfOk, IsErrAnd, add-one, ap, append_assoc, arith, drop, drop-cons, get_or, is_none, is_some, length, refl, subst, sym, take, true}
+use Rattle.std.proofs.Common.{◌≡◌, ◌∙◌, ◌⊎◌, ◌<◌, ◌+◌, ◌++◌, ◌∷◌, [], ℕ, suc, false, List, Option, Some, None, Result, Ok, Err, IfOk, IsErrAnd, add-one, ap, append_assoc, arith, drop, drop-cons, get_or, is_none, inl, inr, is_some, length, refl, subst, sym, take, true}
 use Rattle.std.specs.List.{AllZip}
 use Rattle.std.specs.Prelude.{IfErr}
 use Rattle.std.specs.Ordering.{is_le, nat_cmp}
