@@ -1,5 +1,5 @@
 -- Connections that are served one after another.
-use Rattle.std.proofs.Common.{◌≡◌, ℕ, ℤ, ◌+◌, ◌&&◌, not, Bool, true, false, if◌then◌else◌, List, [], ◌++◌, Option, Result, Ok, Err, add-one, ap, ap₂, refl, subst, sym, ◌∙◌}
+use Rattle.std.proofs.Common.{◌≡◌, ℕ, ℤ, ◌+◌, ◌&&◌, not, Bool, true, false, if◌then◌else◌, List, [], ◌++◌, Option, Result, Ok, Err, add-one, ap, refl, subst, sym, ◌∙◌}
 use Rattle.std.specs.Prelude.{IfErr}
 use Rattle.book_opening.specs.declared.fault.OpenFault.{OpenFault}
 use Rattle.books.specs.Keeps.{Seen}
@@ -27,16 +27,12 @@ open_some books stopped = ap (λ b. if (b && not books.write_failed) then open_l
 pub open_none : (books : Seen) → books.stopped ≡ false → open_text books ≡ []
 open_none books runs = ap (λ b. if (b && not books.write_failed) then open_line else []) runs
 
--- of a write that was made after one had failed, and of none
-pub written_some : (had_failed : Bool) (books : Seen) → had_failed ≡ true → books.write_failed ≡ false → written_text had_failed books ≡ open_line
-written_some had_failed books had now = ap₂ (λ a b. if (a && not b) then open_line else []) had now
+-- what is printed where a write was made after one had failed, and where none was
+pub written_some : (had_failed : Bool) (books : Seen) → (had_failed && not books.write_failed) ≡ true → written_text had_failed books ≡ open_line
+written_some had_failed books works = ap (λ b. if b then open_line else []) works
 
-pub written_first : (had_failed : Bool) (books : Seen) → had_failed ≡ false → written_text had_failed books ≡ []
-written_first had_failed books never = ap (λ a. if (a && not books.write_failed) then open_line else []) never
-
-pub written_none : (had_failed : Bool) (books : Seen) → books.write_failed ≡ true → written_text had_failed books ≡ []
-written_none true books still = ap (λ b. if (not b) then open_line else []) still
-written_none false books still = refl
+pub written_none : (had_failed : Bool) (books : Seen) → (had_failed && not books.write_failed) ≡ false → written_text had_failed books ≡ []
+written_none had_failed books still = ap (λ b. if b then open_line else []) still
 
 -- books that a connection left stopped are printed so
 pub stopped_some : (books : Seen) → books.stopped ≡ true → stopped_text books ≡ stopped_line

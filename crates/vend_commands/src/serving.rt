@@ -1,6 +1,7 @@
 //! Connections to a door, served one after another over any books.
 
-ghost use Rattle.std.specs.Prelude.{ℤ, [], false, if◌then◌else◌, MatchResult, None};
+ghost use Rattle.std.specs.Prelude.{◌≡◌, ◌&&◌, not, ℤ, [], false, if◌then◌else◌, MatchResult};
+ghost use Rattle.std.specs.Prelude.{None};
 ghost use Rattle.std.specs.Bool.{MatchBool};
 ghost use Rattle.command_line.specs.Transform.{forward_of};
 ghost use Rattle.sts_fields.specs.Text.{Text};
@@ -124,9 +125,16 @@ fn tell_written<S: Alter, E: Write>(
 )
     ensures { Takes err.old err.new (written_text had_failed (seen_in books.now)) }
 {
-    if had_failed && !books.write_failed() {
+    if writes_again(had_failed, books) {
         put_open(err);
     }
+}
+
+// Whether a write was made, where one had failed before.
+fn writes_again<S: Alter>(had_failed: bool, books: &Books<S, Shipped>) -> bool
+    ensures { result ≡ (had_failed && not books.now.write_failed) }
+{
+    had_failed && !books.write_failed()
 }
 
 // Tells that books are stopped, if they are.
