@@ -1,8 +1,7 @@
 //! One request: it is decided by what the tables hold, and what it changes is committed before the
 //! answer.
 
-ghost use Rattle.std.specs.Prelude.{◌≡◌, ◌≢◌, ◌+◌, ◌-◌, ◌^◌, ◌<◌, Some, Err, IfErr, IfOk, IsOk};
-ghost use Rattle.std.specs.Prelude.{false, true};
+ghost use Rattle.std.specs.Prelude.{◌≡◌, ◌≢◌, ◌+◌, ◌-◌, ◌^◌, ◌<◌, true, Some, Err, IfErr, IfOk};
 ghost use Rattle.sqlite.specs.State.{HasCleanDisk};
 ghost use Rattle.sqlite.specs.Held.{state};
 ghost use Rattle.office_rules.specs.Office.{Office};
@@ -16,7 +15,6 @@ ghost use Rattle.books.specs.Serving.{moment_after, sales_added};
 use super::Books;
 use book_edits::commit;
 use book_facts::decision_of;
-use book_states::has_failed;
 use office_rules::{Edit, Moment, Refusal, Reply, Stamped, store_law};
 use sqlite::Alter;
 use sts_token::BlockTransform;
@@ -52,11 +50,17 @@ impl<S: Alter, T: BlockTransform> Books<S, T> {
             self.next_number,
         )?;
         if let Some(edit) = &decided.change.edit {
-            let written = commit(&mut self.conn, edit, decided.prior);
-            self.write_failed = failed_after(&written, self.write_failed);
-            written?;
-            self.next_number = next_after(edit, self.next_number);
-            self.last_moment = moment_after(edit, self.last_moment);
+            match commit(&mut self.conn, edit, decided.prior) {
+                Ok(()) => {
+                    self.write_failed = false;
+                    self.next_number = next_after(edit, self.next_number);
+                    self.last_moment = moment_after(edit, self.last_moment);
+                }
+                Err(refusal) => {
+                    self.write_failed = failed_after(refusal, self.write_failed);
+                    return Err(refusal);
+                }
+            }
         }
         Ok(decided.change.answer)
     }
@@ -82,12 +86,11 @@ fn moment_after(edit: &Edit, last_moment: Option<Moment>) -> Option<Moment>
     }
 }
 
-// Whether a write failed and none was made since, where a commit ended so. For want of memory
-// nothing was written.
-fn failed_after(written: &Result<(), Refusal>, write_failed: bool) -> bool
-    ensures done { IsOk written.now → result ≡ false }
-    ensures store { written.now ≡ Err Refusal.Store → result ≡ true }
-    ensures memory { written.now ≡ Err Refusal.Memory → result ≡ write_failed }
+// Whether a write failed and none was made since, where a commit was refused so. For want of
+// memory nothing was written.
+fn failed_after(refusal: Refusal, write_failed: bool) -> bool
+    ensures store { refusal ≡ Refusal.Store → result ≡ true }
+    ensures memory { refusal ≡ Refusal.Memory → result ≡ write_failed }
 {
-    written.is_err() && (write_failed || has_failed(written))
+    matches!(refusal, Refusal::Store) || write_failed
 }
