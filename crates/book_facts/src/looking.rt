@@ -9,6 +9,7 @@ ghost use Rattle.book_states.specs.Same.{IsSame};
 ghost use Rattle.book_facts.specs.Lookups.{Finds, IsFoundIn, IsOfRules};
 ghost use Rattle.book_facts.specs.Looking.{LooksUpByRules, TellsTables};
 ghost use Rattle.book_facts.specs.LookupsSeen.{FindsSeen, IsFoundSeen};
+ghost use Rattle.book_facts.specs.LookupsSpoilt.{LookupSpoilt};
 
 use book_states::{Found, Lookup, refusal_of};
 use book_tables::TableError;
@@ -46,7 +47,8 @@ pub fn look_up<S: Alter>(
     ensures found { Over S.Store conn (λ old new. HasCleanDisk new → (o : Office) → Stores old o
         → next_number ≡ length o.sales + 1 → IsFoundIn o moment lookup.now result) }
     ensures tells { Over S.Store conn (λ old new. TellsTables IsOfRules
-        (IsFoundSeen next_number moment lookup.now) old new result) }
+        (IsFoundSeen next_number moment lookup.now) (LookupSpoilt moment lookup.now) old new
+        result) }
 {
     // Outside a transaction an open connection has what was committed last.
     let _settled = conn.is_autocommit();
@@ -66,7 +68,7 @@ fn found_of<S: Alter>(
 ) -> Result<Result<Found, Refusal>, TableError>
     ensures { Over S.Store conn (λ old new. LooksUpByRules IsSame
         (λ o found. sale_count ≡ length o.sales → Finds o moment lookup.now found)
-        (FindsSeen sale_count moment lookup.now) old new result) }
+        (FindsSeen sale_count moment lookup.now) (LookupSpoilt moment lookup.now) old new result) }
 {
     match lookup {
         Lookup::SaleCount => Ok(Ok(Found::SaleCount(sale_count))),

@@ -22,8 +22,8 @@ use Rattle.books.proofs.PageLemmas.{kept_read}
 use Rattle.books.proofs.ServeLemmas.{stops_on}
 
 -- books that were stopped are not read
-pub read_stopped : {A : Type 0} {IsSeen : Database → Result A Refusal → Type 0} (Own : Refusal → Type 0) (books : Seen) → books.stopped
-    ≡ true → ReadsBooks {A = A} Own IsSeen (Err Stopped) books books
+pub read_stopped : {A : Type 0} {IsSeen : Database → Result A Refusal → Type 0} {IsSpoilt : Database → Type 0} (Own : Refusal → Type 0) (books : Seen)
+    → books.stopped ≡ true → ReadsBooks {A = A} Own IsSeen IsSpoilt (Err Stopped) books books
 read_stopped Own books was = record {
   keeps = λ life keeps. keeps;
   tables = λ has. has;
@@ -46,9 +46,10 @@ or_stopped Own (Err why) (inr (inl memory)) = inr (inl memory)
 or_stopped Own (Err why) (inr (inr store)) = inr (inr (inl store))
 
 -- books that were not stopped were read, by what the read makes of their tables
-pub was_read : {A : Type 0} {Own : Refusal → Type 0} {IsSeen : Database → Result A Refusal → Type 0} (given : Result A Refusal)
-    (old new : Seen) → old.stopped ≡ false → new.forward ≡ old.forward → new.next_number ≡ old.next_number
-    → TellsTables Own IsSeen old.state new.state given → (IsTrue new.stopped ↔ (given ≡ Err Store)) → ReadsBooks Own IsSeen given old new
+pub was_read : {A : Type 0} {Own : Refusal → Type 0} {IsSeen : Database → Result A Refusal → Type 0} {IsSpoilt : Database → Type 0}
+    (given : Result A Refusal) (old new : Seen) → old.stopped ≡ false → new.forward ≡ old.forward → new.next_number ≡ old.next_number
+    → TellsTables Own IsSeen IsSpoilt old.state new.state given → (IsTrue new.stopped ↔ (given ≡ Err Store))
+    → ReadsBooks Own IsSeen IsSpoilt given old new
 was_read {Own = Own} given old new runs forward next told failed = record {
   keeps = λ life keeps clean.
       let kept = keeps (told.clean clean) in

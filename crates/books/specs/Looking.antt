@@ -7,6 +7,7 @@ use Rattle.office_rules.specs.declared.decision.refusal.Refusal.TheVariants.{Mem
 use Rattle.office_rules.specs.declared.office.sale.Sale.{Sale}
 use Rattle.book_facts.specs.Lookups.{Finds, IsOfRules}
 use Rattle.book_facts.specs.LookupsSeen.{IsFoundSeen}
+use Rattle.book_facts.specs.LookupsSpoilt.{LookupSpoilt}
 use Rattle.book_states.specs.declared.lookup.Found.{Found}
 use Rattle.book_states.specs.declared.lookup.Lookup.{Lookup}
 use Rattle.books.specs.Keeps.{Seen}
@@ -22,14 +23,15 @@ IsFoundAt life moment lookup result =
 -- books were read for what is looked up at a moment, and gave this
 abbrev pub LooksUpBooks : ℕ → Lookup → Result Found Refusal → Seen → Seen → Type 0
 LooksUpBooks moment lookup found old new =
-    ReadsBooks IsOfRules (IsFoundSeen old.next_number moment lookup) found old new
+    ReadsBooks IsOfRules (IsFoundSeen old.next_number moment lookup) (LookupSpoilt moment lookup)
+    found old new
 
 -- What books found of what was looked up at a moment: for each life that they kept what its present
 -- office has, or why they had no answer. They were only read.
 abbrev pub FoundAt : ℕ → Lookup → Result Found Refusal → Seen → Seen → Type 0
 FoundAt moment lookup found old new =
     ReadsOfLife (λ life. IsFoundAt life moment lookup found) IsOfRules
-    (IsFoundSeen old.next_number moment lookup) found old new
+    (IsFoundSeen old.next_number moment lookup) (LookupSpoilt moment lookup) found old new
 
 -- the sale is the last one to a meter, by number
 pub record IsLastTo (o : Office) (number : List ℕ) (s : Sale) : Type 0 where

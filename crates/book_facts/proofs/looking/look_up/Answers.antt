@@ -27,6 +27,7 @@ pub returns-in-Err-clause-tells : goal.returns-in-Err-clause-tells
 returns-in-Err-clause-tells g c =
     let outside : IsTrue c.is_autocommit-settled.result = search rules in
     tells_failed (state g.S.Store c.args.conn.now) (state g.S.Store c.found_of.new.conn) c.in-Err.error c.refusal_of.result
-    c.refusal_of.ensures.value c.refusal_of.ensures.either c.in-Err.ensures.looks.reads (c.is_autocommit-settled.ensures.settled outside)
+    c.refusal_of.ensures.value c.refusal_of.ensures.either c.in-Err.ensures.looks.reads c.in-Err.ensures.looks.spoilt
+    (c.is_autocommit-settled.ensures.settled outside)
     (g.met.S.Store.shut_if_dirty c.args.conn.now.store) c.requires
     (inr (elim c.refusal_of.ensures.either [ inl memory ↦ inl (ap (λ r. Err r) memory) | inr failed ↦ inr (ap (λ r. Err r) failed) ]))
