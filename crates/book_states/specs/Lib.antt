@@ -5,4 +5,5 @@ pub mod Health
 pub mod Members
 pub mod Others
 pub mod Same
+pub mod Spoilt
 pub mod Stores

@@ -16,12 +16,13 @@ use Rattle.books.specs.Keeps.{BooksHaveTables, Represents, StoreStandsFor, seen}
 use Rattle.books.specs.declared.books.Books.{Books}
 
 -- They keep the life that opens there, of each office that is there, and they have its tables. They
--- are not stopped.
+-- are not stopped, and no write of theirs has failed.
 pub record AreOpened {S T : Type 0} {g : Ghosts S} {h : block.Ghosts T} (IsThere : Office → Type 0)
     (forward : BlockFunction) (books : Books S T g h) : Type 0 where
   pub opens : (o : Office) → IsThere o → Represents (opened forward o) (seen books)
   pub tables : BooksHaveTables (seen books)
   pub running : books.stopped ≡ false
+  pub writes : books.write_failed ≡ false
 
 -- They opened the office that this connection's store stood for, as it was or brought to the
 -- present format.

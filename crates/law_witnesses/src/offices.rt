@@ -37,7 +37,7 @@ pub(crate) fn served(
     let Ok(replies) = books.serve_all(ats) else {
         return None;
     };
-    match books.look_up(moment, &Lookup::SaleCount) {
+    match books.look_up(moment, &Lookup::Health) {
         Ok(_) => Some((books, replies)),
         Err(_) => None,
     }

@@ -1,18 +1,20 @@
 -- Pages of an export.
-use Rattle.std.proofs.Common.{◌≡◌, ◌≢◌, ◌∙◌, ℕ, ◌+◌, ◌*◌, ◌≤◌, ◌==◌, ◌&&◌, not, Bool, true, false, List, [], ◌++◌, length, take, drop, Some, None, Ok, Err, refl, ap, sym, append_assoc, append-nil, length-take, length-drop, drop-drop, eq-eqb, arith}
+use Rattle.std.proofs.Common.{◌≡◌, ◌≢◌, ◌∙◌, ℕ, ◌+◌, ◌*◌, ◌≤◌, ◌==◌, ◌&&◌, not, Bool, true, false, List, [], ◌∷◌, ◌++◌, length, take, drop, Some, None, Ok, Err, refl, ap, subst, sym, append_assoc, append-nil, length-take, length-drop, drop-drop, eq-eqb, arith}
 use Rattle.std.proofs.lemmas.Bool.{ne_eqb}
-use Rattle.std.proofs.lemmas.List.{drop_all, take-append-drop}
+use Rattle.std.proofs.lemmas.Bool.Decides.{Decides-eqb}
+use Rattle.std.proofs.lemmas.List.{drop_all, length-append, take-append-drop}
 use Rattle.sqlite.specs.State.{HasCleanDisk}
 use Rattle.books.specs.Keeps.{Represents, Seen}
 use Rattle.papers.specs.Export.{export_of}
 use Rattle.vend_core.specs.Law.Life.{Life, present}
 use Rattle.office_rules.specs.declared.decision.refusal.Refusal.{Refusal}
 use Rattle.office_rules.specs.declared.office.sale.Sale.{Sale}
-use Rattle.office_commands.proofs.OnlyReadLemmas.{read_none, read_then}
-use Rattle.office_commands.proofs.RefusedLemmas.{stopped_before}
+use Rattle.office_commands.proofs.OnlyReadLemmas.{fails_before, read_none, read_then}
+use Rattle.office_commands.proofs.RefusedLemmas.{fails_only, stopped_before}
 use Rattle.vend_ports.proofs.TakeLemmas.{takes_last, takes_next, takes_none}
 use Rattle.office_commands.specs.office.OnlyRead.{AreOnlyRead}
-use Rattle.office_commands.specs.print.Exported.{IsExported, IsPage, page_of}
+use Rattle.office_commands.specs.office.Refused.{FailsOnlyFor}
+use Rattle.office_commands.specs.print.Exported.{IsExported, IsPage, IsPageSpoilt, page_of, pages_of}
 use Rattle.vend_ports.specs.print.Printed.{refusal_line}
 use Rattle.vend_ports.specs.print.Sink.{Sink}
 use Rattle.vend_ports.specs.print.Told.{Takes, outputs}
@@ -58,12 +60,41 @@ past_short sales page short = omega (arith, short, length-take 1000 (drop (page 
 pub record SoFar (old now : Seen) (before after : Sink) (page : ℕ) (front : List ℕ) : Type 0 where
   pub put : Takes before after front
   pub left : HasCleanDisk now.state → (life : Life) → Represents life old → front ++ export_from (present life).sales page ≡ export_of true (present life).sales
+  pub printed : List Sale
+  pub are : front ≡ pages_of printed
+  pub count : length printed ≡ page * 1000
   pub reads : AreOnlyRead old now
   pub stopped : now.stopped ≡ old.stopped
 
 -- before the first page nothing was printed, and the books were not read
 pub no_pages : (books : Seen) (before : Sink) → SoFar books books before before 0 []
-no_pages books before = record { put = takes_none before; left = λ clean life kept. refl; reads = read_none books; stopped = refl }
+no_pages books before = record {
+  put = takes_none before;
+  left = λ clean life kept. refl;
+  printed = [];
+  are = refl;
+  count = refl;
+  reads = read_none books;
+  stopped = refl;
+}
+
+-- the pages of some sales, and one more
+pages_more : PagesLaw → (printed more : List Sale) (page : ℕ) → length printed ≡ page * 1000 → length more ≡ 1000
+    → pages_of printed ++ export_of (page == 0) more ≡ pages_of (printed ++ more)
+pages_more law [] [] page count full = absurd (omega (arith, full))
+pages_more law [] (s ∷ more) page count full =
+    let first : (page == 0) ≡ true = eq-eqb page 0 (omega (arith, count)) in ap (λ b. export_of b (s ∷ more)) first
+pages_more law (s ∷ printed) more page count full =
+    let later : (page == 0) ≡ false = ne_eqb page 0 (λ none. omega (arith, count, none)) in
+    ap (λ b. export_of true (s ∷ printed) ++ export_of b more) later ∙ sym (law true (s ∷ printed) more)
+
+-- a page that another follows is full
+is_full : (n : ℕ) (failed : Bool) → true ≡ ((n == 1000) && not failed) → n ≡ 1000
+is_full n failed more = (Decides-eqb n 1000).0 (first_of (n == 1000) (not failed) more)
+  where
+    first_of : (b c : Bool) → true ≡ (b && c) → b ≡ true
+    first_of true c is = refl
+    first_of false c is = sym is
 
 -- a page that no other follows was not full, or a write failed
 ended : (n : ℕ) (failed more : Bool) → more ≡ ((n == 1000) && not failed) → more ≡ false → failed ≡ false → n ≢ 1000
@@ -89,6 +120,10 @@ module _ (old mid new : Seen) (before part after : Sink) (page : ℕ) (front : L
   page_more put = record {
     put = takes_next before part after front (export_of (page == 0) put.0) so_far.put put.2;
     left = behind put.0 put.1;
+    printed = so_far.printed ++ put.0;
+    are = ap (λ text. text ++ export_of (page == 0) put.0) so_far.are
+        ∙ pages_more law so_far.printed put.0 page so_far.count (is_full (length put.0) after.failed put.3);
+    count = omega (arith, length-append so_far.printed put.0, so_far.count, is_full (length put.0) after.failed put.3);
     reads = read_then old mid new so_far.reads reads;
     stopped = put.4 ∙ so_far.stopped;
   }
@@ -121,7 +156,10 @@ module _ (old mid new : Seen) (before part after : Sink) (page : ℕ) (front : L
         text = front;
         stop = Some refusal;
         told = (takes_last before part after front [] front so_far.put (sym (append-nil front)) same.0, says, refl);
-        stops = (same.1, stopped_before old mid new refusal so_far.stopped same.2.tells);
+        stops = (same.1, stopped_before old mid new refusal so_far.stopped same.2.tells, so_far.printed, so_far.are,
+            subst (λ n. FailsOnlyFor (IsPageSpoilt n) old new refusal) (sym so_far.count)
+                (fails_before old mid new refusal so_far.reads reads so_far.stopped
+                (fails_only mid new refusal (λ is. absurd cc) same.2.failures)));
         sales = λ clean life kept. record { begins = (_, so_far.left (reads.clean clean) life kept); whole = λ e sound. cc };
         reads = read_then old mid new so_far.reads reads;
       }

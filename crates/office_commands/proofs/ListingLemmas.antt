@@ -14,13 +14,13 @@ use Rattle.vend_core.specs.Law.Life.{Life, present}
 use Rattle.office_rules.specs.Office.{Office}
 use Rattle.office_rules.specs.declared.decision.refusal.Refusal.{Refusal}
 use Rattle.office_rules.specs.declared.decision.refusal.Refusal.TheVariants.{Memory, Store, Stopped}
-use Rattle.office_commands.proofs.OnlyReadLemmas.{read_none, read_then}
+use Rattle.office_commands.proofs.OnlyReadLemmas.{fails_before, read_none, read_then}
 use Rattle.office_commands.proofs.RefusedLemmas.{stopped_before}
 use Rattle.desk_commands.proofs.PageLemmas.{more_text, some_behind}
 use Rattle.vend_ports.proofs.TakeLemmas.{takes_as, takes_last, takes_next, takes_none}
 use Rattle.office_commands.specs.office.OnlyRead.{AreOnlyRead}
 use Rattle.office_commands.specs.print.Exported.{IsPageRefusal}
-use Rattle.office_commands.specs.print.Listing.{IsListPage, IsListed}
+use Rattle.office_commands.specs.print.Listing.{IsListPage, IsListed, list_after}
 use Rattle.desk_commands.specs.print.Pages.{ArePages, list_behind, most_pages, page_lookup}
 use Rattle.desk_commands.specs.print.ListTexts.{page_text, pages_text}
 use Rattle.vend_ports.specs.print.Printed.{refusal_line}
@@ -71,6 +71,11 @@ more_pages o moment list [] next page is finds = subst (λ (l : Option Listed). 
 more_pages o moment None (first ∷ pages) next page are finds = absurd are
 more_pages o moment (Some list) (first ∷ pages) next page are finds = (are.0, more_pages o moment (list_behind first) pages next page are.1 finds)
 
+-- the list behind pages and one more is the one behind that
+behind_more : (list : Option Listed) (pages : List Found) (page : Found) → list_after list (pages ++ page ∷ []) ≡ list_behind page
+behind_more list [] page = refl
+behind_more list (first ∷ pages) page = behind_more (list_behind first) pages page
+
 -- what follows a page that was taken, and one that no other follows
 none_behind : (next behind : Option Listed) (failed : Bool) → next ≡ None → next ≡ (if failed then None else behind) → failed ≡ false → behind ≡ None
 none_behind next behind true none is sound = absurd (cc)
@@ -84,6 +89,7 @@ pub record ListedSoFar (moment : ℕ) (list : Listed) (json : Bool) (old now : S
   pub put : Takes before after (pages_text json pages)
   pub are : HasCleanDisk now.state → (life : Life) → Represents life old → ArePages (present life) moment (Some list) pages (Some next)
   pub count : length pages ≡ page
+  pub behind : list_after (Some list) pages ≡ Some next
   pub reads : AreOnlyRead old now
   pub stopped : now.stopped ≡ old.stopped
 
@@ -93,6 +99,7 @@ no_pages moment list json books before = record {
   put = takes_none before;
   are = λ clean life kept. refl;
   count = refl;
+  behind = refl;
   reads = read_none books;
   stopped = refl;
 }
@@ -120,6 +127,7 @@ module _ (moment : ℕ) (list : Listed) (json : Bool) (old mid new : Seen) (befo
         are = λ clean life kept. subst (λ (left : Option Listed). ArePages (present life) moment (Some list) (pages ++ put.0 ∷ []) left) is
             (are_more put.0 put.1 clean life kept);
         count = length-append pages (put.0 ∷ []) ∙ ap (λ n. n + 1) so_far.count;
+        behind = behind_more (Some list) pages put.0 ∙ is;
         reads = read_then old mid new so_far.reads reads;
         stopped = put.4 ∙ so_far.stopped;
       }
@@ -151,7 +159,8 @@ module _ (moment : ℕ) (list : Listed) (json : Bool) (old mid new : Seen) (befo
     are = λ clean life kept. so_far.are (reads.clean clean) life kept;
     whole = λ e sound. absurd (cc);
     refused = λ clean life kept. put.1 clean life (so_far.reads.keeps life kept);
-    stops = stopped_before old mid new refusal so_far.stopped put.2;
+    stops = (stopped_before old mid new refusal so_far.stopped put.2, next, so_far.behind,
+        fails_before old mid new refusal so_far.reads reads so_far.stopped put.3);
     reads = read_then old mid new so_far.reads reads;
   }
 

@@ -88,6 +88,7 @@ module _ {D : Type 0} {g : Ghosts D} (image : Image) (conn : Held (FileStore D g
         let before : HasCleanDisk (file_state conn) = omega (arith, told.survives.clean, clean) in
         told.books.opens office (stands_here before office stands) clean;
     running = told.books.running;
+    writes = told.books.writes;
     tables = told.books.tables;
     finds = record {
       opened = record {

@@ -35,7 +35,9 @@ impl<S: Alter, T: BlockTransform + Drop> Books<S, T> {
                 conn,
                 transform,
                 next_number: sold.next_number,
+                last_moment: sold.last_moment,
                 stopped: false,
+                write_failed: false,
             }),
             Err(fault) => Err((fault, conn)),
         }

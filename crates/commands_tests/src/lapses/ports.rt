@@ -1,10 +1,10 @@
 //! A machine in memory: an office's file that lapses, and connections that are texts.
 ghost use Rattle.std.specs.Prelude.{◌≡◌, ⊤, [], IfSome};
 
-use crate::lapses::lapse::{Faults, Lapse, NO_FAULTS};
 use books::OpenFault;
 use command_line::Address;
 use desk::{End, Script};
+use disk_testing::{Faults, Lapse, NO_FAULTS};
 use sqlite_disk::Memory;
 use std::alloc::Global;
 use std::fs::OpenOptions;

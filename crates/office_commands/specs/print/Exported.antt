@@ -1,7 +1,10 @@
 -- What is printed of all sales of an office: the export of them, in pages.
-use Rattle.std.specs.Prelude.{◌≡◌, ◌⊎◌, ℕ, ◌*◌, ◌==◌, ◌&&◌, not, true, false, Bool, List, [], ◌++◌}
-use Rattle.std.specs.Prelude.{length, drop, take, Option, Some, None, Result, Ok, Err}
+use Rattle.std.specs.Prelude.{◌≡◌, ◌⊎◌, ℕ, ◌*◌, ◌==◌, ◌&&◌, not, true, false, Bool, List, []}
+use Rattle.std.specs.Prelude.{◌∷◌, ◌++◌, length, drop, take, Option, Some, None, Result, Ok, Err}
 use Rattle.sqlite.specs.State.{HasCleanDisk}
+use Rattle.sqlite.specs.Effect.{Database}
+use Rattle.book_tables.specs.reading.Questions.{the_sales_after}
+use Rattle.book_tables.specs.reading.Seen.{HasSpoilt}
 use Rattle.books.specs.Keeps.{Represents, Seen}
 use Rattle.papers.specs.Export.{export_of}
 use Rattle.sts_fields.specs.Text.{Text}
@@ -11,7 +14,7 @@ use Rattle.office_rules.specs.declared.decision.refusal.Refusal.TheVariants.{Mem
 use Rattle.office_rules.specs.declared.office.sale.Sale.{Sale}
 use Rattle.vend_ports.specs.print.Printed.{refusal_line}
 use Rattle.office_commands.specs.office.OnlyRead.{AreOnlyRead}
-use Rattle.office_commands.specs.office.Refused.{RefusesToRead, TellsStopped}
+use Rattle.office_commands.specs.office.Refused.{FailsOnlyFor, RefusesToRead, TellsStopped}
 use Rattle.vend_ports.specs.print.Sink.{Sink}
 use Rattle.vend_ports.specs.print.Told.{IsTold, Outputs, Takes}
 use Rattle.vend_ports.specs.declared.command_end.CommandEnd.{CommandEnd}
@@ -28,6 +31,10 @@ abbrev pub IsPageOf : (old new : Seen) → ℕ → List Sale → Type 0
 IsPageOf old new page sales = HasCleanDisk new.state → (life : Life) → Represents life old
     → sales ≡ page_of (present life).sales page
 
+-- a row of a page of a thousand sales, behind so many, is spoilt
+abbrev pub IsPageSpoilt : ℕ → Database → Type 0
+IsPageSpoilt number = HasSpoilt (the_sales_after number 1000)
+
 -- a page is refused for want of memory, for its sales or its text; or as the store failed, or the
 -- books are stopped
 abbrev pub IsPageRefusal : Refusal → Type 0
@@ -42,7 +49,7 @@ IsPage old new page before after (Ok more) =
     × (more ≡ ((length sales == 1000) && not after.failed)) × (new.stopped ≡ old.stopped)
 IsPage old new page before after (Err refusal) =
     Takes before after [] × IsPageRefusal refusal
-    × RefusesToRead (λ cause. cause ≡ Memory) old new refusal
+    × RefusesToRead (λ cause. cause ≡ Memory) (IsPageSpoilt (page * 1000)) old new refusal
 
 -- ---- all pages
 
@@ -62,10 +69,23 @@ pub record IsExportOf (sales : List Sale) (text : Text) (stop : Option Refusal) 
   pub begins : (rest : Text) × (text ++ rest ≡ export_of true sales)
   pub whole : stop ≡ None → failed ≡ false → text ≡ export_of true sales
 
+-- the pages of these sales: nothing is printed before the first page
+abbrev pub pages_of : List Sale → Text
+pages_of [] = []
+pages_of (s ∷ sales) = export_of true (s ∷ sales)
+
+-- the text is that of the pages of some sales, and the store failed only for a cause, or a row of
+-- the page behind them
+abbrev pub FailsBehind : (old new : Seen) → Text → Refusal → Type 0
+FailsBehind old new text refusal =
+    (printed : List Sale) × (text ≡ pages_of printed)
+    × FailsOnlyFor (IsPageSpoilt (length printed)) old new refusal
+
 -- it stops at a page that was refused, or at none, and then the books are stopped as they were
-abbrev pub StopsExport : (old new : Seen) → Option Refusal → Type 0
-StopsExport old new None = new.stopped ≡ old.stopped
-StopsExport old new (Some refusal) = IsPageRefusal refusal × TellsStopped old new refusal
+abbrev pub StopsExport : (old new : Seen) → Text → Option Refusal → Type 0
+StopsExport old new text None = new.stopped ≡ old.stopped
+StopsExport old new text (Some refusal) =
+    IsPageRefusal refusal × TellsStopped old new refusal × FailsBehind old new text refusal
 
 -- The export of all sales of the present office is told, or a beginning of it up to a page that is
 -- refused, and then the refusal, or up to a page that the output did not take. The books are only
@@ -74,7 +94,7 @@ pub record IsExported (old new : Seen) (o : Outputs) (end : CommandEnd) : Type 0
   pub text : Text
   pub stop : Option Refusal
   pub told : IsTold o text (stop_errors stop) (export_stop_end stop) end
-  pub stops : StopsExport old new stop
+  pub stops : StopsExport old new text stop
   pub sales : HasCleanDisk new.state → (life : Life) → Represents life old
       → IsExportOf (present life).sales text stop o.new.failed
   pub reads : AreOnlyRead old new

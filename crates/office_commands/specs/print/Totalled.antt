@@ -3,7 +3,7 @@ use Rattle.std.specs.Prelude.{◌≡◌, ℕ, [], Some, None, Result, Ok, Err}
 use Rattle.sqlite.specs.State.{HasCleanDisk}
 use Rattle.book_tables.specs.declared.row.totals.Totals.{Totals}
 use Rattle.books.specs.Keeps.{Represents, Seen}
-use Rattle.books.specs.Totals.{shift_totals}
+use Rattle.books.specs.Totals.{AreTotalsSpoilt, shift_totals}
 use Rattle.vend_core.specs.Law.Life.{Life, present}
 use Rattle.office_rules.specs.declared.decision.refusal.Refusal.{Refusal}
 use Rattle.office_rules.specs.declared.decision.refusal.Refusal.TheVariants.{NoSuchShift}
@@ -16,11 +16,13 @@ use Rattle.vend_ports.specs.declared.command_end.CommandEnd.{CommandEnd}
 use Rattle.vend_ports.specs.declared.command_end.CommandEnd.TheVariants.{Done, Refused}
 
 -- the shift has none in every life that the books kept, where it is refused as no such shift; and
--- what else is refused is so as the tables were not read, or the books are stopped
+-- what else is refused is so as the tables were not read, for a row of the shift or of its totals
+-- among others, or the books are stopped
 pub record HaveNoTotals (number : ℕ) (old new : Seen) (refusal : Refusal) : Type 0 where
   pub none : HasCleanDisk new.state → (life : Life) → Represents life old
       → refusal ≡ NoSuchShift → shift_totals (present life) number ≡ None
-  pub refused : RefusesToRead (λ cause. cause ≡ NoSuchShift) old new refusal
+  pub refused : RefusesToRead (λ cause. cause ≡ NoSuchShift) (AreTotalsSpoilt number) old new
+      refusal
 
 -- these are the totals of the shift in every life that the books kept, or there are none to be told
 abbrev pub AreTotals : ℕ → (old new : Seen) → Result Totals Refusal → Type 0

@@ -54,7 +54,7 @@ returns-in-Ok-clause-failures g c clean tables =
 pub returns-in-Err-clause-failures : goal.returns-in-Err-clause-failures
 returns-in-Err-clause-failures g c clean tables =
     inl (told_of_read (state g.S.Store c.args.conn.now) (state g.S.Store c.facts_of.new.conn) c.in-Err.error c.refusal_of.result
-    c.refusal_of.ensures.value (c.in-Err.ensures.reads.faults clean tables) clean
+    c.refusal_of.ensures.value (c.in-Err.ensures.reads.faults clean tables) (c.in-Err.ensures.spoilt clean tables) clean
     (c.facts_of.ensures.reads.survives tables))
 
 pub returns-in-Ok-clause-read : goal.returns-in-Ok-clause-read

@@ -1,9 +1,9 @@
-use Rattle.std.proofs.Common.{inr, refl, sym, ◌∙◌}
+use Rattle.std.proofs.Common.{◌≡◌, false, ap, inr, refl, subst, sym, ◌∙◌}
 use Rattle.std.proofs.lemmas.Bool.{false≢true}
 use Rattle.sqlite.specs.Held.{state}
 use Rattle.book_facts.specs.Lookups.{IsOfRules}
 use Rattle.books.specs.Keeps.{seen}
-use Rattle.books.proofs.ReadLemmas.{found_here, read_stopped, was_read}
+use Rattle.books.proofs.ReadLemmas.{found_here, known_same, read_stopped, was_read}
 use Rattle.books.proofs.books.Books.look_up.Goals as goal
 
 pub returns-then-self : goal.returns-then-self
@@ -13,6 +13,7 @@ returns-then-self g c = record {
     reads = read_stopped IsOfRules (seen c.args.self.now) c.if-self.true;
   };
   idle = λ _. refl;
+  health = λ is runs. absurd (false≢true (sym runs ∙ c.if-self.true));
 }
 
 pub returns : goal.returns
@@ -21,12 +22,17 @@ returns g c =
     let new = record old { state = state g.S.Store c.look_up-found.new.conn; stopped = c.has_failed-self.result } in
     let found = c.look_up-found.result in
     let told = c.look_up-found.ensures in
+    let known = c.health-health.ensures in
     record {
       says = record {
         of_life = λ clean life keeps.
             let kept = keeps (told.tells.clean clean) in
-            found_here life old c.args.moment c.args.lookup.now found (kept.running c.if-self.false) (λ o at next. told.found clean o at next);
-        reads = was_read found old new c.if-self.false refl refl told.tells c.has_failed-self.ensures;
+            found_here life old c.args.moment c.args.lookup.now found (kept.running c.if-self.false)
+            (λ o at health. told.found clean o at (subst (IsHealthOf o) (sym known) health));
+        reads = was_read found old new c.if-self.false refl (known_same old)
+            (subst (λ health. TellsTables IsOfRules (IsFoundSeen health c.args.moment c.args.lookup.now) old.state new.state found) known told.tells)
+            c.has_failed-self.ensures;
       };
       idle = λ was. absurd (false≢true (sym c.if-self.false ∙ was));
+      health = λ is runs. let unread = told.unread is in (unread.0 ∙ ap (λ health. Ok (Health health)) known, hole);
     }

@@ -14,10 +14,11 @@ returns-in-Ok-clause-opened g c =
             let forward = g.T.BlockTransform.forwards c.args.transform in
             let running = c.life_law.ensures.opens forward o (g.met.T.BlockTransform.forward_range c.args.transform) in
             let opens = ends.opens clean o at in
-            keeps_opened forward o _ running (λ p. c.life_law.ensures.running _ o p running) refl
-            (opens.0, ap (λ (s : SoldSoFar). s.next_number) opens.1);
+            keeps_opened forward o _ running (λ p. c.life_law.ensures.running _ o p running) refl opens.0
+            (ap (λ (sold : SoldSoFar). sold.next_number) opens.1) (ap (λ (sold : SoldSoFar). sold.last_moment) opens.1);
         tables = λ clean _. opened_tables _ _ (ends.finds clean);
         running = refl;
+        writes = refl;
       };
       finds = ends.finds;
       survives = ends.survives;

@@ -1,11 +1,13 @@
 use Rattle.std.proofs.Common.{Ok, Err, inl, refl, subst}
+use Rattle.book_facts.specs.LookupsSpoilt.{LookupSpoilt}
 use Rattle.book_states.specs.declared.lookup.Lookup.{Lookup}
 use Rattle.books.specs.Keeps.{seen}
 use Rattle.books.specs.Looking.{IsFoundAt}
 use Rattle.desk_commands.specs.print.Pages.{page_lookup}
 use Rattle.office_commands.proofs.ListingLemmas.{page_found, page_refusal}
 use Rattle.office_commands.proofs.OnlyReadLemmas.{read_once}
-use Rattle.office_commands.proofs.RefusedLemmas.{stopped_as_before, tells_no_memory, tells_refusal}
+use Rattle.office_commands.proofs.RefusedLemmas.{fails_only, stopped_as_before, tells_no_memory, tells_refusal}
+use Rattle.office_commands.specs.office.Refused.{FailsOnlyFor}
 use Rattle.vend_ports.proofs.TakeLemmas.{takes_none}
 use Rattle.office_commands.proofs.office.listing.print_page.Goals as goal
 
@@ -19,6 +21,8 @@ returns-in-Err-clause-page g c =
           c.page_lookup.ensures (c.in-Err.ensures.says.of_life clean life kept) in
           page_refusal life c.args.moment c.args.list c.in-Err.refusal found,
       tells_refusal old new c.in-Err.refusal (c.in-Err.ensures.says.reads.stopped, c.in-Err.ensures.says.reads.stops),
+      subst (λ (lookup : Lookup). FailsOnlyFor (LookupSpoilt c.args.moment lookup) old new c.in-Err.refusal) {y = page_lookup c.args.list}
+          c.page_lookup.ensures (fails_only old new c.in-Err.refusal (λ own. own.not_store refl) c.in-Err.ensures.says.reads.failures),
     )
 
 pub returns-in-Ok-put_page-clause-page : goal.returns-in-Ok-put_page-clause-page
@@ -40,6 +44,7 @@ returns-clause-page g c =
       c.in-Err-put_page.ensures,
       λ clean life kept. inl refl,
       tells_no_memory old new c.in-Ok.page (c.in-Ok.ensures.says.reads.stopped, c.in-Ok.ensures.says.reads.stops),
+      λ clean tables running is. absurd cc,
     )
 
 pub returns-in-Err-clause-reads : goal.returns-in-Err-clause-reads
