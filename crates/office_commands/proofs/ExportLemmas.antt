@@ -287,9 +287,16 @@ module _ (old mid new : Seen) (before part after : Sink) (number page : ℕ) (pa
         of_pages = refl;
         stop = Some refusal;
         told = (takes_last before part after text [] text so_far.put (sym (append-nil text)) same.0, says, refl);
-        stops = (same.1, stopped_before old mid new refusal so_far.stopped same.2.tells, (number, so_far.behind,
+        stops = (
+          same.1,
+          stopped_before old mid new refusal so_far.stopped same.2.tells,
+          (
+            number,
+            so_far.behind,
             fails_before (IsPageSpoilt number) old mid new refusal so_far.reads reads so_far.stopped
-            (fails_only (λ cause. cause ≡ Memory) mid new refusal (λ is. absurd cc) same.2.failures)));
+                (fails_only (λ cause. cause ≡ Memory) mid new refusal (λ is. absurd cc) same.2.failures),
+          ),
+        );
         sales = λ clean life kept. record { begins = (_, (so_far.upto (reads.clean clean) life kept).left); whole = λ e sound. cc };
         seen = shown_then (λ db. ShowsPages db (Some 0) pages) old mid new so_far.reads reads so_far.shown;
         whole = λ e sound. absurd cc;

@@ -220,8 +220,14 @@ module _ (moment : ℕ) (list : Listed) (json : Bool) (old mid new : Seen) (befo
     whole = λ e sound. absurd (cc);
     refused = λ clean life kept. put.1 clean life (so_far.reads.keeps life kept);
     causes = λ clean tables. put.2 clean (so_far.reads.tables tables);
-    stops = (stopped_before old mid new refusal so_far.stopped put.3, (next, so_far.behind,
-        fails_before (LookupSpoilt moment (page_lookup next)) old mid new refusal so_far.reads reads so_far.stopped put.4));
+    stops = (
+      stopped_before old mid new refusal so_far.stopped put.3,
+      (
+        next,
+        so_far.behind,
+        fails_before (LookupSpoilt moment (page_lookup next)) old mid new refusal so_far.reads reads so_far.stopped put.4,
+      ),
+    );
     reads = read_then old mid new so_far.reads reads;
   }
 

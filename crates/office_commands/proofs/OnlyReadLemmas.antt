@@ -121,7 +121,7 @@ shown_then Shows old mid new one two shown clean tables running =
 -- what was shown by other words
 pub shown_so : (One Other : Database → Type 0) (old new : Seen) → ((db : Database) → One db → Other db) → HaveShown One old new → HaveShown Other old new
 shown_so One Other old new turned shown clean tables running =
-    elim (shown clean tables running) [ | inl one ↦ inl (turned old.state.now one) | inr failed ↦ inr failed ]
+    elim (shown clean tables running) [ inl one ↦ inl (turned old.state.now one) | inr failed ↦ inr failed ]
 
 -- a call after others that only read fails for a cause of the books from before them
 pub fails_before : (IsSpoilt : Database → Type 0) (old mid new : Seen) (refusal : Refusal) → AreOnlyRead old mid → AreOnlyRead mid new
