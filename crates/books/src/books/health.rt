@@ -34,14 +34,12 @@ impl<S: Alter, T: BlockTransform> Books<S, T> {
 impl<S: Alter, T: BlockTransform + Drop> Books<S, T> {
     /// The same books, of which this is known of the last write: that of books that stopped, where
     /// these opened their office again.
-    pub fn with_write_failed(self, write_failed: bool) -> Books<S, T>
+    pub fn with_write_failed(mut self, write_failed: bool) -> Books<S, T>
         ensures same { result ≡ record self { write_failed = write_failed } }
         ensures keeps { (life : Life) → Represents life (seen self)
             → Represents life (seen result) }
     {
-        Books {
-            write_failed,
-            ..self
-        }
+        self.write_failed = write_failed;
+        self
     }
 }
