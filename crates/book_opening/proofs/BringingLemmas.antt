@@ -1,5 +1,5 @@
 -- What is handed over to be brought to the present format, and what comes of it.
-use Rattle.std.proofs.Common.{◌≡◌, ◌≢◌, ◌⊎◌, ◌<◌, ◌+◌, ℕ, zero, suc, List, [], length, map, get_or, false, IsTrue, IfErr, OnOk, Result, Ok, Err, refl, sym, ap, subst, ◌∙◌, inl, inr, arith}
+use Rattle.std.proofs.Common.{◌≡◌, ◌≢◌, ◌⊎◌, ◌<◌, ◌≤◌, ℕ, zero, suc, List, [], length, map, get_or, false, IsTrue, IfErr, OnOk, Result, Ok, Err, refl, sym, ap, subst, ◌∙◌, inl, inr, arith}
 use Rattle.std.specs.Prelude.{◌↔◌, Some, AllPairs, Contains}
 use Rattle.std.proofs.lemmas.List.{get_or-map, length-map}
 use Rattle.sqlite.specs.Effect.{Database, IsDatabase}
@@ -13,7 +13,9 @@ use Rattle.office_rules.specs.declared.office.meter.Meter.{Meter}
 use Rattle.office_rules.specs.declared.office.sale.Sale.{Sale}
 use Rattle.book_tables.specs.Holds.{HasOfficeOf, StandsFor}
 use Rattle.book_tables.specs.format.Filling.{AreHanded}
+use Rattle.book_tables.specs.format.Format.{HasFormat, TellsFormat}
 use Rattle.book_tables.specs.format.Making.{BringsInside, FailsToBring, HandsOver, IsSoundOfFormat}
+use Rattle.book_tables.specs.row.Rows.{present_format}
 use Rattle.book_tables.specs.reading.Reading.{meter_row}
 use Rattle.book_tables.specs.declared.reading.pages.MeterRow.{MeterRow}
 use Rattle.book_tables.specs.declared.error.TableError.{TableError}
@@ -28,6 +30,8 @@ use Rattle.audit_rows.specs.declared.office_rows.OfficeRows.{OfficeRows}
 use Rattle.audit_lists.specs.reached.Finds.{AreRowsOfOffice}
 use Rattle.audit.specs.Fails.{IsNoOffices, StandsForNone, StopsBy, by_lists, by_row}
 use Rattle.audit.specs.Shown.{AreOfficeRows}
+use Rattle.book_opening.specs.NoOffice.{IsNoOffice}
+use Rattle.book_opening.specs.NoOffice.IsNoOffice.{by_about}
 use Rattle.book_opening.specs.Opening.{BringsSound, FaultFitsStore, HasOfficesRows, IsSoldSoFar, IsSoundWith, LeavesPresent, fault_of_audit, sold_by}
 use Rattle.book_opening.specs.declared.fault.OpenFault.{OpenFault}
 use Rattle.book_opening.specs.declared.fault.OpenFault.TheVariants.{Memory, Store}
@@ -112,13 +116,29 @@ pub none_of : (f : Finding) (db : Database) → IsNoOffices f db → StandsForNo
 none_of f db (by_row n own breaks none) = none
 none_of f db (by_lists n rows told broken none) = none
 
--- it shows that the store stands for no office
-pub audit_tells : (Says : Finding → Database → Type 0) (old new : State) → ((f : Finding) → Says f old.now → StandsForNone old.now)
-    → (e : AuditFault) (fault : OpenFault)
-    → ((why : Error) → e ≡ audit.Failed why → (fault ≡ Store) ⊎ (fault ≡ Memory)) → fault ≡ fault_of_audit e → StopsBy Says old new e → FaultFitsStore old fault
-audit_tells Says old new says (audit.Found f) fault kind is stops = rw is (λ o at. says f stops.0 o (at.now stops.1.0.was_open))
-audit_tells Says old new says audit.NoOffice fault kind is stops = rw is (λ o at. stops.0.1 o (at.now stops.1.0.was_open))
-audit_tells Says old new says (audit.Failed why) fault kind is stops = of_failure old fault (kind why refl)
+-- `about` does not tell the format of the tables
+other_told : (n : ℕ) (db : Database) → 1 ≤ n → ¬ TellsFormat n db → ¬ HasFormat db n
+other_told zero db some other tells = absurd (omega (arith, some))
+other_told (suc n) db some other tells = other tells
+
+-- the fault that is made of it is true of the store, where it is one of no office
+module _ (Says : Finding → Database → Type 0) (old new : State) (n : ℕ) (some : 1 ≤ n) (known : n ≤ present_format) (has : IsSoundOfFormat n old)
+    (says : HasOfficeOf n old.now.schema → (f : Finding) → Says f old.now → IsNoOffice old.now × StandsForNone old.now) where
+  pub audit_tells : (e : AuditFault) (fault : OpenFault) → ((why : Error) → e ≡ audit.Failed why → (fault ≡ Store) ⊎ (fault ≡ Memory))
+      → fault ≡ fault_of_audit e → StopsBy Says old new e → FaultFitsStore old fault
+  audit_tells (audit.Found f) fault kind is stops =
+      let runs = stops.1.0.was_open in
+      let found = says (has runs).1 f stops.0 in
+      rw is (record { is_open = runs; named = found.0; none = λ o at. found.1 o (at.now runs) })
+  audit_tells audit.NoOffice fault kind is stops =
+      let runs = stops.1.0.was_open in
+      let there = (has runs).1 in
+      rw is (record {
+        is_open = runs;
+        named = by_about n some known there (other_told n old.now some (stops.0.0 n known there));
+        none = λ o at. stops.0.1 o (at.now runs);
+      })
+  audit_tells (audit.Failed why) fault kind is stops = of_failure old fault (kind why refl)
 
 -- ---- what is made inside a transaction
 

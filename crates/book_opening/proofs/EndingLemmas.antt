@@ -1,5 +1,5 @@
 -- How an opening ends, by what was looked at and what was brought.
-use Rattle.std.proofs.Common.{◌≡◌, ◌<◌, ◌⊎◌, ℕ, ◌+◌, false, IsTrue, IsErrAnd, IfErr, IfOk, Result, Ok, Err, ◌∙◌, refl, sym, subst, inl, inr, arith}
+use Rattle.std.proofs.Common.{◌≡◌, ◌<◌, ◌⊎◌, ℕ, false, IsTrue, IsErrAnd, IfOk, Result, Ok, Err, ◌∙◌, refl, sym, subst, inl, inr, arith}
 use Rattle.std.proofs.lemmas.Bool.{both_ways, true_from_ne_false}
 use Rattle.std.proofs.lemmas.Result.{IfErr-weaker, IfOk-weaker, on_ok_weaker}
 use Rattle.sqlite_trees.specs.Tree.{Trees}
@@ -92,7 +92,7 @@ module _ (old mid new : State) (same : HasCleanDisk mid → IsUnchanged old mid)
 
   refuses_after : (fault : OpenFault) → HasCleanDisk new → Refuses mid new fault → Refuses old new fault
   refuses_after fault clean h = record {
-    told = shown_before old mid fault (λ o. stands_before o clean) h.told;
+    told = shown_before old mid fault (look clean) (λ o. stands_before o clean) h.told;
     same = (let it = look clean in record { was_open = λ _. it.0.was_open; now_is = λ is_open. h.same.now_is is_open ∙ it.0.now_is });
     kept = λ o at. h.kept o (stands_before o clean at);
   }

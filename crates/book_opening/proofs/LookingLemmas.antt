@@ -21,6 +21,8 @@ use Rattle.book_tables.proofs.OfficeTableLemmas.{has_table_rows, sales_in}
 use Rattle.book_states.specs.Health.{last_moment}
 use Rattle.book_states.specs.Stores.{StoreStandsFor}
 use Rattle.book_states.specs.Same.{IsSame}
+use Rattle.book_opening.specs.NoOffice.{IsLastSaleSpoilt, IsNoOffice}
+use Rattle.book_opening.specs.NoOffice.IsNoOffice.{by_last_sale}
 use Rattle.book_opening.specs.Opening.{FaultFitsStore, Looks, fault_of_table, sold_by}
 use Rattle.book_opening.specs.declared.fault.OpenFault.{OpenFault}
 use Rattle.book_opening.specs.declared.fault.OpenFault.TheVariants.{NotAnOffice, Store, Memory}
@@ -39,12 +41,16 @@ stands_after old new o clean same survives at = record {
   left = λ trees leaves. elim (survives.crash clean trees leaves) [ inl was ↦ at.left trees was | inr none ↦ absurd none ];
 }
 
--- a fault that names the file is true of the store as it was before a look
-pub shown_before : (old mid : State) (fault : OpenFault) → ((o : Office) → StoreStandsFor old o → StoreStandsFor mid o) → FaultFitsStore mid fault
-    → FaultFitsStore old fault
-shown_before old mid NotAnOffice after none = λ o at. none o (after o at)
-shown_before old mid Store after none = tt
-shown_before old mid Memory after none = tt
+-- a fault that names the file is true of the store as it was before a look that changed nothing
+pub shown_before : (old mid : State) (fault : OpenFault) → IsUnchanged old mid → ((o : Office) → StoreStandsFor old o → StoreStandsFor mid o)
+    → FaultFitsStore mid fault → FaultFitsStore old fault
+shown_before old mid NotAnOffice same after shows = record {
+  is_open = same.0.was_open;
+  named = subst IsNoOffice same.0.now_is shows.named;
+  none = λ o at. shows.none o (after o at);
+}
+shown_before old mid Store same after shows = tt
+shown_before old mid Memory same after shows = tt
 
 -- the schema of the connection is that of a format
 pub has_found : (n : ℕ) (s : State) → (IsTrue s.is_open → IsDatabase s.now) → HasOfficeOf n s.now.schema → IsSoundOfFormat n s
@@ -52,15 +58,21 @@ has_found n s live has = λ runs. (live runs, has)
 
 -- ---- the present format
 
--- a read that failed shows that there is no office, where its fault says so
+-- a read of the last sale that failed shows that there is no office, where its fault says so
 as_shown : (old new : State) (e : TableError) (fault : OpenFault) → ((why : Error) → e ≡ table.Database why → (fault ≡ Store) ⊎ (fault ≡ Memory))
     → fault ≡ fault_of_table e → IsSoundOfFormat present_format old
+    → (e ≡ table.RowOfNoOffice → IsLastSaleSpoilt old.now)
     → FailsToRead old new e → FaultFitsStore old fault
-as_shown old new (table.Database why) fault kind is has fails = of_failure old fault (kind why refl)
-as_shown old new table.RowOfNoOffice fault kind is has fails =
-    rw is (λ o at.
-    let held : HoldsMembers old.now o = (held_as old.now o present_format (at.now fails.1.0.was_open) (omega arith) (has fails.1.0.was_open).1).0 in
-    fails.0 held.0 held.1 (o, at.office, held.2))
+as_shown old new (table.Database why) fault kind is has spoilt fails = of_failure old fault (kind why refl)
+as_shown old new table.RowOfNoOffice fault kind is has spoilt fails =
+    let runs = fails.1.0.was_open in
+    rw is (record {
+      is_open = runs;
+      named = by_last_sale (has runs).1 (spoilt refl);
+      none = λ o at.
+          let held : HoldsMembers old.now o = (held_as old.now o present_format (at.now runs) (omega arith) (has runs).1).0 in
+          fails.0 held.0 held.1 (o, at.office, held.2);
+    })
 
 -- a sound database of the present format has all its tables
 pub tables : (s : State) → IsSoundOfFormat present_format s → HasAllTables s
@@ -77,15 +89,17 @@ module _ {old new : State} where
     survives = λ has. this.survives (tables old has);
   }
 
-  -- a read that failed is a look that fails with the fault of its error
+  -- a read of the last sale that failed is a look that fails with the fault of its error
   pub look_fails : {T U : Type 0} (e : TableError) (fault : OpenFault) → ((why : Error) → e ≡ table.Database why → (fault ≡ Store) ⊎ (fault ≡ Memory))
-      → fault ≡ fault_of_table e → OnlyReads {T = T} IsUnchanged old new (Err e)
+      → fault ≡ fault_of_table e
+      → (HasCleanDisk new → IsSoundOfFormat present_format old → e ≡ table.RowOfNoOffice → IsLastSaleSpoilt old.now)
+      → OnlyReads {T = T} IsUnchanged old new (Err e)
       → Looks {T = U} (IsSoundOfFormat present_format) old new (Err fault)
-  look_fails e fault kind is this = record {
+  look_fails e fault kind is spoilt this = record {
     same = λ _ _. tt;
     kept = λ clean has. this.kept clean (tables old has);
     mode = this.mode;
-    faults = λ clean has. as_shown old new e fault kind is has (this.faults clean (tables old has));
+    faults = λ clean has. as_shown old new e fault kind is has (spoilt clean has) (this.faults clean (tables old has));
     survives = λ has. this.survives (tables old has);
   }
 

@@ -31,6 +31,7 @@ use Rattle.audit_rows.specs.declared.office_rows.OfficeRows.{OfficeRows}
 use Rattle.book_states.specs.Health.{last_moment}
 use Rattle.book_states.specs.Stores.{Stores, StoreStandsFor}
 use Rattle.book_states.specs.Same.{IsSame}
+use Rattle.book_opening.specs.NoOffice.{ShowsNoOffice}
 use Rattle.book_opening.specs.declared.fault.OpenFault.{OpenFault}
 use Rattle.book_opening.specs.declared.fault.OpenFault.TheVariants.{NotAnOffice, Store, Memory}
 use Rattle.book_opening.specs.declared.sold_so_far.SoldSoFar.{SoldSoFar}
@@ -90,9 +91,9 @@ fault_of_audit (audit.Found f) = NotAnOffice
 fault_of_audit audit.NoOffice = NotAnOffice
 fault_of_audit (audit.Failed e) = fault_of e
 
--- a fault that names the file is answered only where the store stands for no office
+-- a fault that names the file is answered only of one that is shown to be no office's
 abbrev pub FaultFitsStore : State → OpenFault → Type 0
-FaultFitsStore s NotAnOffice = (o : Office) → ¬ StoreStandsFor s o
+FaultFitsStore s NotAnOffice = ShowsNoOffice s
 FaultFitsStore s Store = Unit {0}
 FaultFitsStore s Memory = Unit {0}
 

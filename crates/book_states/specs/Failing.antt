@@ -18,6 +18,7 @@ use Rattle.office_rules.specs.declared.decision.facts.Facts.{Facts}
 use Rattle.office_rules.specs.declared.decision.refusal.Refusal.{Refusal}
 use Rattle.office_rules.specs.declared.decision.refusal.Refusal.TheVariants.{Memory, Store}
 use Rattle.office_rules.specs.declared.decision.request.Stamped.{Stamped}
+use Rattle.office_decisions.specs.OverFacts.{decision_on}
 use Rattle.book_tables.specs.writing.Failing.{FailsToWriteAll, IsRefused}
 use Rattle.book_tables.specs.writing.Writes.{writes_of}
 use Rattle.book_tables.specs.Holds.{HoldsMembers}
@@ -63,12 +64,13 @@ pub record AreRead (at : Stamped) (next : ℕ) (s : State) (facts : Facts) : Typ
       → AreFacts o at facts
   pub seen : HasAllTables s → (count : ℕ) → next ≡ count + 1 → AreFactsSeen count at s.now facts
 
--- The facts of the request were read, and it was decided by them: it is decided so in any office
--- that has these facts, or there was no memory for it.
+-- The facts of the request were read, and it was decided by them, of an office or of none: it is
+-- decided so in any office that has these facts. Or there was no memory for it.
 pub record IsDecidedByFacts (forward : BlockFunction) (at : Stamped) (next : ℕ) (s : State)
     (result : Result Change Refusal) : Type 0 where
   pub facts : Facts
   pub read : AreRead at next s facts
+  pub exact : IsUnlessMemory result (decision_on forward at facts)
   pub decided : (o : Office) → AreFacts o at facts
       → IsUnlessMemory result (decision forward o at)
 

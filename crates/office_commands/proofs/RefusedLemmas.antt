@@ -68,10 +68,10 @@ stopped_before old mid new refusal same tells = record {
 }
 
 -- where the store failed, and no refusal of the call's own says so, a read of the tables did
-pub fails_only : {Own : Refusal → Type 0} {IsSpoilt : Database → Type 0} (old new : Seen) (refusal : Refusal) → ¬ Own Store
+pub fails_only : (Own : Refusal → Type 0) {IsSpoilt : Database → Type 0} (old new : Seen) (refusal : Refusal) → ¬ Own Store
     → (HasCleanDisk new.state → BooksHaveTables old → old.stopped ≡ false → Own refusal ⊎ IsToldOfRead IsSpoilt refusal old.state new.state)
     → FailsOnlyFor IsSpoilt old new refusal
-fails_only {Own} old new refusal never told clean tables running is = elim (told clean tables running) [
+fails_only Own old new refusal never told clean tables running is = elim (told clean tables running) [
   | inl own ↦ absurd (never (subst Own is own))
   | inr read ↦ read.failed is
 ]

@@ -1,9 +1,9 @@
 -- What is printed of the totals of a shift.
-use Rattle.std.specs.Prelude.{◌≡◌, ℕ, [], Some, None, Result, Ok, Err}
+use Rattle.std.specs.Prelude.{◌≡◌, ℕ, false, [], Some, None, Result, Ok, Err}
 use Rattle.sqlite.specs.State.{HasCleanDisk}
 use Rattle.book_tables.specs.declared.row.totals.Totals.{Totals}
-use Rattle.books.specs.Keeps.{Represents, Seen}
-use Rattle.books.specs.Totals.{AreTotalsSpoilt, shift_totals}
+use Rattle.books.specs.Keeps.{BooksHaveTables, Represents, Seen}
+use Rattle.books.specs.Totals.{AreTotalsSpoilt, GivesTotals, shift_totals}
 use Rattle.vend_core.specs.Law.Life.{Life, present}
 use Rattle.office_rules.specs.declared.decision.refusal.Refusal.{Refusal}
 use Rattle.office_rules.specs.declared.decision.refusal.Refusal.TheVariants.{NoSuchShift}
@@ -35,9 +35,13 @@ abbrev pub TellsTotals : ℕ → Result Totals Refusal → Outputs → CommandEn
 TellsTotals number (Ok totals) o end = IsTold o (totals_line number totals) [] Done end
 TellsTotals number (Err refusal) o end = IsTold o [] (refusal_line refusal) Refused end
 
--- The totals of the shift in the present office are told, or why not. The books are only read.
+-- The totals of the shift in the present office are told, or why not. Whatever the rows are, the
+-- totals are those that the tables show of a shift that they have, and there is no such shift only
+-- where they have none. The books are only read.
 pub record IsTotalled (number : ℕ) (old new : Seen) (o : Outputs) (end : CommandEnd) : Type 0 where
   pub totals : Result Totals Refusal
   pub are_totals : AreTotals number old new totals
+  pub seen : HasCleanDisk new.state → BooksHaveTables old → old.stopped ≡ false
+      → GivesTotals number old.state.now totals
   pub told : TellsTotals number totals o end
   pub reads : AreOnlyRead old new

@@ -7,6 +7,7 @@ use Rattle.book_tables.specs.Holds.{HasOfficeOf}
 use Rattle.audit.specs.Fails.{IsNoOffices}
 use Rattle.audit.specs.Shown.{AreOfficeRows}
 use Rattle.book_opening.proofs.BringingLemmas.{audit_tells, none_of, rows_after, rows_there, sold_of_rows, sound_with}
+use Rattle.book_opening.specs.NoOffice.IsNoOffice.{by_audit}
 use Rattle.book_opening.proofs.CauseLemmas.{fails_after, fails_audit, fails_bringing}
 use Rattle.book_opening.proofs.EndingLemmas.{ends_after, ends_brought, ends_looked, ends_unbrought, known_after}
 use Rattle.book_opening.proofs.opening.next_of_older.Goals as goal
@@ -19,8 +20,9 @@ returns-in-Err-clause-ends g c has =
     let fault = c.fault_of_audit.result in
     ends_looked old new {T = Unit {0}} fault (Err fault) refl has (c.is_autocommit-outside.ensures.settled outside)
     (fail_as fault (Err fault) refl c.in-Err.ensures.reads
-    (audit_tells IsNoOffices old new (λ f. none_of f old.now) c.in-Err.fault fault c.fault_of_audit.ensures.kind
-    c.fault_of_audit.ensures.value))
+    (audit_tells IsNoOffices old new c.args.from c.requires.some (omega (arith, c.requires.older)) has
+    (λ there f found. (by_audit c.args.from c.requires.some c.requires.older there f found, none_of f old.now found))
+    c.in-Err.fault fault c.fault_of_audit.ensures.kind c.fault_of_audit.ensures.value))
 
 pub returns-clause-ends : goal.returns-clause-ends
 returns-clause-ends g c has =

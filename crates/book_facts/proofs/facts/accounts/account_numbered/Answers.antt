@@ -43,8 +43,12 @@ returns-in_err-found g c =
     (λ clean has row.
     let was = clean_before first read_2.survives has clean in
     let there = subst (ShowsFirst (the_meter c.args.number.now) old.now) c.in-Some.is (first_shown meters_in c.in_ok-there.ensures.sees was has) in
-    inr (c.in-Some.meter, there, inl (subst (λ day. AreStepsSpoiltOn c.in-Some.meter.tariff day old.now) day_is
-    (looks_spoilt first c.in_err-found.ensures clean has row))))
+    inr (
+      c.in-Some.meter,
+      there,
+      inl (subst (λ day. AreStepsSpoiltOn c.in-Some.meter.tariff day old.now) day_is
+          (looks_spoilt first c.in_err-found.ensures clean has row)),
+    ))
 
 pub returns-in_default-found : goal.returns-in_default-found
 returns-in_default-found g c =

@@ -14,7 +14,7 @@ use Rattle.book_lists.specs.Days.{IsNextDay}
 use Rattle.book_lists.specs.Questions.{the_next_day}
 use Rattle.book_facts.proofs.FactsLemmas.{of_no_office, office_says, office_told, tables_of}
 use Rattle.book_facts.proofs.LaterLemmas.{has_next, never_before, until_found, until_itself, until_none}
-use Rattle.book_facts.proofs.PassedLemmas.{clean_before, passed_after, passed_none, read_after, stops_on, passed}
+use Rattle.book_facts.proofs.PassedLemmas.{clean_before, passed_after, passed_none, read_after, stops_on}
 use Rattle.book_states.specs.declared.lookup.LaterSteps.{LaterSteps}
 use Rattle.book_facts.specs.LookupsSeen.{AreLaterSeen}
 use Rattle.book_facts.proofs.LooksLemmas.{looks_none, looks_on, table_shown, table_spoilt, after_from_not_le}

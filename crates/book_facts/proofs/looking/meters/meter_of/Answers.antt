@@ -1,4 +1,4 @@
-use Rattle.std.proofs.Common.{List, Option, ap, filter, inl, inr, rules, sym, ℕ, ◌&&◌, ◌==◌, ◌∙◌, ◌≡◌, subst, refl, Some, None, true, false}
+use Rattle.std.proofs.Common.{List, Option, ap, filter, inl, inr, rules, sym, ℕ, ◌&&◌, ◌==◌, ◌∙◌, ◌≡◌, subst, refl, Some, None}
 use Rattle.std.specs.Prelude.{bytes_eq, sum_by}
 use Rattle.std.proofs.lemmas.Bool.{false≢true}
 use Rattle.sqlite.specs.Held.{state}

@@ -8,7 +8,6 @@ use Rattle.book_facts.specs.Lookups.{IsOfRules, quote_for}
 use Rattle.book_states.specs.declared.lookup.Found.{Found}
 use Rattle.book_facts.proofs.LookupLemmas.{quote_rules}
 use Rattle.book_facts.proofs.LooksLemmas.{by_rules_on}
-use Rattle.book_facts.proofs.FactsLemmas.{account_is}
 use Rattle.book_facts.proofs.looking.quotes.quote_of.Goals as goal
 
 pub returns-in_err-account : goal.returns-in_err-account

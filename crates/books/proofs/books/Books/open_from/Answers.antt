@@ -28,7 +28,8 @@ pub returns-in-Err-clause-refused : goal.returns-in-Err-clause-refused
 returns-in-Err-clause-refused g c =
     let ends = c.in-Err.ensures.ends in
     record {
-      other = λ clean is. subst (FaultFitsStore (state g.S.Store c.args.conn)) is (ends.refused clean).told;
+      other = λ clean is. (subst (FaultFitsStore (state g.S.Store c.args.conn)) is (ends.refused clean).told).none;
+      named = λ clean is. let shows = subst (FaultFitsStore (state g.S.Store c.args.conn)) is (ends.refused clean).told in (shows.is_open, shows.named);
       fails = c.in-Err.ensures.fails;
       same = λ clean. (ends.refused clean).same;
       refused = λ clean. (ends.refused clean).kept;

@@ -64,7 +64,7 @@ returns-in-Err-open_from-clause-refused g c =
       first = c.in-Ok.conn;
       next = λ clean. subst (λ conn. IsNextOf (file_state conn) first) c.into_connection.ensures.same (c.in-Ok.ensures.next clean);
       refuses = λ clean. record {
-        told = fits first c.in-Err-open_from.fault (told.other clean);
+        told = fits first c.in-Err-open_from.fault (told.other clean) (told.named clean);
         same = told.same clean;
         kept = told.refused clean;
       };
