@@ -39,8 +39,8 @@ module _ {S T : Type 0} {g : Ghosts S} {h : block.Ghosts T} (books : Books S T g
   -- one value is all that says that a connection is in no transaction
   pub same_outside : (write_failed : Bool) (outside : books.conn.in_transaction ≡ false)
       → record books { write_failed = write_failed; outside = outside } ≡ record books { write_failed = write_failed }
-  same_outside write_failed outside = ap (λ (is : books.conn.in_transaction ≡ false). record books { write_failed = write_failed; outside = is })
-  (Bool-set _ _ outside books.outside)
+  same_outside write_failed outside =
+      ap (λ (is : books.conn.in_transaction ≡ false). record books { write_failed = write_failed; outside = is }) (Bool-set _ _ outside books.outside)
 
   -- books of which the connection is as it was, and which go on, are as they were
   pub same_books : (conn : Held S) (stopped : Bool) (outside : conn.in_transaction ≡ false) → conn ≡ books.conn → stopped ≡ books.stopped
