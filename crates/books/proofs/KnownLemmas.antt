@@ -33,7 +33,7 @@ kept_knowing life books write_failed keeps clean =
 pub not_failed : {A : Type 0} (failed : Bool) (given : Result A Refusal) (value : A) → given ≡ Ok value → (IsTrue failed ↔ (given ≡ Err Store))
     → failed ≡ false
 not_failed false given value is tells = refl
-not_failed true given value is tells = let stored = tells.0 tt in absurd (let told = is in cc)
+not_failed true given value is tells = let stored : given ≡ Err Store = tells.0 refl in absurd cc
 
 module _ {S T : Type 0} {g : Ghosts S} {h : block.Ghosts T} (books : Books S T g h) where
   -- one value is all that says that a connection is in no transaction
