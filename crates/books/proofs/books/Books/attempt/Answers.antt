@@ -5,7 +5,7 @@ use Rattle.office_rules.specs.declared.decision.change.Edit.{Edit}
 use Rattle.books.specs.Keeps.{Seen, seen}
 use Rattle.books.specs.Serving.{IsDecidedFor, IsMade, failed_after, moment_after, sales_added}
 use Rattle.office_rules.specs.Decision.Edits.{applied}
-use Rattle.books.proofs.ReadLemmas.{known_same}
+use Rattle.books.proofs.KnownLemmas.{known_same}
 use Rattle.books.proofs.AttemptLemmas.{committed_ends, failed_ends, handed_on, is_applied, is_decision, moment_goes, refused_ends, sales_grow, unchanged_ends}
 use Rattle.book_facts.proofs.FactsLemmas.{none_of}
 use Rattle.book_edits.proofs.CommitLemmas.{commits_others, counted_after, fails_after, has_after}

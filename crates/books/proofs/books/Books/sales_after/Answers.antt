@@ -3,7 +3,8 @@ use Rattle.std.proofs.lemmas.Bool.{false≢true}
 use Rattle.sqlite.specs.Held.{state}
 use Rattle.office_rules.specs.Law.Store.{sales_above}
 use Rattle.books.specs.Keeps.{seen}
-use Rattle.books.proofs.ReadLemmas.{known_same, of_present, read_stopped, was_read}
+use Rattle.books.proofs.KnownLemmas.{known_same}
+use Rattle.books.proofs.ReadLemmas.{of_present, read_stopped, was_read}
 use Rattle.books.proofs.books.Books.sales_after.Goals as goal
 
 pub returns-then-self : goal.returns-then-self

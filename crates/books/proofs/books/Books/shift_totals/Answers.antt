@@ -4,7 +4,8 @@ use Rattle.sqlite.specs.Held.{state}
 use Rattle.office_rules.specs.declared.decision.refusal.Refusal.TheVariants.{NoSuchShift}
 use Rattle.book_facts.specs.Totals.{AreTotalsIn}
 use Rattle.books.specs.Keeps.{seen}
-use Rattle.books.proofs.ReadLemmas.{known_same, of_present, read_stopped, was_read}
+use Rattle.books.proofs.KnownLemmas.{known_same}
+use Rattle.books.proofs.ReadLemmas.{of_present, read_stopped, was_read}
 use Rattle.books.proofs.books.Books.shift_totals.Goals as goal
 
 pub returns-then-self : goal.returns-then-self
