@@ -42,9 +42,9 @@ FoundAt moment lookup found old new =
 -- where their health is looked up, books that are not stopped tell what they know, and nothing is
 -- read for it: they are as they were
 abbrev pub TellsHealth : {B : Type 0} → (B → Seen) → Lookup → Result Found Refusal → B → B → Type 0
-TellsHealth see lookup found old new =
+TellsHealth see lookup given old new =
     lookup ≡ lookups.Health → (see old).stopped ≡ false
-    → (found ≡ Ok (found.Health (health_of (see old)))) × (new ≡ old)
+    → (given ≡ Ok (found.Health (health_of (see old)))) × (new ≡ old)
 
 -- Books found this of what was looked up at a moment, and told their health without a read. Books
 -- that were stopped stay as they are.
