@@ -70,15 +70,15 @@ module _ {M : Type 0} {g : disk.Ghosts M} where
   IsClean (unconnected found left) = IsCleanLeft left
   IsClean (connected image living last) = EndsClean last
 
-  -- These files returned what was written, by all that was ever read of them until they were let
-  -- go. Files that were found again did so too as they had been closed.
+  -- The files returned what was written until they were let go. Where they were found again, they
+  -- had done so until then too.
   abbrev pub IsLetGoClean : RunEnding g → Type 0
   IsLetGoClean (left_blank files) = AreClean g files.log files.db
   IsLetGoClean (let_go s files) = AreClean g files.log files.db
   IsLetGoClean (cut_off s found left) =
       AreClean g found.log found.db × AreClean g (files_left left).0 (files_left left).1
 
-  -- so did all files that a run let go in which it looked
+  -- so did those that a run let go, where it saw anything of them
   abbrev pub LetsGoClean : RunUse g → Type 0
   LetsGoClean unseen = ⊤
   LetsGoClean (unconnected found left) = AreClean g (files_left left).0 (files_left left).1
