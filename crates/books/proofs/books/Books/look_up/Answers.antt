@@ -11,7 +11,7 @@ use Rattle.book_states.specs.declared.lookup.Found.{Found}
 use Rattle.book_states.specs.declared.lookup.Found.TheVariants as variants
 use Rattle.book_states.specs.declared.lookup.Health.{Health}
 use Rattle.books.specs.Keeps.{seen}
-use Rattle.books.proofs.KnownLemmas.{known_same, not_failed, same_books}
+use Rattle.books.proofs.KnownLemmas.{not_failed, same_books}
 use Rattle.books.proofs.ReadLemmas.{found_here, read_stopped, was_read}
 use Rattle.books.proofs.books.Books.look_up.Goals as goal
 
@@ -39,7 +39,7 @@ returns g c =
             let kept = keeps (told.tells.clean clean) in
             found_here life old c.args.moment lookup found (kept.running c.if-self.false)
             (λ o at health. told.found clean o at (subst (IsHealthOf o) (sym known) health));
-        reads = was_read found old new c.if-self.false refl (known_same old)
+        reads = was_read found old new c.if-self.false refl (record { next = refl; last = refl; writes = refl })
             (subst (λ health. TellsTables IsOfRules (IsFoundSeen health c.args.moment lookup) (LookupSpoilt c.args.moment lookup) old.state new.state found)
             known told.tells) c.has_failed-self.ensures;
       };
