@@ -1,16 +1,16 @@
 -- Books that have just opened an office keep the life that begins there.
-use Rattle.std.proofs.Common.{◌≡◌, ◌↔◌, ◌+◌, Bool, length, refl, sym, ap, subst, ◌∙◌, inl, inr}
+use Rattle.std.proofs.Common.{◌≡◌, ◌↔◌, ◌+◌, length, refl, sym, ap, subst, ◌∙◌, inl, inr}
 use Rattle.sqlite.specs.Effect.{Database}
 use Rattle.sqlite.specs.State.{State}
 use Rattle.sts_token.specs.Token.{BlockFunction}
-use Rattle.vend_core.specs.Law.Life.{Life, MayLeave}
+use Rattle.vend_core.specs.Law.Life.{MayLeave}
 use Rattle.vend_core.specs.Law.LifeLaws.{IsRunning, opened}
 use Rattle.office_rules.specs.Office.{Office}
 use Rattle.book_tables.specs.Holds.{HasOffice}
 use Rattle.book_tables.specs.reading.Reading.{HasAllTables}
 use Rattle.book_states.specs.Health.{last_moment}
 use Rattle.book_states.specs.Stores.{Stores}
-use Rattle.books.specs.Keeps.{IsRepresented, Represents, Seen}
+use Rattle.books.specs.Keeps.{IsRepresented, Seen}
 use Rattle.book_opening.specs.Opening.{OpensAs}
 
 -- books that hold the office they were opened with represent the life that begins there
@@ -25,21 +25,6 @@ keeps_opened forward o books running leaves same at next last = record {
   running = λ _. record { present = o; running = running; at = at; next = next; last = last };
   numbered = λ p may. inl (next ∙ ap (λ (q : Office). length q.sales + 1) (sym ((leaves p).0 may)));
 }
-
--- what is known of the last write says nothing of a life
-pub kept_knowing : (life : Life) (books : Seen) (write_failed : Bool) → Represents life books
-    → Represents life (record books { write_failed = write_failed })
-kept_knowing life books write_failed keeps clean =
-    let kept = keeps clean in record {
-      opening = kept.opening;
-      is_life = kept.is_life;
-      forward = kept.forward;
-      left = kept.left;
-      running = λ runs.
-          let here = kept.running runs in
-          record { present = here.present; running = here.running; at = here.at; next = here.next; last = here.last };
-      numbered = kept.numbered;
-    }
 
 -- what is opened has the office's tables
 pub opened_tables : (old new : State) → OpensAs old new → HasAllTables new

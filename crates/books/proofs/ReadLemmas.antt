@@ -19,12 +19,9 @@ use Rattle.book_states.proofs.StayLemmas.{has_tables, nothing_same, still_held}
 use Rattle.books.specs.Keeps.{IsPresent, KnowTheSame, Represents, Seen, health_of}
 use Rattle.books.specs.Looking.{IsFoundAt}
 use Rattle.books.specs.Reads.{ReadsBooks}
+use Rattle.books.proofs.KnownLemmas.{known_same}
 use Rattle.books.proofs.PageLemmas.{kept_read}
 use Rattle.books.proofs.ServeLemmas.{stops_on}
-
--- what is known by the same books
-pub known_same : (books : Seen) → KnowTheSame books books
-known_same books = record { next = refl; last = refl; writes = refl }
 
 -- books that were stopped are not read
 pub read_stopped : {A : Type 0} {IsSeen : Database → Result A Refusal → Type 0} {IsSpoilt : Database → Type 0} (Own : Refusal → Type 0) (books : Seen)

@@ -12,7 +12,7 @@ use desk::Script;
 use disk_testing::{Faults, NO_FAULTS};
 use std::fs;
 use std::test::Fail;
-use vend_commands::{CommandEnd, Ports, Watched, run_over};
+use vend_commands::{CommandEnd, MachineLoopback, Ports, Watched, run_over};
 
 // Each message comes on two connections, as from a till that asks again.
 const MESSAGES: &[&str] = &[
@@ -82,7 +82,7 @@ fn served_all(
             texts: messages,
             next: 0,
         },
-        loopback: rt,
+        loopback: MachineLoopback::new(rt, rt),
         progress: Unseen,
     };
     let line = format!(in rt.alloc();

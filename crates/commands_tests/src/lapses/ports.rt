@@ -11,7 +11,8 @@ use std::fs::OpenOptions;
 use std::io::{self, Read, Write};
 use std::marker::PhantomData;
 use vend_commands::{
-    Back, Door, FileFault, Follows, Machine, OfficeFile, Part, Progress, SaltSource, TextFiles,
+    Back, Door, FileFault, Follows, Machine, MachineLoopback, OfficeFile, Part, Progress,
+    SaltSource, TextFiles,
 };
 
 /// A machine with an office's file of this type, and whose clock is a script. Nothing of it is the
@@ -30,7 +31,7 @@ impl<'a, O: OfficeFile> Machine for ScriptedMachine<'a, O> {
 
     type Door = Texts<'a>;
 
-    type Loopback = &'a HostRuntime;
+    type Loopback = MachineLoopback<'a, HostRuntime, HostRuntime>;
 
     type Progress = Unseen;
 }

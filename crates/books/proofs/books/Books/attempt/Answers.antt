@@ -5,7 +5,6 @@ use Rattle.office_rules.specs.declared.decision.change.Edit.{Edit}
 use Rattle.books.specs.Keeps.{Seen, seen}
 use Rattle.books.specs.Serving.{IsDecidedFor, IsMade, failed_after, moment_after, sales_added}
 use Rattle.office_rules.specs.Decision.Edits.{applied}
-use Rattle.books.proofs.ReadLemmas.{known_same}
 use Rattle.books.proofs.AttemptLemmas.{committed_ends, failed_ends, handed_on, is_applied, is_decision, moment_goes, refused_ends, sales_grow, unchanged_ends}
 use Rattle.book_facts.proofs.FactsLemmas.{none_of}
 use Rattle.book_edits.proofs.CommitLemmas.{commits_others, counted_after, fails_after, has_after}
@@ -23,7 +22,7 @@ returns-in_err-decided-clause-attempts g c clean o held =
     let nothing = c.decision_of.ensures.nothing clean (has_tables o old.state held.at) in
     let same = handed_on c.from_residual.result c.in_err-decided.field-0.0 c.from_residual.ensures.1 in
     rw same (refused_ends forward o c.args.at.now c.in_err-decided.field-0.0 old new held
-    (c.in_err-decided.ensures.decides clean o held.at held.next) clean nothing (known_same old))
+    (c.in_err-decided.ensures.decides clean o held.at held.next) clean nothing (record { next = refl; last = refl; writes = refl }))
 
 pub returns-in_err-decided-clause-others : goal.returns-in_err-decided-clause-others
 returns-in_err-decided-clause-others g c clean tables =
@@ -122,7 +121,7 @@ returns-clause-others g c clean tables =
 pub returns-in_err-decided-clause-failures : goal.returns-in_err-decided-clause-failures
 returns-in_err-decided-clause-failures g c clean tables =
     let same = handed_on c.from_residual.result c.in_err-decided.field-0.0 c.from_residual.ensures.1 in
-    rw same (inl (c.decision_of.ensures.nothing clean tables, c.in_err-decided.ensures.failures clean tables, known_same (seen c.args.self.now)))
+    rw same (inl (c.decision_of.ensures.nothing clean tables, c.in_err-decided.ensures.failures clean tables, record { next = refl; last = refl; writes = refl }))
 
 pub returns-in-Err-clause-failures : goal.returns-in-Err-clause-failures
 returns-in-Err-clause-failures g c clean tables =

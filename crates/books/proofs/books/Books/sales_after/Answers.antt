@@ -3,7 +3,7 @@ use Rattle.std.proofs.lemmas.Bool.{false≢true}
 use Rattle.sqlite.specs.Held.{state}
 use Rattle.office_rules.specs.Law.Store.{sales_above}
 use Rattle.books.specs.Keeps.{seen}
-use Rattle.books.proofs.ReadLemmas.{known_same, of_present, read_stopped, was_read}
+use Rattle.books.proofs.ReadLemmas.{of_present, read_stopped, was_read}
 use Rattle.books.proofs.books.Books.sales_after.Goals as goal
 
 pub returns-then-self : goal.returns-then-self
@@ -22,7 +22,7 @@ returns g c =
       says = record {
         of_life = λ clean life keeps. of_present (λ o. IfOk sales (λ sales. sales.items ≡ sales_above o c.args.number c.args.limit)) life old new
             c.if-self.false told.tells.clean told.given clean keeps;
-        reads = was_read sales old new c.if-self.false refl (known_same old) told.tells c.has_failed-self.ensures;
+        reads = was_read sales old new c.if-self.false refl (record { next = refl; last = refl; writes = refl }) told.tells c.has_failed-self.ensures;
       };
       idle = λ was. absurd (false≢true (sym c.if-self.false ∙ was));
     }

@@ -4,7 +4,7 @@ use Rattle.sqlite.specs.Held.{state}
 use Rattle.office_rules.specs.declared.decision.refusal.Refusal.TheVariants.{NoSuchShift}
 use Rattle.book_facts.specs.Totals.{AreTotalsIn}
 use Rattle.books.specs.Keeps.{seen}
-use Rattle.books.proofs.ReadLemmas.{known_same, of_present, read_stopped, was_read}
+use Rattle.books.proofs.ReadLemmas.{of_present, read_stopped, was_read}
 use Rattle.books.proofs.books.Books.shift_totals.Goals as goal
 
 pub returns-then-self : goal.returns-then-self
@@ -26,7 +26,7 @@ returns g c =
       says = record {
         of_life = λ clean life keeps. of_present (λ o. AreTotalsIn o c.args.number totals) life old new c.if-self.false told.tells.clean told.given
             clean keeps;
-        reads = was_read totals old new c.if-self.false refl (known_same old) told.tells c.has_failed-self.ensures;
+        reads = was_read totals old new c.if-self.false refl (record { next = refl; last = refl; writes = refl }) told.tells c.has_failed-self.ensures;
       };
       idle = λ was. absurd (false≢true (sym c.if-self.false ∙ was));
     }

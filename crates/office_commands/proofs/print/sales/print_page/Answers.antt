@@ -1,4 +1,4 @@
-use Rattle.std.proofs.Common.{◌≡◌, ◌∙◌, true, false, None, ap, inl, inr, refl, subst, sym}
+use Rattle.std.proofs.Common.{◌≡◌, ◌⊎◌, ◌∙◌, true, false, None, ap, inl, inr, refl, subst, sym}
 use Rattle.std.specs.Prelude.{if◌then◌else◌}
 use Rattle.papers.specs.Export.{export_of}
 use Rattle.vend_core.specs.Law.Life.{present}
@@ -71,7 +71,7 @@ returns-clause-page g c =
           c.in-Ok.ensures.says.of_life clean life kept ∙ c.store_law.ensures.sales_above (present life) c.args.after 1000 office,
       c.in-Ok.ensures.says.reads.seen,
       subst (Takes before after) text c.put.ensures,
-      c.number_behind.ensures ∙ ap number_behind c.deref-3.ensures.value
+      c.number_behind.ensures ∙ ap number_behind c.deref-else-has_failed.ensures.value
           ∙ ap (λ b. if b then None else number_behind c.in-Ok.sales.items) (sym sound),
       stopped_as_before (seen c.args.books.now) (seen c.sales_after.new.self) c.in-Ok.sales
           (c.in-Ok.ensures.says.reads.stopped, c.in-Ok.ensures.says.reads.stops),
