@@ -34,6 +34,11 @@ written_some had_failed books works = ap (λ b. if b then open_line else []) wor
 pub written_none : (had_failed : Bool) (books : Seen) → (had_failed && not books.write_failed) ≡ false → written_text had_failed books ≡ []
 written_none had_failed books still = ap (λ b. if b then open_line else []) still
 
+-- what is printed behind a connection, where a write had failed as was said before it
+pub ended_as : (a b : Sink) (said had_failed : Bool) (books : Seen) → said ≡ had_failed → Takes a b (end_text said books)
+    → Takes a b (end_text had_failed books)
+ended_as a b said had_failed books same told = subst (λ (failed : Bool). Takes a b (end_text failed books)) same told
+
 -- books that a connection left stopped are printed so
 pub stopped_some : (books : Seen) → books.stopped ≡ true → stopped_text books ≡ stopped_line
 stopped_some books stopped = ap (λ b. if b then stopped_line else []) stopped
