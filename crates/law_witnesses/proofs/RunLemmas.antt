@@ -84,7 +84,7 @@ not_done reply refusal o end told is done =
     cc
 
 -- files that never return anything but what was written are let go clean
-module _ {M : Type 0} {g : disk.Ghosts M} (all : (it : M) → IsTrue (g.is_clean it)) where
+module _ {M : Type 0} (g : disk.Ghosts M) (all : (it : M) → IsTrue (g.is_clean it)) where
   all_clean : (files : M × M) → AreClean g files.0 files.1
   all_clean files = both_true _ _ (all files.0) (all files.1)
 
@@ -117,7 +117,7 @@ module _ {P D R W : Type 0} (here : Here P D R W) (law : KeepsEachRun here) wher
         let Of : Image → Type 0 = λ image. IsOf start lives image in
         let mine : Holds ports = λ path wait f how.
         let same = these path wait f how in (subst FoundSo (sym same.0) found, subst Of (sym same.1) found.0) in
-        law.goes_on start lives o it.run office lead (law.finds start lives it.run (subst Holds (sym it.with_ports) mine)) (law.clean it.run (let_go_clean always (use_of here it.run)))
+        law.goes_on start lives o it.run office lead (law.finds start lives it.run (subst Holds (sym it.with_ports) mine)) (law.clean it.run (let_go_clean here.disk always (use_of here it.run)))
 
     -- what was told of a sale is what was printed
     pub printed_of : (s : Sale) → PrintsSale s it.run.o it.run.end → printed ≡ receipt_of s
