@@ -1,9 +1,9 @@
 -- What a run made of a file that has none of the office's tables.
-use Rattle.std.proofs.Common.{◌≡◌, true, List, [], ◌∷◌, ◌++◌, Option, Some, None, Ok, Err, inl, inr, refl, sym, subst, append-nil, arith}
+use Rattle.std.proofs.Common.{◌≡◌, true, List, [], ◌∷◌, ◌++◌, Option, None, Ok, Err, inl, inr, refl, sym, subst, append-nil, arith}
 use Rattle.std.proofs.Math.Logic.{∥∥₁_map}
 use Rattle.std.proofs.lemmas.List.Elements.{All-cons, All-nil}
 use Rattle.std.specs.Prelude.{ℕ}
-use Rattle.sqlite.specs.Files.{IsNothing, file_state}
+use Rattle.sqlite.specs.Files.{file_state}
 use Rattle.sqlite.specs.Held.{Held}
 use Rattle.sqlite.specs.State.{IsLive, Opens}
 use Rattle.sqlite_disk.specs.declared.Disk as disk

@@ -290,15 +290,15 @@ abbrev pub use_served : {M D R W B : Type 0} → {disk : disk.Ghosts M} → (way
     → AreServed way gives forward see loses wanted old door answers served printed
     → IsClosedAfter (λ books. closes (see books)) served → RunUse disk
 use_served way gives forward see loses ends closes left wanted old door answers printed image
-    (Ok (books, true)) held closed = connected image
+    (Ok (books, true)) held shut = connected image
     (many_lives way forward wanted old.door old.answers door answers)
-    (let_go (see books).state (left (see books) closed))
+    (let_go (see books).state (left (see books) shut))
 use_served way gives forward see loses ends closes left wanted old door answers printed image
-    (Ok (books, false)) none closed = connected image
+    (Ok (books, false)) none shut = connected image
     (many_lives way forward none.count old.door old.answers none.last.door none.last.answers)
-    (let_go (see books).state (left (see books) closed))
+    (let_go (see books).state (left (see books) shut))
 use_served way gives forward see loses ends closes left wanted old door answers printed image
-    (Err fault) lost closed = connected image
+    (Err fault) lost shut = connected image
     (many_lives way forward lost.count old.door old.answers lost.last.door lost.last.answers)
     (ends (see lost.last.books) fault lost.lost.1)
 
