@@ -14,27 +14,7 @@ not_closed : (closed : Option ℕ) → is_none closed ≡ true → IsSome closed
 not_closed None is some = false≢true some
 not_closed (Some moment) is some = false≢true is
 
--- a shift that is closed is so before each later one
-pub closed_before : (a s : Shift) → IsSome a.closed → IsClosedFirst a s
-closed_before a s is _ = is
-
 module _ (shifts : List Shift) where
-  -- no shift comes before one of the first none
-  pub closed_none : (end : ℕ) → AreClosedFirst shifts 0 end
-  closed_none end i s low there j a below = absurd (omega (arith, below))
-
-  module _ (at end now : ℕ) (a : Shift) (there : slice_get shifts at ≡ Some a) (within : now ≤ end) where
-    -- one more of the first shifts, which was closed before those of its operator up to the new end
-    pub closed_more : ((i : ℕ) (s : Shift) → at < i → i < now → slice_get shifts i ≡ Some s → IsClosedFirst a s) → AreClosedFirst shifts at end
-        → AreClosedFirst shifts (at + 1) now
-    closed_more more was i s low there_s j b below before there_b = elim (cases_lt j at) [
-      | inl first ↦ was i s (omega (arith, low, within)) there_s j b first before there_b
-      | inr least ↦
-          let last : j ≡ at = omega (arith, below, least) in
-          let is : a ≡ b = same_Some a b (sym there ∙ ap (slice_get shifts) (sym last) ∙ there_b) in
-          subst (λ (x : Shift). IsClosedFirst x s) is (more i s (omega (arith, before, last)) low there_s)
-    ]
-
   module _ (place : ℕ) where
     -- the shifts before a shift were closed first, where all but the last ones were looked at
     pub all_before : (n end : ℕ) (s : Shift) → AreClosedFirst shifts n end → place < end → place ≤ n → slice_get shifts place ≡ Some s
