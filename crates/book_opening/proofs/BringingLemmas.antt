@@ -121,9 +121,9 @@ other_told : (n : ℕ) (db : Database) → 1 ≤ n → ¬ TellsFormat n db → �
 other_told zero db some other tells = absurd (omega (arith, some))
 other_told (suc n) db some other tells = other tells
 
--- the fault that is made of it is true of the store, where it is one of no office
 module _ (Says : Finding → Database → Type 0) (old new : State) (n : ℕ) (some : 1 ≤ n) (known : n ≤ present_format) (has : IsSoundOfFormat n old)
     (says : HasOfficeOf n old.now.schema → (f : Finding) → Says f old.now → IsNoOffice old.now × StandsForNone old.now) where
+  -- the fault that is made of what an audit found is true of the store, where it is one of no office
   pub audit_tells : (e : AuditFault) (fault : OpenFault) → ((why : Error) → e ≡ audit.Failed why → (fault ≡ Store) ⊎ (fault ≡ Memory))
       → fault ≡ fault_of_audit e → StopsBy Says old new e → FaultFitsStore old fault
   audit_tells (audit.Found f) fault kind is stops =

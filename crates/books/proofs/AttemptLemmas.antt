@@ -53,6 +53,7 @@ adds_none (OpenShift s) none = refl
 adds_none (CloseShift number moment) none = refl
 adds_none (AddSale s) none = absurd (none s refl)
 
+-- an edit that adds no sale leaves the moment of the last one
 pub moment_stays : (edit : Edit) (last : Option ℕ) → ((s : Sale) → edit ≡ AddSale s → ⊥) → moment_after (Some edit) last ≡ last
 moment_stays (AddTariff name steps) last none = refl
 moment_stays (AddSteps name day steps) last none = refl

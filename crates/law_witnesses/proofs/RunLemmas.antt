@@ -93,6 +93,7 @@ module _ {M : Type 0} (g : disk.Ghosts M) (all : (it : M) → IsTrue (g.is_clean
   end_clean (let_go s files) = all_clean (files.log, files.db)
   end_clean (cut_off s found left) = (all_clean (found.log, found.db), all_clean (files_left left))
 
+  -- a run over such files lets them go clean, whatever it made of them
   pub let_go_clean : (made : RunUse g) → LetsGoClean made
   let_go_clean unseen = tt
   let_go_clean (unconnected found left) = all_clean (files_left left)

@@ -183,6 +183,7 @@ module _ (o : Office) (today : ℕ) (fs : List RowFacts) where
       ∙ go (taken_more taken row change) (i + 1) (stays_on o today taken row change stayed granted) are))
       ∙ ap (λ (r : Result Change Refusal). at_row (i + 1) r >>= told) (sym same)
 
+  -- rows are decided by their facts as an office decides them that has these
   pub rows_decided : (rows : List Row) → Decides rows
   rows_decided [] = λ taken i stayed facts. refl
   rows_decided (row ∷ rest) = one_more row rest (rows_decided rest)

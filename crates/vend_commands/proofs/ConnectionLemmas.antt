@@ -27,10 +27,11 @@ open_some books stopped = ap (λ b. if (b && not books.write_failed) then open_l
 pub open_none : (books : Seen) → books.stopped ≡ false → open_text books ≡ []
 open_none books runs = ap (λ b. if (b && not books.write_failed) then open_line else []) runs
 
--- what is printed where a write was made after one had failed, and where none was
+-- what is printed where a write was made after one had failed
 pub written_some : (had_failed : Bool) (books : Seen) → (had_failed && not books.write_failed) ≡ true → written_text had_failed books ≡ open_line
 written_some had_failed books works = ap (λ b. if b then open_line else []) works
 
+-- and nothing is where none was
 pub written_none : (had_failed : Bool) (books : Seen) → (had_failed && not books.write_failed) ≡ false → written_text had_failed books ≡ []
 written_none had_failed books still = ap (λ b. if b then open_line else []) still
 
