@@ -2,3 +2,4 @@ mod AdvisedLemmas
 mod LastLineLemmas
 mod RemembersLemmas
 mod RunLemmas
+mod TimeLemmas
