@@ -1,4 +1,5 @@
 mod AdvisedLemmas
+mod DoubtLemmas
 mod LastLineLemmas
 mod RemembersLemmas
 mod RunLemmas

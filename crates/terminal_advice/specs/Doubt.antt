@@ -18,12 +18,14 @@ use Rattle.vend_ports.specs.print.Told.{IsTaken}
 abbrev pub IsDoubtful : (last now : ℕ) → Type 0
 IsDoubtful last now = (now + 300 < last) ⊎ (last + 604800 < now)
 
--- the line that says so
-abbrev pub doubt_line : (last now : ℕ) → Text
-doubt_line last now =
-    line_of (codes "the last sale was made at" ∷ (time_text last ++ codes ",")
-    ∷ codes "and it is" ∷ time_text now
+-- the line that says so of two moments, as they are written
+abbrev pub moments_line : (last now : Text) → Text
+moments_line last now =
+    line_of (codes "the last sale was made at" ∷ last ∷ codes "and it is" ∷ now
     ∷ codes "by this computer's clock: if the clock is wrong, set it before you sell" ∷ [])
+
+abbrev pub doubt_line : (last now : ℕ) → Text
+doubt_line last now = moments_line (time_text last ++ codes ",") (time_text now)
 
 -- a request is an order
 abbrev pub IsOrder : Request → Type 0

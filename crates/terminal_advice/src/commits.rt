@@ -127,9 +127,7 @@ fn sums_at(bytes: &[u8], at: usize) -> Option<Sums> {
 fn summed(is_big: bool, sums: Sums, bytes: &[u8]) -> Option<Sums> {
     let (mut first, mut second) = sums;
     for pair in bytes.chunks_exact(8) {
-        first = first
-            .wrapping_add(word(is_big, pair)?)
-            .wrapping_add(second);
+        first = first.wrapping_add(word(is_big, pair)?).wrapping_add(second);
         second = second
             .wrapping_add(word(is_big, pair.get(4..)?)?)
             .wrapping_add(first);

@@ -1,7 +1,7 @@
 //! What is said first where this computer's clock looks wrong.
-ghost use Rattle.std.specs.Prelude.{IfSome, false, map};
+ghost use Rattle.std.specs.Prelude.{Bool, IfSome, false, map};
 ghost use Rattle.terminal_advice.specs.Doubt.{AddsDoubt, AskToSell, Doubts, IsDoubtful};
-ghost use Rattle.terminal_advice.specs.Doubt.{SellsByClock, doubt_line};
+ghost use Rattle.terminal_advice.specs.Doubt.{SellsByClock, doubt_line, moments_line};
 ghost use Rattle.vend_ports.specs.print.Told.{IsTaken};
 
 use crate::look::Look;
@@ -104,17 +104,25 @@ fn far_apart(last: Moment, now: Moment) -> Option<Doubt>
 
 // Says it, in one line.
 fn put_doubt<E: Write>(doubt: Doubt, err: &mut E)
-    ensures { (failed : _) × IsTaken false failed (E.contents err.old) (E.contents err.new)
+    ensures { (failed : Bool) × IsTaken false failed (E.contents err.old) (E.contents err.new)
         (doubt_line doubt.last doubt.now) }
 {
     let mut last = time_text(doubt.last);
     put(&mut last, b",");
     let now = time_text(doubt.now);
+    put_moments(&last, &now, err);
+}
+
+// Says it of two moments, as they are written.
+fn put_moments<E: Write>(last: &[u8], now: &[u8], err: &mut E)
+    ensures { (failed : Bool) × IsTaken false failed (E.contents err.old) (E.contents err.new)
+        (moments_line last.now now.now) }
+{
     let words: [&[u8]; 5] = [
         b"the last sale was made at",
-        &last,
+        last,
         b"and it is",
-        &now,
+        now,
         b"by this computer's clock: if the clock is wrong, set it before you sell",
     ];
     let mut watched = Watched::new(err);

@@ -247,7 +247,13 @@ fn is_listened(rt: &HostRuntime, list: &str, port: u16, nobody: &str) -> Option<
 
 // What is in the way of a file that can be read and written. No lock outlasts this.
 fn database_fault(rt: &HostRuntime, mut file: File, found: &Metadata) -> Option<Advice> {
-    if os::try_lock_range(file.as_raw_fd(), RangeLock::Exclusive, LOCKS_FROM, LOCKS_LEN) != 0 {
+    if os::try_lock_range(
+        file.as_raw_fd(),
+        RangeLock::Exclusive,
+        LOCKS_FROM,
+        LOCKS_LEN,
+    ) != 0
+    {
         return Some(holder(rt, found).unwrap_or(Advice::ShutInUse));
     }
     let mut beginning = [0u8; BEGINNING];

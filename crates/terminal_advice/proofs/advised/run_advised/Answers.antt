@@ -9,7 +9,7 @@ returns-then-not-at_terminal-clause-run g c =
     let first = ap g.E.Write.contents c.new-remembering.ensures in
     let last = ap g.E.Write.contents c.into_parts-err.ensures.inner in
     let quiet : c.args.at_terminal ≡ false = search rules in (
-      _,
+      g.E.Write.contents c.doubt_clock.new.err.inner,
       g.E.Write.contents c.into_parts-err.result.0,
       ran.0,
       ran.1,
@@ -29,7 +29,7 @@ returns-clause-run g c =
     let first = ap g.E.Write.contents c.new-remembering.ensures in
     let last = ap g.E.Write.contents c.into_parts-err.ensures.inner in
     let loud : c.args.at_terminal ≡ true = search rules in (
-      _,
+      g.E.Write.contents c.doubt_clock.new.err.inner,
       g.E.Write.contents c.into_parts-err.result.0,
       ran.0,
       ran.1,
