@@ -76,10 +76,9 @@ def begin_desk(file, connections, listen="127.0.0.1:0", more=(), program=VEND, *
         raise
 
 
-def sell_words(file, ref, tender="10", at=AT):
-    """The words of a sale, at a moment or by the clock."""
+def sell_words(file, ref, tender="10"):
     return ["sell", "--file", str(file), "--operator", "ann", "--ref", ref, "--meter", METER,
-            "--tender", tender, *(["--at", str(at)] if at else [])]
+            "--tender", tender, "--at", AT]
 
 
 def prepare(file, at=AT, with_shift=True):

@@ -177,7 +177,7 @@ module _ (t : TableName) (sql : List ℕ) (is : sql ≡ list_of t) (old new : St
   list_fails : IsKnown (HaveTables (t ∷ [])) old → (why : ReadFault) → FailsToAnswer (λ _. ⊤) (list_of t) [] old new why → FailsToList old new (cause_of why)
   list_fails known (fault.Database e) (inl why) = inl (λ runs. read.fails_plain (lists t).asks (kept_of t) (lists t).stands old new (there known runs) e why)
   list_fails known (fault.Database e) (inr none) = inr (cc, none.1)
-  list_fails known fault.Row (bad, same) = absurd (bad.bad.4 tt)
+  list_fails known fault.Row (bad, same) = inr (refl, same)
 
   -- one that fails
   pub list_stops : {T U : Type 0} (why : ReadFault) (e : Error) → e ≡ cause_of why

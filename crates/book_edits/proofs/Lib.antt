@@ -1,3 +1,2 @@
 pub mod ChangeLemmas
 pub mod CommitLemmas
-pub mod StoredLemmas

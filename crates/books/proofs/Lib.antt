@@ -3,7 +3,6 @@ mod AttemptLemmas
 mod FoundLemmas
 mod FreshLemmas
 mod HeadlineLemmas
-mod KnownLemmas
 mod LastSaleLemmas
 mod NothingLemmas
 mod OpenedLemmas

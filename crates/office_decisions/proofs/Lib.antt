@@ -1,3 +1,2 @@
 pub mod ImportWalkLemmas
-pub mod OverFactsLemmas
 pub mod TakenLemmas

@@ -1,2 +1,1 @@
-pub mod OverFacts
 pub mod RowsTaken

@@ -2,7 +2,5 @@
 #![tactic(auto)]
 
 mod decision;
-mod law;
 
 pub use decision::{decide, same_meter, same_steps};
-pub use law::facts_law;

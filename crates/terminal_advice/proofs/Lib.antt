@@ -1,6 +1,4 @@
 mod AdvisedLemmas
-mod DoubtLemmas
 mod LastLineLemmas
 mod RemembersLemmas
 mod RunLemmas
-mod TimeLemmas

@@ -40,7 +40,7 @@ abbrev pub Adds : (at_terminal : Bool) → Option Advice → Held → Held → T
 Adds false advice old new = Keeps old new
 Adds true advice old new = AddsForm advice old new
 
--- behind the text that was printed from a beginning on comes the advice for its last line
+-- behind the text that a run printed comes the advice for its last line
 pub record IsAdvised (at_terminal : Bool) (old printed new : Held) : Type 0 where
   pub text : Text
   pub came : Appends old printed text

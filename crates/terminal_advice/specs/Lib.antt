@@ -1,6 +1,5 @@
 pub mod Advice
 pub mod Advised
-pub mod Doubt
 pub mod LastLine
 pub mod Lines
 pub mod Remembers

@@ -10,11 +10,9 @@ ghost use Rattle.vend_ports.specs.declared.command_end.CommandEnd.{CommandEnd};
 ghost use Rattle.vend_ports.specs.print.Sink.{Held, writer};
 ghost use Rattle.vend_ports.specs.print.Told.{IsTaken, outputs};
 ghost use Rattle.terminal_advice.specs.Advised.{Adds, IsAdvised, fault_advice};
-ghost use Rattle.terminal_advice.specs.Doubt.{Doubts};
 
 use crate::advice::Advice;
 use crate::begun::Begun;
-use crate::doubt::doubt_clock;
 use crate::look::Look;
 use crate::remembering::Remembering;
 use crate::second_line::{advise, put_advice};
@@ -23,9 +21,9 @@ use std::alloc::Global;
 use std::io::Write;
 use vend_commands::{Machine, Ports, Watched, refuse, run};
 
-/// Runs the command that some words give as `run` does. At a terminal a line comes first where it
-/// sells by a clock that looks wrong, and a second line behind the last one, if there is advice for
-/// that. `B` stands for what `err` holds before, which is given back.
+/// Runs the command that some words give as `run` does. At a terminal a second line comes behind
+/// the last one, if there is advice for that. `B` stands for what `err` holds before, which is
+/// given back.
 pub fn run_advised<B: Begun, M: Machine, O: Write, E: Write, L: Look>(
     alloc: Global,
     ports: Ports<M>,
@@ -36,21 +34,19 @@ pub fn run_advised<B: Begun, M: Machine, O: Write, E: Write, L: Look>(
     err: E,
 ) -> (u8, E)
     requires { E.contents err ≡ B.held }
-    ensures run { (begun printed : Held) × (end : CommandEnd) × (out_failed err_failed : Bool)
+    ensures run { (printed : Held) × (end : CommandEnd) × (out_failed err_failed : Bool)
         × (out_name err_name : ℕ) × (back : Option (M.Office.Medium × M.Office.Medium))
         × IsProgramRun (over_files {g = M.Office.Medium.Disk}) (machine_of ports back)
         (map (λ w. w.now) words.now)
         (outputs (writer (O.contents out.old) false out_name)
         (writer (O.contents out.new) out_failed out_name)
-        (writer begun false err_name)
+        (writer (E.contents err) false err_name)
         (writer printed err_failed err_name)) end
-        × Doubts at_terminal (map (λ w. w.now) words.now) (E.contents err) begun
         × (result.0 ≡ status_of end out_failed)
         × ∥ IsAdvised at_terminal (E.contents err) printed (E.contents result.1) ∥₁ }
     ensures asked { (asked : Asked) → AskFor (map (λ w. w.now) words.now) asked → result.0 ≤ 1 }
 {
     let mut remembering = Remembering::<E, B>::new(err);
-    doubt_clock(alloc, words, look, at_terminal, &mut remembering);
     let status = run(alloc, ports, words, out, &mut remembering);
     let (mut err, last) = remembering.into_parts();
     if !at_terminal {

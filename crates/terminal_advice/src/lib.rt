@@ -1,22 +1,17 @@
-//! What the program says at a terminal of a line by which it refused: why, and what to do; and
-//! before a sale, where the clock looks wrong.
+//! What the program says at a terminal of a line by which it refused: why, and what to do.
 #![tactic(auto)]
 
 mod advice;
 mod advised;
 mod begun;
 mod closer;
-mod commits;
-mod doubt;
 mod last_line;
-mod last_sale;
 mod lines;
 mod look;
 mod misread;
 mod remembering;
 mod schema;
 mod second_line;
-mod time;
 mod value_rules;
 
 pub use advice::Advice;

@@ -1,8 +1,6 @@
-//! A look at the computer, to say more closely why the program refused, and whether the clock is
-//! right.
+//! A look at the computer, to say more closely why the program refused.
 
 use crate::advice::Advice;
-use crate::last_sale::last_moment;
 use crate::schema::schema_fault;
 use os::RangeLock;
 use std::fs::{self, File, Metadata, OpenOptions};
@@ -11,18 +9,12 @@ use std::net::TcpListener;
 use std::num::ParseIntError;
 use std::os::fd::AsRawFd;
 use std::os::unix::fs::MetadataExt;
-use std::time::{Instant, SystemTime};
-use sts_fields::Moment;
+use std::time::Instant;
 
 // What a database of SQLite begins with, and where its header says whether it has `auto_vacuum`.
 const DATABASE: &[u8] = b"SQLite format 3\0";
 
 const HEADER: usize = 100;
-
-// The bytes that SQLite locks.
-const LOCKS_FROM: u64 = 1 << 30;
-
-const LOCKS_LEN: u64 = 512;
 
 // Where the texts of its tables are looked for: at its beginning, where they are as a rule.
 const BEGINNING: usize = 65_536;
@@ -53,15 +45,8 @@ const ROOM_PIECES: u8 = 64;
 
 const PIECE: [u8; 4096] = [0; 4096];
 
-/// What is looked at, before a command and behind a refusal. No contract says what it sees. It
-/// leaves all as it is.
+/// What is looked at behind a refusal. No contract says what it sees. It leaves all as it is.
 pub trait Look {
-    /// The moment of the last sale in the office's file of this name, if nobody writes to it now.
-    fn last_sale(&self, path: &str) -> Option<Moment>;
-
-    /// What the clock says.
-    fn now(&self) -> Option<Moment>;
-
     /// What is in the way of the office's file of this name.
     fn office(&self, path: &str) -> Option<Advice>;
 
@@ -106,28 +91,6 @@ impl<'a> Here<'a> {
 }
 
 impl Look for Here<'_> {
-    // The lock lasts as long as the file is open here: a command that comes behind can have it.
-    fn last_sale(&self, path: &str) -> Option<Moment> {
-        let rt = self.rt;
-        if !fs::metadata(rt, path).ok()?.is_file() {
-            return None;
-        }
-        let file = File::open(rt, path).ok()?;
-        if os::try_lock_range(file.as_raw_fd(), RangeLock::Shared, LOCKS_FROM, LOCKS_LEN) != 0 {
-            return None;
-        }
-        let log = log_of(rt, path)?;
-        last_moment(rt.alloc(), &file, &log)
-    }
-
-    fn now(&self) -> Option<Moment> {
-        let since_1970 = SystemTime::now(self.rt)
-            .ok()?
-            .duration_since(SystemTime::UNIX_EPOCH)
-            .ok()?;
-        Moment::of_secs(i64::try_from(since_1970.as_secs()).ok()?)
-    }
-
     fn office(&self, path: &str) -> Option<Advice> {
         let rt = self.rt;
         let found = match fs::metadata(rt, path) {
@@ -209,17 +172,6 @@ impl Look for Here<'_> {
     }
 }
 
-// What the log of a file has, which lies where a link leads; none is an empty one.
-fn log_of(rt: &HostRuntime, path: &str) -> Option<Vec<u8>> {
-    let real = fs::canonicalize(rt, path).ok()?;
-    let name = format!(in rt.alloc(); "{}-wal", real.as_str()).ok()?;
-    match fs::read(rt, name.as_str()) {
-        Ok(log) => Some(log),
-        Err(error) if error.kind() == ErrorKind::NotFound => Some(Vec::new(rt.alloc())),
-        Err(_) => None,
-    }
-}
-
 // Why an office's file is not opened.
 fn office_fault(kind: ErrorKind) -> Option<Advice> {
     match kind {
@@ -247,13 +199,8 @@ fn is_listened(rt: &HostRuntime, list: &str, port: u16, nobody: &str) -> Option<
 
 // What is in the way of a file that can be read and written. No lock outlasts this.
 fn database_fault(rt: &HostRuntime, mut file: File, found: &Metadata) -> Option<Advice> {
-    if os::try_lock_range(
-        file.as_raw_fd(),
-        RangeLock::Exclusive,
-        LOCKS_FROM,
-        LOCKS_LEN,
-    ) != 0
-    {
+    // The locks of SQLite.
+    if os::try_lock_range(file.as_raw_fd(), RangeLock::Exclusive, 1 << 30, 512) != 0 {
         return Some(holder(rt, found).unwrap_or(Advice::ShutInUse));
     }
     let mut beginning = [0u8; BEGINNING];

@@ -2,4 +2,3 @@ pub mod MeteringLemmas
 pub mod TakeLemmas
 pub mod TimedLemmas
 pub mod TrialLemmas
-pub mod WaitLemmas

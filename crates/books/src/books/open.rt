@@ -30,14 +30,12 @@ impl<S: Alter, T: BlockTransform + Drop> Books<S, T> {
     {
         life_law();
         match next_here(alloc, &mut conn) {
-            Ok(sold) => Ok(Books {
+            Ok(next_number) => Ok(Books {
                 alloc,
                 conn,
                 transform,
-                next_number: sold.next_number,
-                last_moment: sold.last_moment,
+                next_number,
                 stopped: false,
-                write_failed: false,
             }),
             Err(fault) => Err((fault, conn)),
         }

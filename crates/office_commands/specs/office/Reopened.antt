@@ -46,8 +46,7 @@ pub record IsNextLife (forward : BlockFunction) (old new : Seen) : Type 0 where
   pub left : ∥ OpensLeft forward old new ∥₁
   pub unlimited : new.state.step_limit ≡ None
 
--- the file of books was opened again, by others that go on: where a write failed, it still has
+-- the file of books was opened again, by others that go on
 pub record IsReopened (forward : BlockFunction) (old new : Seen) : Type 0 where
   pub running : new.stopped ≡ false
-  pub writes : new.write_failed ≡ old.write_failed
   pub next : HasCleanDisk new.state → IsNextLife forward old new

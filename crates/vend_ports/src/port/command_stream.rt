@@ -1,25 +1,21 @@
 //! The connection with a desk that a command has, and for how long it waits there.
 
-ghost use Rattle.std.specs.Prelude.{◌≡◌, IfSome, ◌≤◌};
-ghost use Rattle.std.specs.Duration.{as_nanos};
-ghost use Rattle.std.specs.Io.{ReadsAtMost, WritesAtMost};
-ghost use Rattle.std.specs.Io.KnownBytes.{ReadConsumes, WriteAppends};
-ghost use Rattle.vend_ports.specs.port.Waits.{WaitEach, command_time};
+ghost use Rattle.std.specs.Prelude.{◌≡◌};
 
-use crate::port::network::{Connection, ReadsWithin, WritesWithin};
-use crate::port::terminal::Terminal;
+use crate::port::machine_door::HasOptions;
 use crate::port::wait::{passed_since, slice, wait_left};
 use crate::print::lines::put_waiting;
 use crate::print::watched::Watched;
-use std::io::{self, ErrorKind, Read, Write};
-use std::time::{Clock, Duration, Instant};
+use std::io::{self, ErrorKind, IsTerminal, Read, Write};
+use std::net::{OpenStream, Shutdown};
+use std::time::{Duration, Instant};
 
 /// A stream that is read and written until the command's time is over, which is one for all that
 /// it does. Once a use of it has waited for two seconds, the terminal where the error output goes
 /// is told so, once; where it goes elsewhere nothing is.
 #[derive(Drop)]
-pub struct CommandStream<'a, H, S> {
-    host: &'a H,
+pub struct CommandStream<'a, S> {
+    rt: &'a HostRuntime,
     inner: S,
     // None where the clock could not be read.
     began: Option<Instant>,
@@ -27,24 +23,22 @@ pub struct CommandStream<'a, H, S> {
     tells: bool,
 }
 
-impl<'a, H: Clock + Terminal, S> CommandStream<'a, H, S> {
+impl<'a, S> CommandStream<'a, S> {
     /// Nothing has been read or written. The command's time began then.
-    pub(crate) fn new(host: &'a H, began: Option<Instant>, inner: S) -> CommandStream<'a, H, S>
+    pub(crate) fn new(rt: &'a HostRuntime, began: Option<Instant>, inner: S) -> CommandStream<'a, S>
         ensures { result.inner ≡ inner }
     {
         CommandStream {
-            host,
+            rt,
             inner,
             began,
-            tells: host.screen().is_some(),
+            tells: rt.stderr().is_terminal(),
         }
     }
 
     // For how long it waits next, if it may.
-    fn next_wait(&self) -> Option<Duration>
-        ensures { IfSome result (λ wait. as_nanos wait ≤ command_time) }
-    {
-        match wait_left(passed_since(self.began, self.host)) {
+    fn next_wait(&self) -> Option<Duration> {
+        match wait_left(passed_since(self.began, self.rt)) {
             Some(left) => Some(slice(left, self.tells)),
             None => None,
         }
@@ -56,34 +50,31 @@ impl<'a, H: Clock + Terminal, S> CommandStream<'a, H, S> {
     {
         if self.tells {
             self.tells = false;
-            if let Some(mut screen) = self.host.screen() {
-                put_waiting(&mut Watched::new(&mut screen));
-            }
+            put_waiting(&mut Watched::new(&mut self.rt.stderr()));
         }
     }
 }
 
-impl<H, S: Connection> CommandStream<'_, H, S> {
+impl<S: OpenStream> CommandStream<'_, S> {
     /// Nothing more is written. The other end is told so.
     pub(crate) fn end_writing(&self) -> io::Result<()> {
-        self.inner.end_writing()
+        self.inner.shutdown(Shutdown::Write)
     }
 }
 
-impl<H: Clock + Terminal, S: ReadsWithin> Read for CommandStream<'_, H, S> {
+impl<S: Read + HasOptions> Read for CommandStream<'_, S> {
     ghost remaining = { λ stream. S.remaining stream.inner };
 
-    fn read(&mut self, buf: &mut [u8]) -> io::Result<usize>
-        ensures bound { ReadsAtMost result buf.new }
-        ensures bytes { ReadConsumes (S.remaining self.old.inner) (S.remaining self.new.inner)
-            result buf.new }
-        ensures waits { WaitEach S.waits command_time self.old.inner self.new.inner }
-    {
+    fn read(&mut self, buf: &mut [u8]) -> io::Result<usize> {
         for _ in 0..u64::MAX {
             let Some(wait) = self.next_wait() else {
                 return Err(ErrorKind::TimedOut.into());
             };
-            match self.inner.read_within(wait, buf) {
+            // Without it a desk that hangs would hold the command for ever.
+            if let Err(error) = self.inner.read_within(wait) {
+                return Err(error);
+            }
+            match self.inner.read(buf) {
                 Err(error) if error.kind() == ErrorKind::WouldBlock => self.tell(),
                 result => return result,
             }
@@ -92,20 +83,19 @@ impl<H: Clock + Terminal, S: ReadsWithin> Read for CommandStream<'_, H, S> {
     }
 }
 
-impl<H: Clock + Terminal, S: WritesWithin> Write for CommandStream<'_, H, S> {
+impl<S: Write + HasOptions> Write for CommandStream<'_, S> {
     ghost contents = { λ stream. S.contents stream.inner };
 
-    fn write(&mut self, buf: &[u8]) -> io::Result<usize>
-        ensures bound { WritesAtMost result buf.now }
-        ensures bytes { WriteAppends (S.contents self.old.inner) (S.contents self.new.inner)
-            result buf.now }
-        ensures waits { WaitEach S.waits command_time self.old.inner self.new.inner }
-    {
+    fn write(&mut self, buf: &[u8]) -> io::Result<usize> {
         for _ in 0..u64::MAX {
             let Some(wait) = self.next_wait() else {
                 return Err(ErrorKind::TimedOut.into());
             };
-            match self.inner.write_within(wait, buf) {
+            // As for a read.
+            if let Err(error) = self.inner.write_within(wait) {
+                return Err(error);
+            }
+            match self.inner.write(buf) {
                 Err(error) if error.kind() == ErrorKind::WouldBlock => self.tell(),
                 result => return result,
             }
@@ -114,6 +104,6 @@ impl<H: Clock + Terminal, S: WritesWithin> Write for CommandStream<'_, H, S> {
     }
 
     fn flush(&mut self) -> io::Result<()> {
-        Ok(())
+        self.inner.flush()
     }
 }

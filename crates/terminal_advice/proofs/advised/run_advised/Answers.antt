@@ -9,7 +9,6 @@ returns-then-not-at_terminal-clause-run g c =
     let first = ap g.E.Write.contents c.new-remembering.ensures in
     let last = ap g.E.Write.contents c.into_parts-err.ensures.inner in
     let quiet : c.args.at_terminal ≡ false = search rules in (
-      g.E.Write.contents c.doubt_clock.new.err.inner,
       g.E.Write.contents c.into_parts-err.result.0,
       ran.0,
       ran.1,
@@ -17,8 +16,7 @@ returns-then-not-at_terminal-clause-run g c =
       ran.3,
       ran.4,
       ran.5,
-      rw last ran.6,
-      rw (← first) c.doubt_clock.ensures,
+      rw (last, ← first) ran.6,
       ran.7,
       rw quiet (∥∥₁_map c.into_parts-err.ensures.last (advised_quiet _ _ _ _ _ c.requires refl)),
     )
@@ -29,7 +27,6 @@ returns-clause-run g c =
     let first = ap g.E.Write.contents c.new-remembering.ensures in
     let last = ap g.E.Write.contents c.into_parts-err.ensures.inner in
     let loud : c.args.at_terminal ≡ true = search rules in (
-      g.E.Write.contents c.doubt_clock.new.err.inner,
       g.E.Write.contents c.into_parts-err.result.0,
       ran.0,
       ran.1,
@@ -37,8 +34,7 @@ returns-clause-run g c =
       ran.3,
       ran.4,
       ran.5,
-      rw last ran.6,
-      rw (← first) c.doubt_clock.ensures,
+      rw (last, ← first) ran.6,
       ran.7,
       rw loud (∥∥₁_map c.into_parts-err.ensures.last (advised_loud _ _ _ _ _ _ c.requires refl c.advise.ensures)),
     )
