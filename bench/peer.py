@@ -173,7 +173,7 @@ def serve(office, options, _):
             case ["sales", number]:
                 return members(office.sale(int(number)))
             case ["health"]:
-                return {"format": 4, "sales": office.sold}
+                return {"format": 4, "last_moment": office.last_moment, "last_write": "done", "sales": office.sold}
             case ["meters", number]:
                 return found_meter(number)
             case ["meters", number, "last"]:

@@ -152,6 +152,7 @@ class Office:
         if self.rows("FORMAT") != [(1, 4)]:
             raise SystemExit("open 1 NotAnOffice")
         self.sold = (self.row("LAST_SALE_NUMBER") or (0,))[0]
+        self.last_moment = self.sale(self.sold)[1] if self.sold else None
 
     def close(self):
         self.conn.close()
@@ -219,7 +220,7 @@ class Office:
             ("SALE_COUNTED", shift[0], tenths, price))
         if (told, all_tenths) != ((tid,), (prior + tenths,)):
             raise SystemExit("the totals are not those of the sales")
-        self.sold = number
+        self.sold, self.last_moment = number, moment
         return (number, moment, shift[0], operator, ref, meter, base, tid, rnd, tenths, price,
                 tender, digits)
 

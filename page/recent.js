@@ -18,12 +18,12 @@ let sales = []; // those, the newest first
 async function lastSales(isWanted, most) {
   const { done: health } = await lookUp("/health");
   if (!Number.isInteger(health?.sales)) return null;
+  hearSale(health.last_moment);
   let [found, end] = [[], health.sales];
   for (let pages = 0; pages < PAGES && end > 0 && found.length < most; pages += 1) {
     const after = Math.max(end - PAGE, 0);
     const { done } = await lookUp(`/sales?after=${after}`);
     if (!done?.sales) return null;
-    if (pages === 0) hearSale(done.sales.at(-1)?.moment);
     const until = end;
     found = [...found, ...done.sales.filter((it) => isWanted(it) && it.number <= until).reverse()];
     end = after;

@@ -149,11 +149,11 @@ def check_recent(counter):
 
 
 def moved(apart):
-    """What moves the last sale of a page by so many seconds."""
+    """What moves the last sale of an office by so many seconds."""
     def move(reply):
-        page = json.loads(reply.partition(b"\r\n\r\n")[2])
-        page["sales"][-1]["moment"] += apart
-        return said(200, **page)
+        health = json.loads(reply.partition(b"\r\n\r\n")[2])
+        health["last_moment"] += apart
+        return said(200, **health)
     return move
 
 
@@ -161,8 +161,8 @@ def check_clock(counter):
     """Where the last sale is later than the office's clock, or long before it, the page asks before it sells."""
     browser = counter.browser
     for apart, words, press in ((30 * DAY, "later than", "unsure"), (-8 * DAY, "long before", "sure")):
-        page = Plan(after=moved(apart))
-        counter.relay.lists += [Plan(), page]
+        page = Plan()
+        counter.relay.lists += [Plan(after=moved(apart)), page]
         browser.open()
         until(page.ended.is_set, "the last sales")
         browser.when("by('recent').ariaBusy !== 'true'", "a page that is loaded")

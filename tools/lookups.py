@@ -195,7 +195,7 @@ def answer(office, moment, words):
         return (int(values[0]), values[1]), None
     if word in LISTS:
         return None, {word: [member_of(word, value.split(",")) for value in values]}
-    names = {"count": ("sales",), "meter": ("meter", "base", "tariff", "tenths", "sale"),
+    names = {"health": ("sales", "last_moment"), "meter": ("meter", "base", "tariff", "tenths", "sale"),
              "quote": ("meter", "tariff", "tender", "tenths", "price"),
              "totals": ("shift", "sales", "tenths", "cash")}.get(word, SALE)
     return None, typed(names, values)

@@ -24,7 +24,7 @@ def target_of(words):
     word, *values = words
     if word.removeprefix("find-") in LISTS:
         return f"/{word.removeprefix('find-')}?after={''.join(map(str, values))}"
-    return {"find-count": "/health", "find-meter": "/meters/{}", "find-last": "/meters/{}/last",
+    return {"find-health": "/health", "find-meter": "/meters/{}", "find-last": "/meters/{}/last",
             "find-quote": "/meters/{}/quote?tender={}", "find-sale": "/operators/{}/sales/{}",
             "find-totals": "/shifts/{}/totals"}[word].format(*values)
 
@@ -36,8 +36,8 @@ def reply_to(office, moment, words):
         return reply(status_of(refused[0]), refusal(*refused))
     if words[0] == "find-last":
         return reply(200, receipt_of(found), "text/plain")
-    if words[0] == "find-count":
-        found["format"] = FORMAT
+    if words[0] == "find-health":
+        found |= {"format": FORMAT, "last_write": "done"}
     return reply(200, in_json(found))
 
 
@@ -69,7 +69,7 @@ def sell_as_quoted(kept, office, meter, tender, ref):
     last = looked_up(kept, office, ("find-last", meter))
     same(last, replies_in(kept.ask("GET", f"/sales/{sold['number']}/receipt", b""))[0][2], "a last receipt")
     same(json.loads(looked_up(kept, office, ("find-meter", meter)))["sale"], sold["number"], "the last sale")
-    for words in (("find-sale", SELLER, ref), ("find-totals", sold["shift"]), ("find-count",)):
+    for words in (("find-sale", SELLER, ref), ("find-totals", sold["shift"]), ("find-health",)):
         looked_up(kept, office, words)
     return True
 
@@ -136,7 +136,7 @@ def check_lookups(folder):
         rows = len(office.sales)
         with Desk(file, 2) as desk:
             kept = Kept(desk)
-            for words in [("find-count",), *lookups(office, seed), *lists(office, seed)]:
+            for words in [("find-health",), *lookups(office, seed), *lists(office, seed)]:
                 looked_up(kept, office, words)
                 asked += 1
             same(rows_in(file, "SELECT count(*) FROM sales;"), [(rows,)], "the sales after look-ups")

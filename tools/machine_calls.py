@@ -343,7 +343,7 @@ def check_opened_again(folder, watcher):
         client.close()
         if served.ask("GET", "/sales/1")[0] != 200:
             raise SystemExit("wrong: a file that was opened again")
-        served.finish(said=b"stopped 16 Store\nopen\n")
+        served.finish(said=b"stopped 16 Store\n")
     found = watcher.calls()
     if found != (files_of(file), FIRST_SALT + 2, HAS + ["accept"] * 2):
         raise SystemExit(f"wrong: a file that was opened again: {found}")

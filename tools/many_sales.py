@@ -1,5 +1,6 @@
 """An office of many sales and shifts, whose rows another program wrote, and one of many meters: a part of
 tools/check_program. It is no script of its own."""
+import shutil
 from importlib.machinery import SourceFileLoader
 from importlib.util import module_from_spec, spec_from_loader
 
@@ -58,6 +59,20 @@ def export():
     return "".join(f"{line}\n" for line in lines).encode()
 
 
+def check_gaps(whole, file):
+    """The export of a file from which sales were deleted has each of the others once, on whatever page they are."""
+    shutil.copy(whole, file)
+    header, *sales = export().splitlines(True)
+    gone = set()
+    # A page begins behind the last sale of the one before it, and not at a number that it would have.
+    for numbers in ([5], [1000, 1001], [1], range(700, 1800)):
+        gone.update(numbers)
+        change(file, f"DELETE FROM sales WHERE number BETWEEN {numbers[0]} AND {numbers[-1]};")
+        left = header + b"".join(sale for number, sale in enumerate(sales, start=1) if number not in gone)
+        for words in (["report", "--kind", "sales"], ["list", "--at", AT, "sales"]):
+            expect(vend(words[0], "--file", str(file), *words[1:]), 0, left, b"")
+
+
 def report():
     lines = ["SHIFT 1 ann", "OPENED 2014-01-01T00:00:30Z", "CLOSED -"]
     for number in range(1, SALES + 1):
@@ -105,7 +120,7 @@ def sound(number, meters, shifts, sales):
 
 
 def check_many(folder):
-    """Papers of many sales; their export cut in each of its pages, and from a file of each format."""
+    """Papers of many sales; their export with gaps, cut in each of its pages, and from a file of each format."""
     file = folder / "many.db"
     prepare(file)
     expect(vend(*sell_words(file, "A-1")), 0, RECEIPT, b"")
@@ -127,6 +142,8 @@ def check_many(folder):
     with limited():
         for room in (40_000, 100_000, len(whole) - 1):
             same(run(folder, [*of, "sales"], room), Ran(1, whole[:room], b""), room)
+    change(file, "PRAGMA wal_checkpoint(TRUNCATE);")
+    check_gaps(file, folder / "gaps.db")
     audit = ["audit", "--file", str(file)]
     expect(vend(*audit), 0, sound(FORMAT, 2, SHIFTS + 1, SALES), b"")
     for number in range(1, FORMAT):

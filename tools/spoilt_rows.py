@@ -1,26 +1,36 @@
 """A row that is no office's, under every command that may read it: a part of tools/check_program. It is no
 script of its own.
 
-Each row of an office is spoilt by itself. A command that reads it (`READ_BY`, from docs/OFFICE.md: what each
+Each row of an office is spoilt by itself. A command that reads it (`commands`, from docs/OFFICE.md: what each
 request and each look-up looks at) is refused with 16, prints nothing and changes nothing; every other
-prints what it prints where no row is spoilt. Of the last sale it is the opening that is refused."""
+prints what it prints where no row is spoilt. Of the last sale it is the opening that is refused. A list
+whose second page has such a row prints the first one, and is refused behind it."""
 import shutil
 
 from no_offices import NO_OFFICE, rows_of
-from program import METER, OTHER_METER, change, expect, vend
+from program import METER, OTHER_METER, SPENT as MOVED_METER, change, expect, vend
 from shared import wrong
 
 AT = "1388534430"  # 2014-01-01
 LATER = "1391126430"  # thirty days later
+IN_2035 = "2051308800"  # 2035-01-02
 NEW_METER = "20000000008"
+PAGE = 100  # members of a list
 TARIFFS = {
     # `flat` has other steps from a day on; `later` has them from a day that has not come; `plain` has none.
     "tariffs": "name,steps,from\nflat,:100,\nflat,:200,2014-01-15\nlater,:100,\nlater,:300,2014-03-01\nplain,:50,\n",
     "meters": f"meter,base,tariff,key\n{METER},2014,flat,0000000000000000\n"
-              f"{OTHER_METER},2014,later,0000000000000000\n",
+              f"{OTHER_METER},2014,later,0000000000000000\n"
+              f"{MOVED_METER},2014,plain,0000000000000000\n",
     "new-tariff": "name,steps,from\nfresh,:100,\n",
     "new-meter": f"meter,base,tariff,key\n{NEW_METER},2014,plain,0000000000000000\n",
     "known-meter": f"meter,base,tariff,key\n{OTHER_METER},2014,later,0000000000000000\n",
+    "known-meters": f"meter,base,tariff,key\n{METER},2014,flat,0000000000000000\n"
+                    f"{OTHER_METER},2014,later,0000000000000000\n",
+    # Nothing is looked at behind a row that differs.
+    "other-key": f"meter,base,tariff,key\n{METER},2014,flat,0000000000000001\n"
+                 f"{OTHER_METER},2014,later,0000000000000000\n",
+    "known-tariff": "name,steps,from\nflat,:100,\n",
     "known-steps": "name,steps,from\nflat,:200,2014-01-15\n",
 }
 REFUSED = (1, b"", b"refused 16 Store\n")
@@ -35,6 +45,10 @@ SPOILT = {
     "plain-steps": "UPDATE tariff_steps SET price = 0 WHERE tariff = 'plain';",
     "last-id": f"UPDATE last_ids SET tid = 16777216 WHERE meter = '{METER}';",
     "month": f"UPDATE month_tenths SET tenths = -1 WHERE meter = '{METER}';",
+    # Of a meter that was moved: its base that it left, and the one that it has.
+    "left-id": f"UPDATE last_ids SET tid = 16777216 WHERE meter = '{MOVED_METER}' AND base = 2014;",
+    "moved-id": f"UPDATE last_ids SET tid = 16777216 WHERE meter = '{MOVED_METER}' AND base = 2035;",
+    "left-month": f"UPDATE month_tenths SET tenths = -1 WHERE meter = '{MOVED_METER}' AND month = 252;",
     # A sale adds to these, and looks at the sums.
     "totals": "UPDATE shift_totals SET sales = -7 WHERE shift = 1;",
     "closed-totals": "UPDATE shift_totals SET cash = -7 WHERE shift = 2;",
@@ -42,68 +56,99 @@ SPOILT = {
     "closed-shift": "UPDATE shifts SET operator = 'b b' WHERE number = 2;",
     "sale": "UPDATE sales SET tid = 16777216 WHERE number = 1;",
     "other-sale": "UPDATE sales SET digits = 'x' WHERE number = 2;",
+    "left-sale": "UPDATE sales SET rnd = 16 WHERE number = 4;",
     # An opening reads the last sale.
-    "last-sale": "UPDATE sales SET rnd = 16 WHERE number = 3;",
+    "last-sale": "UPDATE sales SET rnd = 16 WHERE number = 5;",
 }
-SALES = {"sale", "other-sale"}
+SALES = {"sale", "other-sale", "left-sale"}
 # The steps of a day are the latest that have begun.
 STEPS = {"flat-later", "later-steps", "later-later", "plain-steps"}
 
 
 def commands(file, texts):
     """Each command, and the rows that it reads of those that may be spoilt."""
-    at, now = ["--file", file, "--at", AT], ["--file", file, "--at", LATER]
+    at, now, late = (["--file", file, "--at", moment] for moment in (AT, LATER, IN_2035))
     old = ["--file", file]
     sell = ["sell", *now, "--operator", "ann", "--tender", "1000"]
     report = ["report", *old, "--kind"]
     yield [*sell, "--ref", "N-1", "--meter", METER], {"shift", "meter", "flat-later", "last-id", "month", "totals"}
     yield [*sell, "--ref", "N-1", "--meter", OTHER_METER], {"shift", "other-meter", "later-steps", "totals"}
     yield [*sell, "--ref", "N-1", "--meter", NEW_METER], {"shift"}
-    yield ["sell", *at, "--operator", "ann", "--ref", "A-1", "--meter", METER, "--tender", "1000"], {"sale"}
+    # Orders that come again, the second one after its shift was closed.
+    again = ["--tender", "1000", "--operator"]
+    yield ["sell", *at, *again, "ann", "--ref", "A-1", "--meter", METER], {"sale"}
+    yield ["sell", *now, *again, "bob", "--ref", "B-1", "--meter", OTHER_METER], {"other-sale"}
     yield ["offer", *now, "--meter", METER, "1000"], {"meter", "flat-later", "last-id", "month"}
     yield ["offer", *now, "--meter", OTHER_METER, "1000"], {"other-meter", "later-steps"}
+    yield ["offer", *late, "--meter", MOVED_METER, "1000"], {"plain-steps", "moved-id"}
+    yield ["offer", *at, "--meter", MOVED_METER, "1000"], {"plain-steps", "moved-id", "left-month"}
+    yield ["offer", *now, "--meter", NEW_METER, "1000"], set()
     yield ["shift", *now, "--operator", "ann", "open"], {"shift"}
     yield ["shift", *now, "--operator", "ann", "close"], {"shift"}
     yield ["shift", *now, "--operator", "bob", "open"], set()
     yield ["import", *now, "tariffs", texts["new-tariff"]], set()
     yield ["import", *now, "tariffs", texts["known-steps"]], {"flat-later"}
+    yield ["import", *now, "tariffs", texts["known-tariff"]], {"flat-steps"}
+    yield ["import", *now, "tariffs", texts["tariffs"]], STEPS | {"flat-steps"}
     yield ["import", *now, "meters", texts["new-meter"]], set()
     yield ["import", *now, "meters", texts["known-meter"]], {"other-meter"}
+    yield ["import", *now, "meters", texts["known-meters"]], {"meter", "other-meter"}
+    yield ["import", *now, "meters", texts["other-key"]], {"meter"}
+    yield ["tariff", *now, "--meter", METER, "--tariff", "flat"], {"meter"}
     yield ["base", *now, "--meter", METER, "--base", "2014"], {"meter"}
-    yield [*report, "shift", "--number", "1"], {"shift", "sale"}
+    yield [*report, "shift", "--number", "1"], {"shift", "sale", "left-sale"}
     yield [*report, "shift", "--number", "2"], {"closed-shift", "other-sale"}
     yield [*report, "totals", "--number", "1"], {"shift", "totals"}
+    yield [*report, "shift", "--number", "3"], set()
     yield [*report, "totals", "--number", "2"], {"closed-shift", "closed-totals"}
+    yield [*report, "totals", "--number", "3"], set()
     yield [*report, "receipt", "--number", "1"], {"sale"}
     yield [*report, "receipt", "--number", "2"], {"other-sale"}
+    yield [*report, "receipt", "--number", "3"], set()
     yield [*report, "sales"], SALES
     yield ["show", *now, "--meter", METER, "meter"], {"meter", "month", "last-id"}
+    yield ["show", *now, "--meter", OTHER_METER, "meter"], {"other-meter", "other-sale"}
+    yield ["show", *late, "--meter", MOVED_METER, "meter"], {"moved-id"}
+    yield ["show", *at, "--meter", MOVED_METER, "meter"], {"moved-id", "left-month"}
+    yield ["show", *now, "--meter", NEW_METER, "meter"], set()
     yield ["show", *now, "--meter", METER, "last"], {"meter", "last-id"}
     yield ["show", *now, "--meter", OTHER_METER, "last"], {"other-meter", "other-sale"}
+    yield ["show", *late, "--meter", MOVED_METER, "last"], {"moved-id"}
+    yield ["show", *now, "--meter", NEW_METER, "last"], set()
     yield ["show", *now, "--operator", "ann", "--ref", "A-1", "sale"], {"sale"}
+    yield ["show", *now, "--operator", "bob", "--ref", "A-1", "sale"], set()
     yield ["list", *now, "tariffs"], STEPS
     yield ["list", *now, "--after", "flat", "tariffs"], STEPS - {"flat-later"}
+    yield ["list", *now, "--after", "later", "tariffs"], {"plain-steps"}
+    # The latest steps have begun by then, and no others begin later.
+    yield ["list", *late, "--after", "flat", "tariffs"], {"later-later", "plain-steps"}
     yield ["list", *now, "meters"], {"meter", "other-meter"}
     yield ["list", *now, "--after", OTHER_METER, "meters"], {"meter"}
     yield ["list", *now, "shifts"], {"shift", "closed-shift", "totals", "closed-totals"}
     yield ["list", *now, "--after", "1", "shifts"], {"closed-shift", "closed-totals"}
+    yield ["list", *now, "--after", "2", "shifts"], set()
     yield ["list", *now, "sales"], SALES
-    yield ["list", *now, "--after", "1", "sales"], {"other-sale"}
+    yield ["list", *now, "--after", "1", "sales"], {"other-sale", "left-sale"}
+    yield ["list", *now, "--after", "4", "sales"], set()
 
 
 def office_in(folder):
-    """A file with two tariffs of three that change, two meters, a shift that is open with two sales to one
-    meter, and one that is closed with one to the other."""
+    """A file with two tariffs of three that change, three meters, a shift that is open with two sales to one
+    meter and two to one that was moved between them, and one that is closed with one to the third."""
     file, texts = folder / "whole.db", {}
     for name, text in TARIFFS.items():
         texts[name] = str(folder / f"{name}.csv")
         (folder / f"{name}.csv").write_text(text)
-    given = ["--file", str(file), "--at", AT]
+    given, late = ["--file", str(file), "--at", AT], ["--file", str(file), "--at", IN_2035]
+    to_moved = ["--operator", "ann", "--meter", MOVED_METER, "--tender", "1000"]
     for words in (["import", *given, "tariffs", texts["tariffs"]], ["import", *given, "meters", texts["meters"]],
                   ["shift", *given, "--operator", "ann", "open"], ["shift", *given, "--operator", "bob", "open"],
                   *(["sell", *given, "--operator", name, "--ref", ref, "--meter", meter, "--tender", "1000"]
                     for name, ref, meter in (("ann", "A-1", METER), ("bob", "B-1", OTHER_METER), ("ann", "A-2", METER))),
-                  ["shift", *given, "--operator", "bob", "close"]):
+                  ["shift", *given, "--operator", "bob", "close"],
+                  ["sell", *given, "--ref", "A-3", *to_moved],
+                  ["base", *late, "--meter", MOVED_METER, "--base", "2035"],
+                  ["sell", *late, "--ref", "A-4", *to_moved]):
         expect(vend(*words), 0, None, b"")
     change(file, "PRAGMA wal_checkpoint(TRUNCATE);")
     return file, texts
@@ -112,6 +157,21 @@ def office_in(folder):
 def end_of(words):
     ran = vend(*words)
     return ran.returncode, ran.stdout, ran.stderr
+
+
+def check_second_page(folder):
+    """A list of two pages, of which each has a spoilt row."""
+    file, texts = folder / "pages.db", folder / "many.csv"
+    texts.write_text("name,steps,from\n" + "".join(f"t{number:03},:100,\n" for number in range(PAGE + 1)))
+    expect(vend("import", "--file", str(file), "--at", AT, "tariffs", str(texts)), 0, None, b"")
+    change(file, "PRAGMA wal_checkpoint(TRUNCATE);")
+    words = ["list", "--file", str(file), "--at", AT]
+    whole = end_of([*words, "tariffs"])
+    first = b"".join(whole[1].splitlines(True)[:PAGE + 1])  # behind the names of the columns
+    for number, printed in ((PAGE, first), (PAGE - 1, b"")):
+        change(file, f"UPDATE tariff_steps SET price = 0 WHERE tariff = 't{number:03}';")
+        expect(vend(*words, "tariffs"), 1, printed, b"refused 16 Store\n")
+    expect(vend(*words, "--after", f"t{PAGE:03}", "tariffs"), 0, None, b"")
 
 
 def check_spoilt_rows(folder):
@@ -141,4 +201,5 @@ def check_spoilt_rows(folder):
                 refused += 1
                 if rows_of(file) != before[row]:
                     wrong(f"{row}: {words} was refused, and has changed the file")
+    check_second_page(folder)
     print(f"spoilt rows: {len(SPOILT)} under {place + 1} commands each, {refused} refused")

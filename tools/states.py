@@ -61,7 +61,8 @@ def check_states(shop):
     same(ran["desk"][1], f"127.0.0.1:8080 answers, with {len(shop.rows())} sales", "the desk")
     same(ran["sale"][1].split()[0], str(len(shop.rows())), "the last sale")
     same(ran["copy"][1].split()[0], newest, "the last copy")
-    check_metrics(shop, {"vend_desk_up": 1, "vend_sales": len(shop.rows()), "vend_status": 0})
+    check_metrics(shop, {"vend_desk_up": 1, "vend_last_write_failed": 0, "vend_sales": len(shop.rows()),
+                         "vend_status": 0})
     expect = lambda thing, state, words, *more: same(
         (lambda found: (found[0], words in found[1]))(shop.status_lines(*more)[thing]), (state, True),
         f"{thing}, {state}: {words}: {shop.status_lines(*more)[thing]}")
@@ -109,13 +110,30 @@ def check_states(shop):
             vend sell --file {OFFICE} --at {at} --operator ann --ref A-1 --meter {METER} --tender 10
             chown vend: {OFFICE}*; systemctl start vend""")
         expect("sale", "warning", words)
+    check_full_disk(shop, expect)
     shop.shell(f"systemctl stop vend; rm {OFFICE}*; mv /srv/others/put/office.db {OFFICE}; systemctl start vend")
     same([state for state, _ in shop.status_lines().values()], ["ok"] * 5, "a desk that is well again")
     for words in (["--other"], ["--room"], ["--room", "much"], ["--office", "none"]):
         shop.ask("vend-status", *words, status=3)
-    print("vend-status: a desk that is well, is stopped, cannot open its file, waits; no sale, one that is "
-          "later than now or long ago; copies that are old or none; room that is little or none; a certificate that ends "
-          "soon, has ended, signs any name or is missing; as metrics", flush=True)
+    print("vend-status: a desk that is well, is stopped, cannot open its file, waits, could not write; no sale, one "
+          "that is later than now or long ago; copies that are old or none; room that is little or none; a certificate "
+          "that ends soon, has ended, signs any name or is missing; as metrics", flush=True)
+
+
+def check_full_disk(shop, expect):
+    """A disk that is full at a sale: the desk answers, and tells that it was not written."""
+    folder = OFFICE.rpartition("/")[0]
+    shop.shell(f"systemctl stop vend; mount -t tmpfs -o size=700k,mode=700 tmpfs {folder}; chown vend: {folder}; "
+               "systemctl start vend")
+    shop.open_office()
+    expect("desk", "ok", "answers, with 0 sales")
+    sold = 0
+    while shop.web("/api/sales", CASHIER, NAME, "--data",
+                   f'{{"meter":"{METER}","operator":"ann","ref":"R-{sold}","tender":10}}')[0] == 200:
+        sold += 1
+    expect("desk", "warning", f"answers, with {sold} sales, but the last change was not written")
+    check_metrics(shop, {"vend_desk_up": 1, "vend_last_write_failed": 1, "vend_sales": sold}, 2)
+    shop.shell(f"systemctl stop vend; umount {folder}; systemctl start vend")
 
 
 def check_metrics(shop, wanted, status=0):

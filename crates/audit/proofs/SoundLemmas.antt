@@ -26,7 +26,7 @@ use Rattle.audit_rows.specs.declared.finding.AuditFault.{AuditFault}
 use Rattle.audit_rows.specs.declared.finding.AuditFault.TheVariants.{Failed, Found, NoOffice}
 use Rattle.audit_rows.specs.declared.finding.Finding.{Finding}
 use Rattle.audit_rows.specs.declared.office_rows.OfficeRows.{OfficeRows}
-use Rattle.audit_lists.specs.Ties.{IsFirst}
+use Rattle.audit_lists.specs.Ties.{IsFirst, Says}
 use Rattle.audit_lists.specs.Tokens.{TellsUnwritten, written_tie}
 use Rattle.audit_lists.specs.reached.Finds.{AreRowsOfOffice, FindsByRequests}
 use Rattle.audit_lists.specs.declared.fault.OfficeFault.{OfficeFault}
@@ -130,7 +130,7 @@ module _ {T : Type 0} (forwards : T → BlockFunction) (transform : Option (Bor 
     passed_by (Err e) has = tt
 
     -- if it did not write one, what is told of that sale is told of rows that requests lead to
-    pub told_by : {U : Type 0} (answer : Result U OfficeFault) → IfErr answer (TellsUnwritten (forwards t.now) rows)
+    pub told_by : {U : Type 0} (answer : Result U OfficeFault) → IfErr answer (Says (TellsUnwritten (forwards t.now) rows))
         → IfErr answer (TellsForged (given_by forwards transform) rows)
     told_by (Ok x) told = tt
     told_by (Err e) told = inr (forwards t.now, ap (given_by forwards) is, reached, told)

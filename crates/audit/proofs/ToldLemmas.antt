@@ -1,5 +1,5 @@
 -- The format that is told, and what a fault says of the database.
-use Rattle.std.proofs.Common.{◌≡◌, ◌≢◌, ◌≤◌, ℕ, zero, suc, false, true, Option, None, Some, Result, Ok, Err, IfOk, nat_eq, inl, inr, refl, sym, ap, subst, arith}
+use Rattle.std.proofs.Common.{◌≡◌, ◌≢◌, ◌≤◌, ℕ, zero, suc, false, true, Option, None, Some, Result, Ok, Err, IfOk, codes, nat_eq, inl, inr, refl, sym, ap, subst, arith}
 use Rattle.std.specs.Option.{option_eq}
 use Rattle.std.proofs.lemmas.Bool.{both_ways, le-leb, true_from_ne_false}
 use Rattle.std.proofs.lemmas.Bool.Decides.{nat_tests}
@@ -10,16 +10,19 @@ use Rattle.sqlite.specs.State.{HasCleanDisk, IsUnchanged, State, Survives}
 use Rattle.sqlite.proofs.Callers.{unchanged_then}
 use Rattle.sqlite_rules.specs.Lists.{Has as Member}
 use Rattle.one_table.specs.ReadsOnly.{ReadsOnly}
-use Rattle.office_rules.specs.Office.{Office}
+use Rattle.office_rules.specs.Office.{Office, empty_office}
+use Rattle.office_rules.proofs.OfficeLemmas.{empty_is_office}
 use Rattle.book_tables.specs.format.Format.{HasFormat, IsFormatOf, TellsFormat}
 use Rattle.book_tables.specs.format.Making.{IsSoundOfFormat}
-use Rattle.book_tables.specs.Holds.{HasOfficeOf, IsKept, StandsFor}
+use Rattle.book_tables.specs.Holds.{HasOfficeOf, IsKept, StandsFor, rows_in}
 use Rattle.book_tables.specs.Kept.{about_kept, kept}
-use Rattle.book_tables.specs.reading.Reading.{FailsToReadOf, HasTable, ReadsTable, TableHolds}
-use Rattle.book_tables.specs.row.Rows.{present_format}
+use Rattle.book_tables.specs.reading.Reading.{AreOfOffice, FailsToReadOf, HasTable, ReadsTable, TableHolds}
+use Rattle.book_tables.specs.row.Rows.{Rows, about_rows, present_format}
+use Rattle.book_tables.specs.writing.Edited.{no_rows}
 use Rattle.book_tables.specs.declared.error.TableError.{TableError}
 use Rattle.book_tables.specs.declared.error.TableError.TheVariants as table
 use Rattle.book_tables.proofs.HoldsLemmas.{of_upto, one_format}
+use Rattle.book_tables.proofs.WritingLemmas.EditLemmas.{no_members}
 use Rattle.audit_rows.specs.AllRows.{HasTablesOf, IsReadAs}
 use Rattle.audit_rows.specs.Breaks.{Breaks}
 use Rattle.audit_rows.specs.Tables.{tables_of}
@@ -44,6 +47,15 @@ tells_has (suc n) db some tells = tells
 pub has_tells : (n : ℕ) (db : Database) → HasFormat db n → TellsFormat n db
 has_tells zero db has = tt
 has_tells (suc n) db has = has
+
+-- the row of a format is that of the format that is told
+told_row : (n : ℕ) (db : Database) → 1 ≤ n → HasFormat db n → rows_in db (codes "about") ≡ about_rows n
+told_row zero db some has = absurd (omega (arith, some))
+told_row (suc n) db some has = has
+
+-- what is known of a database without a format: it stands for no office
+abbrev pub FormatLaw : Type 0
+FormatLaw = (db : Database) (o : Office) → HasNoFormat db → StandsFor db o → ⊥
 
 -- what is known of a finding implies something else
 pub stops_more : (P Q : Finding → Database → Type 0) (old new : State) (e : AuditFault) → ((f : Finding) → P f old.now → Q f old.now) → StopsBy P old new e
@@ -72,31 +84,37 @@ module _ (n : ℕ) (some : 1 ≤ n) (known : n ≤ present_format) where
       let same : nat_eq n n ≡ false = subst (λ (o : Option ℕ). option_eq nat_eq o (Some n) ≡ false) ((is n (omega (arith, known))).1 here) other in
       absurd (let e : n ≢ n = grind (arith, nat_tests) in e refl)
 
+  -- where its rows are no office's, it tells none either
+  none_held : (db : Database) → IsKept db.schema about_kept → HasOfficeOf n db.schema
+      → ((rows : Rows) → TableHolds about_kept db rows → ¬ AreOfOffice rows) → HasNoFormat db
+  none_held db is_kept has none m known_m has_m tells =
+      let here = tells_has n db some (subst (λ (k : ℕ). TellsFormat k db) (one_format db.schema m n known_m known has_m has) tells) in
+      none no_rows (is_kept, (n, told_row n db some here)) (empty_office, empty_is_office, no_members)
+
   -- or it is not read
-  pub told_stops : (Says : Finding → Database → Type 0) {T U : Type 0} {old new : State} (e : TableError) (fault : AuditFault) → fault ≡ cause_of e
+  pub told_stops : FormatLaw → (Says : Finding → Database → Type 0) {T U : Type 0} {old new : State} (e : TableError) (fault : AuditFault) → fault ≡ cause_of e
       → ReadsTable {T = T} about_kept old new (Err e)
       → ReadsOnly {T = U} (IsSoundOfFormat n) IsUnchanged (StopsBy Says) old new (Err fault)
-  told_stops Says {old = old} {new = new} e fault is this = record {
+  told_stops law Says {old = old} {new = new} e fault is this = record {
     same = λ _ _. tt;
     kept = λ clean has. this.kept clean (about_there old has);
     mode = this.mode;
-    faults = λ clean has. subst (StopsBy Says old new) (sym is) (as_told e (this.faults clean (about_there old has)));
+    faults = λ clean has. subst (StopsBy Says old new) (sym is) (as_told has e (this.faults clean (about_there old has)));
     survives = λ has. this.survives (about_there old has);
   }
     where
-      as_told : (e : TableError) → FailsToReadOf (TableHolds about_kept) old new e → StopsBy Says old new (cause_of e)
-      as_told (table.Database e) why = why
-      as_told table.RowOfNoOffice why = inr (refl, why.1)
+      as_told : IsSoundOfFormat n old → (e : TableError) → FailsToReadOf (TableHolds about_kept) old new e → StopsBy Says old new (cause_of e)
+      as_told has (table.Database e) why = why
+      as_told has table.RowOfNoOffice why =
+          let was_open = why.1.0.was_open in
+          let none = none_held old.now (about_there old has was_open) (has was_open).1 why.0 in
+          ((none, λ o. law old.now o none), why.1)
 
 -- ---- the rows, after the format
 
 -- what is known of a row that is none of an office's, and of tables of no format
 abbrev pub RowLaw : Type 0
 RowLaw = (n : ℕ) (f : Finding) (db : Database) (o : Office) → Breaks (tables_of n) f db → StandsFor db o → ⊥
-
--- what is known of a database without a format: it stands for no office
-abbrev pub FormatLaw : Type 0
-FormatLaw = (db : Database) (o : Office) → HasNoFormat db → StandsFor db o → ⊥
 
 module _ (n : ℕ) (some : 1 ≤ n) (known : n ≤ present_format) (old mid new : State) (r : Result OfficeRows AuditFault)
     (first : ReadsOnly {T = Unit {0}} (IsSoundOfFormat n) IsUnchanged (StopsBy (λ _ _. ⊥)) old mid (Ok tt))

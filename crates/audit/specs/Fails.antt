@@ -23,17 +23,17 @@ use Rattle.audit_rows.specs.declared.finding.AuditFault.TheVariants.{Failed, Fou
 use Rattle.audit_rows.specs.declared.finding.Finding.{Finding}
 use Rattle.audit_rows.specs.declared.office_rows.OfficeRows.{OfficeRows}
 use Rattle.audit_lists.specs.Told.{BreaksOffice}
-use Rattle.audit_lists.specs.Ties.{IsFirst}
+use Rattle.audit_lists.specs.Ties.{IsFirst, Says}
 use Rattle.audit_lists.specs.Tokens.{TellsUnwritten, written_tie}
 use Rattle.audit_lists.specs.reached.Finds.{AreRowsOfOffice, FindsByRequests, TellsUnreached}
 use Rattle.audit_lists.specs.declared.fault.OfficeFault.{OfficeFault}
 use Rattle.audit_lists.specs.declared.fault.OfficeFault.TheVariants as office
 use Rattle.audit.specs.Shown.{AreOfficeRows, IsToldAs, TellsOwn}
 
--- what is told of a fault of the tables
+-- what is told where the tables do not tell a format: a row that no office has tells none
 abbrev pub cause_of : TableError → AuditFault
 cause_of (table.Database e) = Failed e
-cause_of table.RowOfNoOffice = Failed (SqliteFailure OutOfMemory)
+cause_of table.RowOfNoOffice = NoOffice
 
 -- a fault of the rows, as one of the audit
 abbrev pub fault_of : OfficeFault → AuditFault
@@ -88,7 +88,7 @@ abbrev pub TellsForged : Option BlockFunction → OfficeRows → OfficeFault →
 TellsForged given r fault =
     TellsUnreached r fault
     ⊎ ((forward : BlockFunction) × (given ≡ Some forward)
-    × ((o : Office) → AreRowsOfOffice r o → IsPlausible o) × TellsUnwritten forward r fault)
+    × ((o : Office) → AreRowsOfOffice r o → IsPlausible o) × Says (TellsUnwritten forward r) fault)
 
 -- ---- why an audit stops
 

@@ -6,8 +6,10 @@ ghost use Rattle.one_table.specs.Over.{Over};
 ghost use Rattle.one_table.specs.ReadsOnly.{ReadsOnly};
 ghost use Rattle.book_tables.specs.format.Making.{IsSoundOfFormat};
 ghost use Rattle.book_tables.specs.row.Rows.{present_format};
-ghost use Rattle.vend_core.specs.Law.Reached.{IsPlausible};
+ghost use Rattle.vend_core.specs.Law.Reached.{HasTokensOf, IsPlausible};
 ghost use Rattle.office_rules.specs.Office.{Office};
+ghost use Rattle.audit_lists.specs.Ties.{Says};
+ghost use Rattle.audit_lists.specs.Tokens.{TellsUnwritten};
 ghost use Rattle.audit_lists.specs.reached.Finds.{AreRowsOfOffice};
 ghost use Rattle.audit.specs.Audited.{IsAuditOf, IsSound};
 ghost use Rattle.audit.specs.Fails.{AreWritten, Denies, StopsBy, TellsForged, given_by};
@@ -15,13 +17,28 @@ ghost use Rattle.audit.specs.Fails.{AreWritten, Denies, StopsBy, TellsForged, gi
 use crate::audited::{Audited, counted, no_tables};
 use crate::following::{Follows, Part};
 use crate::reading::{fault_of, followed_rows, known_format};
-use audit_lists::{OfficeFault, honest_law, test_reached, test_tokens, tokens_law};
+use audit_lists::{OfficeFault, honest_law, meter_places, test_reached, test_tokens, tokens_law};
 use audit_rows::{AuditFault, OfficeRows};
 use kept_order::{KeepsOrder, connection_order_law};
 use sqlite::{Alter, Connection};
 use std::alloc::Global;
 use sts_token::BlockTransform;
 use vend_core::reached_law;
+
+// Nothing where the transform wrote the tokens of the office of these rows.
+fn test_written<T: BlockTransform>(
+    alloc: Global,
+    transform: &T,
+    rows: &OfficeRows,
+) -> Result<(), OfficeFault>
+    ensures passes { OnOk result ((o : Office) → AreRowsOfOffice rows.now o
+        → HasTokensOf (T.forwards transform.now) o) }
+    ensures found { IfErr result (Says (TellsUnwritten (T.forwards transform.now) rows.now)) }
+{
+    let meters = meter_places(alloc, rows)?;
+    test_tokens(transform, rows, &meters)?;
+    Ok(())
+}
 
 // Nothing where requests may have led to the office of these rows, and where the transform that is
 // given, if one is, wrote its tokens.
@@ -39,7 +56,7 @@ fn test_forged<T: BlockTransform, F: Follows>(
     test_reached(alloc, rows)?;
     follower.passed(Part::Requests);
     match transform {
-        Some(transform) => test_tokens(alloc, transform, rows),
+        Some(transform) => test_written(alloc, transform, rows),
         None => Ok(()),
     }
 }

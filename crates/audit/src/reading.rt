@@ -22,15 +22,13 @@ use sqlite::{Alter, Connection, Error, ErrorCode, MemStore};
 use sqlite_schema::schema::Schema;
 use std::alloc::Global;
 
-// What is told of a fault of the tables.
+// What is told where the tables do not tell a format.
 fn cause_of(error: TableError) -> AuditFault
     ensures { result ≡ cause_of error }
 {
     match error {
         TableError::Database(error) => AuditFault::Failed(error),
-        TableError::RowOfNoOffice => {
-            AuditFault::Failed(Error::SqliteFailure(ErrorCode::OutOfMemory))
-        }
+        TableError::RowOfNoOffice => AuditFault::NoOffice,
     }
 }
 

@@ -1,5 +1,5 @@
 -- The members of an office keep the rules that tie them.
-use Rattle.std.proofs.Common.{◌≡◌, ◌≢◌, ◌<◌, ◌+◌, ◌≤◌, ◌-◌, ℕ, zero, suc, Bool, true, false, List, [], Option, Some, slice_get, inr, refl, sym, ap, subst, ◌∙◌, ◌++◌, arith, map}
+use Rattle.std.proofs.Common.{◌≡◌, ◌≢◌, ◌<◌, ◌≤◌, ◌-◌, ℕ, zero, suc, Bool, true, false, List, [], Option, Some, slice_get, inr, refl, sym, ap, subst, ◌∙◌, ◌++◌, arith, map}
 use Rattle.std.specs.Prelude.{All, AllPairs, is_some, length, if◌then◌else◌}
 use Rattle.std.proofs.lemmas.Option.{same_Some, slice_get_within}
 use Rattle.sts_fields.specs.Base.{year_of}

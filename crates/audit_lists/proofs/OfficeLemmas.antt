@@ -1,5 +1,5 @@
 -- The office whose members the rows are that keep the rules that tie them.
-use Rattle.std.proofs.Common.{◌≡◌, ◌≢◌, ◌<◌, ◌≤◌, ◌-◌, ◌^◌, ℕ, suc, Bool, true, List, [], Option, Some, None, slice_get, inl, inr, refl, sym, ap, subst, ◌∙◌, ◌++◌, arith, map}
+use Rattle.std.proofs.Common.{◌≡◌, ◌≢◌, ◌<◌, ◌≤◌, ◌-◌, ℕ, suc, Bool, true, List, [], Option, Some, None, slice_get, inl, inr, refl, sym, ap, subst, ◌∙◌, ◌++◌, arith, map}
 use Rattle.std.specs.Prelude.{◌↔◌, AllPairs, ◌⊎◌, Contains, IsSome, is_some, length, if◌then◌else◌}
 use Rattle.std.proofs.lemmas.Bool.{cases_lt}
 use Rattle.std.proofs.lemmas.Option.{none-some, same_Some}

@@ -44,25 +44,25 @@ module _ {T : Type 0} (key : T → Key) where
       pub is_new : IsNew key rows at row
       is_new j low has = none_under m rows at are (owned_key k) new j has.0 low has.1 (has.2 ∙ sym is)
 
-      module _ (n : BTreeMap LentKey ℕ) (put : Updates lent_cmp m n k (Some at)) (q : Key) where
-        fits : (b : Bool) → same_key (owned_key k) q ≡ b → (old now : Option ℕ) → now ≡ cond b (Some at) old
-            → MatchOption old (NoneAt rows at q) (SomeAt rows at q) → MatchOption now (NoneAt rows (at + 1) q) (SomeAt rows (at + 1) q)
-        fits true same old None e was = absurd (none-some at e)
-        fits true same old (Some i) e was = subst (SomeAt rows (at + 1) q) (sym (same_Some i at e))
-            (omega arith, (row, there, sym is ∙ one_key (owned_key k) q same))
-        fits false other None None e was = λ i r below there_r same. elim (cases_lt i at) [
-          | inl before ↦ was i r before there_r same
-          | inr least ↦
-              let last : i ≡ at = omega (arith, below, least) in
-              let r_is : r ≡ row = same_Some r row (sym there_r ∙ ap (slice_get rows) last ∙ there) in
-              false≢true (sym other ∙ key_same (owned_key k) q (is ∙ ap key (sym r_is) ∙ same))
-        ]
-        fits false other None (Some i) e was = absurd (none-some i (sym e))
-        fits false other (Some j) None e was = absurd (none-some j e)
-        fits false other (Some j) (Some i) e was =
-            let same = same_Some i j e in
-            subst (SomeAt rows (at + 1) q) (sym same) (let low = was.0 in omega (arith, low), was.1)
+    module _ (n : BTreeMap LentKey ℕ) (put : Updates lent_cmp m n k (Some at)) (q : Key) where
+      fits : (b : Bool) → same_key (owned_key k) q ≡ b → (old now : Option ℕ) → now ≡ cond b (Some at) old
+          → MatchOption old (NoneAt rows at q) (SomeAt rows at q) → MatchOption now (NoneAt rows (at + 1) q) (SomeAt rows (at + 1) q)
+      fits true same old None e was = absurd (none-some at e)
+      fits true same old (Some i) e was = subst (SomeAt rows (at + 1) q) (sym (same_Some i at e))
+          (omega arith, (row, there, sym is ∙ one_key (owned_key k) q same))
+      fits false other None None e was = λ i r below there_r same. elim (cases_lt i at) [
+        | inl before ↦ was i r before there_r same
+        | inr least ↦
+            let last : i ≡ at = omega (arith, below, least) in
+            let r_is : r ≡ row = same_Some r row (sym there_r ∙ ap (slice_get rows) last ∙ there) in
+            false≢true (sym other ∙ key_same (owned_key k) q (is ∙ ap key (sym r_is) ∙ same))
+      ]
+      fits false other None (Some i) e was = absurd (none-some i (sym e))
+      fits false other (Some j) None e was = absurd (none-some j e)
+      fits false other (Some j) (Some i) e was =
+          let same = same_Some i j e in
+          subst (SomeAt rows (at + 1) q) (sym same) (let low = was.0 in omega (arith, low), was.1)
 
-        -- once the row's place is put in, the places are those of the rows with it among them
-        pub places_more : MatchOption (place_under n q) (NoneAt rows (at + 1) q) (SomeAt rows (at + 1) q)
-        places_more = fits (same_key (owned_key k) q) refl (place_under m q) (place_under n q) (put_place m n k at put q) (are q)
+      -- once the row's place is put in, the places are those of the rows with it among them
+      pub places_more : MatchOption (place_under n q) (NoneAt rows (at + 1) q) (SomeAt rows (at + 1) q)
+      places_more = fits (same_key (owned_key k) q) refl (place_under m q) (place_under n q) (put_place m n k at put q) (are q)

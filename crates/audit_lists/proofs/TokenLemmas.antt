@@ -1,5 +1,5 @@
 -- The meters of an office's rows by their places, and what their keys say of the tokens of its sales.
-use Rattle.std.proofs.Common.{◌≡◌, ◌≢◌, ◌<◌, ◌≤◌, ◌∙◌, ℕ, List, Some, length, map, sym, ap, subst, arith}
+use Rattle.std.proofs.Common.{◌≡◌, ◌≢◌, ◌<◌, ◌∙◌, ℕ, List, Some, length, sym, ap, subst, arith}
 use Rattle.std.specs.Prelude.{◌↔◌, slice_get}
 use Rattle.std.proofs.lemmas.Option.{same_Some, slice_get_within}
 use Rattle.sts_token.specs.Fields.{AreFields, TokenFields}
@@ -12,17 +12,12 @@ use Rattle.office_rules.specs.declared.office.sale.Sale.{Sale}
 use Rattle.book_tables.specs.declared.reading.pages.MeterRow.{MeterRow}
 use Rattle.audit_rows.specs.Entries.{meter_entry}
 use Rattle.audit_rows.specs.declared.finding.Finding.{Finding}
-use Rattle.audit_rows.specs.declared.finding.Rule.{Rule}
 use Rattle.audit_rows.specs.declared.office_rows.OfficeRows.{OfficeRows}
-use Rattle.audit_lists.specs.Keys.{IsNew, Key}
 use Rattle.audit_lists.specs.RowKeys.{meter_key, name_key}
-use Rattle.audit_lists.specs.Tables.{listed_meters}
-use Rattle.audit_lists.specs.Ties.{Each, IsFirst, Says, once}
-use Rattle.audit_lists.specs.Tokens.{TellsUnwritten, written_tie}
-use Rattle.audit_lists.specs.declared.fault.OfficeFault.{OfficeFault}
-use Rattle.audit_lists.specs.declared.fault.OfficeFault.TheVariants as fault
+use Rattle.audit_lists.specs.Ties.{IsFirst}
+use Rattle.audit_lists.specs.Tokens.{written_tie}
 use Rattle.audit_lists.specs.reached.Finds.{AreRowsOfOffice}
-use Rattle.audit_lists.proofs.ListLemmas.{all_at, at_pairs, contains_map, map_at, map_contains}
+use Rattle.audit_lists.proofs.ListLemmas.{all_at, contains_map, map_contains}
 
 -- fields are the same where the three numbers are, and only there
 pub same_fields : (rnd tid tenths : ℕ) (read f : TokenFields) → record { rnd = rnd; tid = tid; tenths = tenths } ≡ read → rnd ≡ f.rnd → tid
@@ -42,12 +37,6 @@ pub are_fields : (o : Office) (s : Sale) → IsSaleRow o s → AreFields (fields
 are_fields o s row = record { rnd = row.rnd; tid = let last = row.tid in omega (arith, last); tenths = row.tenths }
 
 module _ (r : OfficeRows) (o : Office) (are : AreRowsOfOffice r o) where
-  -- no two meters have one number
-  pub meters_new : Each (IsNew meter_key r.meters.items) r.meters.items
-  meters_new i row there j low (other, there_o, same) =
-      at_pairs (λ (a b : List ℕ × Meter). a.0 ≢ b.0) (map meter_entry r.meters.items) are.members.meters_once j i (meter_entry other) (meter_entry row) low
-      (map_at meter_entry r.meters.items j other there_o) (map_at meter_entry r.meters.items i row there) (ap (λ (k : Key). k.0) same)
-
   -- the meter that a sale names is that at the place of its number
   pub meter_is : (s : Sale) (i : ℕ) (m : MeterRow) → slice_get r.meters.items i ≡ Some m → m.number ≡ s.meter → o.meters s.meter ≡ Some m.meter
   meter_is s i m there named =
@@ -67,12 +56,6 @@ module _ (r : OfficeRows) (o : Office) (are : AreRowsOfOffice r o) where
   no_meter forward s none w =
       let at = map_contains meter_entry r.meters.items (s.meter, w.meter) ((are.members.meters s.meter w.meter).0 w.meter_is) in
       none at.0 at.1 (slice_get_within r.meters.items at.0 at.1 at.2) at.2 (ap (λ (p : List ℕ × Meter). name_key p.0) at.3)
-
--- two meters of one number are not found
-pub tells_twice : (forward : BlockFunction) (r : OfficeRows) (rule : Rule) (e : OfficeFault) → 1 ≤ length r.sales.items
-    → Says (IsFirst (once (listed_meters r.meters.items) rule meter_key)) e → TellsUnwritten forward r e
-tells_twice forward r rule (fault.Found f) some (place, row, first, named) = λ o are. absurd (first.breaks (meters_new r o are place row first.there))
-tells_twice forward r rule fault.Memory some says = some
 
 -- of an office whose tokens are written nothing is found
 pub none_unwritten : (forward : BlockFunction) (o : Office) (f : Finding) → HasTokensOf forward o → IsFirst (written_tie forward o) f → ⊥

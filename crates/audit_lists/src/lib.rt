@@ -9,7 +9,7 @@ pub use fault::OfficeFault;
 pub use laws::office_law;
 pub use office::test_office;
 pub use reached::{honest_law, test_reached};
-pub use tokens::{test_tokens, tokens_law};
+pub use tokens::{MeterPlaces, meter_places, test_tokens, tokens_law};
 
 mod bases;
 mod fault;

@@ -7,7 +7,7 @@ ghost use Rattle.audit_lists.specs.Ties.{Each, IsFirst, IsFirstBut, Says, listed
 use crate::fault::{OfficeFault, found};
 use crate::key::{KeyOf, LentKey};
 use audit_rows::{Finding, Named, Rule};
-use std::alloc::Global;
+use std::alloc::{AllocError, Global};
 use std::collections::BTreeMap;
 
 /// The places of some rows, from 0, under their keys.
@@ -43,6 +43,23 @@ pub(crate) fn places_of<'a, T: Named, K: KeyOf<T>>(
             Ok(Some(_earlier)) => return Err(OfficeFault::Found(found(row, rule))),
             Err(_) => return Err(OfficeFault::Memory),
         }
+    }
+    Ok(places)
+}
+
+/// The places of rows, of which some may have one key.
+///
+/// # Errors
+/// Want of memory.
+pub(crate) fn all_places_of<'a, T, K: KeyOf<T>>(
+    alloc: Global,
+    rows: &'a [T],
+) -> Result<Places<'a>, AllocError>
+    ensures { IfOk result (λ places. ArePlaces K.key places rows.now (length rows.now)) }
+{
+    let mut places = BTreeMap::new(alloc);
+    'rows: for at in 0..rows.len() {
+        places.insert(K::of(&rows[at]), at)?;
     }
     Ok(places)
 }

@@ -14,7 +14,7 @@ use crate::totals::summed::Summed;
 use audit_rows::{Finding, OfficeRows, Rule};
 use book_tables::Gathered;
 use office_rules::Sale;
-use std::alloc::Global;
+use std::alloc::{AllocError, Global};
 
 mod summed;
 
@@ -36,16 +36,13 @@ pub(crate) fn test_totals(alloc: Global, rows: &OfficeRows) -> Result<(), Office
 }
 
 // The running totals of the sales.
-fn gathered_of(alloc: Global, sales: &[Sale]) -> Result<Gathered, OfficeFault>
+fn gathered_of(alloc: Global, sales: &[Sale]) -> Result<Gathered, AllocError>
     requires { length sales.now ≤ greatest_count }
-    ensures gathered { IfOk result (IsGathered sales.now) }
-    ensures memory { IfErr result (λ fault. fault ≡ OfficeFault.Memory) }
+    ensures { IfOk result (IsGathered sales.now) }
 {
     let mut gathered = Gathered::new(alloc);
-    match gathered.add_all(sales) {
-        Ok(()) => Ok(gathered),
-        Err(_) => Err(OfficeFault::Memory),
-    }
+    gathered.add_all(sales)?;
+    Ok(gathered)
 }
 
 // Nothing where the rows of a table are the totals of the sales; or the first that breaks a rule.

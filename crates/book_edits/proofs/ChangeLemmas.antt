@@ -25,7 +25,7 @@ use Rattle.office_rules.specs.declared.office.sale.Sale.{Sale}
 use Rattle.office_rules.specs.declared.office.shift.Shift.{Shift}
 use Rattle.book_tables.specs.writing.Edited.{edited, is_sale}
 use Rattle.book_tables.specs.writing.Failing.{End, FailsToMergeAll, FailsToWriteAll}
-use Rattle.book_tables.specs.writing.Writes.{row_writes, sale_writes, writes_of}
+use Rattle.book_tables.specs.writing.Writes.{AreCarriedOut, row_writes, sale_writes, writes_of}
 use Rattle.book_tables.specs.Holds.{HasOffice, HoldsMembers, table_names}
 use Rattle.book_tables.specs.reading.Reading.{HasAllTables}
 use Rattle.book_tables.specs.row.Rows.{Rows, present_format}
@@ -35,9 +35,10 @@ use Rattle.book_tables.specs.declared.error.TableError.{TableError}
 use Rattle.book_tables.specs.declared.row.totals.SaleTotals.{SaleTotals}
 use Rattle.book_tables.specs.writing.Keeping.{AreInOrder, KeepsRows, Keys}
 use Rattle.book_tables.proofs.WritingLemmas.KeepingLemmas.{keeps_then}
-use Rattle.book_states.specs.Changing.{IsCounted, MakesAsComputed, MakesEdit, MakesRows, edit_keys, row_keys}
+use Rattle.book_states.specs.Changing.{IsCarriedOut, IsCounted, MakesAsComputed, MakesEdit, MakesRows, StoresEdit, StoresImport, edit_keys, row_keys}
 use Rattle.book_states.specs.Failing.{FailsToMakeEdit}
 use Rattle.book_states.specs.Others.{SameOthers}
+use Rattle.book_edits.proofs.StoredLemmas.{stores_meter, stores_more, stores_steps, stores_tariff}
 
 -- the rows after an edit that its office decided are the members of the office after it
 abbrev pub KeepsMembers : Type 0
@@ -65,22 +66,26 @@ same_then s old mid new (t ∷ tables) first second = (λ none. second.0 none �
 -- ---- one statement
 
 -- what the edit makes of the members is told, and the write leaves the rest
-makes : (edit : Edit) (names : List (List ℕ)) (old new : State) → AreOurs names → WritesOnly names old new
+makes : (edit : Edit) (names : List (List ℕ)) (old new : State) → AreOurs names → WritesOnly names old new → IsCarriedOut (writes_of edit) old.now new.now
+    → StoresEdit edit old.now new.now
     → (AreInOrder table_names old.now → KeepsRows (edit_keys edit) old.now new.now)
     → ((o : Office) → IsOffice o → Meets edit o → HoldsMembers old.now o → HoldsMembers new.now (applied edit o)) → MakesEdit edit old.now new.now
-makes edit names old new ours only kept members = record {
+makes edit names old new ours only carried stored kept members = record {
   members = members;
+  carried = carried;
+  stored = stored;
   kept = kept;
   schema = only.schema;
   others = same_in old.now.schema names old.now.trees new.now.trees ours old.now.schema.tables only.tables;
   sound = only.sound;
 }
 
-makes_row : (row : Row) (names : List (List ℕ)) (old new : State) → AreOurs names → WritesOnly names old new
+makes_row : (row : Row) (names : List (List ℕ)) (old new : State) → AreOurs names → WritesOnly names old new → StoresImport (row ∷ []) old.now new.now
     → KeepsRows (flat_map row_keys (row ∷ [])) old.now new.now
     → ((o : Office) → MeetsRow row o → HoldsMembers old.now o → HoldsMembers new.now (with_row row o)) → MakesRows (row ∷ []) old.now new.now
-makes_row row names old new ours only kept members = record {
+makes_row row names old new ours only stored kept members = record {
   members = λ o meets held. members o meets.0 held;
+  stored = stored;
   kept = kept;
   schema = only.schema;
   others = same_in old.now.schema names old.now.trees new.now.trees ours old.now.schema.tables only.tables;
@@ -98,16 +103,16 @@ module _ (law : KeepsMembers) (old new : State) where
   -- ---- sales and shifts
 
   -- a sale that is added with its totals makes the edit that adds it
-  pub makes_sale : (s : Sale) → AddsSold s old new → MakesEdit (edits.AddSale s) old.now new.now
-  makes_sale s adds =
+  pub makes_sale : (s : Sale) → IsCarriedOut (writes_of (edits.AddSale s)) old.now new.now → AddsSold s old new → MakesEdit (edits.AddSale s) old.now new.now
+  makes_sale s carried adds =
       makes (edits.AddSale s) (codes "sales" ∷ totals_names) old new
-      (λ t tree none. (none.1.1.1.1.1.0, (none.1.1.1.1.1.1.0, (none.1.1.1.1.1.1.1.0, (none.1.1.1.1.1.1.1.1.0, tt))))) adds.only
+      (λ t tree none. (none.1.1.1.1.1.0, (none.1.1.1.1.1.1.0, (none.1.1.1.1.1.1.1.0, (none.1.1.1.1.1.1.1.1.0, tt))))) adds.only carried adds.stored
       (λ order. adds.kept (order.1.1.1.1.1.1.0, (order.1.1.1.1.1.1.1.0, (order.1.1.1.1.1.1.1.1.0, tt)))) adds.members
 
   -- a shift that is added makes the edit that opens it
-  pub makes_shift : (s : Shift) → AddsShift s old new → MakesEdit (edits.OpenShift s) old.now new.now
-  makes_shift s adds =
-      makes (edits.OpenShift s) (codes "shifts" ∷ []) old new (λ t tree none. (none.1.1.1.1.0, tt)) adds.only (λ order. adds.kept) (λ o office meets held.
+  pub makes_shift : (s : Shift) → IsCarriedOut (writes_of (edits.OpenShift s)) old.now new.now → AddsShift s old new → MakesEdit (edits.OpenShift s) old.now new.now
+  makes_shift s carried adds =
+      makes (edits.OpenShift s) (codes "shifts" ∷ []) old new (λ t tree none. (none.1.1.1.1.0, tt)) adds.only carried adds.stored (λ order. adds.kept) (λ o office meets held.
       let are = held.2 in
       let next : IsNextNumber (λ (s : Shift). s.number) held.0.shifts s.number = record {
         numbered = subst (λ (l : List Shift). AreNumbered (λ (s : Shift). s.number) l) (sym are.shifts) office.shift_numbers;
@@ -116,9 +121,9 @@ module _ (law : KeepsMembers) (old new : State) where
       (edited (edits.OpenShift s) held.0, adds.rows held.0 held.1 next, law held.0 o (edits.OpenShift s) are meets refl))
 
   -- a shift that is closed makes the edit that closes it
-  pub makes_closing : (number moment : ℕ) → ClosesShift number moment old new → MakesEdit (edits.CloseShift number moment) old.now new.now
-  makes_closing number moment closes =
-      makes (edits.CloseShift number moment) (codes "shifts" ∷ []) old new (λ t tree none. (none.1.1.1.1.0, tt)) closes.only
+  pub makes_closing : (number moment : ℕ) → IsCarriedOut (writes_of (edits.CloseShift number moment)) old.now new.now → ClosesShift number moment old new → MakesEdit (edits.CloseShift number moment) old.now new.now
+  makes_closing number moment carried closes =
+      makes (edits.CloseShift number moment) (codes "shifts" ∷ []) old new (λ t tree none. (none.1.1.1.1.0, tt)) closes.only carried tt
       (λ order. closes.kept (order.1.1.1.1.0, tt)) (λ o office meets held.
       let are = held.2 in
       let numbered = subst (λ (l : List Shift). AreNumbered (λ (s : Shift). s.number) l) (sym are.shifts) office.shift_numbers in
@@ -127,17 +132,17 @@ module _ (law : KeepsMembers) (old new : State) where
   -- ---- tariffs and meters
 
   -- a tariff that is set for a meter makes the edit that sets it
-  pub makes_setting : (number name : List ℕ) → SetsTariff number name old new → MakesEdit (edits.SetTariff number name) old.now new.now
-  makes_setting number name sets =
-      makes (edits.SetTariff number name) (codes "meters" ∷ []) old new (λ t tree none. (none.1.1.1.0, tt)) sets.only
+  pub makes_setting : (number name : List ℕ) → IsCarriedOut (writes_of (edits.SetTariff number name)) old.now new.now → SetsTariff number name old new → MakesEdit (edits.SetTariff number name) old.now new.now
+  makes_setting number name carried sets =
+      makes (edits.SetTariff number name) (codes "meters" ∷ []) old new (λ t tree none. (none.1.1.1.0, tt)) sets.only carried tt
       (λ order. sets.kept (order.1.1.1.0, tt)) (λ o office meets held.
       let are = held.2 in
       (edited (edits.SetTariff number name) held.0, sets.rows held.0 held.1 are.meters_once, law held.0 o (edits.SetTariff number name) are meets refl))
 
   -- a base that a meter is moved to makes the edit that moves it
-  pub makes_moving : (number : List ℕ) (base : Base) → MovesBase number base old new → MakesEdit (edits.MoveBase number base) old.now new.now
-  makes_moving number base moves =
-      makes (edits.MoveBase number base) both_meters old new of_meters moves.only (λ order. moves.kept (order.1.1.1.0, tt)) (λ o office meets held.
+  pub makes_moving : (number : List ℕ) (base : Base) → IsCarriedOut (writes_of (edits.MoveBase number base)) old.now new.now → MovesBase number base old new → MakesEdit (edits.MoveBase number base) old.now new.now
+  makes_moving number base carried moves =
+      makes (edits.MoveBase number base) both_meters old new of_meters moves.only carried moves.stored (λ order. moves.kept (order.1.1.1.0, tt)) (λ o office meets held.
       let are = held.2 in
       (edited (edits.MoveBase number base) held.0, moves.rows held.0 held.1 are.meters_once, law held.0 o (edits.MoveBase number base) are meets refl))
 
@@ -148,22 +153,23 @@ module _ (law : KeepsMembers) (old new : State) where
       (edited (edits.AddSteps name day steps) held.0, adds.rows held.0 held.1, law held.0 o (edits.AddSteps name day steps) held.2 meets refl)
 
   -- steps of a later day that are added make the edit that adds them
-  pub makes_steps : (name : List ℕ) (day : ℕ) (steps : List Step) → AddsSteps name day steps old new → MakesEdit (edits.AddSteps name day steps) old.now new.now
-  makes_steps name day steps adds =
-      makes (edits.AddSteps name day steps) (codes "dated_steps" ∷ []) old new (λ t tree none. (none.1.1.1.1.1.1.1.1.1.1.0, tt)) adds.only (λ order. adds.kept)
+  pub makes_steps : HasAllTables old → (name : List ℕ) (day : ℕ) (steps : List Step) → IsCarriedOut (writes_of (edits.AddSteps name day steps)) old.now new.now → AddsSteps name day steps old new → MakesEdit (edits.AddSteps name day steps) old.now new.now
+  makes_steps has name day steps carried adds =
+      makes (edits.AddSteps name day steps) (codes "dated_steps" ∷ []) old new (λ t tree none. (none.1.1.1.1.1.1.1.1.1.1.0, tt)) adds.only carried
+      (stores_steps old new has name day steps adds) (λ order. adds.kept)
       (λ o office meets held. with_steps_row name day steps adds o meets held)
 
-  of_steps : (name : List ℕ) (day : ℕ) (steps : List Step) → AddsSteps name day steps old new → MakesRows (kinds.Steps name day steps ∷ []) old.now new.now
-  of_steps name day steps adds =
+  of_steps : HasAllTables old → (name : List ℕ) (day : ℕ) (steps : List Step) → AddsSteps name day steps old new → MakesRows (kinds.Steps name day steps ∷ []) old.now new.now
+  of_steps has name day steps adds =
       makes_row (kinds.Steps name day steps) (codes "dated_steps" ∷ []) old new (λ t tree none. (none.1.1.1.1.1.1.1.1.1.1.0, tt)) adds.only
-      adds.kept (with_steps_row name day steps adds)
+      (stores_steps old new has name day steps adds) adds.kept (with_steps_row name day steps adds)
 
   -- and they make an import of their row alone
-  pub makes_steps_row : (row : Row) (name : List ℕ) (day : ℕ) (steps listed : List Step) → row ≡ kinds.Steps name day steps → listed
+  pub makes_steps_row : HasAllTables old → (row : Row) (name : List ℕ) (day : ℕ) (steps listed : List Step) → row ≡ kinds.Steps name day steps → listed
       ≡ steps → AddsSteps name day listed old new → MakesRows (row ∷ []) old.now new.now
-  makes_steps_row row name day steps listed is same adds =
+  makes_steps_row has row name day steps listed is same adds =
       subst (λ (r : Row). MakesRows (r ∷ []) old.now new.now) (sym is)
-      (of_steps name day steps (subst (λ (l : List Step). AddsSteps name day l old new) same adds))
+      (of_steps has name day steps (subst (λ (l : List Step). AddsSteps name day l old new) same adds))
 
   with_tariff_row : (name : List ℕ) (steps : List Step) → AddsTariff name steps old new → (o : Office)
       → MeetsRow (kinds.Tariff name steps) o → HoldsMembers old.now o
@@ -177,38 +183,38 @@ module _ (law : KeepsMembers) (old new : State) where
       (edited (edits.AddMeter number m) held.0, adds.rows held.0 held.1, law held.0 o (edits.AddMeter number m) held.2 meets refl)
 
   -- a tariff that is added with its first steps makes the edit that adds it
-  pub makes_tariff : (name : List ℕ) (steps : List Step) → AddsTariff name steps old new → MakesEdit (edits.AddTariff name steps) old.now new.now
-  makes_tariff name steps adds =
+  pub makes_tariff : HasAllTables old → (name : List ℕ) (steps : List Step) → IsCarriedOut (writes_of (edits.AddTariff name steps)) old.now new.now → AddsTariff name steps old new → MakesEdit (edits.AddTariff name steps) old.now new.now
+  makes_tariff has name steps carried adds =
       makes (edits.AddTariff name steps) (codes "tariffs" ∷ codes "tariff_steps" ∷ []) old new
-      (λ t tree none. (none.1.0, (none.1.1.0, tt))) adds.only (λ order. adds.kept)
+      (λ t tree none. (none.1.0, (none.1.1.0, tt))) adds.only carried (stores_tariff old new has name steps adds) (λ order. adds.kept)
       (λ o office meets held. with_tariff_row name steps adds o meets held)
 
   -- a meter that is added makes the edit that adds it
-  pub makes_meter : (number : List ℕ) (m : Meter) → AddsMeter number m old new → MakesEdit (edits.AddMeter number m) old.now new.now
-  makes_meter number m adds =
-      makes (edits.AddMeter number m) both_meters old new of_meters adds.only (λ order. adds.kept)
+  pub makes_meter : HasAllTables old → (number : List ℕ) (m : Meter) → IsCarriedOut (writes_of (edits.AddMeter number m)) old.now new.now → AddsMeter number m old new → MakesEdit (edits.AddMeter number m) old.now new.now
+  makes_meter has number m carried adds =
+      makes (edits.AddMeter number m) both_meters old new of_meters adds.only carried (stores_meter old new has number m adds) (λ order. adds.kept)
       (λ o office meets held. with_meter_row number m adds o meets held)
 
-  of_tariff : (name : List ℕ) (steps : List Step) → AddsTariff name steps old new → MakesRows (kinds.Tariff name steps ∷ []) old.now new.now
-  of_tariff name steps adds =
+  of_tariff : HasAllTables old → (name : List ℕ) (steps : List Step) → AddsTariff name steps old new → MakesRows (kinds.Tariff name steps ∷ []) old.now new.now
+  of_tariff has name steps adds =
       makes_row (kinds.Tariff name steps) (codes "tariffs" ∷ codes "tariff_steps" ∷ []) old new
-      (λ t tree none. (none.1.0, (none.1.1.0, tt))) adds.only adds.kept
+      (λ t tree none. (none.1.0, (none.1.1.0, tt))) adds.only (stores_tariff old new has name steps adds) adds.kept
       (with_tariff_row name steps adds)
 
-  of_meter : (number : List ℕ) (m : Meter) → AddsMeter number m old new → MakesRows (kinds.Meter number m ∷ []) old.now new.now
-  of_meter number m adds =
-      makes_row (kinds.Meter number m) both_meters old new of_meters adds.only adds.kept (with_meter_row number m adds)
+  of_meter : HasAllTables old → (number : List ℕ) (m : Meter) → AddsMeter number m old new → MakesRows (kinds.Meter number m ∷ []) old.now new.now
+  of_meter has number m adds =
+      makes_row (kinds.Meter number m) both_meters old new of_meters adds.only (stores_meter old new has number m adds) adds.kept (with_meter_row number m adds)
 
   -- an added tariff makes an import of its row alone
-  pub makes_tariff_row : (row : Row) (name : List ℕ) (steps listed : List Step) → row ≡ kinds.Tariff name steps → listed ≡ steps
+  pub makes_tariff_row : HasAllTables old → (row : Row) (name : List ℕ) (steps listed : List Step) → row ≡ kinds.Tariff name steps → listed ≡ steps
       → AddsTariff name listed old new → MakesRows (row ∷ []) old.now new.now
-  makes_tariff_row row name steps listed is same adds =
-      subst (λ (r : Row). MakesRows (r ∷ []) old.now new.now) (sym is) (of_tariff name steps (subst (λ (l : List Step). AddsTariff name l old new) same adds))
+  makes_tariff_row has row name steps listed is same adds =
+      subst (λ (r : Row). MakesRows (r ∷ []) old.now new.now) (sym is) (of_tariff has name steps (subst (λ (l : List Step). AddsTariff name l old new) same adds))
 
   -- an added meter makes an import of its row alone
-  pub makes_meter_row : (row : Row) (number : List ℕ) (m : Meter) → row ≡ kinds.Meter number m → AddsMeter number m old new
+  pub makes_meter_row : HasAllTables old → (row : Row) (number : List ℕ) (m : Meter) → row ≡ kinds.Meter number m → AddsMeter number m old new
       → MakesRows (row ∷ []) old.now new.now
-  makes_meter_row row number m is adds = subst (λ (r : Row). MakesRows (r ∷ []) old.now new.now) (sym is) (of_meter number m adds)
+  makes_meter_row has row number m is adds = subst (λ (r : Row). MakesRows (r ∷ []) old.now new.now) (sym is) (of_meter has number m adds)
 
 -- ---- rows one after another
 
@@ -229,6 +235,7 @@ pub makes_more : (xs : List Row) (y : Row) (old mid new : Database) → MakesRow
 makes_more xs y old mid new first second = record {
   members = λ o meets held.
       subst (HoldsMembers new) (with_last xs y o) (second.members (with_rows xs o) (meets_last xs y o meets) (first.members o (meets_first xs y o meets) held));
+  stored = stores_more xs y old mid new first.stored second.stored;
   kept = subst (λ (keys : Keys). KeepsRows keys old new) (sym (flat_map-append row_keys xs (y ∷ [])))
       (keeps_then (flat_map row_keys xs) (flat_map row_keys (y ∷ [])) old mid new first.kept second.kept);
   schema = second.schema ∙ first.schema;
@@ -238,9 +245,11 @@ makes_more xs y old mid new first second = record {
 }
 
 -- rows that are made one after another make the edit that imports them
-pub makes_import : (rows : List Row) (old new : Database) → MakesRows rows old new → MakesEdit (edits.AddRows rows) old new
-makes_import rows old new makes = record {
+pub makes_import : (rows : List Row) (old new : Database) → IsCarriedOut (flat_map row_writes rows) old new → MakesRows rows old new → MakesEdit (edits.AddRows rows) old new
+makes_import rows old new carried makes = record {
+  carried = carried;
   members = λ o office meets held. makes.members o meets.1 held;
+  stored = makes.stored;
   kept = λ order. makes.kept;
   schema = makes.schema;
   others = makes.others;
@@ -265,11 +274,13 @@ still_has rows old mid makes inside has = λ _. subst HasOffice (sym makes.schem
 
 -- what the statement of an edit did is what the edit makes, and what is told of it is as computed
 pub made_by : {A E P : Type 0} (r : Result A E) (found edit : Edit) (prior : ℕ) (old new : State) → found ≡ edit
-    → (HasAllTables old → OnOk r P) → (P → MakesEdit edit old.now new.now × IsCounted edit prior old.now)
+    → (HasAllTables old → OnOk r P) → (HasAllTables old → OnOk r (AreCarriedOut (writes_of edit) old new))
+    → (HasAllTables old → P → IsCarriedOut (writes_of edit) old.now new.now → MakesEdit edit old.now new.now × IsCounted edit prior old.now)
     → OnOk r (MakesAsComputed found prior old.now new.now)
-made_by (Ok x) found edit prior old new is did makes =
-    λ has. subst (λ (e : Edit). MakesEdit e old.now new.now × IsCounted e prior old.now) (sym is) (makes (did (λ _. has)))
-made_by (Err e) found edit prior old new is did makes = tt
+made_by (Ok x) found edit prior old new is did carried makes =
+    λ has. subst (λ (e : Edit). MakesEdit e old.now new.now × IsCounted e prior old.now) (sym is)
+    (makes (λ _. has) (did (λ _. has)) (old.step_limit, carried (λ _. has)))
+made_by (Err e) found edit prior old new is did carried makes = tt
 
 -- ---- why an edit is not made
 

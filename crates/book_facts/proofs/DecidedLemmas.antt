@@ -9,6 +9,7 @@ use Rattle.office_rules.specs.declared.decision.facts.Facts.{Facts}
 use Rattle.office_rules.specs.declared.decision.refusal.Refusal.{Refusal}
 use Rattle.office_rules.specs.declared.decision.refusal.Refusal.TheVariants.{Store}
 use Rattle.office_rules.specs.declared.decision.request.Stamped.{Stamped}
+use Rattle.office_decisions.specs.OverFacts.{decision_on}
 use Rattle.book_states.specs.Failing.{AreRead, IsChangeRead, RefusesUnchanged, prior_of_account}
 use Rattle.book_facts.specs.Deciding.{change_in}
 use Rattle.book_facts.specs.declared.decided.Decided.{Decided}
@@ -16,7 +17,9 @@ use Rattle.book_facts.specs.declared.decided.Decided.{Decided}
 module _ (forward : BlockFunction) (at : Stamped) (next : ℕ) (old new : State) (facts : Facts) (read : AreRead at next old facts)
     (r : Result Decided Refusal) where
   abbrev IsDecided : Result Decided Refusal → Type 0
-  IsDecided r = (o : Office) → AreFacts o at facts → IsUnlessMemory (change_in r) (decision forward o at)
+  IsDecided r =
+      IsUnlessMemory (change_in r) (decision_on forward at facts)
+      × ((o : Office) → AreFacts o at facts → IsUnlessMemory (change_in r) (decision forward o at))
 
   -- a refusal by the facts that were read leaves all as it was
   pub refused_by_facts : IsDecided r → r ≢ Err Store → IfErr r (RefusesUnchanged forward at next old new)
@@ -24,7 +27,7 @@ module _ (forward : BlockFunction) (at : Stamped) (next : ℕ) (old new : State)
     where
       by_result : (r : Result Decided Refusal) → IsDecided r → r ≢ Err Store → IfErr r (RefusesUnchanged forward at next old new)
       by_result (Ok decided) is never = tt
-      by_result (Err why) is never = inr ((λ same. never (ap (λ e. Err e) same)), record { facts = facts; read = read; decided = is })
+      by_result (Err why) is never = inr ((λ same. never (ap (λ e. Err e) same)), record { facts = facts; read = read; exact = is.0; decided = is.1 })
 
   -- a change that is granted was decided by the facts that were read
   pub granted_by_facts : IsDecided r → IfOk r (λ decided. decided.prior ≡ prior_of_account facts.account)
@@ -33,5 +36,5 @@ module _ (forward : BlockFunction) (at : Stamped) (next : ℕ) (old new : State)
     where
       by_result : (r : Result Decided Refusal) → IsDecided r → IfOk r (λ decided. decided.prior ≡ prior_of_account facts.account)
           → IfOk r (λ decided. IsChangeRead forward at next old decided.change decided.prior)
-      by_result (Ok decided) is prior = (record { facts = facts; read = read; decided = is }, prior)
+      by_result (Ok decided) is prior = (record { facts = facts; read = read; exact = is.0; decided = is.1 }, prior)
       by_result (Err why) is prior = tt

@@ -13,6 +13,7 @@ use Rattle.book_states.specs.Failing.{refusal_for}
 use Rattle.book_states.specs.Same.{IsSame}
 use Rattle.book_facts.specs.Looking.{TellsTables}
 use Rattle.book_facts.specs.Totals.{GivesTotals}
+use Rattle.book_facts.proofs.LooksLemmas.{TellsSpoilt}
 
 -- a refusal of the call's own is one of those that it may give
 own_or : {A : Type 0} (Own Tells : Refusal → Type 0) (given : Result A Refusal) → IfErr given Own → IfErr given (λ why. Own why ⊎ Tells why)
@@ -28,10 +29,11 @@ never_as_stopped {A} Own given never told is =
     elim stopped [ inl own ↦ never own | inr (inl memory) ↦ absurd cc | inr (inr store) ↦ absurd cc ]
 
 -- what is told where the tables were read: what was seen in them, or a refusal of the call's own
-pub tells_read : {A T : Type 0} {Own : Refusal → Type 0} {IsSeen : Database → Result A Refusal → Type 0} {Same : State → State → Type 0}
+pub tells_read : {A T : Type 0} {Own : Refusal → Type 0} {IsSeen : Database → Result A Refusal → Type 0} {IsSpoilt : Database → Type 0}
+    {Same : State → State → Type 0}
     {x : T} (given : Result A Refusal) (old new : State) → OnlyReads Same old new (Ok x) → (Same old new → IsSame old new)
     → (old.is_clean ≡ false → old.is_open ≡ false) → old.in_transaction ≡ false
-    → (HasCleanDisk new → HasAllTables old → IsSeen old.now given) → IfErr given Own → ¬ Own Stopped → TellsTables Own IsSeen old new given
+    → (HasCleanDisk new → HasAllTables old → IsSeen old.now given) → IfErr given Own → ¬ Own Stopped → TellsTables Own IsSeen IsSpoilt old new given
 tells_read {Own = Own} given old new reads same shut outside seen own never =
     record {
       seen = seen;
@@ -44,17 +46,19 @@ tells_read {Own = Own} given old new reads same shut outside seen own never =
     }
 
 -- what is told where they were not: why
-pub tells_failed : {A T : Type 0} {Own : Refusal → Type 0} {IsSeen : Database → Result A Refusal → Type 0} {Same : State → State → Type 0}
+pub tells_failed : {A T : Type 0} {Own : Refusal → Type 0} {IsSeen : Database → Result A Refusal → Type 0} {IsSpoilt : Database → Type 0}
+    {Same : State → State → Type 0}
     (old new : State) (e : TableError) (why : Refusal) → why ≡ refusal_for e → (why ≡ Memory) ⊎ (why ≡ Store)
-    → OnlyReads {T = T} Same old new (Err e) → (IsTrue old.is_open → old.now ≡ old.committed)
-    → (old.is_clean ≡ false → old.is_open ≡ false) → old.in_transaction ≡ false → IsSeen old.now (Err why) → TellsTables Own IsSeen old new (Err why)
-tells_failed {A = A} old new e why answered either reads settled shut outside seen =
+    → OnlyReads {T = T} Same old new (Err e) → TellsSpoilt IsSpoilt old new e → (IsTrue old.is_open → old.now ≡ old.committed)
+    → (old.is_clean ≡ false → old.is_open ≡ false) → old.in_transaction ≡ false → IsSeen old.now (Err why)
+    → TellsTables Own IsSeen IsSpoilt old new (Err why)
+tells_failed {A = A} old new e why answered either reads spoilt settled shut outside seen =
     let failed : Result A Refusal = Err why in
     record {
       seen = λ clean tables. seen;
       nothing = λ clean tables. record { same = left_same old new settled (reads.kept clean tables); survives = reads.survives tables };
       clean = clean_before old new _ shut reads.survives;
-      failures = λ clean tables. inr (told_of_read old new e why answered (reads.faults clean tables) clean (reads.survives tables));
+      failures = λ clean tables. inr (told_of_read old new e why answered (reads.faults clean tables) (spoilt clean tables) clean (reads.survives tables));
       refusals = inr either;
       never_stopped = never_as_stopped (λ why. ⊥) failed (λ none. none) (inr either);
       outside = reads.mode outside;

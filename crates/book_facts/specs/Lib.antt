@@ -3,4 +3,5 @@ pub mod Listing
 pub mod Looking
 pub mod Lookups
 pub mod LookupsSeen
+pub mod LookupsSpoilt
 pub mod Totals

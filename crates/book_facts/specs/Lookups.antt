@@ -26,6 +26,7 @@ use Rattle.book_lists.specs.Pages.{AreFirstAfter, page_size}
 use Rattle.book_tables.specs.Stands.{all_totals}
 use Rattle.book_tables.specs.declared.row.totals.Totals.{Totals}
 use Rattle.book_facts.specs.Totals.{shift_totals}
+use Rattle.book_states.specs.Health.{IsHealthOf}
 use Rattle.book_states.specs.declared.lookup.LaterSteps.{LaterSteps}
 use Rattle.book_states.specs.declared.lookup.ListedMeter.{ListedMeter}
 use Rattle.book_states.specs.declared.lookup.ListedShift.{ListedShift}
@@ -183,9 +184,14 @@ FindsSales o after result = ⊥
 
 -- ---- what is looked up
 
+-- what is told without a read
+abbrev pub FindsHealth : Office → Result Found Refusal → Type 0
+FindsHealth o (Ok (found.Health health)) = IsHealthOf o health
+FindsHealth o result = ⊥
+
 -- this is found at a moment, or nothing is for this reason
 abbrev pub Finds : Office → ℕ → Lookup → Result Found Refusal → Type 0
-Finds o moment lookups.SaleCount result = result ≡ Ok (found.SaleCount (length o.sales))
+Finds o moment lookups.Health result = FindsHealth o result
 Finds o moment (lookups.Meter number) result =
     result ≡ meter_found number (o.meters number) (prior o number (month_at moment))
     (last_sale o number)

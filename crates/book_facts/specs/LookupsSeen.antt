@@ -29,6 +29,7 @@ use Rattle.book_facts.specs.Lookups.{last_found, meter_found, quote_for, sale_fo
 use Rattle.book_facts.specs.Totals.{AreTotalsSeen, AreTotalsShown}
 use Rattle.book_states.specs.declared.lookup.Found.{Found}
 use Rattle.book_states.specs.declared.lookup.Found.TheVariants as found
+use Rattle.book_states.specs.declared.lookup.Health.{Health}
 use Rattle.book_states.specs.declared.lookup.LaterSteps.{LaterSteps}
 use Rattle.book_states.specs.declared.lookup.ListedMeter.{ListedMeter}
 use Rattle.book_states.specs.declared.lookup.ListedShift.{ListedShift}
@@ -147,24 +148,24 @@ FindsSalesSeen after db (Ok (found.Sales page)) =
     ShowsAll (the_sales_after after page_size) db page.items
 FindsSalesSeen after db result = ⊥
 
--- this was found at a moment, or nothing was, where there are so many sales
-abbrev pub FindsSeen : ℕ → ℕ → Lookup → Database → Result Found Refusal → Type 0
-FindsSeen count moment lookups.SaleCount db result = result ≡ Ok (found.SaleCount count)
-FindsSeen count moment (lookups.Meter number) db result = IsMeterFoundSeen number moment db result
-FindsSeen count moment (lookups.LastSale number) db result = IsLastFoundSeen number db result
-FindsSeen count moment (lookups.SaleOfRef operator order_ref) db result =
+-- this was found at a moment, or nothing was, where this is told without a read
+abbrev pub FindsSeen : Health → ℕ → Lookup → Database → Result Found Refusal → Type 0
+FindsSeen health moment lookups.Health db result = result ≡ Ok (found.Health health)
+FindsSeen health moment (lookups.Meter number) db result = IsMeterFoundSeen number moment db result
+FindsSeen health moment (lookups.LastSale number) db result = IsLastFoundSeen number db result
+FindsSeen health moment (lookups.SaleOfRef operator order_ref) db result =
     IsSaleFoundSeen operator order_ref db result
-FindsSeen count moment (lookups.Quote number tender) db result =
-    IsQuoteSeen number moment tender count db result
-FindsSeen count moment (lookups.ShiftTotals number) db result = AreTotalsFoundSeen number db result
-FindsSeen count moment (lookups.Tariffs after) db result =
+FindsSeen health moment (lookups.Quote number tender) db result =
+    IsQuoteSeen number moment tender health.sales db result
+FindsSeen health moment (lookups.ShiftTotals number) db result = AreTotalsFoundSeen number db result
+FindsSeen health moment (lookups.Tariffs after) db result =
     FindsTariffsSeen (day_at moment) after db result
-FindsSeen count moment (lookups.Meters after) db result = FindsMetersSeen after db result
-FindsSeen count moment (lookups.Shifts after) db result = FindsShiftsSeen after db result
-FindsSeen count moment (lookups.Sales after) db result = FindsSalesSeen after db result
+FindsSeen health moment (lookups.Meters after) db result = FindsMetersSeen after db result
+FindsSeen health moment (lookups.Shifts after) db result = FindsShiftsSeen after db result
+FindsSeen health moment (lookups.Sales after) db result = FindsSalesSeen after db result
 
--- the same, where this is the number of the next sale; or there was no memory, or the store failed
-abbrev pub IsFoundSeen : ℕ → ℕ → Lookup → Database → Result Found Refusal → Type 0
-IsFoundSeen next moment lookup db result =
-    ((count : ℕ) → next ≡ count + 1 → FindsSeen count moment lookup db result)
+-- the same; or there was no memory, or the store failed
+abbrev pub IsFoundSeen : Health → ℕ → Lookup → Database → Result Found Refusal → Type 0
+IsFoundSeen health moment lookup db result =
+    FindsSeen health moment lookup db result
     ⊎ ((result ≡ Err refusals.Memory) ⊎ (result ≡ Err refusals.Store))

@@ -9,8 +9,9 @@ use Rattle.office_rules.specs.declared.office.shift.Shift.{Shift}
 use Rattle.book_tables.specs.Stands.{all_totals}
 use Rattle.book_tables.specs.declared.row.totals.Totals.{Totals}
 use Rattle.book_tables.specs.reading.Questions.{the_shift, the_shift_totals}
-use Rattle.book_tables.specs.reading.Seen.{ShowsFirst, ShowsMade}
+use Rattle.book_tables.specs.reading.Seen.{HasSpoilt, ShowsFirst, ShowsMade}
 use Rattle.book_tables.specs.writing.Writing.{no_totals}
+use Rattle.book_states.specs.Spoilt.{SpoiltThen}
 
 -- the count and the sums of the sales of the shift of a number, where there is such a shift
 abbrev pub shift_totals : Office → ℕ → Option Totals
@@ -41,3 +42,8 @@ abbrev pub GivesTotals : ℕ → Database → Result Totals Refusal → Type 0
 GivesTotals number db (Ok totals) = AreTotalsSeen number db (Some totals)
 GivesTotals number db (Err NoSuchShift) = AreTotalsSeen number db None
 GivesTotals number db (Err why) = Unit {0}
+
+-- a row of an answer shows no record: the totals are asked for only where there is the shift
+abbrev pub AreTotalsSpoilt : ℕ → Database → Type 0
+AreTotalsSpoilt number =
+    SpoiltThen (the_shift number) (λ shift. HasSpoilt (the_shift_totals number))

@@ -6,6 +6,7 @@ ghost use Rattle.one_table.specs.Over.{Over};
 ghost use Rattle.office_rules.specs.Decision.{decision};
 ghost use Rattle.office_rules.specs.Decision.Facts.{AreFacts, IsUnlessMemory};
 ghost use Rattle.office_rules.specs.Office.{Office};
+ghost use Rattle.office_decisions.specs.OverFacts.{decision_on};
 ghost use Rattle.book_tables.specs.reading.Reading.{HasAllTables};
 ghost use Rattle.book_states.specs.Failing.{IsChangeRead, RefusesUnchanged, prior_of_account};
 ghost use Rattle.book_states.specs.Stores.{Stores};
@@ -65,6 +66,8 @@ fn decided_by<T: BlockTransform>(
     facts: &Facts,
     at: &Stamped,
 ) -> Result<Decided, Refusal>
+    ensures exact { IsUnlessMemory (change_in result)
+        (decision_on (T.forwards transform.now) at.now facts.now) }
     ensures decided { (o : Office) → AreFacts o at.now facts.now
         → IsUnlessMemory (change_in result) (decision (T.forwards transform.now) o at.now) }
     ensures prior { IfOk result (λ decided.

@@ -5,6 +5,7 @@ ghost use Rattle.one_table.specs.Over.{Over};
 ghost use Rattle.office_rules.specs.Decision.Facts.{AreFacts};
 ghost use Rattle.book_states.specs.FactsSeen.{AreFactsSeen};
 ghost use Rattle.book_states.specs.Same.{IsSame};
+ghost use Rattle.book_states.specs.Spoilt.{IsSpoiltFor};
 ghost use Rattle.book_facts.specs.Looking.{LooksUp};
 
 use book_tables::TableError;
@@ -33,7 +34,8 @@ pub(crate) fn facts_of<S: Alter>(
     sale_count: u64,
 ) -> Result<Facts, TableError>
     ensures { Over S.Store conn (λ old new. LooksUp IsSame (λ o f. sale_count ≡ length o.sales
-        → AreFacts o at.now f) (AreFactsSeen sale_count at.now) old new result) }
+        → AreFacts o at.now f) (AreFactsSeen sale_count at.now) (IsSpoiltFor at.now) old new
+        result) }
 {
     match &at.request {
         Request::AddTariff(name, _) => meters::tariff_facts(alloc, conn, name),

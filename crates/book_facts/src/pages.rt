@@ -1,14 +1,12 @@
 //! A page of sales.
 
-ghost use Rattle.std.specs.Prelude.{◌≡◌, IfErr, IfOk, false};
+ghost use Rattle.std.specs.Prelude.{◌≡◌, IfOk, false};
 ghost use Rattle.sqlite.specs.State.{HasCleanDisk};
 ghost use Rattle.one_table.specs.Over.{Over};
 ghost use Rattle.office_rules.specs.Office.{Office};
 ghost use Rattle.office_rules.specs.Law.Store.{sales_above};
-ghost use Rattle.book_tables.specs.reading.Reading.{HasAllTables};
 ghost use Rattle.book_tables.specs.reading.Questions.{the_sales_after};
 ghost use Rattle.book_tables.specs.reading.Seen.{HasSpoilt, ShowsAll};
-ghost use Rattle.book_states.specs.Failing.{HasFailedAt};
 ghost use Rattle.book_states.specs.Stores.{Stores};
 ghost use Rattle.book_facts.specs.Looking.{TellsTables};
 
@@ -32,10 +30,8 @@ pub fn page<S: Alter>(
     ensures given { Over S.Store conn (λ old new. HasCleanDisk new → (o : Office) → Stores old o
         → IfOk result (λ sales. sales.items ≡ sales_above o number limit)) }
     ensures tells { Over S.Store conn (λ old new. TellsTables (λ why. ⊥) (λ db given. IfOk given
-        (λ sales. ShowsAll (the_sales_after number limit) db sales.items)) old new result) }
-    ensures spoilt { Over S.Store conn (λ old new. HasCleanDisk new → HasAllTables old
-        → IfErr result (λ refusal. refusal ≡ Refusal.Store
-        → HasFailedAt (HasSpoilt (the_sales_after number limit)) old new)) }
+        (λ sales. ShowsAll (the_sales_after number limit) db sales.items))
+        (HasSpoilt (the_sales_after number limit)) old new result) }
 {
     // Outside a transaction an open connection has what was committed last.
     let _settled = conn.is_autocommit();

@@ -6,7 +6,7 @@ ghost use Rattle.sqlite.specs.State.{HasCleanDisk};
 ghost use Rattle.office_rules.specs.Office.{Office};
 ghost use Rattle.book_states.specs.Stores.{Stores};
 ghost use Rattle.book_facts.specs.Looking.{TellsTables};
-ghost use Rattle.book_facts.specs.Totals.{AreTotalsIn, GivesTotals};
+ghost use Rattle.book_facts.specs.Totals.{AreTotalsIn, AreTotalsSpoilt, GivesTotals};
 
 use crate::facts::shifts::totals_of;
 use book_states::refusal_of;
@@ -23,7 +23,7 @@ pub fn totals<S: Alter>(conn: &mut Connection<S>, number: u32) -> Result<Totals,
     ensures given { Over S.Store conn (λ old new. HasCleanDisk new → (o : Office) → Stores old o
         → AreTotalsIn o number result) }
     ensures tells { Over S.Store conn (λ old new. TellsTables (λ why. why ≡ Refusal.NoSuchShift)
-        (GivesTotals number) old new result) }
+        (GivesTotals number) (AreTotalsSpoilt number) old new result) }
 {
     // Outside a transaction an open connection has what was committed last.
     let _settled = conn.is_autocommit();

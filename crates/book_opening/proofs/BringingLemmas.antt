@@ -1,5 +1,5 @@
 -- What is handed over to be brought to the present format, and what comes of it.
-use Rattle.std.proofs.Common.{◌≡◌, ◌≢◌, ◌⊎◌, ◌<◌, ◌+◌, ℕ, zero, suc, List, [], length, map, get_or, false, IsTrue, IfErr, OnOk, Result, Ok, Err, refl, sym, ap, subst, ◌∙◌, inl, inr, arith}
+use Rattle.std.proofs.Common.{◌≡◌, ◌≢◌, ◌⊎◌, ◌<◌, ◌≤◌, ℕ, zero, suc, List, [], length, map, get_or, false, IsTrue, IfErr, OnOk, Result, Ok, Err, refl, sym, ap, subst, ◌∙◌, inl, inr, arith}
 use Rattle.std.specs.Prelude.{◌↔◌, Some, AllPairs, Contains}
 use Rattle.std.proofs.lemmas.List.{get_or-map, length-map}
 use Rattle.sqlite.specs.Effect.{Database, IsDatabase}
@@ -13,7 +13,9 @@ use Rattle.office_rules.specs.declared.office.meter.Meter.{Meter}
 use Rattle.office_rules.specs.declared.office.sale.Sale.{Sale}
 use Rattle.book_tables.specs.Holds.{HasOfficeOf, StandsFor}
 use Rattle.book_tables.specs.format.Filling.{AreHanded}
+use Rattle.book_tables.specs.format.Format.{HasFormat, TellsFormat}
 use Rattle.book_tables.specs.format.Making.{BringsInside, FailsToBring, HandsOver, IsSoundOfFormat}
+use Rattle.book_tables.specs.row.Rows.{present_format}
 use Rattle.book_tables.specs.reading.Reading.{meter_row}
 use Rattle.book_tables.specs.declared.reading.pages.MeterRow.{MeterRow}
 use Rattle.book_tables.specs.declared.error.TableError.{TableError}
@@ -28,9 +30,12 @@ use Rattle.audit_rows.specs.declared.office_rows.OfficeRows.{OfficeRows}
 use Rattle.audit_lists.specs.reached.Finds.{AreRowsOfOffice}
 use Rattle.audit.specs.Fails.{IsNoOffices, StandsForNone, StopsBy, by_lists, by_row}
 use Rattle.audit.specs.Shown.{AreOfficeRows}
-use Rattle.book_opening.specs.Opening.{BringsSound, FaultFitsStore, HasOfficesRows, IsNextSale, IsSoundWith, LeavesPresent, fault_of_audit}
+use Rattle.book_opening.specs.NoOffice.{IsNoOffice}
+use Rattle.book_opening.specs.NoOffice.IsNoOffice.{by_about}
+use Rattle.book_opening.specs.Opening.{BringsSound, FaultFitsStore, HasOfficesRows, IsSoldSoFar, IsSoundWith, LeavesPresent, fault_of_audit, sold_by}
 use Rattle.book_opening.specs.declared.fault.OpenFault.{OpenFault}
 use Rattle.book_opening.specs.declared.fault.OpenFault.TheVariants.{Memory, Store}
+use Rattle.book_opening.specs.declared.sold_so_far.SoldSoFar.{SoldSoFar}
 use Rattle.book_opening.proofs.EndingLemmas.{known_after}
 use Rattle.book_opening.proofs.LookingLemmas.{of_failure}
 
@@ -59,9 +64,10 @@ module _ (from : ℕ) (rows : OfficeRows) where
   pub hands_rows : (db : Database) → AreOfficeRows from db rows → HandsOver db rows.meters.items rows.sales.items
   hands_rows db are o stands = handed rows o (are.only o stands)
 
-  -- the number of the next sale, by those that were read
-  pub next_of_rows : (s : State) (next : ℕ) → next ≡ length rows.sales.items + 1 → IsTrue s.is_open → AreOfficeRows from s.now rows → IsNextSale s next
-  next_of_rows s next is runs are o at = is ∙ ap (λ (sales : List Sale). length sales + 1) (are.only o (at.now runs)).members.sales
+  -- what was sold, by the sales that were read
+  pub sold_of_rows : (s : State) (sold : SoldSoFar) → ((p : Office) → p.sales ≡ rows.sales.items → sold ≡ sold_by p) → IsTrue s.is_open
+      → AreOfficeRows from s.now rows → IsSoldSoFar s sold
+  sold_of_rows s sold is runs are o at = is o (sym (are.only o (at.now runs)).members.sales)
 
 -- the rows of an older file are as they were after the look at them, and are handed over
 module _ (from : ℕ) (rows : OfficeRows) (old mid : State) (shut : mid.is_clean ≡ false → mid.is_open ≡ false) (same : HasCleanDisk mid → IsUnchanged old mid)
@@ -98,9 +104,10 @@ module _ (db : Database) (has : HasOfficeOf 0 db.schema) where
     sales = refl;
   })
 
--- where there are no tables, the next sale is the first
-pub first_sale : (s : State) → IsTrue s.is_open → HasOfficeOf 0 s.now.schema → IsNextSale s 1
-first_sale s runs has o at = ap (λ (p : Office). length p.sales + 1) (sym (none_stands s.now has o (at.now runs)))
+-- where there are no tables, nothing was sold
+pub none_sold : (s : State) (sold : SoldSoFar) → ((p : Office) → p.sales ≡ [] → sold ≡ sold_by p) → IsTrue s.is_open → HasOfficeOf 0 s.now.schema
+    → IsSoldSoFar s sold
+none_sold s sold is runs has o at = is o (ap (λ (p : Office). p.sales) (none_stands s.now has o (at.now runs)))
 
 -- ---- what an audit found
 
@@ -109,13 +116,29 @@ pub none_of : (f : Finding) (db : Database) → IsNoOffices f db → StandsForNo
 none_of f db (by_row n own breaks none) = none
 none_of f db (by_lists n rows told broken none) = none
 
--- it shows that the store stands for no office
-pub audit_tells : (Says : Finding → Database → Type 0) (old new : State) → ((f : Finding) → Says f old.now → StandsForNone old.now)
-    → (e : AuditFault) (fault : OpenFault)
-    → ((why : Error) → e ≡ audit.Failed why → (fault ≡ Store) ⊎ (fault ≡ Memory)) → fault ≡ fault_of_audit e → StopsBy Says old new e → FaultFitsStore old fault
-audit_tells Says old new says (audit.Found f) fault kind is stops = rw is (λ o at. says f stops.0 o (at.now stops.1.0.was_open))
-audit_tells Says old new says audit.NoOffice fault kind is stops = rw is (λ o at. stops.0.1 o (at.now stops.1.0.was_open))
-audit_tells Says old new says (audit.Failed why) fault kind is stops = of_failure old fault (kind why refl)
+-- `about` does not tell the format of the tables
+other_told : (n : ℕ) (db : Database) → 1 ≤ n → ¬ TellsFormat n db → ¬ HasFormat db n
+other_told zero db some other tells = absurd (omega (arith, some))
+other_told (suc n) db some other tells = other tells
+
+module _ (Says : Finding → Database → Type 0) (old new : State) (n : ℕ) (some : 1 ≤ n) (known : n ≤ present_format) (has : IsSoundOfFormat n old)
+    (says : HasOfficeOf n old.now.schema → (f : Finding) → Says f old.now → IsNoOffice old.now × StandsForNone old.now) where
+  -- the fault that is made of what an audit found is true of the store, where it is one of no office
+  pub audit_tells : (e : AuditFault) (fault : OpenFault) → ((why : Error) → e ≡ audit.Failed why → (fault ≡ Store) ⊎ (fault ≡ Memory))
+      → fault ≡ fault_of_audit e → StopsBy Says old new e → FaultFitsStore old fault
+  audit_tells (audit.Found f) fault kind is stops =
+      let runs = stops.1.0.was_open in
+      let found = says (has runs).1 f stops.0 in
+      rw is (record { is_open = runs; named = found.0; none = λ o at. found.1 o (at.now runs) })
+  audit_tells audit.NoOffice fault kind is stops =
+      let runs = stops.1.0.was_open in
+      let there = (has runs).1 in
+      rw is (record {
+        is_open = runs;
+        named = by_about n some known there (other_told n old.now some (stops.0.0 n known there));
+        none = λ o at. stops.0.1 o (at.now runs);
+      })
+  audit_tells (audit.Failed why) fault kind is stops = of_failure old fault (kind why refl)
 
 -- ---- what is made inside a transaction
 

@@ -30,6 +30,7 @@ use Rattle.book_states.proofs.StayLemmas.{nothing_same}
 use Rattle.book_opening.specs.Opening.{BringsSound, FailsToBringUp, FailsToLook, FailsToOpen, IsSoundWith, StopsBringing, fault_of, fault_of_audit, fault_of_table}
 use Rattle.book_opening.specs.declared.fault.OpenFault.{OpenFault}
 use Rattle.book_opening.specs.declared.fault.OpenFault.TheVariants.{Store, Memory}
+use Rattle.book_opening.specs.declared.sold_so_far.SoldSoFar.{SoldSoFar}
 
 -- an open connection is as it is
 unchanged : (s : State) → IsTrue s.is_open → IsUnchanged s s
@@ -91,7 +92,7 @@ module _ {S : Type 0} (g : Ghosts S) (old mid new : State) (same : IsUnchanged o
   }
 
   -- what fails an opening after looks that changed nothing fails it from before them on
-  pub fails_after : (r : Result ℕ OpenFault) → IfErr r (FailsToOpen g mid new) → IfErr r (FailsToOpen g old new)
+  pub fails_after : (r : Result SoldSoFar OpenFault) → IfErr r (FailsToOpen g mid new) → IfErr r (FailsToOpen g old new)
   fails_after r = IfErr-weaker r (FailsToOpen g mid new) (FailsToOpen g old new) (λ fault fails named. elim (fails named) [
     | inl look ↦ inl (look.0, look.1, look_after look.0 look.2)
     | inr stops ↦ inr (stops_after fault stops)
@@ -101,7 +102,7 @@ module _ {S : Type 0} (g : Ghosts S) (old mid new : State) (same : IsUnchanged o
 
 module _ {S : Type 0} (g : Ghosts S) (from : ℕ) (conn : Held S) (new : State) where
   -- where bringing an older file up fails, the opening fails for that
-  pub fails_bringing : (fault : OpenFault) (r : Result ℕ OpenFault) → IsErrAnd r (λ x. x ≡ fault) → from < present_format → IsTrue (state g conn).is_open
+  pub fails_bringing : (fault : OpenFault) (r : Result SoldSoFar OpenFault) → IsErrAnd r (λ x. x ≡ fault) → from < present_format → IsTrue (state g conn).is_open
       → HasOfficeOf from (state g conn).now.schema → FailsToBringUp g from conn new fault → IfErr r (FailsToOpen g (state g conn) new)
   fails_bringing fault (Ok x) is older runs has fails = absurd is
   fails_bringing fault (Err x) is older runs has fails =

@@ -1,5 +1,5 @@
 -- How an opening ends, by what was looked at and what was brought.
-use Rattle.std.proofs.Common.{◌≡◌, ◌<◌, ◌⊎◌, ℕ, ◌+◌, false, IsTrue, IsErrAnd, IfErr, IfOk, Result, Ok, Err, ◌∙◌, refl, sym, subst, inl, inr, arith}
+use Rattle.std.proofs.Common.{◌≡◌, ◌<◌, ◌⊎◌, ℕ, false, IsTrue, IsErrAnd, IfOk, Result, Ok, Err, ◌∙◌, refl, sym, subst, inl, inr, arith}
 use Rattle.std.proofs.lemmas.Bool.{both_ways, true_from_ne_false}
 use Rattle.std.proofs.lemmas.Result.{IfErr-weaker, IfOk-weaker, on_ok_weaker}
 use Rattle.sqlite_trees.specs.Tree.{Trees}
@@ -17,9 +17,10 @@ use Rattle.book_tables.specs.row.Rows.{present_format}
 use Rattle.book_states.specs.Stores.{RecoversTo, StoreStandsFor}
 use Rattle.book_states.specs.Same.{IsSame}
 use Rattle.book_states.proofs.StayLemmas.{left_same, unchanged_same}
-use Rattle.book_opening.specs.Opening.{AfterStore, BringsTold, EndsOpening, FaultFitsStore, FollowsLast, HasOfficesRows, IsBrought, IsNextSale, LeavesBrought, LeavesPresent, LeavesRefused, Looks, OpensAs, OpensAt, Refuses}
+use Rattle.book_opening.specs.Opening.{AfterStore, BringsTold, EndsOpening, FaultFitsStore, FollowsLast, HasOfficesRows, IsBrought, IsSoldSoFar, LeavesBrought, LeavesPresent, LeavesRefused, Looks, OpensAs, OpensAt, Refuses}
 use Rattle.book_opening.specs.declared.fault.OpenFault.{OpenFault}
 use Rattle.book_opening.specs.declared.fault.OpenFault.TheVariants.{NotAnOffice, Store, Memory}
+use Rattle.book_opening.specs.declared.sold_so_far.SoldSoFar.{SoldSoFar}
 use Rattle.book_opening.proofs.LookingLemmas.{of_failure, shown_before, stands_after}
 
 -- a call that leaves nothing new leaves nothing beside
@@ -51,8 +52,8 @@ module _ (old new : State) (clean : HasCleanDisk new) (survives : Survives old n
     left = left_for o at;
   }
 
-  opens_brought : (from next : ℕ) → IsNextSale old next → IsBrought from old new → OpensAt old new next
-  opens_brought from next is brought = λ o at. (
+  opens_brought : (from : ℕ) (sold : SoldSoFar) → IsSoldSoFar old sold → IsBrought from old new → OpensAt old new sold
+  opens_brought from sold is brought = λ o at. (
     record { office = at.office; members = λ _. brought.brings.members o (at.now brought.was_open); left = left_for o at },
     is o at,
   )
@@ -83,15 +84,15 @@ module _ (old mid new : State) (same : HasCleanDisk mid → IsUnchanged old mid)
     now = subst (λ (db : Database). BringsTold db new.now ⊎ (HasOffice db.schema × HasFormat db present_format × (new.now ≡ db))) it.0.now_is h.now;
   }
 
-  follows_after : (next : ℕ) → HasCleanDisk new → BringsTold mid.now new.now ⊎ FollowsLast mid.now next → BringsTold old.now new.now ⊎ FollowsLast old.now next
-  follows_after next clean h = subst (λ (db : Database). BringsTold db new.now ⊎ FollowsLast db next) (look clean).0.now_is h
+  follows_after : (sold : SoldSoFar) → HasCleanDisk new → BringsTold mid.now new.now ⊎ FollowsLast mid.now sold → BringsTold old.now new.now ⊎ FollowsLast old.now sold
+  follows_after sold clean h = subst (λ (db : Database). BringsTold db new.now ⊎ FollowsLast db sold) (look clean).0.now_is h
 
-  opens_after : (next : ℕ) → HasCleanDisk new → OpensAt mid new next → OpensAt old new next
-  opens_after next clean h = λ o at. h o (stands_before o clean at)
+  opens_after : (sold : SoldSoFar) → HasCleanDisk new → OpensAt mid new sold → OpensAt old new sold
+  opens_after sold clean h = λ o at. h o (stands_before o clean at)
 
   refuses_after : (fault : OpenFault) → HasCleanDisk new → Refuses mid new fault → Refuses old new fault
   refuses_after fault clean h = record {
-    told = shown_before old mid fault (λ o. stands_before o clean) h.told;
+    told = shown_before old mid fault (look clean) (λ o. stands_before o clean) h.told;
     same = (let it = look clean in record { was_open = λ _. it.0.was_open; now_is = λ is_open. h.same.now_is is_open ∙ it.0.now_is });
     kept = λ o at. h.kept o (stands_before o clean at);
   }
@@ -106,12 +107,12 @@ module _ (old mid new : State) (same : HasCleanDisk mid → IsUnchanged old mid)
       refused NotAnOffice clean trees none = none
 
 -- an opening after a look
-pub ends_after : (old mid new : State) (r : Result ℕ OpenFault) → (HasCleanDisk mid → IsUnchanged old mid) → Survives old mid (λ _. ⊥) → EndsOpening mid new r
+pub ends_after : (old mid new : State) (r : Result SoldSoFar OpenFault) → (HasCleanDisk mid → IsUnchanged old mid) → Survives old mid (λ _. ⊥) → EndsOpening mid new r
     → EndsOpening old new r
 ends_after old mid new r same one h = record {
-  opens = λ clean. IfOk-weaker r _ _ (λ next. opens_after old mid new same one h.survives next clean) (h.opens clean);
+  opens = λ clean. IfOk-weaker r _ _ (λ sold. opens_after old mid new same one h.survives sold clean) (h.opens clean);
   finds = λ clean. on_ok_weaker r (finds_after old mid new same one h.survives clean) (h.finds clean);
-  follows = λ clean. IfOk-weaker r _ _ (λ next. follows_after old mid new same one h.survives next clean) (h.follows clean);
+  follows = λ clean. IfOk-weaker r _ _ (λ sold. follows_after old mid new same one h.survives sold clean) (h.follows clean);
   refused = λ clean. IfErr-weaker r _ _ (λ fault. refuses_after old mid new same one h.survives fault clean) (h.refused clean);
   survives = survives_after old mid new same one h.survives;
   risks = IfErr-weaker r _ _ (risks_after old mid new same one h.survives) h.risks;
@@ -151,7 +152,7 @@ module _ (old new : State) where
   }
 
   -- a look failed
-  pub ends_looked : {T : Type 0} {K : State → Type 0} (fault : OpenFault) (r : Result ℕ OpenFault) → IsErrAnd r (λ x. x ≡ fault) → K old
+  pub ends_looked : {T : Type 0} {K : State → Type 0} (fault : OpenFault) (r : Result SoldSoFar OpenFault) → IsErrAnd r (λ x. x ≡ fault) → K old
       → (IsTrue old.is_open → old.now ≡ old.committed) → Looks {T = T} K old new (Err fault) → EndsOpening old new r
   ends_looked fault (Ok x) is known settled looks = absurd is
   ends_looked fault (Err x) is known settled looks =
@@ -159,11 +160,11 @@ module _ (old new : State) where
       (refuses_nothing fault (λ clean. left_same old new settled (looks.kept clean known)) (looks.survives known) (λ clean. looks.faults clean known))
 
   -- the tables of the present format were found
-  pub ends_found : (r : Result ℕ OpenFault) → IsSoundOfFormat present_format old → (IsTrue old.is_open → old.now ≡ old.committed)
-      → (HasCleanDisk old → HasFormat old.now present_format) → (HasCleanDisk new → IsSoundOfFormat present_format old → IfOk r (IsNextSale old))
+  pub ends_found : (r : Result SoldSoFar OpenFault) → IsSoundOfFormat present_format old → (IsTrue old.is_open → old.now ≡ old.committed)
+      → (HasCleanDisk old → HasFormat old.now present_format) → (HasCleanDisk new → IsSoundOfFormat present_format old → IfOk r (IsSoldSoFar old))
       → (HasCleanDisk new → IsSoundOfFormat present_format old → IfOk r (FollowsLast old.now))
       → Looks (IsSoundOfFormat present_format) old new r → EndsOpening old new r
-  ends_found (Ok next) has settled tells given follows looks = record {
+  ends_found (Ok sold) has settled tells given follows looks = record {
     opens = λ clean o at.
         let it = looks.same clean has in (
           record {
@@ -210,9 +211,9 @@ module _ (from : ℕ) (old new : State) (older : from < present_format) (opens :
   }
 
   -- the office was brought to the present format
-  pub ends_brought : (next : ℕ) → (HasCleanDisk old → IsNextSale old next) → (HasCleanDisk new → IsBrought from old new) → EndsOpening old new (Ok next)
-  ends_brought next is brought = record {
-    opens = λ clean. opens_brought old new clean leaves from next (is (early clean)) (brought clean);
+  pub ends_brought : (sold : SoldSoFar) → (HasCleanDisk old → IsSoldSoFar old sold) → (HasCleanDisk new → IsBrought from old new) → EndsOpening old new (Ok sold)
+  ends_brought sold is brought = record {
+    opens = λ clean. opens_brought old new clean leaves from sold (is (early clean)) (brought clean);
     finds = λ clean. let it = brought clean in record { was_open = it.was_open; is_open = it.is_open; now = inl (from, older, it.brings, rows (early clean)) };
     follows = λ clean. inl (from, older, (brought clean).brings, rows (early clean));
     refused = λ _. tt;
@@ -226,7 +227,7 @@ module _ (from : ℕ) (old new : State) (older : from < present_format) (opens :
   risked NotAnOffice risk = risk
 
   -- it was not
-  pub ends_unbrought : (fault : OpenFault) (r : Result ℕ OpenFault) → IsErrAnd r (λ x. x ≡ fault) → (HasCleanDisk new → (fault ≡ Store) ⊎ (fault ≡ Memory))
+  pub ends_unbrought : (fault : OpenFault) (r : Result SoldSoFar OpenFault) → IsErrAnd r (λ x. x ≡ fault) → (HasCleanDisk new → (fault ≡ Store) ⊎ (fault ≡ Memory))
       → (HasCleanDisk new → IsSame old new) → Survives old new (AfterStore (LeavesPresent from old) fault)
       → EndsOpening old new r
   ends_unbrought fault (Ok x) is told same risk = absurd is

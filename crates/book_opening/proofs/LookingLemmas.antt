@@ -1,12 +1,13 @@
 -- What looks at the store leave, and what their faults tell of it.
-use Rattle.std.proofs.Common.{◌≡◌, ◌≢◌, ◌⊎◌, ◌+◌, ◌==◌, ℕ, Bool, true, false, List, [], ◌∷◌, length, cond, Option, None, Some, option_map, unwrap_or, IsTrue, Ok, Err, refl, sym, ap, ◌∙◌, subst, inl, inr, arith}
-use Rattle.std.specs.Prelude.{find}
+use Rattle.std.proofs.Common.{◌≡◌, ◌≢◌, ◌⊎◌, ◌+◌, ◌-◌, ◌≤◌, ◌==◌, ℕ, Bool, true, false, List, [], ◌∷◌, length, cond, Option, None, Some, option_map, unwrap_or, IsTrue, Ok, Err, refl, sym, ap, ◌∙◌, subst, inl, inr, arith}
+use Rattle.std.specs.Prelude.{find, slice_get}
 use Rattle.std.specs.List.{last_or}
 use Rattle.std.proofs.lemmas.Bool.Decides.{nat_tests}
 use Rattle.sqlite.specs.Effect.{Database, IsDatabase}
 use Rattle.sqlite.specs.State.{HasCleanDisk, IsUnchanged, State, Survives}
 use Rattle.sqlite.specs.declared.error.Error.{Error}
 use Rattle.office_rules.specs.Office.{Office}
+use Rattle.office_rules.specs.Office.Lookup.{sale_numbered}
 use Rattle.office_rules.specs.declared.office.sale.Sale.{Sale}
 use Rattle.book_tables.specs.format.Making.{IsSoundOfFormat}
 use Rattle.book_tables.specs.Holds.{HasOfficeOf, HoldsMembers, StandsFor}
@@ -17,11 +18,15 @@ use Rattle.book_tables.specs.declared.error.TableError.{TableError}
 use Rattle.book_tables.specs.declared.error.TableError.TheVariants as table
 use Rattle.book_tables.proofs.HoldsLemmas.{held_as}
 use Rattle.book_tables.proofs.OfficeTableLemmas.{has_table_rows, sales_in}
+use Rattle.book_states.specs.Health.{last_moment}
 use Rattle.book_states.specs.Stores.{StoreStandsFor}
 use Rattle.book_states.specs.Same.{IsSame}
-use Rattle.book_opening.specs.Opening.{FaultFitsStore, Looks, fault_of_table}
+use Rattle.book_opening.specs.NoOffice.{IsLastSaleSpoilt, IsNoOffice}
+use Rattle.book_opening.specs.NoOffice.IsNoOffice.{by_last_sale}
+use Rattle.book_opening.specs.Opening.{FaultFitsStore, Looks, fault_of_table, sold_by}
 use Rattle.book_opening.specs.declared.fault.OpenFault.{OpenFault}
 use Rattle.book_opening.specs.declared.fault.OpenFault.TheVariants.{NotAnOffice, Store, Memory}
+use Rattle.book_opening.specs.declared.sold_so_far.SoldSoFar.{SoldSoFar}
 
 -- a fault that does not name the file
 pub of_failure : (s : State) (fault : OpenFault) → (fault ≡ Store) ⊎ (fault ≡ Memory) → FaultFitsStore s fault
@@ -36,12 +41,16 @@ stands_after old new o clean same survives at = record {
   left = λ trees leaves. elim (survives.crash clean trees leaves) [ inl was ↦ at.left trees was | inr none ↦ absurd none ];
 }
 
--- a fault that names the file is true of the store as it was before a look
-pub shown_before : (old mid : State) (fault : OpenFault) → ((o : Office) → StoreStandsFor old o → StoreStandsFor mid o) → FaultFitsStore mid fault
-    → FaultFitsStore old fault
-shown_before old mid NotAnOffice after none = λ o at. none o (after o at)
-shown_before old mid Store after none = tt
-shown_before old mid Memory after none = tt
+-- a fault that names the file is true of the store as it was before a look that changed nothing
+pub shown_before : (old mid : State) (fault : OpenFault) → IsUnchanged old mid → ((o : Office) → StoreStandsFor old o → StoreStandsFor mid o)
+    → FaultFitsStore mid fault → FaultFitsStore old fault
+shown_before old mid NotAnOffice same after shows = record {
+  is_open = same.0.was_open;
+  named = subst IsNoOffice same.0.now_is shows.named;
+  none = λ o at. shows.none o (after o at);
+}
+shown_before old mid Store same after shows = tt
+shown_before old mid Memory same after shows = tt
 
 -- the schema of the connection is that of a format
 pub has_found : (n : ℕ) (s : State) → (IsTrue s.is_open → IsDatabase s.now) → HasOfficeOf n s.now.schema → IsSoundOfFormat n s
@@ -49,15 +58,21 @@ has_found n s live has = λ runs. (live runs, has)
 
 -- ---- the present format
 
--- a read that failed shows that there is no office, where its fault says so
+-- a read of the last sale that failed shows that there is no office, where its fault says so
 as_shown : (old new : State) (e : TableError) (fault : OpenFault) → ((why : Error) → e ≡ table.Database why → (fault ≡ Store) ⊎ (fault ≡ Memory))
     → fault ≡ fault_of_table e → IsSoundOfFormat present_format old
+    → (e ≡ table.RowOfNoOffice → IsLastSaleSpoilt old.now)
     → FailsToRead old new e → FaultFitsStore old fault
-as_shown old new (table.Database why) fault kind is has fails = of_failure old fault (kind why refl)
-as_shown old new table.RowOfNoOffice fault kind is has fails =
-    rw is (λ o at.
-    let held : HoldsMembers old.now o = (held_as old.now o present_format (at.now fails.1.0.was_open) (omega arith) (has fails.1.0.was_open).1).0 in
-    fails.0 held.0 held.1 (o, at.office, held.2))
+as_shown old new (table.Database why) fault kind is has spoilt fails = of_failure old fault (kind why refl)
+as_shown old new table.RowOfNoOffice fault kind is has spoilt fails =
+    let runs = fails.1.0.was_open in
+    rw is (record {
+      is_open = runs;
+      named = by_last_sale (has runs).1 (spoilt refl);
+      none = λ o at.
+          let held : HoldsMembers old.now o = (held_as old.now o present_format (at.now runs) (omega arith) (has runs).1).0 in
+          fails.0 held.0 held.1 (o, at.office, held.2);
+    })
 
 -- a sound database of the present format has all its tables
 pub tables : (s : State) → IsSoundOfFormat present_format s → HasAllTables s
@@ -74,15 +89,17 @@ module _ {old new : State} where
     survives = λ has. this.survives (tables old has);
   }
 
-  -- a read that failed is a look that fails with the fault of its error
+  -- a read of the last sale that failed is a look that fails with the fault of its error
   pub look_fails : {T U : Type 0} (e : TableError) (fault : OpenFault) → ((why : Error) → e ≡ table.Database why → (fault ≡ Store) ⊎ (fault ≡ Memory))
-      → fault ≡ fault_of_table e → OnlyReads {T = T} IsUnchanged old new (Err e)
+      → fault ≡ fault_of_table e
+      → (HasCleanDisk new → IsSoundOfFormat present_format old → e ≡ table.RowOfNoOffice → IsLastSaleSpoilt old.now)
+      → OnlyReads {T = T} IsUnchanged old new (Err e)
       → Looks {T = U} (IsSoundOfFormat present_format) old new (Err fault)
-  look_fails e fault kind is this = record {
+  look_fails e fault kind is spoilt this = record {
     same = λ _ _. tt;
     kept = λ clean has. this.kept clean (tables old has);
     mode = this.mode;
-    faults = λ clean has. as_shown old new e fault kind is has (this.faults clean (tables old has));
+    faults = λ clean has. as_shown old new e fault kind is has (spoilt clean has) (this.faults clean (tables old has));
     survives = λ has. this.survives (tables old has);
   }
 
@@ -112,6 +129,19 @@ none_last n o (x ∷ xs) before none = by_test (x.number == n) refl none (none_l
     by_test true is found rest = absurd (let e = found in cc)
     by_test false is none rest = rest (λ same. let number : x.number ≡ n = (let e = same in cc) in grind (arith, nat_tests)) none
 
+-- a number that counts the sales is that of the last one
+moment_at : (sales : List Sale) (last : ℕ) (sale : Sale) → last ≡ length sales
+    → (1 ≤ last → find (λ (s : Sale). s.number == last) sales ≡ slice_get sales (last - 1)) → Some sale ≡ find (λ (s : Sale). s.number == last) sales
+    → Some sale.moment ≡ option_map (λ (s : Sale). s.moment) (slice_get sales (length sales - 1))
+moment_at [] last sale counts place found = absurd (let e = found in cc)
+moment_at (x ∷ xs) last sale counts place found = ap (option_map (λ (s : Sale). s.moment))
+    (found ∙ place (omega (arith, counts)) ∙ ap (λ n. slice_get (x ∷ xs) (n - 1)) counts)
+
+-- where none are counted there is none
+none_there : (sales : List Sale) → 0 ≡ length sales → sales ≡ []
+none_there [] counts = refl
+none_there (x ∷ xs) counts = absurd (omega (arith, counts))
+
 -- what the rows of the sales say of the office that the store stands for
 module _ (old : State) (has : IsSoundOfFormat present_format old) (runs : IsTrue old.is_open) (o : Office) (at : StoreStandsFor old o) where
   held : HoldsMembers old.now o
@@ -124,9 +154,26 @@ module _ (old : State) (has : IsSoundOfFormat present_format old) (runs : IsTrue
   of_office = (o, at.office, held.2)
 
   -- the last number counts its sales
-  pub next_counted : (last : Option ℕ) → ((rows : Rows) → HasTableRows sales_kept old rows → AreOfOffice rows → unwrap_or last 0
-      ≡ length rows.sales) → unwrap_or last 0 + 1 ≡ length o.sales + 1
-  next_counted last counted = ap (λ n. n + 1) (counted held.0 sales_there of_office) ∙ ap (λ (sales : List Sale). length sales + 1) held.2.sales
+  counts_sales : (last : Option ℕ) → ((rows : Rows) → HasTableRows sales_kept old rows → AreOfOffice rows → unwrap_or last 0 ≡ length rows.sales)
+      → unwrap_or last 0 ≡ length o.sales
+  counts_sales last counted = counted held.0 sales_there of_office ∙ ap (λ (sales : List Sale). length sales) held.2.sales
+
+  -- where there is no last number nothing was sold
+  pub nothing_sold : (sold : SoldSoFar) → ((p : Office) → p.sales ≡ [] → sold ≡ sold_by p)
+      → ((rows : Rows) → HasTableRows sales_kept old rows → AreOfOffice rows → 0 ≡ length rows.sales) → sold ≡ sold_by o
+  nothing_sold sold is counted = is o (none_there o.sales (counts_sales None counted))
+
+  -- the sale of the last number is its last one
+  pub sold_up_to : (last : ℕ) (sale : Sale) → ((number : ℕ) → 1 ≤ number → sale_numbered o number ≡ slice_get o.sales (number - 1))
+      → ((rows : Rows) → HasTableRows sales_kept old rows → AreOfOffice rows → last ≡ length rows.sales)
+      → ((rows : Rows) → HasTableRows sales_kept old rows → AreOfOffice rows → Some sale ≡ find (λ (s : Sale). s.number == last) rows.sales)
+      → record { next_number = last + 1; last_moment = Some sale.moment } ≡ sold_by o
+  sold_up_to last sale at counted found =
+      let counts : last ≡ length o.sales = counts_sales (Some last) counted in
+      let here : Some sale ≡ sale_numbered o last = found held.0 sales_there of_office
+      ∙ ap (λ (sales : List Sale). find (λ (s : Sale). s.number == last) sales) held.2.sales in
+      let moment : Some sale.moment ≡ last_moment o = moment_at o.sales last sale counts (at last) here in
+      rw counts (rw moment refl)
 
   -- the sale of the last number is there
   pub last_there : (last : ℕ) → ((rows : Rows) → HasTableRows sales_kept old rows → AreOfOffice rows → Some last

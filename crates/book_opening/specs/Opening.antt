@@ -28,10 +28,13 @@ use Rattle.audit.specs.Shown.{AreOfficeRows}
 use Rattle.audit_rows.specs.declared.finding.AuditFault.{AuditFault}
 use Rattle.audit_rows.specs.declared.finding.AuditFault.TheVariants as audit
 use Rattle.audit_rows.specs.declared.office_rows.OfficeRows.{OfficeRows}
+use Rattle.book_states.specs.Health.{last_moment}
 use Rattle.book_states.specs.Stores.{Stores, StoreStandsFor}
 use Rattle.book_states.specs.Same.{IsSame}
+use Rattle.book_opening.specs.NoOffice.{ShowsNoOffice}
 use Rattle.book_opening.specs.declared.fault.OpenFault.{OpenFault}
 use Rattle.book_opening.specs.declared.fault.OpenFault.TheVariants.{NotAnOffice, Store, Memory}
+use Rattle.book_opening.specs.declared.sold_so_far.SoldSoFar.{SoldSoFar}
 
 -- the tables of a format, where there are any, tell it, and their rows are those of an office
 abbrev pub HasOfficesRows : ℕ → Database → Type 0
@@ -88,37 +91,42 @@ fault_of_audit (audit.Found f) = NotAnOffice
 fault_of_audit audit.NoOffice = NotAnOffice
 fault_of_audit (audit.Failed e) = fault_of e
 
--- a fault that names the file is answered only where the store stands for no office
+-- a fault that names the file is answered only of one that is shown to be no office's
 abbrev pub FaultFitsStore : State → OpenFault → Type 0
-FaultFitsStore s NotAnOffice = (o : Office) → ¬ StoreStandsFor s o
+FaultFitsStore s NotAnOffice = ShowsNoOffice s
 FaultFitsStore s Store = Unit {0}
 FaultFitsStore s Memory = Unit {0}
 
--- of the office that the store stands for, this is the number of the next sale
-abbrev pub IsNextSale : State → ℕ → Type 0
-IsNextSale s next = (o : Office) → StoreStandsFor s o → next ≡ length o.sales + 1
+-- what an office has sold so far: the number of the next sale and the moment of the last one
+abbrev pub sold_by : Office → SoldSoFar
+sold_by o = record { next_number = length o.sales + 1; last_moment = last_moment o }
 
--- the number of the next sale is 1 where none is stored; else the row of the last one shows a sale,
--- and it is the number after
-abbrev IsAfter : Database → Option ℕ → ℕ → Type 0
-IsAfter db None next = next ≡ 1
-IsAfter db (Some last) next =
-    ((sale : Sale) × ShowsFirst (the_sale last) db (Some sale)) × (next ≡ last + 1)
+-- the office that the store stands for has sold this so far
+abbrev pub IsSoldSoFar : State → SoldSoFar → Type 0
+IsSoldSoFar s sold = (o : Office) → StoreStandsFor s o → sold ≡ sold_by o
+
+-- The next sale is the first where none is stored. Else the row of the last one shows a sale: its
+-- moment is the last one, and the next number is the number after.
+abbrev IsAfter : Database → Option ℕ → SoldSoFar → Type 0
+IsAfter db None sold = (sold.next_number ≡ 1) × (sold.last_moment ≡ None)
+IsAfter db (Some last) sold =
+    (sale : Sale) × ShowsFirst (the_sale last) db (Some sale)
+    × (sold.next_number ≡ last + 1) × (sold.last_moment ≡ Some sale.moment)
 
 -- of the last number that is stored, whatever the other rows are
-abbrev pub FollowsLast : Database → ℕ → Type 0
-FollowsLast db next =
-    (last : Option ℕ) × ShowsFirst the_last_sale db last × IsAfter db last next
+abbrev pub FollowsLast : Database → SoldSoFar → Type 0
+FollowsLast db sold =
+    (last : Option ℕ) × ShowsFirst the_last_sale db last × IsAfter db last sold
 
 -- Where this is known the store was only looked at, and a fault that names the file is true of it.
 abbrev pub Looks : {T : Type 0} → (State → Type 0) → State → State → Result T OpenFault → Type 0
 Looks IsKnown old new result =
     ReadsOnly IsKnown IsUnchanged (λ (s _ : State). FaultFitsStore s) old new result
 
--- The office that the store stood for is held now, and this is the number of its next sale.
-abbrev pub OpensAt : State → State → ℕ → Type 0
-OpensAt old new next =
-    (o : Office) → StoreStandsFor old o → Stores new o × (next ≡ length o.sales + 1)
+-- The office that the store stood for is held now, and it has sold this so far.
+abbrev pub OpensAt : State → State → SoldSoFar → Type 0
+OpensAt old new sold =
+    (o : Office) → StoreStandsFor old o → Stores new o × (sold ≡ sold_by o)
 
 -- A fault that names the file is true of it. A connection that is still open has what it had, and
 -- what the store stood for it still stands for.
@@ -187,12 +195,12 @@ FailsToOpen g old new fault =
 -- How an opening ends. The office that the store stood for is held, and what is opened was there or
 -- was brought to the present format; or it is refused. A crash leaves what it left before, or the
 -- office in the present format, which a refusal leaves after Store alone.
-pub record EndsOpening (old new : State) (result : Result ℕ OpenFault) : Type 0 where
+pub record EndsOpening (old new : State) (result : Result SoldSoFar OpenFault) : Type 0 where
   pub opens : HasCleanDisk new → IfOk result (OpensAt old new)
   pub finds : HasCleanDisk new → OnOk result (OpensAs old new)
-  -- the sales of what is not brought up are numbered after the last row, which shows one
+  -- the sales of what is not brought up go on after the last row, which shows one
   pub follows : HasCleanDisk new
-      → IfOk result (λ next. BringsTold old.now new.now ⊎ FollowsLast old.now next)
+      → IfOk result (λ sold. BringsTold old.now new.now ⊎ FollowsLast old.now sold)
   pub refused : HasCleanDisk new → IfErr result (Refuses old new)
   pub survives : Survives old new (LeavesBrought old)
   pub risks : IfErr result (λ fault. Survives old new (LeavesRefused old fault))

@@ -6,7 +6,9 @@
 
 pub use fault::OpenFault;
 pub use opening::{fault_of, next_here};
+pub use sold_so_far::SoldSoFar;
 
 mod bringing;
 mod fault;
 mod opening;
+mod sold_so_far;

@@ -5,15 +5,17 @@ ghost use Rattle.sqlite.specs.State.{HasCleanDisk};
 ghost use Rattle.one_table.specs.Over.{Over};
 ghost use Rattle.book_tables.specs.format.Making.{IsSoundOfFormat};
 ghost use Rattle.book_tables.specs.row.Rows.{present_format};
-ghost use Rattle.book_opening.specs.Opening.{EndsOpening, FailsToOpen, FollowsLast, IsNextSale};
+ghost use Rattle.book_opening.specs.Opening.{EndsOpening, FailsToOpen, FollowsLast, IsSoldSoFar};
 ghost use Rattle.book_opening.specs.Opening.{Looks, fault_of, fault_of_audit, fault_of_table};
 
 use crate::bringing::bring_office;
 use crate::fault::OpenFault;
+use crate::sold_so_far::SoldSoFar;
 use audit::{AuditFault, office_rows, test_told};
 use book_tables::format::presence::format_here;
 use book_tables::reading::sales::{last_sale_number, sale_numbered};
 use book_tables::{PRESENT_FORMAT, TableError};
+use office_rules::store_law;
 use sqlite::{Alter, Connection, Error, ErrorCode};
 use std::alloc::Global;
 
@@ -65,10 +67,10 @@ fn test_open<S: Alter>(conn: &mut Connection<S>) -> Result<(), OpenFault>
     }
 }
 
-// The number of the next sale, by the one that was made last, which has to be there whole.
-fn next_by_sales<S: Alter>(conn: &mut Connection<S>) -> Result<u64, OpenFault>
+// What was sold, by the sale that was made last, which has to be there whole.
+fn next_by_sales<S: Alter>(conn: &mut Connection<S>) -> Result<SoldSoFar, OpenFault>
     ensures given { Over S.Store conn (λ old new. HasCleanDisk new
-        → IsSoundOfFormat present_format old → IfOk result (IsNextSale old)) }
+        → IsSoundOfFormat present_format old → IfOk result (IsSoldSoFar old)) }
     ensures follows { Over S.Store conn (λ old new. HasCleanDisk new
         → IsSoundOfFormat present_format old → IfOk result (FollowsLast old.now)) }
     ensures looks { Over S.Store conn (λ old new. Looks (IsSoundOfFormat present_format)
@@ -76,20 +78,27 @@ fn next_by_sales<S: Alter>(conn: &mut Connection<S>) -> Result<u64, OpenFault>
     ensures fails { Over S.Store conn (λ old new. HasCleanDisk new → IsTrue old.is_open
         → IsSoundOfFormat present_format old → IfErr result (FailsToOpen S.Store old new)) }
 {
+    store_law();
     let last = match last_sale_number(conn) {
         Ok(Some(last)) => last,
-        Ok(None) => return Ok(1),
+        Ok(None) => return Ok(SoldSoFar::of_sales(&[])),
         Err(error) => return Err(fault_of_table(error)),
     };
     match sale_numbered(conn, last) {
-        Ok(Some(_)) => Ok(u64::from(last) + 1),
+        Ok(Some(sale)) => Ok(SoldSoFar {
+            next_number: u64::from(last) + 1,
+            last_moment: Some(sale.moment),
+        }),
         Ok(None) => Err(OpenFault::NotAnOffice),
         Err(error) => Err(fault_of_table(error)),
     }
 }
 
-// The number of the next sale of an office of the present format.
-fn next_of_present<S: Alter>(alloc: Global, conn: &mut Connection<S>) -> Result<u64, OpenFault>
+// What an office of the present format has sold.
+fn next_of_present<S: Alter>(
+    alloc: Global,
+    conn: &mut Connection<S>,
+) -> Result<SoldSoFar, OpenFault>
     requires outside { conn.old.in_transaction ≡ false }
     ensures ends { Over S.Store conn (λ old new. IsSoundOfFormat present_format old
         → EndsOpening old new result) }
@@ -107,7 +116,7 @@ fn next_of_present<S: Alter>(alloc: Global, conn: &mut Connection<S>) -> Result<
 }
 
 // Begins an office where there are no tables.
-fn next_of_none<S: Alter>(alloc: Global, conn: &mut Connection<S>) -> Result<u64, OpenFault>
+fn next_of_none<S: Alter>(alloc: Global, conn: &mut Connection<S>) -> Result<SoldSoFar, OpenFault>
     requires outside { conn.old.in_transaction ≡ false }
     ensures ends { Over S.Store conn (λ old new. (HasCleanDisk old → IsTrue old.is_open)
         → IsSoundOfFormat 0 old → EndsOpening old new result) }
@@ -117,7 +126,7 @@ fn next_of_none<S: Alter>(alloc: Global, conn: &mut Connection<S>) -> Result<u64
     ensures mode { conn.new.in_transaction ≡ false }
 {
     bring_office(alloc, conn, 0, &[], &[])?;
-    Ok(1)
+    Ok(SoldSoFar::of_sales(&[]))
 }
 
 // Brings an office of an older format to the present one, once all its rows were looked at: it is
@@ -126,7 +135,7 @@ fn next_of_older<S: Alter>(
     alloc: Global,
     conn: &mut Connection<S>,
     from: u32,
-) -> Result<u64, OpenFault>
+) -> Result<SoldSoFar, OpenFault>
     requires outside { conn.old.in_transaction ≡ false }
     requires some { 1 ≤ from }
     requires older { from < present_format }
@@ -144,12 +153,12 @@ fn next_of_older<S: Alter>(
         Err(fault) => return Err(fault_of_audit(fault)),
     };
     bring_office(alloc, conn, from, &rows.meters, &rows.sales)?;
-    Ok(rows.sales.len() as u64 + 1)
+    Ok(SoldSoFar::of_sales(&rows.sales))
 }
 
 // By the tables that are there: an office is begun where there are none, and brought to the present
 // format where they are of an older one; anything else is no office.
-fn next_by_schema<S: Alter>(alloc: Global, conn: &mut Connection<S>) -> Result<u64, OpenFault>
+fn next_by_schema<S: Alter>(alloc: Global, conn: &mut Connection<S>) -> Result<SoldSoFar, OpenFault>
     requires outside { conn.old.in_transaction ≡ false }
     ensures ends { Over S.Store conn (λ old new. (HasCleanDisk old → IsTrue old.is_open)
         → EndsOpening old new result) }
@@ -166,9 +175,9 @@ fn next_by_schema<S: Alter>(alloc: Global, conn: &mut Connection<S>) -> Result<u
     }
 }
 
-/// The number of the next sale of the office that the store stands for. An office is begun where
-/// there is none, and brought to the present format where it is of an older one.
-pub fn next_here<S: Alter>(alloc: Global, conn: &mut Connection<S>) -> Result<u64, OpenFault>
+/// What the office that the store stands for has sold so far. An office is begun where there is
+/// none, and brought to the present format where it is of an older one.
+pub fn next_here<S: Alter>(alloc: Global, conn: &mut Connection<S>) -> Result<SoldSoFar, OpenFault>
     requires outside { conn.old.in_transaction ≡ false }
     ensures ends { Over S.Store conn (λ old new. EndsOpening old new result) }
     ensures fails { Over S.Store conn (λ old new. HasCleanDisk new

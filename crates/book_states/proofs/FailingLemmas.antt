@@ -1,5 +1,5 @@
 -- Why a read of the tables fails, and what is answered.
-use Rattle.std.proofs.Common.{◌≡◌, ℕ, true, arith, refl, sym, subst, inl, inr, ◌∙◌}
+use Rattle.std.proofs.Common.{◌≡◌, ℕ, true, arith, refl, sym, inl, inr, ◌∙◌}
 use Rattle.std.proofs.lemmas.Bool.{cases_Bool}
 use Rattle.sqlite.specs.Effect.{Database}
 use Rattle.sqlite.specs.State.{HasCause, HasCleanDisk, State, Survives, store_error}
@@ -17,7 +17,7 @@ use Rattle.book_tables.specs.writing.Writes.{writes_of}
 use Rattle.book_tables.specs.reading.Reading.{FailsToRead, HasAllTables}
 use Rattle.book_tables.specs.declared.error.TableError.{TableError}
 use Rattle.book_tables.specs.declared.error.TableError.TheVariants as fails
-use Rattle.book_states.specs.Failing.{EditHasFailed, FailsToMakeEdit, HasFailedAt, HasFalseRows, IsToldOfRead, refusal_for}
+use Rattle.book_states.specs.Failing.{EditHasFailed, FailsToMakeEdit, HasFailedAt, IsToldOfRead, refusal_for}
 
 -- a read that is answered as a failure of the store has one of its causes, where a row of no office
 -- is told only for this
@@ -42,17 +42,16 @@ module _ (old new : State) (IsSpoilt : Database → Type 0) where
   has_failed (fails.Database e) (inr why) spoilt is = absurd (let told = rw why.0 at is in cc)
   has_failed fails.RowOfNoOffice why spoilt is = inr (inr (inr (spoilt refl)))
 
-module _ (old new : State) where
-  -- a read that fails is told of by the refusal that its error is answered with
-  pub told_of_read : (e : TableError) (refusal : Refusal) → refusal ≡ refusal_for e → FailsToRead old new e → HasCleanDisk new
-      → Survives old new (λ _. ⊥) → IsToldOfRead refusal old new
-  told_of_read e refusal answered why clean survives = record {
-    error = e;
-    answered = answered;
-    fails = why;
-    failed = λ is. has_failed old new HasFalseRows e why (λ row. (subst (FailsToRead old new) row why).0) (sym answered ∙ is);
-    still_open = survives.closes clean;
-  }
+-- a read that fails is told of by the refusal that its error is answered with
+pub told_of_read : (old new : State) {IsSpoilt : Database → Type 0} (e : TableError) (refusal : Refusal) → refusal ≡ refusal_for e → FailsToRead old new e
+    → (e ≡ fails.RowOfNoOffice → IsSpoilt old.now) → HasCleanDisk new → Survives old new (λ _. ⊥) → IsToldOfRead IsSpoilt refusal old new
+told_of_read old new {IsSpoilt} e refusal answered why spoilt clean survives = record {
+  error = e;
+  answered = answered;
+  fails = why;
+  failed = λ is. has_failed old new IsSpoilt e why spoilt (sym answered ∙ is);
+  still_open = survives.closes clean;
+}
 
 -- An edit that is answered as a failure of the store has one of its causes, by what the connection
 -- was before its transaction was begun, and is after it was undone.

@@ -1,7 +1,8 @@
 -- What an edit makes of a database.
-use Rattle.std.specs.Prelude.{◌≡◌, ◌≢◌, ◌+◌, ◌++◌, ◌∷◌, [], ℕ, List}
+use Rattle.std.specs.Prelude.{◌≡◌, ◌≢◌, ◌+◌, ◌++◌, ◌∷◌, [], ℕ, List, Option, map}
 use Rattle.std.specs.List.{flat_map}
 use Rattle.sqlite.specs.Effect.{Database, IsDatabase}
+use Rattle.sqlite.specs.Order.{Row as Columns}
 use Rattle.sqlite.specs.State.{State}
 use Rattle.office_rules.specs.Decision.Edits.{applied, with_rows}
 use Rattle.office_rules.specs.Office.{IsOffice, Office}
@@ -15,9 +16,16 @@ use Rattle.office_rules.specs.declared.office.row.Row.{Row}
 use Rattle.office_rules.specs.declared.office.row.Row.TheVariants as kinds
 use Rattle.office_rules.specs.declared.office.sale.Sale.{Sale}
 use Rattle.book_tables.specs.Holds.{HasOffice, HoldsMembers, table_names}
+use Rattle.book_tables.specs.Kept.{bases_kept, dated_steps_kept, meters_kept, sales_kept}
+use Rattle.book_tables.specs.Kept.{shifts_kept, steps_kept, tariffs_kept}
+use Rattle.book_tables.specs.row.Rows.{base_columns, dated_columns, meter_columns, sale_row}
+use Rattle.book_tables.specs.row.Rows.{shift_row, step_columns, tariff_columns}
+use Rattle.book_tables.specs.writing.Edited.{dated_rows, step_rows}
+use Rattle.book_tables.specs.writing.Storing.{StoresRow, StoresRows}
 use Rattle.book_tables.specs.writing.Keeping.{AreInOrder, KeepsRows, Keys, base_keys, dated_keys}
 use Rattle.book_tables.specs.writing.Keeping.{meter_keys, sale_key, shift_keys, tariff_keys}
 use Rattle.book_tables.specs.writing.Keeping.{totals_keys}
+use Rattle.book_tables.specs.writing.Writes.{Make, Write, writes_of}
 use Rattle.book_tables.specs.writing.Writing.{AreSaleTotals, TellsSold}
 use Rattle.book_tables.specs.declared.row.totals.SaleTotals.{SaleTotals}
 use Rattle.book_states.specs.Others.{SameOthers}
@@ -39,12 +47,68 @@ edit_keys (OpenShift s) = shift_keys s.number
 edit_keys (CloseShift number moment) = shift_keys number
 edit_keys (AddSale s) = sale_key s.number ++ totals_keys s
 
+-- what the row of an import adds to each table, as its columns
+abbrev pub names_added : Row → List Columns
+names_added (kinds.Tariff name steps) = tariff_columns name ∷ []
+names_added (kinds.Steps name day steps) = []
+names_added (kinds.Meter number m) = []
+
+abbrev pub steps_added : Row → List Columns
+steps_added (kinds.Tariff name steps) = map step_columns (step_rows name steps)
+steps_added (kinds.Steps name day steps) = []
+steps_added (kinds.Meter number m) = []
+
+abbrev pub dated_added : Row → List Columns
+dated_added (kinds.Tariff name steps) = []
+dated_added (kinds.Steps name day steps) = map dated_columns (dated_rows name day steps)
+dated_added (kinds.Meter number m) = []
+
+abbrev pub meters_added : Row → List Columns
+meters_added (kinds.Tariff name steps) = []
+meters_added (kinds.Steps name day steps) = []
+meters_added (kinds.Meter number m) = meter_columns (number, m) ∷ []
+
+abbrev pub bases_added : Row → List Columns
+bases_added (kinds.Tariff name steps) = []
+bases_added (kinds.Steps name day steps) = []
+bases_added (kinds.Meter number m) = base_columns (number, m.base) ∷ []
+
+-- Each of these tables has what the rows of an import add to it, beside all that it had, whatever
+-- that is.
+pub record StoresImport (rows : List Row) (old new : Database) : Type 0 where
+  pub names : StoresRows tariffs_kept (flat_map names_added rows) old new
+  pub steps : StoresRows steps_kept (flat_map steps_added rows) old new
+  pub dated : StoresRows dated_steps_kept (flat_map dated_added rows) old new
+  pub meters : StoresRows meters_kept (flat_map meters_added rows) old new
+  pub bases : StoresRows bases_kept (flat_map bases_added rows) old new
+
+-- the same of the rows that an edit adds; some only change one
+abbrev pub StoresEdit : Edit → Database → Database → Type 0
+StoresEdit (AddTariff name steps) old new = StoresImport (kinds.Tariff name steps ∷ []) old new
+StoresEdit (AddSteps name day steps) old new =
+    StoresImport (kinds.Steps name day steps ∷ []) old new
+StoresEdit (AddMeter number m) old new = StoresImport (kinds.Meter number m ∷ []) old new
+StoresEdit (AddRows rows) old new = StoresImport rows old new
+StoresEdit (SetTariff number name) old new = Unit {0}
+StoresEdit (MoveBase number base) old new =
+    StoresRow bases_kept (base_columns (number, base)) old new
+StoresEdit (OpenShift s) old new = StoresRow shifts_kept (shift_row s) old new
+StoresEdit (CloseShift number moment) old new = Unit {0}
+StoresEdit (AddSale s) old new = StoresRow sales_kept (sale_row s) old new
+
+-- these writes, one after another, make a database of another, under a limit on steps, if one is set
+abbrev pub IsCarriedOut : List Write → Database → Database → Type 0
+IsCarriedOut writes old new = (limit : Option ℕ) × Make limit writes old new
+
 -- A database of an office has the members of the office after the edit, the same tables, and the
--- same rows in those of other names. Whatever rows a database has, all but those of the edit's keys
--- stay, where they stand in order.
+-- same rows in those of other names. Whatever rows a database has, the edit's own writes made the
+-- new one of it: those that the edit adds are stored, and all but those of its keys stay, where
+-- they stand in order.
 pub record MakesEdit (edit : Edit) (old new : Database) : Type 0 where
   pub members : (o : Office) → IsOffice o → Meets edit o → HoldsMembers old o
       → HoldsMembers new (applied edit o)
+  pub carried : IsCarriedOut (writes_of edit) old new
+  pub stored : StoresEdit edit old new
   pub kept : AreInOrder table_names old → KeepsRows (edit_keys edit) old new
   pub schema : new.schema ≡ old.schema
   pub others : SameOthers old.schema old.trees new.trees
@@ -87,6 +151,7 @@ MakesAsComputed edit prior old new =
 pub record MakesRows (rows : List Row) (old new : Database) : Type 0 where
   pub members : (o : Office) → MeetRows rows o → HoldsMembers old o
       → HoldsMembers new (with_rows rows o)
+  pub stored : StoresImport rows old new
   pub kept : KeepsRows (flat_map row_keys rows) old new
   pub schema : new.schema ≡ old.schema
   pub others : SameOthers old.schema old.trees new.trees

@@ -18,16 +18,17 @@ use Rattle.office_rules.specs.declared.decision.facts.Facts.{Facts}
 use Rattle.office_rules.specs.declared.decision.refusal.Refusal.{Refusal}
 use Rattle.office_rules.specs.declared.decision.refusal.Refusal.TheVariants.{Memory, Store}
 use Rattle.office_rules.specs.declared.decision.request.Stamped.{Stamped}
+use Rattle.office_decisions.specs.OverFacts.{decision_on}
 use Rattle.book_tables.specs.writing.Failing.{FailsToWriteAll, IsRefused}
 use Rattle.book_tables.specs.writing.Writes.{writes_of}
-use Rattle.book_tables.specs.Holds.{Holds, HoldsMembers}
-use Rattle.book_tables.specs.reading.Reading.{AreOfOffice, FailsToRead, HasAllTables}
-use Rattle.book_tables.specs.row.Rows.{Rows}
+use Rattle.book_tables.specs.Holds.{HoldsMembers}
+use Rattle.book_tables.specs.reading.Reading.{FailsToRead, HasAllTables}
 use Rattle.book_tables.specs.declared.error.TableError.{TableError}
 use Rattle.book_tables.specs.declared.error.TableError.TheVariants as table
 use Rattle.book_states.specs.Changing.{IsMiscounted}
 use Rattle.book_states.specs.FactsSeen.{AreFactsSeen}
 use Rattle.book_states.specs.Members.{HasMembers}
+use Rattle.book_states.specs.Spoilt.{IsSpoiltFor}
 
 -- what is answered where the tables tell of this error: the store failed, unless they only found no
 -- memory
@@ -44,20 +45,15 @@ HasFailedAt IsSpoilt old new =
     ⊎ (IsSome old.step_limit
     ⊎ IsSpoilt old.now))
 
--- the rows of the tables are no office's
-abbrev pub HasFalseRows : Database → Type 0
-HasFalseRows db = (rows : Rows) → Holds db rows → ¬ AreOfOffice rows
-
-abbrev pub HasFailed : State → State → Type 0
-HasFailed = HasFailedAt HasFalseRows
-
--- A read of the tables failed, and its error is answered so. Nothing has changed: an open
--- connection is open still, or the disk failed more often than before.
-pub record IsToldOfRead (refusal : Refusal) (old new : State) : Type 0 where
+-- A read of the tables failed, and its error is answered so: of their rows only one of an answer to
+-- the questions that were asked is a cause. Nothing has changed: an open connection is open still,
+-- or the disk failed more often than before.
+pub record IsToldOfRead (IsSpoilt : Database → Type 0) (refusal : Refusal) (old new : State)
+    : Type 0 where
   pub error : TableError
   pub answered : refusal ≡ refusal_for error
   pub fails : FailsToRead old new error
-  pub failed : refusal ≡ Store → HasFailed old new
+  pub failed : refusal ≡ Store → HasFailedAt IsSpoilt old new
   pub still_open : IsTrue old.is_open → IsTrue new.is_open ⊎ MoreFaults old.faults new.faults
 
 -- These are the facts of the request, where this is the number of the next sale: those of the
@@ -68,12 +64,13 @@ pub record AreRead (at : Stamped) (next : ℕ) (s : State) (facts : Facts) : Typ
       → AreFacts o at facts
   pub seen : HasAllTables s → (count : ℕ) → next ≡ count + 1 → AreFactsSeen count at s.now facts
 
--- The facts of the request were read, and it was decided by them: it is decided so in any office
--- that has these facts, or there was no memory for it.
+-- The facts of the request were read, and it was decided by them, of an office or of none: it is
+-- decided so in any office that has these facts. Or there was no memory for it.
 pub record IsDecidedByFacts (forward : BlockFunction) (at : Stamped) (next : ℕ) (s : State)
     (result : Result Change Refusal) : Type 0 where
   pub facts : Facts
   pub read : AreRead at next s facts
+  pub exact : IsUnlessMemory result (decision_on forward at facts)
   pub decided : (o : Office) → AreFacts o at facts
       → IsUnlessMemory result (decision forward o at)
 
@@ -92,7 +89,7 @@ IsChangeRead forward at next s change prior =
 -- request or there was no memory for its answer.
 abbrev pub RefusesUnchanged : BlockFunction → Stamped → ℕ → State → State → Refusal → Type 0
 RefusesUnchanged forward at next old new refusal =
-    IsToldOfRead refusal old new
+    IsToldOfRead (IsSpoiltFor at) refusal old new
     ⊎ ((refusal ≢ Store) × IsDecidedByFacts forward at next old (Err refusal))
 
 -- Why an edit fails inside its transaction: one of its writes does, for a cause; or while the

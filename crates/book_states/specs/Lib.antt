@@ -1,7 +1,9 @@
 pub mod Changing
 pub mod FactsSeen
 pub mod Failing
+pub mod Health
 pub mod Members
 pub mod Others
 pub mod Same
+pub mod Spoilt
 pub mod Stores

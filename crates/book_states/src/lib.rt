@@ -5,12 +5,14 @@
 //! `specs/Stores.antt` has what a store and what a stop leaves stand for, `specs/Changing.antt`
 //! what an edit makes, `specs/Same.antt` and `specs/Others.antt` what has not changed,
 //! `specs/Failing.antt` why a request is answered that there was no memory or that the store
-//! failed, and `specs/FactsSeen.antt` what a request has seen, whatever the rows are.
+//! failed, `specs/FactsSeen.antt` what a request has seen, whatever the rows are,
+//! `specs/Spoilt.antt` which rows stop it, and `specs/Health.antt` what is told of an office
+//! without a read.
 #![tactic(auto)]
 
 pub use failing::{has_failed, refusal_of};
 pub use lookup::{
-    Found, LaterSteps, ListedMeter, ListedShift, ListedTariff, Lookup, MeterSummary, Quote,
+    Found, Health, LaterSteps, ListedMeter, ListedShift, ListedTariff, Lookup, MeterSummary, Quote,
 };
 
 mod failing;

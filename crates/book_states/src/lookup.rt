@@ -1,15 +1,15 @@
 //! What is looked up in an office, and what is found. No key of a meter is.
 
 use book_tables::Totals;
-use office_rules::{MeterNo, Operator, Ref, Sale, Shift, TariffName};
+use office_rules::{MeterNo, Moment, Operator, Ref, Sale, Shift, TariffName};
 use sts_fields::{Amount, Base, Day};
 use tariff::{Steps, Tender};
 
 /// What is looked up in an office. Nothing is changed by it (`docs/OFFICE.md`, "Look-ups").
 #[derive(Clone, Copy, Debug, PartialEq, Eq)]
 pub enum Lookup {
-    /// How many sales there are.
-    SaleCount,
+    /// How the office is, without a read of the store.
+    Health,
     /// A meter: what it has, what was sold to it in the month, and its last sale.
     Meter(MeterNo),
     /// The last sale to a meter.
@@ -35,8 +35,7 @@ pub enum Lookup {
 /// one that has fewer is the last one.
 #[derive(Debug, Drop)]
 pub enum Found {
-    /// At most 10^9.
-    SaleCount(u64),
+    Health(Health),
     Meter(MeterSummary),
     Sale(Sale),
     Quote(Quote),
@@ -46,6 +45,18 @@ pub enum Found {
     Meters(Vec<ListedMeter>),
     Shifts(Vec<ListedShift>),
     Sales(Vec<Sale>),
+}
+
+/// How an office is, as far as its books know without a read of the store.
+#[derive(Clone, Copy, Debug, PartialEq, Eq)]
+pub struct Health {
+    /// How many sales there are, at most 10^9.
+    pub sales: u64,
+    /// The moment of the last sale.
+    pub last_moment: Option<Moment>,
+    /// Whether the last change that was to be written was answered `Store`, and none was committed
+    /// since.
+    pub write_failed: bool,
 }
 
 /// What is told of a meter.

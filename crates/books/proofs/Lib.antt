@@ -3,6 +3,7 @@ mod AttemptLemmas
 mod FoundLemmas
 mod FreshLemmas
 mod HeadlineLemmas
+mod KnownLemmas
 mod LastSaleLemmas
 mod NothingLemmas
 mod OpenedLemmas

@@ -8,6 +8,7 @@ use Rattle.vend_core.specs.Law.LifeLaws.{IsRunning, opened}
 use Rattle.office_rules.specs.Office.{Office}
 use Rattle.book_tables.specs.Holds.{HasOffice}
 use Rattle.book_tables.specs.reading.Reading.{HasAllTables}
+use Rattle.book_states.specs.Health.{last_moment}
 use Rattle.book_states.specs.Stores.{Stores}
 use Rattle.books.specs.Keeps.{IsRepresented, Seen}
 use Rattle.book_opening.specs.Opening.{OpensAs}
@@ -15,14 +16,14 @@ use Rattle.book_opening.specs.Opening.{OpensAs}
 -- books that hold the office they were opened with represent the life that begins there
 pub keeps_opened : (forward : BlockFunction) (o : Office) (books : Seen) → IsRunning (opened forward o) o
     → ((p : Office) → MayLeave (opened forward o) p ↔ (p ≡ o)) → forward ≡ books.forward
-    → Stores books.state o × (books.next_number ≡ length o.sales + 1) → IsRepresented (opened forward o) books
-keeps_opened forward o books running leaves same at = record {
-  opening = at.0.office;
+    → Stores books.state o → books.next_number ≡ length o.sales + 1 → books.last_moment ≡ last_moment o → IsRepresented (opened forward o) books
+keeps_opened forward o books running leaves same at next last = record {
+  opening = at.office;
   is_life = running.is_life;
   forward = same;
-  left = λ trees may. (o, (leaves o).1 refl, at.0.left trees may);
-  running = λ _. record { present = o; running = running; at = at.0; next = at.1 };
-  numbered = λ p may. inl (at.1 ∙ ap (λ (q : Office). length q.sales + 1) (sym ((leaves p).0 may)));
+  left = λ trees may. (o, (leaves o).1 refl, at.left trees may);
+  running = λ _. record { present = o; running = running; at = at; next = next; last = last };
+  numbered = λ p may. inl (next ∙ ap (λ (q : Office). length q.sales + 1) (sym ((leaves p).0 may)));
 }
 
 -- what is opened has the office's tables

@@ -68,6 +68,7 @@ module _ {D : Type 0} {g : Ghosts D} where
             first = first;
             connected = connected;
             told = λ clean is o stands. told.other clean is o (stands_first o (early clean) stands);
+            named = λ clean is. (told.named clean is).1;
             fails = told.fails;
             same = told.same;
             kept = λ clean o stands. told.refused clean o (stands_first o (early clean) stands);

@@ -1,5 +1,5 @@
 -- What a request at books makes of the life that they keep.
-use Rattle.std.proofs.Common.{◌≡◌, ◌≢◌, ◌⊎◌, ◌↔◌, ℕ, ◌+◌, Bool, true, IsTrue, Option, None, Some, Result, Ok, Err, IfOk, length, refl, sym, ap, subst, ◌∙◌, inl, inr}
+use Rattle.std.proofs.Common.{◌≡◌, ◌≢◌, ◌⊎◌, ◌↔◌, ℕ, ◌+◌, Bool, true, IsTrue, Option, None, Some, Result, Ok, Err, IfErr, IfOk, length, refl, sym, ap, subst, ◌∙◌, inl, inr}
 use Rattle.std.proofs.lemmas.Bool.{false≢true}
 use Rattle.sts_token.specs.Token.{BlockFunction}
 use Rattle.office_rules.specs.Decision.{decision}
@@ -13,7 +13,7 @@ use Rattle.office_rules.specs.declared.decision.refusal.Refusal.{Refusal}
 use Rattle.office_rules.specs.declared.decision.refusal.Refusal.TheVariants.{Memory, Store, Stopped}
 use Rattle.office_rules.specs.declared.decision.request.Stamped.{Stamped}
 use Rattle.books.specs.Keeps.{IsNextOrOneBefore, IsRepresented, Seen}
-use Rattle.books.specs.Serving.{HoldsOffice, IsMade, ServesGranted, ServingEnds}
+use Rattle.books.specs.Serving.{FailsToServe, HoldsOffice, IsMade, ServesGranted, ServingEnds}
 use Rattle.book_edits.specs.Transaction.{MayBeLeft}
 use Rattle.books.proofs.AttemptLemmas.{sales_step}
 
@@ -30,7 +30,7 @@ kept_on life o books opening forward running law held = record {
   is_life = running.is_life;
   forward = forward;
   left = λ trees may. (o, (law o).1 refl, held.at.left trees may);
-  running = λ _. record { present = o; running = running; at = held.at; next = held.next };
+  running = λ _. record { present = o; running = running; at = held.at; next = held.next; last = held.last };
   numbered = λ p may. inl (held.next ∙ ap (λ (q : Office). length q.sales + 1) (sym ((law p).0 may)));
 }
 
@@ -94,15 +94,28 @@ granted_on at (Ok answer) old books stopped granted = record {
   prior = granted.prior;
   read = granted.read;
   made = made_on granted.change.edit granted.prior old books stopped granted.made;
+  next = granted.next;
+  last = granted.last;
+  writes = granted.writes;
 }
 granted_on at (Err refusal) old books stopped granted = granted
+
+-- and so is why a request fails
+pub failures_on : (at : Stamped) (reply : Result Answer Refusal) (old books : Seen) (stopped : Bool) → IfErr reply (FailsToServe at old books)
+    → IfErr reply (FailsToServe at old (record books { stopped = stopped }))
+failures_on at (Ok answer) old books stopped failed = failed
+failures_on at (Err refusal) old books stopped (inl unchanged) =
+    let known = unchanged.2 in inl (unchanged.0, unchanged.1, record { next = known.next; last = known.last; writes = known.writes })
+failures_on at (Err refusal) old books stopped (inr unmade) =
+    let known = unmade.2 in
+    inr (unmade.0, unmade.1, record { next = known.next; last = known.last; store = known.store; memory = known.memory }, unmade.3)
 
 -- whether books are stopped says nothing of what they hold
 pub with_stopped : (forward : BlockFunction) (o : Office) (at : Stamped) (answer : Result Answer Refusal) (books : Seen) (stopped : Bool)
     → ServingEnds forward o at answer books
     → ServingEnds forward o at answer (record books { stopped = stopped })
-with_stopped forward o at answer books stopped (inl served) = inl (served.0, record { at = served.1.at; next = served.1.next })
-with_stopped forward o at answer books stopped (inr (inl none)) = inr (inl (none.0, record { at = none.1.at; next = none.1.next }))
+with_stopped forward o at answer books stopped (inl served) = inl (served.0, record { at = served.1.at; next = served.1.next; last = served.1.last })
+with_stopped forward o at answer books stopped (inr (inl none)) = inr (inl (none.0, record { at = none.1.at; next = none.1.next; last = none.1.last }))
 with_stopped forward o at answer books stopped (inr (inr failed)) = inr (inr failed)
 
 -- a request at books that are not stopped

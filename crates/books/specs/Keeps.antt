@@ -1,5 +1,5 @@
 -- How books keep a life: what their connection has, and what a crash may leave.
-use Rattle.std.specs.Prelude.{◌≡◌, ◌⊎◌, ℕ, ◌+◌, Bool, false, length, true}
+use Rattle.std.specs.Prelude.{◌≡◌, ◌⊎◌, ℕ, ◌+◌, ◌-◌, Bool, false, length, Option, true}
 use Rattle.sqlite.specs.Held.{state}
 use Rattle.sqlite.specs.State.{HasCleanDisk, State}
 use Rattle.sqlite_trees.specs.Tree.{Trees}
@@ -11,6 +11,8 @@ use Rattle.vend_core.specs.Law.LifeLaws.{IsRunning}
 use Rattle.office_rules.specs.Office.{IsOffice, Office}
 use Rattle.book_tables.specs.reading.Reading.{HasAllTables}
 use Rattle.book_edits.specs.Transaction.{HasBeen}
+use Rattle.book_states.specs.Health.{last_moment}
+use Rattle.book_states.specs.declared.lookup.Health.{Health}
 pub use Rattle.book_states.specs.Stores.{RecoversTo, StoreStandsFor, Stores}
 use Rattle.books.specs.declared.books.Books.{Books}
 
@@ -20,6 +22,8 @@ pub record Seen : Type 1 where
   pub forward : BlockFunction
   pub stopped : Bool
   pub next_number : ℕ
+  pub last_moment : Option ℕ
+  pub write_failed : Bool
   -- what is said of a connection is true of some connection over the same store, at some time
   pub been : (State → Type 0) → Type 0
 
@@ -30,8 +34,24 @@ seen {g = g} {h = h} books = record {
   forward = h.forwards books.transform;
   stopped = books.stopped;
   next_number = books.next_number;
+  last_moment = books.last_moment;
+  write_failed = books.write_failed;
   been = HasBeen g;
 }
+
+-- what the books know of their office without a read
+abbrev pub health_of : Seen → Health
+health_of books = record {
+  sales = books.next_number - 1;
+  last_moment = books.last_moment;
+  write_failed = books.write_failed;
+}
+
+-- they know the same as before
+pub record KnowTheSame (old new : Seen) : Type 0 where
+  pub next : new.next_number ≡ old.next_number
+  pub last : new.last_moment ≡ old.last_moment
+  pub writes : new.write_failed ≡ old.write_failed
 
 -- it says this of what is seen of books before a call and after it
 abbrev pub Across : {S T : Type 0} → {g : Ghosts S} → {h : block.Ghosts T}
@@ -59,6 +79,7 @@ pub record IsPresent (life : Life) (books : Seen) : Type 0 where
   pub running : IsRunning life present
   pub at : Stores books.state present
   pub next : books.next_number ≡ length present.sales + 1
+  pub last : books.last_moment ≡ last_moment present
 
 -- The life is that of the books. All that a crash may leave stands for an office that the life may
 -- leave, and books that are not stopped hold its present office. Of each of these offices the next

@@ -19,6 +19,7 @@ use Rattle.sts_token.specs.declared.transform.BlockTransform as block
 use Rattle.kept_order.specs.InOrder.{HasTablesInOrder}
 use Rattle.office_rules.specs.Office.{Office}
 use Rattle.book_states.specs.Stores.{StoreStandsFor}
+use Rattle.book_opening.specs.NoOffice.{IsNoOffice}
 use Rattle.book_opening.specs.Opening.{FailsToOpen, LeavesBrought, LeavesRefused, OpensAs, fault_of}
 use Rattle.book_states.specs.Same.{IsSame}
 use Rattle.book_opening.specs.declared.fault.OpenFault.{OpenFault}
@@ -70,15 +71,17 @@ module _ {D : Type 0} {g : Ghosts D} where
       pub finds : OpensFiles image opened.conn
 
   -- None was opened over a connection that was just made to the files. A fault that names the file
-  -- is true of it, and another has a cause. The connection has what it had, and what the files
-  -- stood for it stands for; a crash leaves nothing new, but after Store maybe the office in the
-  -- present format.
+  -- is true of it, by what its database shows, and another has a cause. The connection has what it
+  -- had, and what the files stood for it stands for; a crash leaves nothing new, but after Store
+  -- maybe the office in the present format.
   pub record RefusesConnection (image : Image) (fault : OpenFault) (last : Held (FileStore D g)) :
       Type 0 where
     pub first : Held (FileStore D g)
     pub connected : HasCleanDisk (file_state first) → IsConnected image (file_state first)
     pub told : HasCleanDisk (file_state last) → fault ≡ NotAnOffice
         → (o : Office) → ¬ StandsIn image o
+    pub named : HasCleanDisk (file_state last) → fault ≡ NotAnOffice
+        → IsNoOffice (file_state first).now
     pub fails : HasCleanDisk (file_state last)
         → FailsToOpen {S = FileStore D g} over_files (file_state first) (file_state last) fault
     pub same : HasCleanDisk (file_state last) → IsSame (file_state first) (file_state last)
@@ -114,8 +117,3 @@ module _ {D : Type 0} {g : Ghosts D} where
   abbrev pub RefusesPath : Image → OpenFault → Option (Held (FileStore D g)) → Type 0
   RefusesPath image fault (Some last) = RefusesConnection image fault last
   RefusesPath image fault None = (fault ≡ Store) ⊎ (fault ≡ Memory)
-
--- The same of a connection that is gone.
-abbrev pub RefusedAt : {D : Type 0} → (g : Ghosts D) → Image → OpenFault → Type 0
-RefusedAt {D} g image fault =
-    (left : Option (Held (FileStore D g))) × RefusesPath image fault left

@@ -7,7 +7,7 @@
 
 pub use book_opening::OpenFault;
 pub use book_states::{
-    Found, LaterSteps, ListedMeter, ListedShift, ListedTariff, Lookup, MeterSummary, Quote,
+    Found, Health, LaterSteps, ListedMeter, ListedShift, ListedTariff, Lookup, MeterSummary, Quote,
 };
 pub use book_tables::Totals;
 pub use books::Books;

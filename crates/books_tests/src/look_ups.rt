@@ -1,8 +1,8 @@
 //! What is looked up in the books, before sales and after them.
 
 use crate::pages::Office;
-use books::{Found, Lookup, MeterSummary, Quote, Totals};
-use office_rules::{Ref, Refusal, Sale};
+use books::{Found, Health, Lookup, MeterSummary, Quote, Totals};
+use office_rules::{Moment, Ref, Refusal, Sale};
 use office_testing::both::{agree, office, sold};
 use office_testing::values::{
     FIRST_DAY, METER, NO_METER, OTHER_METER, flat, meter_no, moment, operator, order, tariff_name,
@@ -15,7 +15,7 @@ use tariff::Tender;
 // What is found of one thing, or how many members a page has.
 #[derive(Clone, Copy, Debug, PartialEq, Eq)]
 enum Seen {
-    SaleCount(u64),
+    Health(Health),
     Meter(MeterSummary),
     Sale(Sale),
     Quote(Quote),
@@ -25,7 +25,7 @@ enum Seen {
 
 fn value_of(found: &Found) -> Seen {
     match found {
-        Found::SaleCount(count) => Seen::SaleCount(*count),
+        Found::Health(health) => Seen::Health(*health),
         Found::Meter(meter) => Seen::Meter(*meter),
         Found::Sale(sale) => Seen::Sale(*sale),
         Found::Quote(quote) => Seen::Quote(*quote),
@@ -65,6 +65,15 @@ fn tender(cents: u64) -> Result<Tender, Fail> {
     Ok(Tender::read(cents).ok_or("no tender")?)
 }
 
+// The health of an office in which no change failed.
+fn health(sales: u64, last_moment: Option<Moment>) -> Seen {
+    Seen::Health(Health {
+        sales,
+        last_moment,
+        write_failed: false,
+    })
+}
+
 // The quote of an order of the meter, and the sale that is made of it next.
 fn quoted_and_sold(rt: &impl Abort, both: &mut Office, order_ref: &[u8]) -> Result<Sale, Fail> {
     let meter = meter_no(METER)?;
@@ -88,7 +97,7 @@ fn nothing_was_sold_yet(rt: HostRuntime) -> Result<(), Fail> {
     let mut both = office(alloc, Base::Y2014, flat(alloc, 100)?)?;
     let meter = meter_no(METER)?;
     let no_meter = meter_no(NO_METER)?;
-    finds(&rt, &mut both, Lookup::SaleCount, Ok(Seen::SaleCount(0)))?;
+    finds(&rt, &mut both, Lookup::Health, Ok(health(0, None)))?;
     finds(
         &rt,
         &mut both,
@@ -145,7 +154,8 @@ fn what_was_sold(rt: HostRuntime) -> Result<(), Fail> {
         last_sale: Some(2),
     };
     let totals = both.books.shift_totals(1)?;
-    finds(&rt, &mut both, Lookup::SaleCount, Ok(Seen::SaleCount(3)))?;
+    let last_moment = Some(moment(FIRST_DAY)?);
+    finds(&rt, &mut both, Lookup::Health, Ok(health(3, last_moment)))?;
     finds(&rt, &mut both, Lookup::Sales(0), Ok(Seen::Members(3)))?;
     finds(&rt, &mut both, Lookup::Sales(2), Ok(Seen::Members(1)))?;
     finds(&rt, &mut both, Lookup::Shifts(0), Ok(Seen::Members(1)))?;

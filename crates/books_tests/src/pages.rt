@@ -234,8 +234,8 @@ fn stops_at(rt: &(impl Abort + AllocGlobal), sql: &str) -> Result<(), Fail> {
     assert!(rt; is_stopped_answer(&serve(&mut books, &sound)), "{sql}");
     assert!(rt; is_stopped_answer(&books.shift_totals(1)), "{sql}");
     assert!(rt; is_stopped_answer(&books.sales_after(0, 1000)), "{sql}");
-    let count = books.look_up(sound.moment, &Lookup::SaleCount);
-    assert!(rt; is_stopped_answer(&count), "{sql}");
+    let health = books.look_up(sound.moment, &Lookup::Health);
+    assert!(rt; is_stopped_answer(&health), "{sql}");
     let mut conn = books.into_connection();
     assert_eq!(rt;
         all_shown(alloc, &mut conn)?.as_str(),

@@ -33,6 +33,7 @@ pub said_once : (input : List ℕ) (h k : RequestHead) (r q : List ℕ) (a b : R
     → BeginsWithHead input k q → framing_of h ≡ a → framing_of k ≡ b → a ≡ b
 said_once input h k r q a b x y p s = sym p ∙ ap framing_of (head_unique input h k r q x y).0 ∙ s
 
+-- a framing, as the result that says it and no fault
 abbrev pub ok : Framing → Result Framing MessageFault
 ok a = Ok a
 

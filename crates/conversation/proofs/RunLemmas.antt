@@ -1,5 +1,5 @@
 -- A run, read by read.
-use Rattle.std.proofs.Common.{◌≡◌, ℕ, ◌+◌, ◌≤◌, inl, inr, suc, Bool, List, [], ◌∷◌, ◌++◌, length, Option, None, Some, Ok, Err, refl, ap, sym, subst, subst₂, ◌∙◌, arith, append_assoc, append-nil, lit<}
+use Rattle.std.proofs.Common.{◌≡◌, ℕ, ◌+◌, ◌≤◌, inl, inr, suc, Bool, min, List, [], ◌∷◌, ◌++◌, length, Option, None, Some, Ok, Err, refl, ap, sym, subst, subst₂, ◌∙◌, arith, append_assoc, append-nil, lit<}
 use Rattle.std.proofs.lemmas.List.{length-append}
 use Rattle.std.specs.Io.KnownBytes.{Appends, Consumes}
 use Rattle.std.proofs.KnownBytes.{Appends-nil, Appends-trans, Consumes-kept, Consumes-nil, Consumes-trans}
@@ -17,12 +17,12 @@ use Rattle.conversation.specs.message.Heads.{longest_head}
 use Rattle.conversation.specs.message.Messages.{ended, failed as failing, EndsAs, broken, finished}
 use Rattle.conversation.specs.Parts.{EndsHere, IsOver}
 use Rattle.conversation.specs.Run.{IsRun}
-use Rattle.conversation.specs.Uses.{AreOpen, AreSound, EndsBy, Grows, IsOpen, IsPaced, MayAsk, Passed, Use, asked, bytes_in, failed, interrupted, longest_message, moved, reads_in, received, written}
+use Rattle.conversation.specs.Uses.{AreOpen, AreSound, EndsBy, Grows, IsOpen, IsPaced, MayAsk, Passed, Use, asked, bytes_in, failed, interrupted, least_read, longest_message, moved, reads_in, received, window_behind, window_for, written}
 use Rattle.conversation.specs.Wants.{count_of, told_of, IsAwaited}
 use Rattle.conversation.proofs.InterimLemmas.{IsTold-append, awaited_told}
 use Rattle.conversation.proofs.EndLemmas.{Written, WrittenBytes, all_left, left_of, told_here}
 use Rattle.conversation.proofs.MessageLemmas.{framed_fits, some_head, some_head_is}
-use Rattle.conversation.proofs.UsesLemmas.{AreInTurn-append, AreOpen-append, AreSound-append, are_sound, ends_by, Grows-nil, Grows-trans, reads_in-append, received-append, sends_in_turn, sends_read_none, sends_receive, written-append}
+use Rattle.conversation.proofs.UsesLemmas.{AreInTurn-append, AreOpen-append, AreSound-append, are_sound, ends_by, Grows-nil, Grows-trans, reads_in-append, received-append, sends_in_turn, sends_keep_window, sends_read_none, sends_receive, window_behind-append, written-append}
 use Rattle.conversation.proofs.ProgressLemmas.{Step, progress-append, progress_trans, conversation_after}
 use Rattle.conversation.proofs.ReadingLemmas.{no_empty_head}
 
@@ -162,15 +162,25 @@ pub used_none : {O : Type 0} (step : Step O) (old : Timed O) (told : Option (Lis
 used_none step old told unread held =
     record { told_are = Grows-nil told; paced = record { in_turn = tt; reads = Consumes-nil unread; writes = Appends-nil held } }
 
+-- so many bytes may be asked for where this is awaited, behind these uses
+abbrev pub MayWant : ℕ → Wants → List Use → Type 0
+MayWant wanted w uses = (wanted ≤ count_of w) × (wanted ≤ window_behind least_read uses)
+
+-- the least of what is awaited and of what was asked for at the most
+pub may_want : (count window : ℕ) (w : Wants) (uses : List Use) → count ≡ count_of w → window ≡ window_behind least_read uses
+    → MayWant (min count window) w uses
+may_want count window w uses all is = (omega (arith, all), omega (arith, is))
+
 -- a read that was made where this was left and awaited
 pub used_read : {O : Type 0} (step : Step O) (old new : Timed O) (told mid tells : Option (List Use))
     (unread left now held holds : Option (List ℕ)) (uses : List Use)
-    (rest : List ℕ) (w : Wants) (wanted : ℕ) (passed : Passed) → wanted ≡ count_of w → Used step old told mid unread left held holds uses → AreOpen uses
+    (rest : List ℕ) (w : Wants) (wanted : ℕ) (passed : Passed) → MayWant wanted w uses → Used step old told mid unread left held holds uses → AreOpen uses
     → Answered step old (received uses) (written uses) rest w new → (asks : AsksOnce mid tells wanted passed)
     → Consumes left now (bytes_in passed) → Used step old told tells unread now held holds (uses ++ asked asks.0 passed ∷ [])
 used_read step old new told mid tells unread left now held holds uses rest w wanted passed all used opened answered
     (count, least, fits_in, grows) reads =
-    let within : count ≤ count_of w = omega (arith, least, all) in
+    let within : count ≤ count_of w = omega (arith, least, all.0) in
+    let windowed : count ≤ window_behind least_read uses = omega (arith, least, all.1) in
     let more : List Use = asked count passed ∷ [] in
     let fits = awaited_fits rest w answered.awaited in
     let one : received more ≡ bytes_in passed = append-nil (bytes_in passed) in
@@ -189,7 +199,7 @@ used_read step old new told mid tells unread left now held holds uses rest w wan
     record {
       told_are = Grows-trans told mid tells uses more used.told_are grows;
       paced = record {
-        in_turn = AreInTurn-append step old [] uses more used.paced.in_turn ((opened, may, fits_in), tt);
+        in_turn = AreInTurn-append step old [] uses more used.paced.in_turn ((opened, may, windowed, fits_in), tt);
         reads = subst (λ bytes. Consumes unread now bytes) (ap (λ bytes. received uses ++ bytes) (sym one) ∙ sym (received-append uses more))
             (Consumes-trans unread left now (received uses) (bytes_in passed) used.paced.reads reads);
         writes = subst (λ bytes. Appends held holds bytes) (sym (append-nil (written uses)) ∙ sym (written-append uses more)) used.paced.writes;
@@ -233,7 +243,7 @@ paced step old told tells unread left held holds end uses used ends = (uses, use
 module _ {O : Type 0} (step : Step O) (old new : Timed O) (told mid tells : Option (List Use))
     (unread left now held holds : Option (List ℕ)) (uses : List Use) (rest : List ℕ) where
   -- a read that failed, or had no room
-  pub paced_read : (after : List ℕ) (w : Wants) (wanted : ℕ) (end : End) → wanted ≡ count_of w
+  pub paced_read : (after : List ℕ) (w : Wants) (wanted : ℕ) (end : End) → MayWant wanted w uses
       → Used step old told mid unread left held holds uses → AreOpen uses
       → Answered step old (received uses) (written uses) rest w new → IsInputRead mid tells left now wanted rest after (Err end)
       → Paced step old told tells unread now held holds end
@@ -256,10 +266,11 @@ module _ {O : Type 0} (step : Step O) (old new : Timed O) (told mid tells : Opti
   paced_read after w wanted WriteFault all used opened answered is = absurd is
 
   -- a read that was interrupted
-  pub interrupted_read : (after : List ℕ) (w : Wants) (wanted : ℕ) → wanted ≡ count_of w → Used step old told mid unread left held holds uses → AreOpen uses
+  pub interrupted_read : (after : List ℕ) (w : Wants) (wanted : ℕ) → MayWant wanted w uses → Used step old told mid unread left held holds uses → AreOpen uses
       → Answered step old (received uses) (written uses) rest w new → IsInputRead mid tells left now wanted rest after (Ok None)
       → (all : List Use) × Used step old told tells unread now held holds all × AreOpen all
       × Answered step old (received all) (written all) after w new × (reads_in all ≡ suc (reads_in uses))
+      × (window_behind least_read all ≡ window_behind least_read uses)
   interrupted_read after w wanted all used opened answered (kept, same, asks) =
       let more : List Use = asked asks.0 interrupted ∷ [] in
       let none_came : received (uses ++ more) ≡ received uses = received-append uses more ∙ append-nil (received uses) in
@@ -271,10 +282,11 @@ module _ {O : Type 0} (step : Step O) (old new : Timed O) (told mid tells : Opti
         subst₂ (λ (a b : List ℕ). Answered step old a b after w new) (sym none_came) (sym none_left)
             (subst (λ l. Answered step old (received uses) (written uses) l w new) (sym same) answered),
         omega (arith, reads_in-append uses more),
+        window_behind-append least_read uses more,
       )
 
   -- a read that was not interrupted
-  module _ (after : List ℕ) (w : Wants) (wanted count : ℕ) (all_wanted : wanted ≡ count_of w)
+  module _ (after : List ℕ) (w : Wants) (wanted count : ℕ) (all_wanted : MayWant wanted w uses)
       (used : Used step old told mid unread left held holds uses) (opened : AreOpen uses)
       (answered : Answered step old (received uses) (written uses) rest w new)
       (read : IsInputRead mid tells left now wanted rest after (Ok (Some count))) where
@@ -301,6 +313,7 @@ module _ {O : Type 0} (step : Step O) (old new : Timed O) (told mid tells : Opti
         → IsAwaited left_over wants → interim_for (told_of w) ++ text ≡ more_whole ++ interim_for (told_of wants)
         → (all : List Use) × Used step old told last unread now held wrote all × AreOpen all
         × Answered step old (received all) (written all) kept wants later × (reads_in all ≡ suc (reads_in uses))
+        × (window_behind least_read all ≡ window_for count)
     went_on last wrote text more_whole later left_over kept wants same some whole progress awaits said =
         let writes = whole.writes in
         let more : List Use = asked read.5.0 (moved read.0) ∷ [] in
@@ -329,4 +342,6 @@ module _ {O : Type 0} (step : Step O) (old new : Timed O) (told mid tells : Opti
                 ∙ ap (λ l. answered.whole ++ l) said ∙ sym (append_assoc answered.whole more_whole behind);
           },
           omega (arith, reads_in-append made writes.uses, reads_in-append uses more, sends_read_none writes.uses writes.sends),
+          window_behind-append least_read made writes.uses ∙ sends_keep_window _ writes.uses writes.sends ∙ window_behind-append least_read uses more
+              ∙ ap window_for read.1,
         )

@@ -14,7 +14,7 @@ use Rattle.conversation.specs.declared.end.End.{End}
 use Rattle.conversation.specs.declared.end.End.TheVariants.{Closed, BadMessage, ReadFault, WriteFault, Memory}
 use Rattle.conversation.specs.Ends.{AreSends, IsPart, IsOutputSent, Output, SendsEnd, Writes, WritesLast, WritesWhole}
 use Rattle.conversation.specs.Exchanges.{Timed}
-use Rattle.conversation.specs.Uses.{Use, asked, sent, Passed, moved, interrupted, failed, AreInTurn, AreOpen, AreSound, EndsBy, UsesEndWith, EndsWriting, GoesOn, Grows, IsOpen, IsSoundUse, Stops, bytes_in, came_by, interrupts, most_tries, passed_of, reads_in, received, taken_by, writes_in, written}
+use Rattle.conversation.specs.Uses.{Use, asked, sent, Passed, moved, interrupted, failed, AreInTurn, AreOpen, AreSound, EndsBy, UsesEndWith, EndsWriting, GoesOn, Grows, IsOpen, IsSoundUse, Stops, bytes_in, came_by, interrupts, most_tries, passed_of, reads_in, received, taken_by, window_behind, window_for, writes_in, written}
 use Rattle.conversation.proofs.ProgressLemmas.{Step}
 
 -- with no use more, what is told stays
@@ -81,6 +81,21 @@ writes_in-append : (xs ys : List Use) → writes_in (xs ++ ys) ≡ writes_in xs 
 writes_in-append [] ys = omega arith
 writes_in-append (asked count passed ∷ xs) ys = writes_in-append xs ys
 writes_in-append (sent passed ∷ xs) ys = omega (arith, writes_in-append xs ys)
+
+-- what is asked for behind some uses and then others is asked for behind all of them
+pub window_behind-append : (window : ℕ) (xs ys : List Use) → window_behind window (xs ++ ys) ≡ window_behind (window_behind window xs) ys
+window_behind-append window [] ys = refl
+window_behind-append window (asked count (moved bytes) ∷ xs) ys = window_behind-append (window_for (length bytes)) xs ys
+window_behind-append window (asked count interrupted ∷ xs) ys = window_behind-append window xs ys
+window_behind-append window (asked count failed ∷ xs) ys = window_behind-append window xs ys
+window_behind-append window (sent passed ∷ xs) ys = window_behind-append window xs ys
+
+-- writes change nothing of it
+pub sends_keep_window : (window : ℕ) (xs : List Use) → AreSends xs → window_behind window xs ≡ window
+sends_keep_window window [] p = refl
+sends_keep_window window (asked count passed ∷ xs) p = absurd p
+sends_keep_window window (sent passed ∷ xs) (inl (on, p)) = sends_keep_window window xs p
+sends_keep_window window (sent passed ∷ xs) (inr (stops, none)) = ap (window_behind window) none
 
 -- none of the uses that write is a read
 pub sends_read_none : (xs : List Use) → AreSends xs → reads_in xs ≡ 0

@@ -133,9 +133,9 @@ module _ {O : Type 0} (step wide : Step O) (wider : Wider step wide) where
 
   in_turn_wider : (old : Timed O) (before uses : List Use) → AreInTurn step old before uses → AreInTurn wide old before uses
   in_turn_wider old before [] turns = turns
-  in_turn_wider old before (asked count passed ∷ others) ((opened, may, fits), later) =
+  in_turn_wider old before (asked count passed ∷ others) ((opened, may, least, fits), later) =
       let more = in_turn_wider old (before ++ asked count passed ∷ []) others later in
-      ((opened, may_ask_wider old (received before) (written before) count may, fits), more)
+      ((opened, may_ask_wider old (received before) (written before) count may, least, fits), more)
   in_turn_wider old before (sent passed ∷ others) (sound, later) = (sound, in_turn_wider old (before ++ sent passed ∷ []) others later)
 
   -- the uses of a whole run

@@ -75,7 +75,8 @@ pub record IsRefusal
   pub text_is : text ≡ refusal fault
   pub same : new ≡ old
 
--- the text is the interim reply to the message at the front of the input, which was not answered yet
+-- the text is the interim reply to the message at the front of the input, which was not answered
+-- yet
 pub record IsInterim
     {O : Type 0} (input : List ℕ) (old : O) (text : List ℕ) (new : O) : Type 0 where
   pub expects : BeginsExpecting input

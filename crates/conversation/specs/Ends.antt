@@ -7,7 +7,8 @@ use Rattle.conversation.specs.declared.end.End.{End}
 use Rattle.conversation.specs.declared.end.End.TheVariants.{Closed, BadMessage, ReadFault}
 use Rattle.conversation.specs.declared.end.End.TheVariants.{WriteFault, Memory}
 use Rattle.conversation.specs.Uses.{Use, asked, sent, Passed, moved, interrupted, failed, AreOpen}
-use Rattle.conversation.specs.Uses.{EndsWriting, GoesOn, Grows, Stops, bytes_in, written}
+use Rattle.conversation.specs.Uses.{EndsWriting, GoesOn, Grows, Stops, bytes_in, window_for}
+use Rattle.conversation.specs.Uses.{written}
 
 -- the bytes that a writer holds, and the uses that a line tells
 abbrev pub Output : Type 0
@@ -82,6 +83,12 @@ IsInputRead told tells old new wanted before after (Err ReadFault) =
 IsInputRead told tells old new wanted before after (Err Memory) =
     Keeps old new × (after ≡ before) × Grows told tells []
 IsInputRead told tells old new wanted before after (Err end) = ⊥
+
+-- for how many bytes the next read asks at the most, where it was for so many before this one
+abbrev pub next_window : (window : ℕ) → Result (Option ℕ) End → ℕ
+next_window window (Ok (Some count)) = window_for count
+next_window window (Ok None) = window
+next_window window (Err end) = window
 
 -- the writer took some bytes of a text; or writing ended, and it took none
 abbrev pub IsPart : Output → Output → List ℕ → Result ℕ End → Type 0

@@ -1,6 +1,7 @@
 -- How a conversation uses its reader and its writer, in order, and which use may follow which.
 use Rattle.std.specs.Prelude.{◌≡◌, ◌⊎◌, ℕ, ◌+◌, ◌≤◌, Bool, true, false, List, [], ◌∷◌, ◌++◌, length}
-use Rattle.std.specs.Prelude.{take, if◌then◌else◌, Option, None, Some, Result, Ok, Err, ⊤}
+use Rattle.std.specs.Prelude.{◌*◌, max, min, take, if◌then◌else◌, Option, None, Some, Result}
+use Rattle.std.specs.Prelude.{Ok, Err, ⊤}
 use Rattle.std.specs.List.{AllByRecursion, flat_map}
 use Rattle.std.specs.Io.KnownBytes.{Appends, Consumes}
 use Rattle.std.specs.IoError.{error_kind}
@@ -98,14 +99,36 @@ IsOpen (sent passed) = GoesOn passed
 abbrev pub AreOpen : List Use → Type 0
 AreOpen uses = AllByRecursion IsOpen uses
 
+-- the least and the most bytes that one read may ask for, however few or many came before it
+abbrev pub least_read : ℕ
+least_read = 1024
+
+abbrev pub greatest_read : ℕ
+greatest_read = 65536
+
+-- for how many bytes at the most the next read asks behind one that brought so many: for twice as
+-- many, within those bounds
+abbrev pub window_for : ℕ → ℕ
+window_for count = min greatest_read (max least_read (count * 2))
+
+-- for how many behind these uses, where it was for so many before them: the last read that brought
+-- bytes tells it
+abbrev pub window_behind : ℕ → List Use → ℕ
+window_behind window [] = window
+window_behind window (asked count (moved bytes) ∷ uses) =
+    window_behind (window_for (length bytes)) uses
+window_behind window (asked count interrupted ∷ uses) = window_behind window uses
+window_behind window (asked count failed ∷ uses) = window_behind window uses
+window_behind window (sent passed ∷ uses) = window_behind window uses
+
 -- the most bytes of an input that are held at any time: those of the longest message
 abbrev pub longest_message : ℕ
 longest_message = longest_head + longest_body
 
 -- Where these bytes were read and those written, so many more may be asked for: the replies to all
 -- whole messages were written, none of them ends the conversation, and what is left is a beginning
--- of one more, to which the interim reply was written, if its head is there and expects one. No more
--- is asked for than the longest head still lacks, or its body.
+-- of one more, to which the interim reply was written, if its head is there and expects one. No
+-- more is asked for than the longest head still lacks, or its body.
 pub record MayAsk
     {O : Type 0} (step : O → MessageExchange → O → Type 0) (old : Timed O)
     (read wrote : List ℕ) (count : ℕ) : Type 0 where
@@ -119,13 +142,14 @@ pub record MayAsk
   pub within : count ≤ count_of wants
   pub held : length rest + count ≤ longest_message
 
--- This use may follow those: a read where nothing failed and the input has not ended, by which no
--- more comes than it asked for, and a write where nothing failed.
+-- This use may follow those: a read where nothing failed and the input has not ended, which asks
+-- for no more than the read before it allows, and by which no more comes than it asked for; and a
+-- write where nothing failed.
 abbrev pub MayFollow : {O : Type 0} → (O → MessageExchange → O → Type 0) → Timed O → List Use → Use
     → Type 0
 MayFollow step old before (asked count passed) =
     AreOpen before × MayAsk step old (received before) (written before) count
-    × (length (bytes_in passed) ≤ count)
+    × (count ≤ window_behind least_read before) × (length (bytes_in passed) ≤ count)
 MayFollow step old before (sent passed) = AreSound before
 
 -- each of these uses may follow those before it

@@ -25,11 +25,12 @@ use std::io::{Read, Write};
 /// Holds the conversation of a reader and a writer: answers each message that is read, in order, by
 /// a reply that is written before more is asked for, until one of them ends it. While it awaits a
 /// head it asks for at most `MAX_HEAD` bytes of it in all, and while it awaits a body for what that
-/// lacks; it holds no more than one longest message, and reads nothing after an end
-/// (`specs/Uses.antt`). Where a message expects an interim reply, that is written once, before its
-/// body is asked for. A read or a write that the system interrupts is made again. A head is parsed
-/// when it is whole and once more when its body is, however small the pieces are in which that
-/// comes. No bytes are kept for another run.
+/// lacks; each time for at most twice as many as came before, or 1024, and never for more than
+/// 65536 (`window_behind`), so that small pieces cost little; it holds no more than one longest
+/// message, and reads nothing after an end (`specs/Uses.antt`). Where a message expects an interim
+/// reply, that is written once, before its body is asked for. A read or a write that the system
+/// interrupts is made again. A head is parsed when it is whole and once more when its body is,
+/// however small the pieces are in which that comes. No bytes are kept for another run.
 pub fn run<O, S: Service<O>, L: Line<R, W>, R: Read, W: Write, C: Clock>(
     service: &S,
     alloc: Global,

@@ -10,8 +10,7 @@ const UNREAD: i64 = i64::MIN;
 /// What tells the time of day.
 pub trait TimeSource {
     /// It gave this: the whole seconds since 1970, or nothing where it can't be read, or stands
-    /// before
-    /// 1970.
+    /// before 1970.
     ghost gives: { Self → Option ℕ → Type 0 };
 
     /// The whole seconds since 1970.

@@ -1,6 +1,8 @@
-ghost use Rattle.std.specs.Prelude.{◌≡◌, ◌∷◌, ◌+◌, ◌<◌, ◌≤◌, [], length, take, drop, IfOk, vec_len};
-ghost use Rattle.conversation.specs.Ends.{IsInputRead, ReadsAt};
-ghost use Rattle.conversation.specs.Uses.{Grows, asked, longest_message, passed_of};
+ghost use Rattle.std.specs.Prelude.{◌≡◌, ◌∷◌, ◌+◌, ◌<◌, ◌≤◌, [], length, take, drop, min, IfOk};
+ghost use Rattle.std.specs.Prelude.{vec_len};
+ghost use Rattle.conversation.specs.Ends.{IsInputRead, ReadsAt, next_window};
+ghost use Rattle.conversation.specs.Uses.{Grows, asked, least_read, longest_message, passed_of};
+ghost use Rattle.conversation.specs.Uses.{window_for};
 
 use crate::end::End;
 use crate::line::{Line, is_interrupted};
@@ -24,7 +26,8 @@ pub(crate) struct Unanswered {
 
 impl Unanswered {
     pub(crate) fn new(alloc: Global) -> Unanswered
-        ensures { result.bytes.items ≡ [] }
+        ensures bytes { result.bytes.items ≡ [] }
+        ensures window { result.window ≡ least_read }
     {
         Unanswered {
             bytes: Vec::new(alloc),
@@ -38,9 +41,9 @@ impl Unanswered {
         &self.bytes
     }
 
-    // Reads at most as many bytes as wanted behind those that are there, and says how many came:
-    // 0 only at the end of the input, and `None` where the system interrupted the read. Room is
-    // made first, so that want of memory loses no byte.
+    // Reads at most as many bytes as wanted, and as the window has, behind those that are there,
+    // and says how many came: 0 only at the end of the input, and `None` where the system
+    // interrupted the read. Room is made first, so that want of memory loses no byte.
     pub(crate) fn read_more<L: Line<R, W>, R: Read, W: Write>(
         &mut self,
         line: &mut L,
@@ -49,12 +52,14 @@ impl Unanswered {
     ) -> Result<Option<usize>, End>
         requires some { 0 < wanted }
         requires room { vec_len self.old.bytes + wanted ≤ longest_message }
-        ensures { IsInputRead (L.uses line.old) (L.uses line.new) (R.remaining reader.old)
-            (R.remaining reader.new) wanted self.old.bytes.items self.new.bytes.items result }
+        ensures read { IsInputRead (L.uses line.old) (L.uses line.new) (R.remaining reader.old)
+            (R.remaining reader.new) (min wanted self.old.window) self.old.bytes.items
+            self.new.bytes.items result }
+        ensures window { self.new.window ≡ next_window self.old.window result }
     {
         let came = read_behind(line, reader, &mut self.bytes, wanted, self.window)?;
         if let Some(count) = came {
-            self.window = window_after(count);
+            self.window = window_for(count);
         }
         Ok(came)
     }
@@ -62,7 +67,8 @@ impl Unanswered {
     // Takes so many bytes off the front.
     pub(crate) fn drop_front(&mut self, count: usize)
         requires { count ≤ vec_len self.old.bytes }
-        ensures { self.new.bytes.items ≡ drop count self.old.bytes.items }
+        ensures bytes { self.new.bytes.items ≡ drop count self.old.bytes.items }
+        ensures window { self.new.window ≡ self.old.window }
     {
         drop(self.bytes.drain(..count));
     }
@@ -70,8 +76,9 @@ impl Unanswered {
 
 // How many bytes are asked for after a read that brought so many: twice as many, so that what is
 // filled with zeros is seldom more than twice what comes, however small the pieces are.
-fn window_after(count: usize) -> usize
-    ensures { 0 < result }
+fn window_for(count: usize) -> usize
+    ensures exact { result ≡ window_for count }
+    ensures some { 0 < result }
 {
     count.saturating_mul(2).max(LEAST_READ).min(GREATEST_READ)
 }
@@ -127,7 +134,7 @@ fn read_behind<L: Line<R, W>, R: Read, W: Write>(
     requires open { 0 < window }
     requires room { vec_len buffer.old + wanted ≤ longest_message }
     ensures read { IsInputRead (L.uses line.old) (L.uses line.new) (R.remaining reader.old)
-        (R.remaining reader.new) wanted buffer.old.items buffer.new.items result }
+        (R.remaining reader.new) (min wanted window) buffer.old.items buffer.new.items result }
     ensures within { vec_len buffer.new ≤ longest_message }
 {
     let filled = buffer.len();

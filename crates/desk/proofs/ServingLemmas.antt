@@ -138,7 +138,7 @@ books_follow {B} see start = record { back = back; next = next }
     back : (old : B) (x : MessageExchange) (new : B) → step old x new → HasCleanDisk (see new).state → HasCleanDisk (see old).state
     back old x new (outcome, inl (idle, same), text) clean = subst (λ b. HasCleanDisk (see b).state) same clean
     back old x new (outcome, inr (inl (form, moment, request, reply, is, asks, (at, asked, replies))), text) clean = replies.clean clean
-    back old x new (outcome, inr (inr (form, moment, lookup, found, is, looks, finds)), text) clean = finds.reads.clean clean
+    back old x new (outcome, inr (inr (form, moment, lookup, found, is, looks, finds)), text) clean = finds.0.reads.clean clean
 
     next : (life : Life) (old : B) (x : MessageExchange) (new : B) → KeepsFrom start life (see old) → step old x new → HasCleanDisk (see new).state
         → (after : Life) × answers_by life_serves life x after × KeepsFrom start after (see new)
@@ -152,8 +152,8 @@ books_follow {B} see start = record { back = back; next = next }
         )
     next life old x new kept (outcome, inr (inr (form, moment, lookup, found, is, looks, finds)), text) clean = (
       life,
-      (outcome, inr (inr (form, moment, lookup, found, is, looks, (finds.of_life clean life kept.0, refl))), text),
-      (finds.reads.keeps life kept.0, others_then start (see old).state (see new).state kept.1 (finds.reads.others clean (kept_tables life (see old) kept.0))),
+      (outcome, inr (inr (form, moment, lookup, found, is, looks, (finds.0.of_life clean life kept.0, refl))), text),
+      (finds.0.reads.keeps life kept.0, others_then start (see old).state (see new).state kept.1 (finds.0.reads.others clean (kept_tables life (see old) kept.0))),
     )
 
 module _ {B : Type 0} (see : B → Seen) (gives : ℤ → Type 0) (refusal : MessageFault → List ℕ) (old new : Timed B)

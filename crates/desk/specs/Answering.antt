@@ -3,7 +3,7 @@ use Rattle.std.specs.Prelude.{◌≡◌, ◌≢◌, ℕ, ◌+◌, ◌%◌, ℤ, 
 use Rattle.std.specs.Prelude.{Err, None}
 use Rattle.books.specs.Asking.{ReplyAt}
 use Rattle.books.specs.Keeps.{Seen}
-use Rattle.books.specs.Looking.{FoundAt, IsFoundAt}
+use Rattle.books.specs.Looking.{FoundAt, IsFoundAt, TellsHealth}
 use Rattle.book_states.specs.declared.lookup.Found.{Found}
 use Rattle.book_states.specs.declared.lookup.Lookup.{Lookup}
 use Rattle.vend_core.specs.Law.Life.{Life, present}
@@ -55,11 +55,12 @@ answers_by serves old x new =
 abbrev pub message_refusal_of : MessageFault → List ℕ
 message_refusal_of fault = reply_bytes_of None (Refused fault) true
 
--- how books of any kind serve, by what contracts see of them
+-- how books of any kind serve, by what contracts see of them; their health is told without a read
 abbrev pub books_serve : {B : Type 0} → (B → Seen) → Serving B
 books_serve see = record {
   replies = λ moment request reply old new. ReplyAt moment request reply (see old) (see new);
-  finds = λ moment lookup found old new. FoundAt moment lookup found (see old) (see new);
+  finds = λ moment lookup found old new. FoundAt moment lookup found (see old) (see new)
+      × TellsHealth see lookup found old new;
 }
 
 -- the stamped request is this request at this moment, and its nibble that of the next sale's

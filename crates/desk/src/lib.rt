@@ -8,7 +8,8 @@ mod desk;
 
 pub use along::{conversation_law, desk_law};
 pub use books::{
-    Found, LaterSteps, ListedMeter, ListedShift, ListedTariff, Lookup, MeterSummary, Quote, Totals,
+    Found, Health, LaterSteps, ListedMeter, ListedShift, ListedTariff, Lookup, MeterSummary, Quote,
+    Totals,
 };
 pub use conversation::{
     Clock, End, Line, MachineClock, MessageFault, Method, Next, Received, Script, TimeSource,

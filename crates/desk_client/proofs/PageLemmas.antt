@@ -78,7 +78,7 @@ sales-named = named (codes "sales") (omega arith) (omega arith) refl
 -- a told page of tariffs is a list of tariffs that keep the rules, and nothing else
 pub by_tariffs : (P : Found → Type 0) → ((items : Vec ListedTariff Global) → AreTold IsToldTariff items.items → P (found.Tariffs items))
     → (page : Found) → IsToldPage Tariffs page → P page
-by_tariffs P such (found.SaleCount n) told = absurd told
+by_tariffs P such (found.Health health) told = absurd told
 by_tariffs P such (found.Meter m) told = absurd told
 by_tariffs P such (found.Sale s) told = absurd told
 by_tariffs P such (found.Quote q) told = absurd told
@@ -91,7 +91,7 @@ by_tariffs P such (found.Sales items) told = absurd told
 -- the same of a page of meters
 pub by_meters : (P : Found → Type 0) → ((items : Vec ListedMeter Global) → AreTold IsToldListedMeter items.items → P (found.Meters items))
     → (page : Found) → IsToldPage Meters page → P page
-by_meters P such (found.SaleCount n) told = absurd told
+by_meters P such (found.Health health) told = absurd told
 by_meters P such (found.Meter m) told = absurd told
 by_meters P such (found.Sale s) told = absurd told
 by_meters P such (found.Quote q) told = absurd told
@@ -104,7 +104,7 @@ by_meters P such (found.Sales items) told = absurd told
 -- the same of a page of shifts
 pub by_shifts : (P : Found → Type 0) → ((items : Vec ListedShift Global) → AreTold IsToldListedShift items.items → P (found.Shifts items))
     → (page : Found) → IsToldPage Shifts page → P page
-by_shifts P such (found.SaleCount n) told = absurd told
+by_shifts P such (found.Health health) told = absurd told
 by_shifts P such (found.Meter m) told = absurd told
 by_shifts P such (found.Sale s) told = absurd told
 by_shifts P such (found.Quote q) told = absurd told
@@ -117,7 +117,7 @@ by_shifts P such (found.Sales items) told = absurd told
 -- the same of a page of sales
 pub by_sales : (P : Found → Type 0) → ((items : Vec Sale Global) → AreTold IsSaleTold items.items → P (found.Sales items))
     → (page : Found) → IsToldPage Sales page → P page
-by_sales P such (found.SaleCount n) told = absurd told
+by_sales P such (found.Health health) told = absurd told
 by_sales P such (found.Meter m) told = absurd told
 by_sales P such (found.Sale s) told = absurd told
 by_sales P such (found.Quote q) told = absurd told

@@ -183,7 +183,7 @@ module _ (dated : Option ℕ) where
 
   found_says : SalesAreTexts → (form : Form) (it : Found) (asked : Wanted) (t : Told) → IsTellable asked t → TellsReplyFound form it t
       → reply_bytes_of dated (outcomes.Found form (Ok it)) false ≡ replies.reply_text date t
-  found_says texts form (found.SaleCount n) asked t tellable h = absurd h
+  found_says texts form (found.Health health) asked t tellable h = absurd h
   found_says texts form (found.Meter m) asked t tellable h =
       let is : IsTellable asked (told.Granted (granted.Meter m)) = subst (IsTellable asked) h tellable in
       json_says _ (granted.Meter m) refl (meter-text m is.0) ∙ ap (replies.reply_text date) (sym h)

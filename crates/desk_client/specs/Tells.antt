@@ -62,9 +62,9 @@ abbrev pub TellsPage : Found → Told → Type 0
 TellsPage page (told.Granted (granted.Page text)) = text.now ≡ page_as_read page
 TellsPage page other = ⊥
 
--- what was found, where a sale is to have this form; a count of sales is not read here
+-- what was found, where a sale is to have this form; the health of an office is not read here
 abbrev pub TellsReplyFound : Form → Found → Told → Type 0
-TellsReplyFound form (found.SaleCount sales) t = ⊥
+TellsReplyFound form (found.Health health) t = ⊥
 TellsReplyFound form (found.Meter summary) t = t ≡ told.Granted (granted.Meter summary)
 TellsReplyFound form (found.Sale sale) t = TellsReplySale form sale t
 TellsReplyFound form (found.Quote quote) t = t ≡ told.Granted (granted.Quote quote)

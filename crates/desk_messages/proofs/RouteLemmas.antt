@@ -62,7 +62,7 @@ same_filled pattern target x y one other =
 
 -- a target names one look-up
 same_lookup : (target : List ℕ) (a b : Lookup) → lookup_endpoint a ≡ lookup_endpoint b → NamesLookup target a → NamesLookup target b → a ≡ b
-same_lookup target lookups.SaleCount lookups.SaleCount e m n = refl
+same_lookup target lookups.Health lookups.Health e m n = refl
 same_lookup target (lookups.Meter x) (lookups.Meter y) e m n =
     ap lookups.Meter (same_filled (pattern_of Meter) target x y m.0 n.0)
 same_lookup target (lookups.LastSale x) (lookups.LastSale y) e m n =

@@ -27,7 +27,7 @@ use Rattle.desk_messages.specs.route.Route.{IsRouted}
 
 -- the form in which a sale that is looked up is told: a meter's last one is told as its receipt
 abbrev pub lookup_form : Lookup → Form
-lookup_form lookups.SaleCount = Json
+lookup_form lookups.Health = Json
 lookup_form (lookups.Meter meter) = Json
 lookup_form (lookups.LastSale meter) = Paper
 lookup_form (lookups.SaleOfRef operator order_ref) = Json

@@ -80,7 +80,7 @@ fn lookup_form(lookup: &Lookup) -> Form
 {
     match lookup {
         Lookup::LastSale(_) => Form::Paper,
-        Lookup::SaleCount
+        Lookup::Health
         | Lookup::Meter(_)
         | Lookup::SaleOfRef(..)
         | Lookup::Quote(..)

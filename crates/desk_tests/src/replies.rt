@@ -3,8 +3,8 @@
 use crate::listed::{listed_meters, listed_shifts, listed_tariffs};
 use crate::texts::{reply, reply_at};
 use desk::{
-    DeskFault, Form, Found, MessageFault, MeterSummary, Method, Outcome, Quote, Totals, found_json,
-    http_date, moment_given, reply_bytes,
+    DeskFault, Form, Found, Health, MessageFault, MeterSummary, Method, Outcome, Quote, Totals,
+    found_json, http_date, moment_given, reply_bytes,
 };
 use office_rules::{
     Answer, MeterNo, Moment, Operator, Ref, Refusal, RowCause, Sale, Sales, Shift, TariffName,
@@ -82,8 +82,16 @@ fn findings(alloc: Global) -> Result<Vec<Found>, Fail> {
         last_sale: Some(1_000_000_000),
     };
     let mut findings = Vec::new(alloc);
-    findings.push(Found::SaleCount(0))?;
-    findings.push(Found::SaleCount(1_000_000_000))?;
+    findings.push(Found::Health(Health {
+        sales: 0,
+        last_moment: None,
+        write_failed: false,
+    }))?;
+    findings.push(Found::Health(Health {
+        sales: 1_000_000_000,
+        last_moment: Moment::of_secs(4_102_444_799),
+        write_failed: true,
+    }))?;
     findings.push(Found::Meter(sold))?;
     findings.push(Found::Meter(MeterSummary {
         base: Base::Y2035,
@@ -241,8 +249,8 @@ fn replies() -> &'static str {
 501 Not Implemented, 18, Connection: close~ = {'error':'Method'}
 501 Not Implemented, 18, Connection: close~ = {'error':'Coding'}
 501 Not Implemented, 18, Connection: close~ = {'error':'Coding'}
-200 OK, 22 = {'format':4,'sales':0}
-200 OK, 31 = {'format':4,'sales':1000000000}
+200 OK, 61 = {'format':4,'last_moment':null,'last_write':'done','sales':0}
+200 OK, 78 = {'format':4,'last_moment':4102444799,'last_write':'failed','sales':1000000000}
 200 OK, 99 = {'base':1993,'meter':'12345678903','sale':1000000000,'tariff':'flat','tenths':18446744\
     073709551615}
 200 OK, 74 = {'base':2035,'meter':'12345678903','sale':null,'tariff':'flat','tenths':0}

@@ -74,7 +74,7 @@ fn route(text: &str) -> Result<Route, Fail> {
 fn lookup(word: &str, value: &str) -> Result<Lookup, Fail> {
     let (first, second) = value.split_once(' ').unwrap_or((value, ""));
     Ok(match word {
-        "health" => Lookup::SaleCount,
+        "health" => Lookup::Health,
         "meter" => Lookup::Meter(meter(first)?),
         "last-sale" => Lookup::LastSale(meter(first)?),
         "quote" => Lookup::Quote(

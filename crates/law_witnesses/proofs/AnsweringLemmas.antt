@@ -7,6 +7,7 @@ use Rattle.clap.specs.Kinds.{IsAmong}
 use Rattle.clap.specs.Walk.{Row}
 use Rattle.sqlite.specs.Files.{over_files}
 use Rattle.sqlite_disk.specs.declared.Disk as disk
+use Rattle.sqlite_disk.specs.declared.Files.{Files}
 use Rattle.sqlite_trees.specs.declared.store.Store.{Ghosts}
 use Rattle.sqlite_wal.specs.Recovery.{Image}
 use Rattle.sts_fields.specs.Text.{Text}
@@ -39,12 +40,12 @@ use Rattle.program_laws.specs.Courses.{Course}
 use Rattle.program_laws.specs.runs.Asked.{Carries, CarriesIn, CarriesSo, RunCarries}
 use Rattle.program_laws.specs.runs.Here.{Here, use_of}
 use Rattle.program_laws.specs.runs.Steps.{LivesIn}
-use Rattle.program_laws.specs.runs.Uses.{LivesSo, RunEnding, ends_lost, many_lives, use_carried, use_run, use_served, use_serving, with_file}
+use Rattle.program_laws.specs.runs.Uses.{LivesSo, RunEnding, ends_lost, files_let_go, many_lives, use_carried, use_run, use_served, use_serving, with_file}
 use Rattle.vend_commands.specs.Run.{IsCarriedOut, IsProgramRun}
 use Rattle.vend_commands.specs.Run.IsProgramRun.{answered, bad_word, explained, no_room}
 use Rattle.vend_commands.specs.port.Machines.{Machine, Way}
 use Rattle.vend_commands.specs.serving.Connections.{AreServed, Service}
-use Rattle.vend_commands.specs.serving.Listening.{IsServing, serving_end}
+use Rattle.vend_commands.specs.serving.Listening.{IsClosedAfter, IsServing, serving_end}
 use Rattle.vend_commands.specs.serving.Listening.IsServing.{unheard, unopened, was_open}
 use Rattle.vend_core.specs.Law.Life.{Life}
 use Rattle.vend_ports.specs.print.Sink.{Sink}
@@ -195,16 +196,17 @@ module _ {D R W : Type 0} (way : Way D R W) (sent came : List ℕ) where
       subst Carry (sym two) (two_carry forward door answers last_door left first before lives)
 
   module _ {M B : Type 0} {g : disk.Ghosts M} (gives : ℤ → Type 0) (forward : BlockFunction) (see : B → Seen) (loses : Seen → OpenFault → Type 0)
-      (ends : (old : Seen) (fault : OpenFault) → loses old fault → RunEnding g) where
+      (ends : (old : Seen) (fault : OpenFault) → loses old fault → RunEnding g) (closes : Seen → Type 0)
+      (shut : (books : Seen) → closes books → Files M) where
     served_carry : (wanted : ℕ) → wanted ≡ 2 → (old : Service D B) (door : D) (answers : Option (List ℤ)) (printed : Text) (image : Image)
         (served : Result (B × Bool) OpenFault) (are : AreServed way gives forward see loses wanted old door answers served printed)
-        → Done ≡ serving_end served → SeesFirst old.door → (before lives : List Life)
-        (lived : LivesIn (use_served way gives forward see loses ends wanted old door answers printed image served are) before lives)
-        → CarriesIn (use_served way gives forward see loses ends wanted old door answers printed image served are) before lives lived sent came
-    served_carry wanted two old door answers printed image (Ok (books, true)) are done first before lives lived =
+        (closed : IsClosedAfter (λ books. closes (see books)) served) → Done ≡ serving_end served → SeesFirst old.door → (before lives : List Life)
+        (lived : LivesIn (use_served way gives forward see loses ends closes shut wanted old door answers printed image served are closed) before lives)
+        → CarriesIn (use_served way gives forward see loses ends closes shut wanted old door answers printed image served are closed) before lives lived sent came
+    served_carry wanted two old door answers printed image (Ok (books, true)) are closed done first before lives lived =
         many_carry forward wanted two old.door old.answers door answers first before lives lived
-    served_carry wanted two old door answers printed image (Ok (books, false)) are done first before lives lived = absurd (cc)
-    served_carry wanted two old door answers printed image (Err fault) are done first before lives lived = absurd (cc)
+    served_carry wanted two old door answers printed image (Ok (books, false)) are closed done first before lives lived = absurd (cc)
+    served_carry wanted two old door answers printed image (Err fault) are closed done first before lives lived = absurd (cc)
 
 -- ---- a run
 
@@ -224,7 +226,9 @@ module _ {M S H D R W : Type 0} (disk : disk.Ghosts M) (salts : source.Ghosts S)
   serving_carries sees words two err_old err_new end done (unopened fault fails leaves told refused) before lives lived = absurd (cc)
   serving_carries sees words two err_old err_new end done (unheard old opens finds last deaf leaves closes refused) before lives lived = absurd (cc)
   serving_carries sees words two err_old err_new end done (was_open old opens finds were) before lives lived =
-      served_carry m.way sent came _ _ _ _ (ends_lost {disk = disk} {salts = salts} {lets_go = lets_go_giving of back false}) words.connections two _ were.last were.left were.printed _ were.served were.are_served (sym done ∙ were.ends)
+      served_carry m.way sent came _ _ _ _ (ends_lost {disk = disk} {salts = salts} {lets_go = lets_go_giving of back false}) _
+      (files_let_go disk salts of office back m) words.connections two _ were.last were.left were.printed _ were.served were.are_served were.closed
+      (sym done ∙ were.ends)
       (sees words.listen were.listens.port were.listening were.listens.listens) before lives lived
 
   carried_carries : SeesWherever → (it : Asked) → Serves 2 it → (o : Outputs) (end : CommandEnd) → end ≡ Done

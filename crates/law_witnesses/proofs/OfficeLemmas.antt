@@ -74,6 +74,11 @@ memory_alone Tells (Ok a) tells none = tt
 memory_alone Tells (Err (fault.Found f)) tells none = absurd (none f tells)
 memory_alone Tells (Err fault.Memory) tells none = refl
 
+-- where nothing can be found, the test passes
+pub found_nothing : (Tells : Finding → Type 0) (tested : Result (Unit {0}) Finding) → IfErr tested Tells → ((f : Finding) → Tells f → ⊥) → tested ≡ Ok tt
+found_nothing Tells (Ok tt) tells none = refl
+found_nothing Tells (Err f) tells none = absurd (none f tells)
+
 -- one life has the transform that it has
 pub one_forward : (life : Life) (forward : BlockFunction) → life.forward ≡ forward → All (λ (l : Life). l.forward ≡ forward) (life ∷ [])
 one_forward life forward is = search rules

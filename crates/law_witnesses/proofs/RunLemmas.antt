@@ -1,18 +1,21 @@
 -- Runs on files that lives left.
-use Rattle.std.proofs.Common.{◌≡◌, ◌∙◌, ◌⊎◌, ◌++◌, ℕ, List, [], ◌∷◌, Option, Some, Result, Ok, Err, inl, inr, refl, sym, subst, append-nil, arith}
-use Rattle.std.specs.Prelude.{Contains}
+use Rattle.std.proofs.Common.{◌≡◌, ◌∙◌, ◌⊎◌, ◌++◌, ℕ, List, [], ◌∷◌, Option, Result, Ok, Err, inl, inr, refl, sym, subst, append-nil, arith}
+use Rattle.std.specs.Prelude.{Contains, IsTrue}
 use Rattle.std.proofs.lemmas.List.Elements.{Contains-append_left, Contains-push}
 use Rattle.std.proofs.Math.Logic.{∥∥₁_map}
 use Rattle.sqlite.proofs.FileLemmas.{is_something}
-use Rattle.sqlite.specs.Closing.{HoldsAlone}
+use Rattle.sqlite.specs.Closing.{HoldsAlone, files_left}
 use Rattle.sqlite.specs.Files.{HoldsDatabase, image_of}
+use Rattle.sqlite_disk.specs.declared.Disk as disk
 use Rattle.sqlite_disk.specs.declared.Files.{Files}
 use Rattle.sqlite_trees.specs.Tree.{Trees}
+use Rattle.sqlite_wal.specs.Reads.{AreClean}
 use Rattle.sqlite_wal.specs.Recovery.{Image}
 use Rattle.sts_fields.specs.Text.{Text}
 use Rattle.papers.specs.Receipt.{receipt_of}
 use Rattle.books.specs.Found.{FindsOffice}
 use Rattle.book_states.specs.Stores.{RecoversTo}
+use Rattle.office_rules.proofs.OfficeLemmas.RowLemmas.{both_true}
 use Rattle.office_rules.specs.Office.{IsOffice, Office, empty_office}
 use Rattle.office_rules.specs.declared.decision.answer.Answer.{Answer}
 use Rattle.office_rules.specs.declared.decision.answer.Answer.TheVariants.{Sold}
@@ -25,11 +28,11 @@ use Rattle.office_commands.specs.office.Served.{TellsReply}
 use Rattle.program_laws.specs.Selling.{PrintsSale}
 use Rattle.program_laws.specs.runs.EachRun.{KeepsEachRun}
 use Rattle.program_laws.specs.runs.Promise.{ComesAfter, KeepsPromise}
-use Rattle.program_laws.specs.runs.Files.{AreFoundSo}
-use Rattle.program_laws.specs.runs.Here.{Here, HoldsSo, IsAlwaysClean}
+use Rattle.program_laws.specs.runs.Files.{AreFoundSo, IsLetGoClean, LetsGoClean}
+use Rattle.program_laws.specs.runs.Here.{Here, HoldsSo, use_of}
 use Rattle.program_laws.specs.runs.Steps.{AreSoldFor, Asks, Goes, IsOf, IsOfOffice, TellsNoRequest}
 use Rattle.program_laws.specs.runs.Steps.TellsNoRequest.{no_file, no_moment, no_office, no_room}
-use Rattle.program_laws.specs.runs.Uses.{RunQuestion}
+use Rattle.program_laws.specs.runs.Uses.{RunEnding, RunQuestion, RunUse, connected, cut_off, left_blank, let_go, unconnected, unseen}
 use Rattle.program_laws.specs.runs.Words.{WordsRequest}
 use Rattle.vend_core.specs.Law.Life.{Exchange, LeadTo, Life}
 use Rattle.vend_core.specs.Law.LifeLaws.{extended_by}
@@ -80,6 +83,22 @@ not_done reply refusal o end told is done =
     let end_is : end ≡ Refused = (subst Tells is told).2 in
     cc
 
+-- files that never return anything but what was written are let go clean
+module _ {M : Type 0} (g : disk.Ghosts M) (all : (it : M) → IsTrue (g.is_clean it)) where
+  all_clean : (files : M × M) → AreClean g files.0 files.1
+  all_clean files = both_true _ _ (all files.0) (all files.1)
+
+  end_clean : (last : RunEnding g) → IsLetGoClean last
+  end_clean (left_blank files) = all_clean (files.log, files.db)
+  end_clean (let_go s files) = all_clean (files.log, files.db)
+  end_clean (cut_off s found left) = (all_clean (found.log, found.db), all_clean (files_left left))
+
+  -- a run over such files lets them go clean, whatever it made of them
+  pub let_go_clean : (made : RunUse g) → LetsGoClean made
+  let_go_clean unseen = tt
+  let_go_clean (unconnected found left) = all_clean (files_left left)
+  let_go_clean (connected image living last) = end_clean last
+
 module _ {P D R W : Type 0} (here : Here P D R W) (law : KeepsEachRun here) where
   -- the file of these ports is these two files
   abbrev pub HasThese : P → Files here.M → Type 0
@@ -90,7 +109,7 @@ module _ {P D R W : Type 0} (here : Here P D R W) (law : KeepsEachRun here) wher
   module _ {ports : P} {words : List Text} {end : CommandEnd} {back : Option (here.M × here.M)} {printed : List ℕ}
       (it : IsRunOf here ports words end back printed) where
     -- a run on files that lives left goes on from them
-    pub goes_on_from : IsAlwaysClean here.disk → (start : Office) (lives : List Life) (o : Office) (files : Files here.M) → IsOffice start
+    pub goes_on_from : ((it : here.M) → IsTrue (here.disk.is_clean it)) → (start : Office) (lives : List Life) (o : Office) (files : Files here.M) → IsOffice start
         → LeadTo start lives o → AreFoundSo here.disk files (IsOf start lives) → HasThese ports files
         → ∥ ((more : List Life) × Goes here start it.run lives more) ∥₁
     goes_on_from always start lives o files office lead found these =
@@ -99,7 +118,7 @@ module _ {P D R W : Type 0} (here : Here P D R W) (law : KeepsEachRun here) wher
         let Of : Image → Type 0 = λ image. IsOf start lives image in
         let mine : Holds ports = λ path wait f how.
         let same = these path wait f how in (subst FoundSo (sym same.0) found, subst Of (sym same.1) found.0) in
-        law.goes_on start lives o it.run office lead (law.finds start lives it.run (subst Holds (sym it.with_ports) mine)) (law.clean it.run always)
+        law.goes_on start lives o it.run office lead (law.finds start lives it.run (subst Holds (sym it.with_ports) mine)) (law.clean it.run (let_go_clean here.disk always (use_of here it.run)))
 
     -- what was told of a sale is what was printed
     pub printed_of : (s : Sale) → PrintsSale s it.run.o it.run.end → printed ≡ receipt_of s

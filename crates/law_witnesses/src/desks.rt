@@ -88,9 +88,9 @@ const MESSAGES: &[u8] = b"POST /tariffs HTTP/1.1\r\nHost: d\r\nContent-Length: 3
 
 const REPLIES: &[u8] = b"HTTP/1.1 200 OK\r\nContent-Type: application/json\r\n\
     Content-Length: 13\r\nDate: Wed, 01 Jan 2014 00:00:30 GMT\r\n\r\n{\"done\":true}\
-    HTTP/1.1 200 OK\r\nContent-Type: application/json\r\nContent-Length: 22\r\n\
+    HTTP/1.1 200 OK\r\nContent-Type: application/json\r\nContent-Length: 61\r\n\
     Date: Wed, 01 Jan 2014 00:00:30 GMT\r\n\r\n\
-    {\"format\":4,\"sales\":0}";
+    {\"format\":4,\"last_moment\":null,\"last_write\":\"done\",\"sales\":0}";
 
 #[test]
 fn a_desk_writes_its_conversation(rt: HostRuntime) -> Result<(), Fail> {

@@ -48,7 +48,7 @@ fn opened_again(alloc: Global, ats: &[Stamped], moment: Moment) -> Option<(u64, 
     let Ok(_replies) = books.serve_all(ats) else {
         return None;
     };
-    let Ok(_found) = books.look_up(moment, &Lookup::SaleCount) else {
+    let Ok(_found) = books.look_up(moment, &Lookup::Health) else {
         return None;
     };
     let before = books.next_number();

@@ -1,150 +1,22 @@
 //! Runs on what a run left in which a call of the store was refused.
-ghost use Rattle.std.specs.Prelude.{◌≡◌, ◌+◌, ◌&&◌, not, false, ⊤, IfSome, IsTrue};
-ghost use Rattle.sqlite_disk.specs.Disk.{CountsFault};
+ghost use Rattle.std.specs.Prelude.{◌≡◌, ◌&&◌, not, ⊤, IfSome, IsTrue};
 ghost use Rattle.sqlite_disk.specs.Memory.{memory_bytes, memory_is_usable};
-ghost use Rattle.sqlite_disk.specs.Refusal.{finds_no_room};
 
 use crate::kept::{Kept, Nothing};
 use crate::offices::day;
 use crate::runs::{Later, Then, WORDS, back_of, order_said, ports_on, ran, sold_on_files};
 use books::OpenFault;
 use conversation::Script;
+use disk_testing::{Faults, Lapse, NO_FAULTS};
 use office_lines::values::{FIRST_DAY, METER, moment, order};
 use office_rules::{Moment, Order, Request, Stamped};
 use program_laws::run_law;
 use sqlite::Files;
-use sqlite_disk::{Disk, Memory, Tally};
+use sqlite_disk::{Disk, Memory};
 use std::alloc::Global;
-use std::io;
 use std::test::Fail;
 use vend_commands::{Back, CommandEnd, Machine, OfficeFile, Ports};
 use vend_core::office_law;
-
-/// A file of which one call is refused, and no other one.
-#[derive(Drop)]
-struct Lapse<D: Disk> {
-    inner: D,
-    // The call of this number is refused, from now on. At 0 none is.
-    at: u64,
-    refused: u64,
-    sync_refused: bool,
-}
-
-impl<D: Disk> Lapse<D> {
-    fn new(inner: D, at: u64) -> Lapse<D>
-        ensures { result.inner ≡ inner }
-    {
-        Lapse {
-            inner,
-            at,
-            refused: 0,
-            sync_refused: false,
-        }
-    }
-
-    fn into_inner(self) -> D
-        ensures { result ≡ self.inner }
-    {
-        let Lapse {
-            inner,
-            at: _,
-            refused: _,
-            sync_refused: _,
-        } = self;
-        inner
-    }
-}
-
-// Counts a call, and refuses it if it is the one.
-fn pass(at: &mut u64, refused: &mut u64) -> io::Result<()>
-    ensures faults { CountsFault result refused.old refused.new }
-    ensures kind { finds_no_room result ≡ false }
-{
-    if *at == 0 {
-        return Ok(());
-    }
-    *at -= 1;
-    if *at == 0 {
-        *refused = refused.saturating_add(1);
-        return Err(io::Error::other("the call is refused"));
-    }
-    Ok(())
-}
-
-impl<D: Disk> Disk for Lapse<D> {
-    ghost seen = { λ f. D.Disk.seen f.inner };
-
-    ghost may_leave = { λ f. D.Disk.may_leave f.inner };
-
-    ghost is_usable = { λ f. D.Disk.is_usable f.inner && not f.sync_refused };
-
-    ghost faults = { λ f. D.Disk.faults f.inner + f.refused };
-
-    ghost tally_of = { λ f. D.Disk.tally_of f.inner };
-
-    ghost is_rotten = { λ f. D.Disk.is_rotten f.inner };
-
-    ghost key_of = { λ f. D.Disk.key_of f.inner };
-
-    ghost is_clean = { λ f. D.Disk.is_clean f.inner };
-
-    ghost is_fair = { λ f. D.Disk.is_fair f.inner };
-
-    ghost fair_if_clean = { λ f. D.Disk.fair_if_clean f.inner };
-
-    ghost seen_may_stay = { λ f. D.Disk.seen_may_stay f.inner };
-
-    ghost is_mixing = { λ f. D.Disk.is_mixing f.inner };
-
-    fn mixes(&self) -> bool {
-        self.inner.mixes()
-    }
-
-    fn key(&self) -> u64 {
-        self.inner.key()
-    }
-
-    fn tally(&self) -> Tally {
-        self.inner.tally()
-    }
-
-    fn may_be_used(&self) -> bool {
-        self.inner.may_be_used() && !self.sync_refused
-    }
-
-    fn len(&mut self) -> io::Result<usize> {
-        pass(&mut self.at, &mut self.refused)?;
-        self.inner.len()
-    }
-
-    fn read_at(&mut self, at: usize, buf: &mut [u8]) -> io::Result<()> {
-        pass(&mut self.at, &mut self.refused)?;
-        self.inner.read_at(at, buf)
-    }
-
-    fn read_checked(&mut self, key: u64, want: u64, at: usize, buf: &mut [u8]) -> io::Result<()> {
-        pass(&mut self.at, &mut self.refused)?;
-        self.inner.read_checked(key, want, at, buf)
-    }
-
-    fn write_at(&mut self, at: usize, bytes: &[u8]) -> io::Result<()> {
-        pass(&mut self.at, &mut self.refused)?;
-        self.inner.write_at(at, bytes)
-    }
-
-    fn set_len(&mut self, len: usize) -> io::Result<()> {
-        pass(&mut self.at, &mut self.refused)?;
-        self.inner.set_len(len)
-    }
-
-    fn sync(&mut self) -> io::Result<()> {
-        if let Err(error) = pass(&mut self.at, &mut self.refused) {
-            self.sync_refused = true;
-            return Err(error);
-        }
-        self.inner.sync()
-    }
-}
 
 /// A machine whose office's file is in memory, and refuses a call.
 struct Lapsing;
@@ -244,8 +116,12 @@ fn lapsing_ports(files: Files<Memory>, call: u64, second: i64) -> Option<Ports<L
     ensures log { IfSome result (λ ports. ports.office.log.inner ≡ files.log) }
     ensures db { IfSome result (λ ports. ports.office.db.inner ≡ files.db) }
 {
-    let log = Lapse::new(files.log, call);
-    let db = Lapse::new(files.db, 0);
+    let refused = Faults {
+        before: call.saturating_sub(1),
+        failing: 1,
+    };
+    let log = Lapse::of_all_calls(files.log, refused);
+    let db = Lapse::of_all_calls(files.db, NO_FAULTS);
     if !log.may_be_used() || !db.may_be_used() {
         return None;
     }

@@ -7,9 +7,10 @@ ghost use Rattle.law_witnesses.specs.Offices.{HasServed};
 
 use audit::office_rows;
 use audit_lists::{
-    OfficeFault, honest_law, office_law, test_office, test_reached, test_tokens, tokens_law,
+    OfficeFault, honest_law, meter_places, office_law, test_office, test_reached, test_tokens,
+    tokens_law,
 };
-use audit_rows::read_office_rows;
+use audit_rows::{Finding, read_office_rows};
 use book_facts::quote_law;
 use book_states::{Found, Lookup, Quote};
 use book_tables::PRESENT_FORMAT;
@@ -37,7 +38,7 @@ pub(crate) fn served(
     let Ok(replies) = books.serve_all(ats) else {
         return None;
     };
-    match books.look_up(moment, &Lookup::SaleCount) {
+    match books.look_up(moment, &Lookup::Health) {
         Ok(_) => Some((books, replies)),
         Err(_) => None,
     }
@@ -199,8 +200,8 @@ fn test_of_requests(
 }
 
 // And of their tokens, by the transform that wrote them.
-fn test_of_tokens(alloc: Global, ats: &[Stamped], moment: Moment) -> Option<Result<(), OfficeFault>>
-    ensures { IfSome result (λ tested. IfErr tested (λ fault. fault ≡ OfficeFault.Memory)) }
+fn test_of_tokens(alloc: Global, ats: &[Stamped], moment: Moment) -> Option<Result<(), Finding>>
+    ensures { IfSome result (λ tested. tested ≡ Ok tt) }
 {
     tokens_law();
     let Some((books, _replies)) = served(alloc, ats, moment) else {
@@ -209,7 +210,10 @@ fn test_of_tokens(alloc: Global, ats: &[Stamped], moment: Moment) -> Option<Resu
     let mut conn = books.into_connection();
     let _live = conn.schema();
     match office_rows(alloc, &mut conn, PRESENT_FORMAT) {
-        Ok(rows) => Some(test_tokens(alloc, &Plain, &rows)),
+        Ok(rows) => match meter_places(alloc, &rows) {
+            Ok(meters) => Some(test_tokens(&Plain, &rows, &meters)),
+            Err(_) => None,
+        },
         Err(_) => None,
     }
 }

@@ -4,7 +4,7 @@ ghost use Rattle.desk_messages.specs.reply.Body.{body_of};
 ghost use Rattle.desk_messages.specs.reply.Lists.{list_text, listed_meter_text};
 ghost use Rattle.desk_messages.specs.reply.SaleText.{IsTellableSale, sale_text};
 
-use book_states::{Found, ListedMeter};
+use book_states::{Found, Health, ListedMeter};
 use conversation::Method;
 use desk_client::{Granted, PageKind, Reading, Told, Wanted, page_in, reply_in};
 use desk_messages::{
@@ -79,19 +79,24 @@ fn replied_to_both(alloc: Global, moment: Moment, outcome: &Outcome) -> Option<(
 
 #[test]
 fn a_head_lacks_the_body_alone(rt: HostRuntime) -> Result<(), Fail> {
-    let outcome = Outcome::Found(Form::Json, Ok(Found::SaleCount(0)));
+    let health = Health {
+        sales: 0,
+        last_moment: None,
+        write_failed: false,
+    };
+    let outcome = Outcome::Found(Form::Json, Ok(Found::Health(health)));
     let moment = moment(FIRST_DAY)?;
     let (whole, head) = replied_to_both(rt.alloc(), moment, &outcome).ok_or("no reply")?;
     assert_eq!(rt; head.as_slice(), HEALTH_HEAD);
     assert_eq!(rt;
         &whole[head.len()..],
-        b"{\"format\":4,\"sales\":0}".as_slice()
+        b"{\"format\":4,\"last_moment\":null,\"last_write\":\"done\",\"sales\":0}".as_slice()
     );
     Ok(())
 }
 
 const HEALTH_HEAD: &[u8] = b"HTTP/1.1 200 OK\r\nContent-Type: application/json\r\n\
-    Content-Length: 22\r\nDate: Wed, 01 Jan 2014 00:00:30 GMT\r\n\r\n";
+    Content-Length: 61\r\nDate: Wed, 01 Jan 2014 00:00:30 GMT\r\n\r\n";
 
 // The seconds that HTTP reads in the date of a moment: those of the moment.
 fn date_read(moment: Moment) -> Option<u64>

@@ -68,6 +68,7 @@ module _ {D : Type 0} {g : Ghosts D} (image : Image) (conn : Held (FileStore D g
     first = conn;
     connected = made.connected;
     told = λ clean is. absurd (cc);
+    named = λ clean is. absurd (cc);
     fails = λ clean differs. inl (SqliteFailure OutOfMemory, refl, inr (refl, unchanged (file_state conn) (made.connected clean).opens.is_open));
     same = λ clean. record { was_open = λ is. is; now_is = λ is. refl };
     kept = stands_here;
@@ -87,6 +88,7 @@ module _ {D : Type 0} {g : Ghosts D} (image : Image) (conn : Held (FileStore D g
         let before : HasCleanDisk (file_state conn) = omega (arith, told.survives.clean, clean) in
         told.books.opens office (stands_here before office stands) clean;
     running = told.books.running;
+    writes = told.books.writes;
     tables = told.books.tables;
     finds = record {
       opened = record {
@@ -114,6 +116,7 @@ module _ {D : Type 0} {g : Ghosts D} (image : Image) (conn : Held (FileStore D g
         first = conn;
         connected = made.connected;
         told = λ clean is o stands. told.other clean is o (stands_here (early clean) o stands);
+        named = λ clean is. (told.named clean is).1;
         fails = told.fails;
         same = told.same;
         kept = λ clean o stands. told.refused clean o (stands_here (early clean) o stands);

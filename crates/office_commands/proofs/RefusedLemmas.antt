@@ -1,11 +1,14 @@
 -- Books that are only read, and when they are stopped.
-use Rattle.std.proofs.Common.{◌≡◌, ◌⊎◌, ◌∙◌, true, false, Result, Ok, Err, ap, inl, inr, sym}
+use Rattle.std.proofs.Common.{◌≡◌, ◌⊎◌, ◌∙◌, true, false, Result, Ok, Err, ap, inl, inr, subst, sym}
 use Rattle.std.specs.Prelude.{◌↔◌}
 use Rattle.std.proofs.lemmas.Bool.{false_from_ne_true}
-use Rattle.books.specs.Keeps.{Seen}
+use Rattle.sqlite.specs.Effect.{Database}
+use Rattle.sqlite.specs.State.{HasCleanDisk}
+use Rattle.books.specs.Failing.{IsToldOfRead}
+use Rattle.books.specs.Keeps.{BooksHaveTables, Seen}
 use Rattle.office_rules.specs.declared.decision.refusal.Refusal.{Refusal}
 use Rattle.office_rules.specs.declared.decision.refusal.Refusal.TheVariants.{Memory, Stopped, Store}
-use Rattle.office_commands.specs.office.Refused.{TellsStopped}
+use Rattle.office_commands.specs.office.Refused.{FailsOnlyFor, TellsStopped}
 
 -- what a reading says of books that were stopped, and of those that are
 abbrev pub SaysStopped : {A : Type 0} → (old new : Seen) → Result A Refusal → Type 0
@@ -63,3 +66,12 @@ stopped_before old mid new refusal same tells = record {
   stopped = (λ e. sym same ∙ tells.stopped.0 e, λ was. tells.stopped.1 (same ∙ was));
   stops = tells.stops;
 }
+
+-- where the store failed, and no refusal of the call's own says so, a read of the tables did
+pub fails_only : (Own : Refusal → Type 0) {IsSpoilt : Database → Type 0} (old new : Seen) (refusal : Refusal) → ¬ Own Store
+    → (HasCleanDisk new.state → BooksHaveTables old → old.stopped ≡ false → Own refusal ⊎ IsToldOfRead IsSpoilt refusal old.state new.state)
+    → FailsOnlyFor IsSpoilt old new refusal
+fails_only Own old new refusal never told clean tables running is = elim (told clean tables running) [
+  | inl own ↦ absurd (never (subst Own is own))
+  | inr read ↦ read.failed is
+]

@@ -28,7 +28,8 @@ pub record Walks (o : Office) (today : ℕ) (row : Row) (rest : List Row) (gs : 
   pub first_is : first ≡ row_facts o row
   pub rest_are : (row_decision o today row ≡ Err refusals.Differs) ⊎ AreRowsFacts o today rest further
 
-walks_first : (o : Office) (today : ℕ) (row : Row) (rest : List Row) (gs : List RowFacts) → AreRowsFacts o today (row ∷ rest) gs → Walks o today row rest gs
+-- the facts of some rows begin with those of the first
+pub walks_first : (o : Office) (today : ℕ) (row : Row) (rest : List Row) (gs : List RowFacts) → AreRowsFacts o today (row ∷ rest) gs → Walks o today row rest gs
 walks_first o today row rest [] facts = absurd facts
 walks_first o today row rest (g ∷ gs) facts = record { first = g; further = gs; are = refl; first_is = facts.0; rest_are = facts.1 }
 
@@ -74,7 +75,8 @@ office_more taken row change o (inl (none, same)) =
 office_more taken row change o (inr (some, put, fits)) =
     ap (λ (b : Bool). with_rows (taken ++ (if b then row ∷ [] else [])) o) some ∙ with_rows-push taken row o ∙ sym put
 
-ahead_more : (taken : List Row) (row : Row) (b : Bool) (r : Result (List Row) Refusal)
+-- rows in front of those that one row more is among
+pub ahead_more : (taken : List Row) (row : Row) (b : Bool) (r : Result (List Row) Refusal)
     → ahead taken (r >>= (λ new. Ok (if b then row ∷ new else new))) ≡ ahead (taken ++ (if b then row ∷ [] else [])) r
 ahead_more taken row true (Ok new) = ap (λ (l : List Row). let r : Result (List Row) Refusal = Ok l in r) (sym (append_assoc taken (row ∷ []) new))
 ahead_more taken row false (Ok new) = ap (λ (l : List Row). let r : Result (List Row) Refusal = Ok (l ++ new) in r) (sym (append-nil taken))

@@ -1,2 +1,3 @@
 pub mod ImportWalkLemmas
+pub mod OverFactsLemmas
 pub mod TakenLemmas

@@ -1,1 +1,2 @@
+pub mod OverFacts
 pub mod RowsTaken

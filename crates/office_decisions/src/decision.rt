@@ -9,6 +9,7 @@ ghost use Rattle.office_rules.specs.Decision.{open_a_shift, reprint, sell, sell_
 ghost use Rattle.office_rules.specs.Decision.Facts.{AreFacts, IsUnlessMemory, TakesMemory};
 ghost use Rattle.office_rules.specs.Decision.Facts.{report_found};
 ghost use Rattle.office_rules.specs.Office.{Office};
+ghost use Rattle.office_decisions.specs.OverFacts.{decision_on};
 
 use additions::{is_new_meter, is_new_steps, is_new_tariff};
 use office_rules::{
@@ -25,7 +26,7 @@ mod import;
 
 pub use additions::{same_meter, same_steps};
 
-/// How an office with these facts decides a request: what changes, and the answer.
+/// How a request is decided by these facts, of an office or of none: what changes, and the answer.
 ///
 /// Besides the refusals of `docs/OFFICE.md` only `Refusal::Memory` comes, for want of memory, and
 /// only to a request that is granted with new steps, new rows or a report, or to an import of which
@@ -36,6 +37,8 @@ pub fn decide<T: BlockTransform>(
     facts: &Facts,
     at: &Stamped,
 ) -> Result<Change, Refusal>
+    ensures exact { IsUnlessMemory result
+        (decision_on (T.forwards transform.now) at.now facts.now) }
     ensures decided { (o : Office) → AreFacts o at.now facts.now
         → IsUnlessMemory result (decision (T.forwards transform.now) o at.now) }
     ensures memory { (o : Office) → AreFacts o at.now facts.now → result ≡ Err Refusal.Memory

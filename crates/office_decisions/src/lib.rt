@@ -2,5 +2,7 @@
 #![tactic(auto)]
 
 mod decision;
+mod law;
 
 pub use decision::{decide, same_meter, same_steps};
+pub use law::facts_law;

@@ -64,7 +64,10 @@ fn live_until<T: BlockTransform + Drop, R: Drop, L: Life<T, R> + Drop>(
     life: L,
     ending: Ending<'_>,
 ) -> Result<(Lists<T>, R), Fail> {
-    let books = Books::open_path(host, path, Unknown, transform)?;
+    let books = match Books::open_file(host, path, Unknown, transform) {
+        Ok(books) => books,
+        Err((fault, _)) => return Err(fault.into()),
+    };
     let (lists, result, left) = live_on(books, lists, life, ending)?;
     if let Some(conn) = left {
         conn.close()?;

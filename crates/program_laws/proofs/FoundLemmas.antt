@@ -103,7 +103,8 @@ module _ (o : Office) (s : Sale) where
       (All-filter (λ t. nat_lt after t.number) (Contains o.sales) o.sales (All-contains_itself o.sales))) there
 
   found_stands : (moment : ℕ) (lookup : Lookup) (result : Result Found Refusal) → Finds o moment lookup result → Stands result
-  found_stands moment lookups.SaleCount result is = not_told result (ap sales_found is)
+  found_stands moment lookups.Health (Ok (found.Health health)) is = not_told (Ok (found.Health health)) refl
+  found_stands moment lookups.Health result is = absurd is
   found_stands moment (lookups.Meter number) result is =
       not_told result (ap sales_found is ∙ then_none (ok_or (o.meters number) refusals.NoMeter) _ (λ m. refl))
   found_stands moment (lookups.LastSale number) result is = subst Stands (sym is) (known_last (o.meters number) (last_sale o number) (last_known number))

@@ -102,7 +102,7 @@ module _ {P D R W : Type 0} (here : Here P D R W) (laws : (start : Office) → L
       begins_from = λ start image some stands. ∣ record { office = start; stands = stands; lead = refl; begins = λ nothing. absurd (some nothing) } ∣₁;
       goes_on = goes_on;
       finds = λ start lives run holds. (made_of start lives run).finds holds;
-      clean = λ run all. (made_of empty_office [] run).clean all;
+      clean = λ run clean. (made_of empty_office [] run).clean clean;
       asks = λ run q asks. (asks_wanted run q asks).0;
       sells = λ run order wanted. run_answers here.disk here.salts here.of (here.office run.ports) run.back (here.rest run.ports run.back) (Sell order)
           (λ rows is. let no : ⊥ = cc in no) run.words run.o run.end wanted.0 wanted.1 (sells_again run.words order wanted) run.ran;

@@ -166,8 +166,10 @@ IsAskedByOne json (questions.Sales after) = ⊥
 IsAskedByOne json (questions.LastSale meter) = json ≡ false
 IsAskedByOne json question = ⊤
 
--- what is looked up alone, and is no page of a list
+-- What is looked up alone, and is no page of a list. A health tells of a write that failed too,
+-- which no office has.
 abbrev pub IsOneLookup : Lookup → Type 0
+IsOneLookup lookups.Health = ⊥
 IsOneLookup (lookups.Tariffs after) = ⊥
 IsOneLookup (lookups.Meters after) = ⊥
 IsOneLookup (lookups.Shifts after) = ⊥

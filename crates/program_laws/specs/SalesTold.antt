@@ -27,7 +27,7 @@ use Rattle.vend_commands.specs.port.Machines.{Way}
 
 -- the sales in what was found
 abbrev pub sales_found : Result Found Refusal → List Sale
-sales_found (Ok (found.SaleCount count)) = []
+sales_found (Ok (found.Health health)) = []
 sales_found (Ok (found.Meter summary)) = []
 sales_found (Ok (found.Sale s)) = s ∷ []
 sales_found (Ok (found.Quote quoted)) = []

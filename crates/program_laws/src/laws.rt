@@ -58,6 +58,7 @@ ghost use Rattle.office_commands.specs.office.Visited.{seen_in};
 ghost use Rattle.vend_ports.specs.declared.command_end.CommandEnd.{CommandEnd};
 ghost use Rattle.vend_ports.specs.declared.command_end.CommandEnd.TheVariants.{Done, Refused};
 ghost use Rattle.books.specs.Looking.{IsFoundAt};
+ghost use Rattle.book_states.specs.declared.lookup.Health.{Health};
 ghost use Rattle.book_states.specs.declared.lookup.Lookup.{Lookup};
 ghost use Rattle.office_rules.specs.declared.decision.answer.Answer.{Answer};
 ghost use Rattle.office_rules.specs.declared.decision.refusal.Refusal.{Refusal};
@@ -389,6 +390,13 @@ pub fn at_desk_law()
         → IsOneLookup lookup
         → IsFoundAt life moment lookup desk → IsFoundAt life moment lookup file
         → IfErr desk IsOfRules → IfErr file IsOfRules → desk ≡ file }
+
+    // A health tells the same of the sales of one life. Of a write that failed the books that met
+    // it tell alone.
+    ensures same_health { (life : Life) (moment later : ℕ) (desk file : Health)
+        → IsFoundAt life moment Lookup.Health (Ok (WhatIsFound.Health desk))
+        → IsFoundAt life later Lookup.Health (Ok (WhatIsFound.Health file))
+        → (desk.sales ≡ file.sales) × (desk.last_moment ≡ file.last_moment) }
 {
     amount_law();
     purchase_law();

@@ -1,5 +1,5 @@
 -- Connections that are served one after another.
-use Rattle.std.proofs.Common.{◌≡◌, ℕ, ℤ, ◌+◌, Bool, true, false, if◌then◌else◌, List, [], ◌++◌, Option, Result, Ok, Err, add-one, ap, refl, subst, sym}
+use Rattle.std.proofs.Common.{◌≡◌, ℕ, ℤ, ◌+◌, ◌&&◌, not, Bool, true, false, if◌then◌else◌, List, [], ◌++◌, Option, Result, Ok, Err, add-one, ap, refl, subst, sym, ◌∙◌}
 use Rattle.std.specs.Prelude.{IfErr}
 use Rattle.book_opening.specs.declared.fault.OpenFault.{OpenFault}
 use Rattle.books.specs.Keeps.{Seen}
@@ -8,7 +8,7 @@ use Rattle.conversation.proofs.WiderLemmas.{clocked_wider, paced_wider, run_wide
 use Rattle.desk.specs.Answering.{answers_by, books_serve, life_serves, message_refusal_of}
 use Rattle.sts_fields.specs.Text.{Text}
 use Rattle.sts_token.specs.Token.{BlockFunction}
-use Rattle.vend_commands.specs.serving.Connections.{AreHeld, AreReady, AreServed, IsHeld, Service, open_text, service, stopped_text}
+use Rattle.vend_commands.specs.serving.Connections.{AreHeld, AreReady, AreServed, IsHeld, Service, end_text, open_text, service, stopped_text, written_text}
 use Rattle.vend_commands.specs.port.Machines.{Way}
 use Rattle.vend_ports.specs.print.Printed.{open_line, stopped_line}
 use Rattle.vend_ports.specs.print.Sink.{Sink}
@@ -16,12 +16,29 @@ use Rattle.vend_ports.specs.print.Told.{Takes}
 use Rattle.vend_ports.proofs.TakeLemmas.{takes_next}
 
 -- what is printed of books that are stopped, or are not
-pub open_some : (books : Seen) → books.stopped ≡ true → open_text books ≡ open_line
-open_some books stopped = ap (λ b. if b then open_line else []) stopped
+pub open_some : (books : Seen) → books.stopped ≡ true → open_text books ≡ (if books.write_failed then [] else open_line)
+open_some books stopped = ap (λ b. if (b && not books.write_failed) then open_line else []) stopped ∙ turned books.write_failed
+  where
+    turned : (b : Bool) → (if (not b) then open_line else []) ≡ (if b then [] else open_line)
+    turned true = refl
+    turned false = refl
 
 -- and of books that were not stopped nothing is printed as they are made ready
 pub open_none : (books : Seen) → books.stopped ≡ false → open_text books ≡ []
-open_none books runs = ap (λ b. if b then open_line else []) runs
+open_none books runs = ap (λ b. if (b && not books.write_failed) then open_line else []) runs
+
+-- what is printed where a write was made after one had failed
+pub written_some : (had_failed : Bool) (books : Seen) → (had_failed && not books.write_failed) ≡ true → written_text had_failed books ≡ open_line
+written_some had_failed books works = ap (λ b. if b then open_line else []) works
+
+-- and nothing is where none was
+pub written_none : (had_failed : Bool) (books : Seen) → (had_failed && not books.write_failed) ≡ false → written_text had_failed books ≡ []
+written_none had_failed books still = ap (λ b. if b then open_line else []) still
+
+-- what is printed behind a connection, where a write had failed as was said before it
+pub ended_as : (a b : Sink) (said had_failed : Bool) (books : Seen) → said ≡ had_failed → Takes a b (end_text said books)
+    → Takes a b (end_text had_failed books)
+ended_as a b said had_failed books same told = subst (λ (failed : Bool). Takes a b (end_text failed books)) same told
 
 -- books that a connection left stopped are printed so
 pub stopped_some : (books : Seen) → books.stopped ≡ true → stopped_text books ≡ stopped_line
@@ -67,14 +84,14 @@ module _ {D R W B : Type 0} (way : Way D R W) (gives : ℤ → Type 0) (forward 
   -- one more was held, by books that were made ready, and a clock that gives nothing new
   pub one_more : (now : ℤ → Type 0) (count : ℕ) (old mid new : Service D B) (ready : B) (a b c d : Sink)
       → ((given : ℤ) → now given → gives given) → AreHeldTelling count old mid a b → AreReady see forward mid.books ready
-      → IsHeld way now see (service mid.door ready mid.answers) new → Takes b c (open_text (see mid.books)) → Takes c d (stopped_text (see new.books))
+      → IsHeld way now see (service mid.door ready mid.answers) new → Takes b c (open_text (see mid.books)) → Takes c d (end_text (see mid.books).write_failed (see new.books))
       → AreHeldTelling (count + 1) old new a d
-  one_more now count old mid new ready a b c d stays (before, held, told) are one opens stops =
+  one_more now count old mid new ready a b c d stays (before, held, told) are one opens ends =
       let here = held_wider way now gives see (service mid.door ready mid.answers) new stays one in
-      let more = open_text (see mid.books) ++ stopped_text (see new.books) in (
+      let more = open_text (see mid.books) ++ end_text (see mid.books).write_failed (see new.books) in (
         before ++ more,
         subst (λ n. AreHeld way gives forward see n old new (before ++ more)) (sym (add-one count)) (mid, before, held, (ready, are, here), refl),
-        takes_next a b d before more told (takes_next b c d (open_text (see mid.books)) (stopped_text (see new.books)) opens stops),
+        takes_next a b d before more told (takes_next b c d (open_text (see mid.books)) (end_text (see mid.books).write_failed (see new.books)) opens ends),
       )
 
   -- all that were asked for

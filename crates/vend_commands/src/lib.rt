@@ -19,6 +19,6 @@ pub use selfcheck::fault::SelfcheckFault;
 pub use selfcheck::{gives_exactly, replies_over_memory};
 pub use serving::serve;
 pub use vend_ports::{
-    CommandEnd, Door, FileFault, Listening, Loopback, PatientReader, PatientWriter, TextFiles,
-    TrialFault, Watched, set_options, trial,
+    CommandEnd, Connection, Door, FileFault, Listening, Loopback, MachineLoopback, PatientReader,
+    PatientWriter, ReadsWithin, TextFiles, TrialFault, Watched, WritesWithin, trial,
 };

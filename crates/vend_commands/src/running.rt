@@ -29,8 +29,8 @@ use std::io::Write;
 use std::marker::PhantomData;
 use vend_ports::commands::{meter, quote, trial};
 use vend_ports::{
-    CommandEnd, Door, Loopback, MachineDoor, MachineTexts, TextFiles, Watched, put_line,
-    put_refusal,
+    CommandEnd, Door, Loopback, MachineDoor, MachineLoopback, MachineTexts, TextFiles, Watched,
+    put_line, put_refusal,
 };
 
 /// The computer that the program runs on. `B` stands for what the office's file holds, and `T`
@@ -43,13 +43,13 @@ pub struct Computer<'a, B: Start, T> {
 impl<'a, B: Start, T: TimeSource> Machine for Computer<'a, B, T> {
     type Office = MachineFile<'a, B>;
 
-    type Texts = MachineTexts<'a>;
+    type Texts = MachineTexts<'a, HostRuntime>;
 
     type Clock = MachineClock<'a, T>;
 
-    type Door = MachineDoor<'a, HostRuntime>;
+    type Door = MachineDoor<'a, HostRuntime, HostRuntime>;
 
-    type Loopback = &'a HostRuntime;
+    type Loopback = MachineLoopback<'a, HostRuntime, HostRuntime>;
 
     type Progress = TerminalProgress<'a>;
 }
@@ -61,10 +61,10 @@ impl<'a, B: Start, T: TimeSource> Computer<'a, B, T> {
     {
         Ports {
             office: MachineFile { rt, start },
-            texts: MachineTexts { rt },
+            texts: MachineTexts { files: rt },
             clock: MachineClock::new(time),
-            door: MachineDoor::new(rt, rt.alloc()),
-            loopback: rt,
+            door: MachineDoor::new(rt, rt, rt.alloc()),
+            loopback: MachineLoopback::new(rt, rt),
             progress: TerminalProgress::new(rt),
         }
     }

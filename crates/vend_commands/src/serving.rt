@@ -1,16 +1,18 @@
 //! Connections to a door, served one after another over any books.
 
-ghost use Rattle.std.specs.Prelude.{ℤ, [], false, MatchResult, None};
+ghost use Rattle.std.specs.Prelude.{◌≡◌, ◌&&◌, not, ℤ, [], false, if◌then◌else◌, MatchResult};
+ghost use Rattle.std.specs.Prelude.{None};
 ghost use Rattle.std.specs.Bool.{MatchBool};
 ghost use Rattle.command_line.specs.Transform.{forward_of};
 ghost use Rattle.sts_fields.specs.Text.{Text};
 ghost use Rattle.vend_commands.specs.serving.Connections.{AreLost, AreReady, AreServed, IsHeld};
-ghost use Rattle.vend_commands.specs.serving.Connections.{IsUnheld, open_text, service};
-ghost use Rattle.vend_commands.specs.serving.Connections.{stopped_text};
+ghost use Rattle.vend_commands.specs.serving.Connections.{IsUnheld, end_text, open_text, service};
+ghost use Rattle.vend_commands.specs.serving.Connections.{stopped_text, written_text};
 ghost use Rattle.office_commands.specs.office.Lost.{IsUnreopened};
 ghost use Rattle.office_commands.specs.port.Back.{lets_go_giving};
 ghost use Rattle.vend_commands.specs.port.Machines.{way};
 ghost use Rattle.office_commands.specs.office.Visited.{seen_in};
+ghost use Rattle.vend_ports.specs.print.Printed.{open_line};
 ghost use Rattle.vend_ports.specs.print.Told.{Takes};
 
 use books::{Books, OpenFault};
@@ -27,8 +29,9 @@ use vend_ports::{Door, Watched, put_open, put_stopped};
 /// opened again.
 ///
 /// However a conversation ends, its connection is let go then, and counts. If it left the books
-/// stopped, that is told then, and that they are open again before the next connection is taken. It
-/// serves on where that cannot be told.
+/// stopped, that is told then, and the office is opened again before the next connection is taken.
+/// That it is open again is told at once where a read had failed, and else behind the first
+/// connection that left a write made. It serves on where that cannot be told.
 pub fn serve<H: OfficeFile, D: Door, C: Clock, E: Write>(
     words: &ServeWords,
     alloc: Global,
@@ -49,6 +52,7 @@ pub fn serve<H: OfficeFile, D: Door, C: Clock, E: Write>(
 {
     let mut books = books;
     for _connection in 0..words.connections {
+        let had_failed = books.write_failed();
         books = match readied::<H, E>(alloc, salts, books, words.transform, err) {
             Ok(books) => books,
             Err(fault) => return Err(fault),
@@ -56,12 +60,13 @@ pub fn serve<H: OfficeFile, D: Door, C: Clock, E: Write>(
         if !hold(alloc, desk, door, &mut books, clock) {
             return Ok((books, false));
         }
-        tell_stop(&books, err);
+        tell_end(had_failed, &books, err);
     }
     Ok((books, true))
 }
 
-// Books that are not stopped, or else those that are opened again in their file, which is told.
+// Books that are not stopped, or else those that are opened again in their file, which is told
+// unless a write had failed: only a write that is made shows that writes work.
 fn readied<H: OfficeFile, E: Write>(
     alloc: Global,
     salts: &H::Salts,
@@ -80,13 +85,56 @@ fn readied<H: OfficeFile, E: Write>(
     if !books.is_stopped() {
         return Ok(books);
     }
+    let write_failed = books.write_failed();
     match open_again::<H>(alloc, salts, books, transform) {
         Ok(books) => {
-            put_open(err);
+            tell_open(write_failed, err);
             Ok(books)
         }
         Err(fault) => Err(fault),
     }
+}
+
+// Tells that books are open again, unless a write of theirs has failed.
+fn tell_open<E: Write>(write_failed: bool, err: &mut Watched<'_, E>)
+    ensures { Takes err.old err.new (if write_failed then [] else open_line) }
+{
+    if !write_failed {
+        put_open(err);
+    }
+}
+
+// Tells of books that a connection left that a write was made, if one had failed before it, and
+// that they are stopped, if they are.
+fn tell_end<S: Alter, E: Write>(
+    had_failed: bool,
+    books: &Books<S, Shipped>,
+    err: &mut Watched<'_, E>,
+)
+    ensures { Takes err.old err.new (end_text had_failed (seen_in books.now)) }
+{
+    tell_written(had_failed, books, err);
+    tell_stop(books, err);
+}
+
+// Tells that books are open again, if a write had failed and one was made since.
+fn tell_written<S: Alter, E: Write>(
+    had_failed: bool,
+    books: &Books<S, Shipped>,
+    err: &mut Watched<'_, E>,
+)
+    ensures { Takes err.old err.new (written_text had_failed (seen_in books.now)) }
+{
+    if writes_again(had_failed, books) {
+        put_open(err);
+    }
+}
+
+// Whether a write was made, where one had failed before.
+fn writes_again<S: Alter>(had_failed: bool, books: &Books<S, Shipped>) -> bool
+    ensures { result ≡ (had_failed && not books.now.write_failed) }
+{
+    had_failed && !books.write_failed()
 }
 
 // Tells that books are stopped, if they are.

@@ -17,11 +17,14 @@ pub use port::command_stream::CommandStream;
 pub use port::door::Door;
 pub use port::file_fault::FileFault;
 pub use port::loopback::Loopback;
-pub use port::machine_door::{MachineDoor, set_options};
-pub use port::machine_texts::MachineTexts;
+pub use port::machine_door::MachineDoor;
+pub use port::machine_loopback::MachineLoopback;
+pub use port::machine_texts::{MachineTexts, WholeFiles};
+pub use port::network::{Connection, Listener, Network, ReadsWithin, WritesWithin};
 pub use port::patient::PatientReader;
 pub use port::patient_writer::PatientWriter;
 pub use port::queue::{Listening, Queue};
+pub use port::terminal::Terminal;
 pub use port::text_files::TextFiles;
 pub use print::lines::{
     address_text, put_added, put_line, put_no_moment, put_open, put_opened, put_progress,

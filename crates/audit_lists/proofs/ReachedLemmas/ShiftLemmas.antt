@@ -1,40 +1,39 @@
 -- Shifts that come after an open one of their operator.
-use Rattle.std.proofs.Common.{◌≡◌, ◌≢◌, ◌<◌, Bool, true, ℕ, List, Option, None, Some, get_or, refl, sym, subst, arith}
-use Rattle.std.specs.Prelude.{All, AllPairs, Any, IsSome, filter, is_none}
-use Rattle.std.proofs.lemmas.Bool.{false≢true}
+use Rattle.std.proofs.Common.{◌≡◌, ◌<◌, ◌≤◌, ◌+◌, ◌∙◌, true, ℕ, List, Option, None, Some, get_or, take, inl, inr, ap, sym, subst, arith}
+use Rattle.std.specs.Prelude.{All, AllPairs, IsSome, is_none, slice_get}
+use Rattle.std.proofs.lemmas.Bool.{cases_lt, false≢true}
 use Rattle.std.proofs.lemmas.List.{get_or-take, length-take}
-use Rattle.std.proofs.lemmas.List.Elements.{All-contains}
-use Rattle.std.proofs.lemmas.Option.{get_or_from_slice_get, slice_get-get_or, slice_get_within}
-use Rattle.office_rules.proofs.OfficeLemmas.MapLemmas.{all_from_contains}
-use Rattle.office_rules.proofs.OfficeLemmas.RowLemmas.{kept, kept_from}
+use Rattle.std.proofs.lemmas.Option.{get_or_from_slice_get, same_Some, slice_get-get_or, slice_get_within}
 use Rattle.vend_core.specs.Law.Reached.{IsClosedFirst}
 use Rattle.office_rules.specs.declared.office.shift.Shift.{Shift}
 use Rattle.audit_lists.specs.Ties.{IsTieKept}
 use Rattle.audit_lists.specs.reached.Finds.{closed_first}
-
--- a shift was not closed
-abbrev pub is_open : Shift → Bool
-is_open s = is_none s.closed
-
-closed_or : (closed : Option ℕ) → (is_none closed ≡ true → ⊥) → IsSome closed
-closed_or None isnt = absurd (isnt refl)
-closed_or (Some moment) isnt = refl
+use Rattle.audit_lists.specs.reached.Shifts.{AreClosedFirst, IsAfterOpen}
 
 not_closed : (closed : Option ℕ) → is_none closed ≡ true → IsSome closed → ⊥
 not_closed None is some = false≢true some
 not_closed (Some moment) is some = false≢true is
 
--- no open one of those before is of the operator: each of its own is closed
-pub closed_all : (before : List Shift) (s : Shift) → All (λ a. a.operator ≢ s.operator) (filter is_open before) → All (λ a. IsClosedFirst a s) before
-closed_all before s none =
-    all_from_contains (λ (a : Shift). IsClosedFirst a s) before (λ a there same.
-    closed_or a.closed (λ is. All-contains (λ (b : Shift). b.operator ≢ s.operator) (filter is_open before) a none (kept is_open before a there is) same))
+module _ (shifts : List Shift) where
+  module _ (place : ℕ) where
+    -- the shifts before a shift were closed first, where all but the last ones were looked at
+    pub all_before : (n end : ℕ) (s : Shift) → AreClosedFirst shifts n end → place < end → place ≤ n → slice_get shifts place ≡ Some s
+        → All (λ a. IsClosedFirst a s) (take place shifts)
+    all_before n end s closed low far there k d below =
+        let long = length-take place shifts in
+        let first : k < place = omega (arith, below, long) in
+        subst (λ (a : Shift). IsClosedFirst a s) (sym (get_or-take place shifts k d first))
+        (closed place s low there k (get_or shifts k d) (omega (arith, first, far)) first (slice_get-get_or shifts k d (omega (arith, below, long))))
 
--- an open one of those before is of the operator
-pub not_all_closed : (before : List Shift) (s : Shift) → Any (λ a. a.operator ≡ s.operator) (filter is_open before) → ¬ All (λ a. IsClosedFirst a s) before
-not_all_closed before s (k, a, within, is, same) all =
-    let from = kept_from is_open before a (k, within, (let d : get_or (filter is_open before) k a ≡ a = is in d)) in
-    not_closed a.closed from.1 (All-contains (λ (b : Shift). IsClosedFirst b s) before a all from.0 same)
+    -- one of those before a shift was not
+    pub not_all_before : (after : IsAfterOpen shifts place) → ¬ All (λ a. IsClosedFirst a after.shift) (take place shifts)
+    not_all_before after all =
+        let a = after.earlier in
+        let j = after.earlier_place in
+        let within = slice_get_within shifts j a after.stands in
+        let at : get_or (take place shifts) j a ≡ a = get_or-take place shifts j a after.before ∙ get_or_from_slice_get shifts j a a after.stands in
+        not_closed a.closed after.is_open (subst (λ (x : Shift). IsClosedFirst x after.shift) at
+        (all j a (let low = after.before in let long = length-take place shifts in omega (arith, low, within, long))) after.operator)
 
 -- each shift after those before it is each pair of them
 pub pairs_kept : (shifts : List Shift) → IsTieKept (closed_first shifts) → AllPairs IsClosedFirst shifts

@@ -1,5 +1,5 @@
 -- What is found of an office's rows: the first one that no requests lead to.
-use Rattle.std.specs.Prelude.{◌≡◌, ◌⊎◌, ◌+◌, ◌≤◌, ⊤, ℕ, List, [], ◌∷◌, Some, All, length, slice_get}
+use Rattle.std.specs.Prelude.{◌≡◌, ◌⊎◌, ◌≤◌, ⊤, ℕ, List, [], ◌∷◌, Some, All, length, slice_get}
 use Rattle.std.specs.Prelude.{take}
 use Rattle.sts_token.specs.Reading.{IsOfClassZero}
 use Rattle.vend_core.specs.Law.Reached.{HasFreshTid, IsBoughtByOne, IsClosedFirst, IsGrantedAfter}
@@ -80,7 +80,9 @@ abbrev pub FindsByRequests : Office → Finding → Type 0
 FindsByRequests o f =
     IsFirst (closed_first o.shifts) f ⊎ (IsTieKept (closed_first o.shifts) × IsFirstSale o f)
 
--- that is so of each office of these rows; or there was no memory, of which rows alone take some
+-- that is so of each office of these rows; or the shifts keep their rule, and there was no memory
+-- for the sales
 abbrev pub TellsUnreached : OfficeRows → OfficeFault → Type 0
 TellsUnreached r (fault.Found f) = (o : Office) → AreRowsOfOffice r o → FindsByRequests o f
-TellsUnreached r fault.Memory = 1 ≤ length r.shifts.items + length r.sales.items
+TellsUnreached r fault.Memory =
+    IsTieKept (closed_first r.shifts.items) × (1 ≤ length r.sales.items)

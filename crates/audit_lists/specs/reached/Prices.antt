@@ -2,13 +2,18 @@
 use Rattle.std.specs.Prelude.{◌≡◌, ◌↔◌, ◌-◌, ◌≤◌, ℕ, List, Some, Contains, slice_get}
 use Rattle.tariff.specs.Purchase.{IsPurchase}
 use Rattle.tariff.specs.declared.bought.Buy.{Buy}
+use Rattle.tariff.specs.declared.fault.StepsFault.{StepsFault}
+use Rattle.tariff.specs.declared.fault.StepsFault.TheVariants as steps_fault
 use Rattle.tariff.specs.declared.step.Step.{Step}
 use Rattle.vend_core.specs.Law.Reached.{AreStepsOfOne}
 use Rattle.office_rules.specs.Office.{Office}
 use Rattle.office_rules.specs.declared.office.sale.Sale.{Sale}
+use Rattle.audit_rows.specs.declared.finding.Finding.{Finding}
 use Rattle.audit_lists.specs.Keys.{IsNew, Key}
 use Rattle.audit_lists.specs.Steps.{AreFirstUnder, AreSteps}
 use Rattle.audit_lists.specs.Ties.{Each, EachBelow}
+use Rattle.audit_lists.specs.declared.fault.OfficeFault.{OfficeFault}
+use Rattle.audit_lists.specs.declared.fault.OfficeFault.TheVariants as fault
 use Rattle.audit_lists.specs.declared.reached.listed.ListedSteps.{ListedSteps}
 
 -- the row is the first one of a tariff and a day, and the list has all of their steps
@@ -41,6 +46,11 @@ AreListed o listed =
 -- what a sale says that its tender bought
 abbrev pub bought_in : Sale → Buy
 bought_in s = record { tenths = s.tenths; price = s.price; change = s.tender - s.price }
+
+-- what is told where steps of a row are not made: there was no memory, or the row is found
+abbrev pub told_of_steps : Finding → StepsFault → OfficeFault
+told_of_steps f steps_fault.Memory = fault.Memory
+told_of_steps f _ = fault.Found f
 
 -- the list begins by the day, and the tender buys what the sale says by its steps
 pub record Sells (day prior : ℕ) (s : Sale) (l : ListedSteps) : Type 0 where

@@ -8,12 +8,10 @@ use Rattle.office_rules.specs.declared.office.shift.Shift.{Shift}
 use Rattle.book_tables.specs.row.Gathered.{IsGathered}
 use Rattle.audit_rows.specs.declared.finding.Rule.{Rule}
 use Rattle.audit_rows.specs.declared.office_rows.OfficeRows.{OfficeRows}
-use Rattle.audit_lists.specs.Ties.{IsFirst}
 use Rattle.audit_lists.specs.declared.fault.OfficeFault.{OfficeFault}
 use Rattle.audit_lists.specs.declared.fault.OfficeFault.TheVariants as fault
 use Rattle.audit_lists.specs.declared.reached.walked.Walked.{Walked}
 use Rattle.audit_lists.specs.reached.Finds.{AreRowsOfOffice, BreaksFirst, IsFirstSale, Keeps}
-use Rattle.audit_lists.specs.reached.Finds.{closed_first}
 use Rattle.audit_lists.specs.reached.Lasts.{AreLasts}
 
 -- the greatest shift that one of the sales was made in; 0 where there is none
@@ -38,12 +36,7 @@ abbrev pub FindsRule : List Rule → Office → List Sale → Sale → Option Ru
 FindsRule rules o earlier s None = All (λ r. Keeps r o earlier s) rules
 FindsRule rules o earlier s (Some broken) = BreaksFirst rules o earlier s broken
 
--- what is told of shifts: the first false one, or there was no memory for them
-abbrev pub TellsShift : List Shift → OfficeFault → Type 0
-TellsShift shifts (fault.Found f) = IsFirst (closed_first shifts) f
-TellsShift shifts fault.Memory = 1 ≤ length shifts
-
--- and of sales
+-- what is told of sales: the first false one, or there was no memory for them
 abbrev pub TellsSale : OfficeRows → OfficeFault → Type 0
 TellsSale r (fault.Found f) = (o : Office) → AreRowsOfOffice r o → IsFirstSale o f
 TellsSale r fault.Memory = 1 ≤ length r.sales.items

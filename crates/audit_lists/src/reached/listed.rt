@@ -1,12 +1,14 @@
 //! The steps that the tariffs of an office may have had.
 
-ghost use Rattle.std.specs.Prelude.{◌≡◌, ◌≢◌, ◌++◌, [], ◌∷◌, IfErr, IfOk, OnOk, length};
+ghost use Rattle.std.specs.Prelude.{◌≡◌, ◌++◌, [], ◌∷◌, IfErr, IfOk, OnOk, length};
 ghost use Rattle.office_rules.specs.Office.{Office};
 ghost use Rattle.audit_lists.specs.Keys.{ArePlaces, IsNew};
 ghost use Rattle.audit_lists.specs.Steps.{AreSteps};
-ghost use Rattle.audit_lists.specs.Ties.{Each, Says};
+ghost use Rattle.audit_lists.specs.Ties.{Each, Says, found};
 ghost use Rattle.audit_lists.specs.reached.Finds.{AreRowsOfOffice};
 ghost use Rattle.audit_lists.specs.reached.Prices.{AreListed, AreLists, HaveLists, IsListOf};
+ghost use Rattle.audit_lists.specs.reached.Prices.{told_of_steps};
+ghost use Rattle.audit_rows.specs.declared.finding.Rule.TheVariants as rule;
 
 use crate::fault::{OfficeFault, found};
 use crate::key::{KeyOf, Place};
@@ -23,9 +25,9 @@ pub(crate) struct ListedSteps {
     pub(crate) steps: Steps,
 }
 
-// Why the steps of which a row is the first one are none that a tariff may have.
+// What is told of a row whose steps are not made: there was no memory, or no tariff may have them.
 fn steps_fault<T: Named>(row: &T, fault: StepsFault) -> OfficeFault
-    ensures { Says (λ _. fault ≢ StepsFault.Memory) result }
+    ensures { result ≡ told_of_steps (found T.name rule.Steps (T.key row.now)) fault }
 {
     match fault {
         StepsFault::Memory => OfficeFault::Memory,

@@ -1,56 +1,50 @@
 //! Shifts that come after an open one of their operator.
 
-ghost use Rattle.std.specs.Prelude.{◌≡◌, ◌≢◌, ◌++◌, [], ◌∷◌, All, Any, IfErr, OnOk, false};
-ghost use Rattle.std.specs.Prelude.{if◌then◌else◌, is_none, true};
-ghost use Rattle.audit_lists.specs.Ties.{IsTieKept};
+ghost use Rattle.std.specs.Prelude.{◌≡◌, ◌⊎◌, ◌+◌, ◌<◌, ◌≤◌, IfErr, OnOk, length};
+ghost use Rattle.audit_lists.specs.Ties.{IsFirst, IsTieKept};
 ghost use Rattle.audit_lists.specs.reached.Finds.{closed_first};
-ghost use Rattle.audit_lists.specs.reached.Walk.{TellsShift};
+ghost use Rattle.audit_lists.specs.reached.Shifts.{AreClosedFirst, IsAfterOpen};
 
-use crate::fault::{OfficeFault, found};
+use crate::fault::found;
 use crate::reached::operators::is_same;
-use audit_rows::Rule;
+use audit_rows::{Finding, Rule};
 use office_rules::Shift;
-use std::alloc::{AllocError, Global};
 
-// Whether one of the shifts is the operator's of this one.
-fn has_operator_of(shift: &Shift, others: &[Shift]) -> bool
-    ensures yes { result ≡ true → Any (λ a. a.operator ≡ shift.now.operator) others.now }
-    ensures no { result ≡ false → All (λ a. a.operator ≢ shift.now.operator) others.now }
+// The place of the first shift before an end that comes after the one at a place, which is open and
+// its operator's; or the end.
+fn end_after(shifts: &[Shift], at: usize, end: usize) -> usize
+    requires at { at < length shifts.now }
+    requires end { end ≤ length shifts.now }
+    ensures within { result ≤ end }
+    ensures closed { AreClosedFirst shifts.now at end → AreClosedFirst shifts.now (at + 1) result }
+    ensures after { (result ≡ end) ⊎ IsAfterOpen shifts.now result }
 {
-    'others: for other in others {
-        if is_same(&other.operator, &shift.operator) {
-            return true;
+    let shift = &shifts[at];
+    if shift.closed.is_some() {
+        return end;
+    }
+    'later: for later in at + 1..end {
+        if is_same(&shift.operator, &shifts[later].operator) {
+            return later;
         }
     }
-    false
-}
-
-// Adds a shift where it is not closed.
-fn add_unclosed(shifts: &mut Vec<Shift>, shift: Shift) -> Result<(), AllocError>
-    ensures { OnOk result (shifts.new.items
-        ≡ shifts.old.items ++ (if is_none shift.closed then shift ∷ [] else [])) }
-{
-    if shift.closed.is_none() {
-        shifts.push(shift)?;
-    }
-    Ok(())
+    end
 }
 
 /// Nothing where each shift was opened once the one before of its operator was closed.
 ///
 /// # Errors
-/// The first that was not, and want of memory.
-pub(crate) fn test_shifts(alloc: Global, shifts: &[Shift]) -> Result<(), OfficeFault>
+/// The first that was not.
+pub(crate) fn test_shifts(shifts: &[Shift]) -> Result<(), Finding>
     ensures passes { OnOk result (IsTieKept (closed_first shifts.now)) }
-    ensures found { IfErr result (TellsShift shifts.now) }
+    ensures found { IfErr result (IsFirst (closed_first shifts.now)) }
 {
-    let mut unclosed = Vec::new(alloc);
+    let mut end = shifts.len();
     'shifts: for at in 0..shifts.len() {
-        let shift = shifts[at];
-        if has_operator_of(&shift, &unclosed) {
-            return Err(OfficeFault::Found(found(&shift, Rule::Order)));
-        }
-        add_unclosed(&mut unclosed, shift)?;
+        end = end_after(shifts, at, end);
+    }
+    if end < shifts.len() {
+        return Err(found(&shifts[end], Rule::Order));
     }
     Ok(())
 }

@@ -6,7 +6,7 @@ ghost use Rattle.sqlite.specs.State.{HasCleanDisk};
 ghost use Rattle.one_table.specs.Over.{Inside};
 ghost use Rattle.one_table.specs.InTransaction.{IsUnderWay, WorksInside};
 ghost use Rattle.book_tables.specs.writing.Failing.{End, FailsToWriteAll};
-ghost use Rattle.book_tables.specs.writing.Writes.{row_writes};
+ghost use Rattle.book_tables.specs.writing.Writes.{AreCarriedOut, row_writes};
 ghost use Rattle.book_tables.specs.reading.Reading.{HasAllTables};
 ghost use Rattle.book_states.specs.Changing.{MakesRows};
 
@@ -26,6 +26,8 @@ pub(crate) fn add_rows<S: Alter>(
 ) -> Result<(), TableError>
     ensures added { WorksInside S.Store tx result (λ old new. HasCleanDisk new → IsUnderWay old
         → HasAllTables old → OnOk result (MakesRows rows.now old.now new.now)) }
+    ensures carried { Inside S.Store tx (λ old new. HasCleanDisk new → IsUnderWay old
+        → HasAllTables old → OnOk result (AreCarriedOut (flat_map row_writes rows.now) old new)) }
     ensures ends { Inside S.Store tx (λ old new. HasCleanDisk new → IsUnderWay old
         → HasAllTables old → 1 ≤ length rows.now
         → End FailsToWriteAll (flat_map row_writes rows.now) old new result) }

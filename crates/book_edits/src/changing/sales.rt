@@ -4,6 +4,7 @@ ghost use Rattle.std.specs.Prelude.{IfErr, OnOk};
 ghost use Rattle.sqlite.specs.State.{HasCleanDisk};
 ghost use Rattle.one_table.specs.Over.{Inside};
 ghost use Rattle.one_table.specs.InTransaction.{IsUnderWay, WorksInside};
+ghost use Rattle.book_tables.specs.writing.Writes.{AreCarriedOut, sale_writes};
 ghost use Rattle.book_tables.specs.reading.Reading.{HasAllTables};
 ghost use Rattle.office_rules.specs.declared.decision.change.Edit.TheVariants.{AddSale};
 ghost use Rattle.book_states.specs.Changing.{AddsAsComputed};
@@ -24,6 +25,8 @@ pub(crate) fn add_counted<S: Alter>(
 ) -> Result<(), TableError>
     ensures added { WorksInside S.Store tx result (λ old new. HasCleanDisk new → IsUnderWay old
         → HasAllTables old → OnOk result (AddsAsComputed sale.now prior old new)) }
+    ensures carried { Inside S.Store tx (λ old new. HasCleanDisk new → IsUnderWay old
+        → HasAllTables old → OnOk result (AreCarriedOut (sale_writes sale.now) old new)) }
     ensures refused { Inside S.Store tx (λ old new. HasCleanDisk new → IsUnderWay old
         → HasAllTables old → IfErr result (FailsToMakeEdit (AddSale sale.now) prior old new)) }
 {

@@ -7,6 +7,7 @@ ghost use Rattle.sts_fields.specs.Calendar.{month_at};
 ghost use Rattle.office_rules.specs.Decision.{account_of};
 ghost use Rattle.office_rules.specs.Office.Lookup.{greatest_of, prior, used};
 ghost use Rattle.book_states.specs.FactsSeen.{IsAccountSeen, IsSoldSeen};
+ghost use Rattle.book_states.specs.Spoilt.{IsAccountSpoilt, IsSoldSpoilt};
 ghost use Rattle.book_facts.specs.Looking.{LooksUp};
 
 use crate::facts::steps::steps_on;
@@ -27,8 +28,8 @@ pub(crate) fn account_numbered<S: Alter>(
     moment: Moment,
 ) -> Result<Option<MeterAccount>, TableError>
     ensures { Over S.Store conn (λ old new. LooksUp IsUnchanged
-        (λ o found. found ≡ account_of o number.now moment) (IsAccountSeen number.now moment) old
-        new result) }
+        (λ o found. found ≡ account_of o number.now moment) (IsAccountSeen number.now moment)
+        (IsAccountSpoilt number.now moment) old new result) }
 {
     members_law();
     let there = meters::meter_numbered(conn, number)?;
@@ -60,7 +61,8 @@ fn account_at<S: Alter>(
               (used o number.now meter.base);
           prior = prior o number.now (month_at moment);
         }) (λ db b.
-        (b.meter ≡ meter) × (b.steps ≡ steps) × IsSoldSeen number.now moment db b) old new result) }
+        (b.meter ≡ meter) × (b.steps ≡ steps) × IsSoldSeen number.now moment db b)
+        (IsSoldSpoilt number.now moment meter.base) old new result) }
 {
     store_law();
     let last = totals::greatest_tid(conn, number, meter.base)?;

@@ -10,6 +10,8 @@ ghost use Rattle.office_rules.specs.Office.{Office};
 ghost use Rattle.office_rules.specs.declared.decision.row_facts.RowFacts.{RowFacts};
 ghost use Rattle.book_states.specs.FactsSeen.{AreRowsSeen, IsRowSeen};
 ghost use Rattle.book_states.specs.Same.{IsSame};
+ghost use Rattle.book_states.specs.Spoilt.{AreRowsSpoilt, AreStepsRowSpoilt, IsMeterSpoilt};
+ghost use Rattle.book_states.specs.Spoilt.{IsRowSpoilt};
 ghost use Rattle.book_facts.specs.Looking.{LooksUp};
 
 use book_tables::reading::{dated_steps, meters, tariffs};
@@ -28,7 +30,8 @@ pub(crate) fn import_facts<S: Alter>(
 ) -> Result<Facts, TableError>
     ensures { Over S.Store conn (λ old new. LooksUp IsSame (λ o f. (today : ℕ) →
         (fs : List RowFacts) × (f.rows ≡ Some fs) × AreRowsFacts o today rows.now fs) (λ db f.
-        (fs : List RowFacts) × (f.rows ≡ Some fs) × AreRowsSeen rows.now db fs) old new result) }
+        (fs : List RowFacts) × (f.rows ≡ Some fs) × AreRowsSeen rows.now db fs)
+        (AreRowsSpoilt rows.now) old new result) }
 {
     let found = found_of(alloc, conn, rows.as_slice())?;
     Ok(Facts {
@@ -44,7 +47,7 @@ fn found_of<S: Alter>(
 ) -> Result<Vec<RowFacts>, TableError>
     ensures { Over S.Store conn (λ old new. LooksUp IsSame (λ o found. (today : ℕ)
         → AreRowsFacts o today rows.now found.items) (λ db found. AreRowsSeen rows.now db
-        found.items) old new result) }
+        found.items) (AreRowsSpoilt rows.now) old new result) }
 {
     let mut found = Vec::new(alloc);
     for row in rows {
@@ -64,7 +67,8 @@ fn row_facts<S: Alter>(
     row: &Row,
 ) -> Result<RowFacts, TableError>
     ensures { Over S.Store conn (λ old new. LooksUp IsUnchanged
-        (λ o found. found ≡ row_facts o row.now) (IsRowSeen row.now) old new result) }
+        (λ o found. found ≡ row_facts o row.now) (IsRowSeen row.now) (IsRowSpoilt row.now) old new
+        result) }
 {
     match row {
         Row::Tariff(name, _) => {
@@ -84,7 +88,8 @@ fn steps_row_facts<S: Alter>(
 ) -> Result<RowFacts, TableError>
     ensures { Over S.Store conn (λ old new. LooksUp IsUnchanged (λ o found. (steps : List Step)
         → found ≡ row_facts o (Row.Steps name.now day steps)) (λ db found. (steps : List Step)
-        → IsRowSeen (Row.Steps name.now day steps) db found) old new result) }
+        → IsRowSeen (Row.Steps name.now day steps) db found)
+        (AreStepsRowSpoilt name.now day) old new result) }
 {
     let has_tariff = tariffs::has_tariff(conn, name)?;
     let steps = dated_steps::steps_from(alloc, conn, name, day)?;
@@ -98,7 +103,7 @@ fn meter_row_facts<S: Alter>(
 ) -> Result<RowFacts, TableError>
     ensures { Over S.Store conn (λ old new. LooksUp IsUnchanged (λ o found. found ≡ row_facts o
         (Row.Meter number.now meter.now)) (IsRowSeen (Row.Meter number.now meter.now))
-        old new result) }
+        (IsMeterSpoilt number.now meter.now) old new result) }
 {
     members_law();
     let there = meters::meter_numbered(conn, number)?;

@@ -5,8 +5,10 @@ ghost use Rattle.sqlite.specs.State.{IsUnchanged};
 ghost use Rattle.one_table.specs.Over.{Over};
 ghost use Rattle.office_rules.specs.Decision.Facts.{AreMeterFacts, AreSettingFacts};
 ghost use Rattle.book_tables.specs.reading.Questions.{the_meter, the_steps};
-ghost use Rattle.book_tables.specs.reading.Seen.{AreStepsSeen, ShowsFirst};
+ghost use Rattle.book_tables.specs.reading.Seen.{AreStepsSeen, HasSpoilt, HasSpoiltSteps};
+ghost use Rattle.book_tables.specs.reading.Seen.{ShowsFirst};
 ghost use Rattle.book_states.specs.FactsSeen.{AreMeterFactsSeen, AreSettingFactsSeen};
+ghost use Rattle.book_states.specs.Spoilt.{IsMeterSpoilt, IsSettingSpoilt};
 ghost use Rattle.book_facts.specs.Looking.{LooksUp};
 
 use book_tables::reading::{meters, tariffs};
@@ -23,7 +25,7 @@ pub(crate) fn tariff_facts<S: Alter>(
 ) -> Result<Facts, TableError>
     ensures { Over S.Store conn (λ old new. LooksUp IsUnchanged
         (λ o f. f.tariff ≡ o.tariffs name.now) (λ db f. AreStepsSeen
-        (the_steps name.now) db f.tariff) old new result) }
+        (the_steps name.now) db f.tariff) (HasSpoiltSteps (the_steps name.now)) old new result) }
 {
     let steps = tariffs::steps_of(alloc, conn, name)?;
     Ok(Facts {
@@ -39,7 +41,7 @@ pub(crate) fn moving_facts<S: Alter>(
 ) -> Result<Facts, TableError>
     ensures { Over S.Store conn (λ old new. LooksUp IsUnchanged
         (λ o f. f.meter ≡ o.meters number.now) (λ db f. ShowsFirst
-        (the_meter number.now) db f.meter) old new result) }
+        (the_meter number.now) db f.meter) (HasSpoilt (the_meter number.now)) old new result) }
 {
     members_law();
     let there = meters::meter_numbered(conn, number)?;
@@ -56,8 +58,8 @@ pub(crate) fn meter_facts<S: Alter>(
     meter: &Meter,
 ) -> Result<Facts, TableError>
     ensures { Over S.Store conn (λ old new. LooksUp IsUnchanged
-        (λ o. AreMeterFacts o number.now meter.now) (AreMeterFactsSeen number.now meter.now) old new
-        result) }
+        (λ o. AreMeterFacts o number.now meter.now) (AreMeterFactsSeen number.now meter.now)
+        (IsMeterSpoilt number.now meter.now) old new result) }
 {
     members_law();
     let there = meters::meter_numbered(conn, number)?;
@@ -82,8 +84,8 @@ pub(crate) fn setting_facts<S: Alter>(
     name: &TariffName,
 ) -> Result<Facts, TableError>
     ensures { Over S.Store conn (λ old new. LooksUp IsUnchanged
-        (λ o. AreSettingFacts o number.now name.now) (AreSettingFactsSeen number.now name.now) old
-        new result) }
+        (λ o. AreSettingFacts o number.now name.now) (AreSettingFactsSeen number.now name.now)
+        (IsSettingSpoilt number.now name.now) old new result) }
 {
     members_law();
     let there = meters::meter_numbered(conn, number)?;

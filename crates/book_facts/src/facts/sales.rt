@@ -6,8 +6,9 @@ ghost use Rattle.one_table.specs.Over.{Over};
 ghost use Rattle.office_rules.specs.Decision.Facts.{AreSaleFacts};
 ghost use Rattle.office_rules.specs.Office.Lookup.{sale_numbered};
 ghost use Rattle.book_tables.specs.reading.Questions.{the_sale};
-ghost use Rattle.book_tables.specs.reading.Seen.{ShowsFirst};
+ghost use Rattle.book_tables.specs.reading.Seen.{HasSpoilt, ShowsFirst};
 ghost use Rattle.book_states.specs.FactsSeen.{AreSaleFactsSeen};
+ghost use Rattle.book_states.specs.Spoilt.{IsSaleSpoilt};
 ghost use Rattle.book_facts.specs.Looking.{LooksUp};
 
 use crate::facts::accounts::account_numbered;
@@ -30,8 +31,8 @@ pub(crate) fn sale_facts<S: Alter>(
     sale_count: u64,
 ) -> Result<Facts, TableError>
     ensures { Over S.Store conn (λ old new. LooksUp IsUnchanged (λ o f. sale_count ≡ length o.sales
-        → AreSaleFacts o moment order.now f) (AreSaleFactsSeen sale_count moment order.now) old new
-        result) }
+        → AreSaleFacts o moment order.now f) (AreSaleFactsSeen sale_count moment order.now)
+        (IsSaleSpoilt moment order.now) old new result) }
 {
     let mut facts = Facts::none();
     facts.first_sale = sales::sale_of_ref(conn, &order.operator, &order.order_ref)?;
@@ -54,7 +55,7 @@ pub(crate) fn reprint_facts<S: Alter>(
 ) -> Result<Facts, TableError>
     ensures { Over S.Store conn (λ old new. LooksUp IsUnchanged
         (λ o f. f.sale ≡ sale_numbered o number) (λ db f. ShowsFirst
-        (the_sale number) db f.sale) old new result) }
+        (the_sale number) db f.sale) (HasSpoilt (the_sale number)) old new result) }
 {
     let sale = sales::sale_numbered(conn, number)?;
     Ok(Facts {

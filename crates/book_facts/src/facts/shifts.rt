@@ -6,10 +6,11 @@ ghost use Rattle.one_table.specs.Over.{Over};
 ghost use Rattle.office_rules.specs.Decision.Facts.{AreOpeningFacts, report_of};
 ghost use Rattle.office_rules.specs.Office.Lookup.{open_shift};
 ghost use Rattle.book_tables.specs.reading.Questions.{the_open_shift};
-ghost use Rattle.book_tables.specs.reading.Seen.{ShowsFirst};
+ghost use Rattle.book_tables.specs.reading.Seen.{HasSpoilt, ShowsFirst};
 ghost use Rattle.book_states.specs.FactsSeen.{AreOpeningFactsSeen, IsReportSeen};
+ghost use Rattle.book_states.specs.Spoilt.{IsOpeningSpoilt, IsReportSpoilt};
 ghost use Rattle.book_facts.specs.Looking.{LooksUp};
-ghost use Rattle.book_facts.specs.Totals.{AreTotalsSeen, shift_totals};
+ghost use Rattle.book_facts.specs.Totals.{AreTotalsSeen, AreTotalsSpoilt, shift_totals};
 
 use book_tables::reading::{sale_lists, shifts, totals};
 use book_tables::{TableError, Totals};
@@ -23,7 +24,8 @@ pub(crate) fn opening_facts<S: Alter>(
     operator: &Operator,
 ) -> Result<Facts, TableError>
     ensures { Over S.Store conn (λ old new. LooksUp IsUnchanged
-        (λ o. AreOpeningFacts o operator.now) (AreOpeningFactsSeen operator.now) old new result) }
+        (λ o. AreOpeningFacts o operator.now) (AreOpeningFactsSeen operator.now)
+        (IsOpeningSpoilt operator.now) old new result) }
 {
     let open_shift = shifts::open_shift(conn, operator)?;
     if open_shift.is_some() {
@@ -47,7 +49,8 @@ pub(crate) fn closing_facts<S: Alter>(
 ) -> Result<Facts, TableError>
     ensures { Over S.Store conn (λ old new. LooksUp IsUnchanged
         (λ o f. f.open_shift ≡ open_shift o operator.now) (λ db f. ShowsFirst
-        (the_open_shift operator.now) db f.open_shift) old new result) }
+        (the_open_shift operator.now) db f.open_shift) (HasSpoilt
+        (the_open_shift operator.now)) old new result) }
 {
     let open_shift = shifts::open_shift(conn, operator)?;
     Ok(Facts {
@@ -63,8 +66,8 @@ pub(crate) fn report_facts<S: Alter>(
     number: u32,
 ) -> Result<Facts, TableError>
     ensures { Over S.Store conn (λ old new. LooksUp IsUnchanged
-        (λ o f. f.report ≡ report_of o number) (λ db f. IsReportSeen number db f.report) old new
-        result) }
+        (λ o f. f.report ≡ report_of o number) (λ db f. IsReportSeen number db f.report)
+        (IsReportSpoilt number) old new result) }
 {
     let found = shifts::shift_numbered(conn, number)?;
     let Some(shift) = found else {
@@ -83,7 +86,8 @@ pub(crate) fn totals_of<S: Alter>(
     number: u32,
 ) -> Result<Option<Totals>, TableError>
     ensures { Over S.Store conn (λ old new. LooksUp IsUnchanged
-        (λ o found. found ≡ shift_totals o number) (AreTotalsSeen number) old new result) }
+        (λ o found. found ≡ shift_totals o number) (AreTotalsSeen number)
+        (AreTotalsSpoilt number) old new result) }
 {
     let found = shifts::shift_numbered(conn, number)?;
     if found.is_none() {

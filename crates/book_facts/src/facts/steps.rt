@@ -7,6 +7,7 @@ ghost use Rattle.one_table.specs.Over.{Over};
 ghost use Rattle.office_rules.specs.Decision.Facts.{AreDatedFacts};
 ghost use Rattle.office_rules.specs.Office.Lookup.{latest};
 ghost use Rattle.book_states.specs.FactsSeen.{AreDatedFactsSeen, AreStepsSeenOn};
+ghost use Rattle.book_states.specs.Spoilt.{AreDatedSpoilt, AreStepsSpoiltOn};
 ghost use Rattle.book_facts.specs.Looking.{LooksUp};
 
 use book_tables::TableError;
@@ -26,7 +27,7 @@ pub(crate) fn steps_on<S: Alter>(
 ) -> Result<Option<Steps>, TableError>
     ensures { Over S.Store conn (λ old new. LooksUp IsUnchanged (λ o found. found ≡ option_or
         (latest (o.dated_steps name.now) day) (o.tariffs name.now))
-        (AreStepsSeenOn name.now day) old new result) }
+        (AreStepsSeenOn name.now day) (AreStepsSpoiltOn name.now day) old new result) }
 {
     let begun = dated_steps::latest_steps(alloc, conn, name, day)?;
     if begun.is_some() {
@@ -44,7 +45,7 @@ pub(crate) fn dated_facts<S: Alter>(
     day: Day,
 ) -> Result<Facts, TableError>
     ensures { Over S.Store conn (λ old new. LooksUp IsUnchanged (λ o. AreDatedFacts o name.now day)
-        (AreDatedFactsSeen name.now day) old new result) }
+        (AreDatedFactsSeen name.now day) (AreDatedSpoilt name.now day) old new result) }
 {
     let has_tariff = tariffs::has_tariff(conn, name)?;
     if !has_tariff {

@@ -6,6 +6,7 @@ ghost use Rattle.one_table.specs.Over.{Over};
 ghost use Rattle.book_facts.specs.Lookups.{last_found, last_sale, last_under};
 ghost use Rattle.book_facts.specs.Looking.{LooksUp, LooksUpByRules};
 ghost use Rattle.book_facts.specs.LookupsSeen.{IsLastFoundSeen, IsLastSaleSeen, IsLastUnderSeen};
+ghost use Rattle.book_facts.specs.LookupsSpoilt.{IsLastFoundSpoilt, IsLastSaleSpoilt, IsLastUnderSpoilt};
 
 use crate::looking::sales::sale_or_none;
 use book_states::Found;
@@ -22,7 +23,7 @@ pub(crate) fn last_sale_of<S: Alter>(
 ) -> Result<Result<Found, Refusal>, TableError>
     ensures { Over S.Store conn (λ old new. LooksUpByRules IsUnchanged
         (λ o found. found ≡ last_found (o.meters number.now) (last_sale o number.now))
-        (IsLastFoundSeen number.now) old new result) }
+        (IsLastFoundSeen number.now) (IsLastFoundSpoilt number.now) old new result) }
 {
     members_law();
     let there = meters::meter_numbered(conn, number)?;
@@ -39,7 +40,8 @@ pub(crate) fn last_sale<S: Alter>(
     number: &MeterNo,
 ) -> Result<Option<Sale>, TableError>
     ensures { Over S.Store conn (λ old new. LooksUp IsUnchanged
-        (λ o found. found ≡ last_sale o number.now) (IsLastSaleSeen number.now) old new result) }
+        (λ o found. found ≡ last_sale o number.now) (IsLastSaleSeen number.now)
+        (IsLastSaleSpoilt number.now) old new result) }
 {
     let latest = last_under(conn, number, Base::Y2035)?;
     if latest.is_some() {
@@ -59,8 +61,8 @@ fn last_under<S: Alter>(
     base: Base,
 ) -> Result<Option<Sale>, TableError>
     ensures { Over S.Store conn (λ old new. LooksUp IsUnchanged
-        (λ o found. found ≡ last_under o number.now base) (IsLastUnderSeen number.now base) old new
-        result) }
+        (λ o found. found ≡ last_under o number.now base) (IsLastUnderSeen number.now base)
+        (IsLastUnderSpoilt number.now base) old new result) }
 {
     store_law();
     let last = totals::greatest_tid(conn, number, base)?;

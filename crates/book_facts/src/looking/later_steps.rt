@@ -5,6 +5,7 @@ ghost use Rattle.one_table.specs.Over.{Over};
 ghost use Rattle.book_facts.specs.Lookups.{AreLaterSteps};
 ghost use Rattle.book_facts.specs.Looking.{LooksUp};
 ghost use Rattle.book_facts.specs.LookupsSeen.{AreLaterSeen};
+ghost use Rattle.book_facts.specs.LookupsSpoilt.{AreLaterSpoilt};
 
 use book_lists::first_day_after;
 use book_states::LaterSteps;
@@ -24,7 +25,7 @@ pub(crate) fn later_steps<S: Alter>(
 ) -> Result<Vec<LaterSteps>, TableError>
     ensures { Over S.Store conn (λ old new. LooksUp IsUnchanged (λ o later. AreLaterSteps
         (o.dated_steps name.now) day later.items) (λ db later. AreLaterSeen name.now day db
-        later.items) old new result) }
+        later.items) (AreLaterSpoilt name.now day) old new result) }
 {
     let mut later = Vec::new(alloc);
     let mut last = day;

@@ -7,6 +7,7 @@ ghost use Rattle.book_facts.specs.Listing.{listed_meter};
 ghost use Rattle.book_facts.specs.Lookups.{FindsMeters};
 ghost use Rattle.book_facts.specs.Looking.{LooksUpByRules};
 ghost use Rattle.book_facts.specs.LookupsSeen.{FindsMetersSeen};
+ghost use Rattle.book_facts.specs.LookupsSpoilt.{AreMetersSpoilt};
 
 use book_lists::meters_after;
 use book_states::{Found, ListedMeter};
@@ -23,7 +24,8 @@ pub(crate) fn meter_page<S: Alter>(
     after: &Option<MeterNo>,
 ) -> Result<Result<Found, Refusal>, TableError>
     ensures { Over S.Store conn (λ old new. LooksUpByRules IsUnchanged
-        (λ o. FindsMeters o after.now) (FindsMetersSeen after.now) old new result) }
+        (λ o. FindsMeters o after.now) (FindsMetersSeen after.now) (AreMetersSpoilt after.now) old
+        new result) }
 {
     let rows = meters_after(alloc, conn, number_or_none(after))?;
     let listed = listed_meters(alloc, rows)?;

@@ -8,6 +8,7 @@ ghost use Rattle.office_rules.specs.Office.Lookup.{prior};
 ghost use Rattle.book_facts.specs.Lookups.{last_sale, meter_found};
 ghost use Rattle.book_facts.specs.Looking.{LooksUpByRules};
 ghost use Rattle.book_facts.specs.LookupsSeen.{IsMeterFoundSeen};
+ghost use Rattle.book_facts.specs.LookupsSpoilt.{IsMeterFoundSpoilt};
 
 use crate::looking::last_sales::last_sale;
 use book_states::{Found, MeterSummary};
@@ -25,8 +26,8 @@ pub(crate) fn meter_of<S: Alter>(
 ) -> Result<Result<Found, Refusal>, TableError>
     ensures { Over S.Store conn (λ old new. LooksUpByRules IsUnchanged
         (λ o found. found ≡ meter_found number.now (o.meters number.now) (prior o number.now
-        (month_at moment)) (last_sale o number.now)) (IsMeterFoundSeen number.now moment) old new
-        result) }
+        (month_at moment)) (last_sale o number.now)) (IsMeterFoundSeen number.now moment)
+        (IsMeterFoundSpoilt number.now moment) old new result) }
 {
     members_law();
     let there = meters::meter_numbered(conn, number)?;

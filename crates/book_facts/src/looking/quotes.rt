@@ -10,6 +10,7 @@ ghost use Rattle.office_rules.specs.Office.{Office};
 ghost use Rattle.office_rules.specs.Office.Lookup.{open_shift, sale_of_ref};
 ghost use Rattle.office_rules.specs.declared.decision.request.Order.{Order};
 ghost use Rattle.office_rules.specs.declared.decision.request.Request.{Request};
+ghost use Rattle.book_states.specs.Spoilt.{IsAccountSpoilt};
 ghost use Rattle.book_facts.specs.Lookups.{IsQuoted, quote, quote_for};
 ghost use Rattle.book_facts.specs.Looking.{LooksUpByRules};
 ghost use Rattle.book_facts.specs.LookupsSeen.{IsQuoteSeen};
@@ -47,7 +48,8 @@ pub(crate) fn quote_of<S: Alter>(
 ) -> Result<Result<Found, Refusal>, TableError>
     ensures { Over S.Store conn (λ old new. LooksUpByRules IsUnchanged
         (λ o found. sale_count ≡ length o.sales → found ≡ quote o moment number.now tender)
-        (IsQuoteSeen number.now moment tender sale_count) old new result) }
+        (IsQuoteSeen number.now moment tender sale_count) (IsAccountSpoilt number.now moment) old
+        new result) }
 {
     let account = account_numbered(alloc, conn, number, moment)?;
     Ok(quoted(moment, number, tender, account.as_ref(), sale_count))

@@ -5,6 +5,7 @@ ghost use Rattle.one_table.specs.Over.{Over};
 ghost use Rattle.book_facts.specs.Lookups.{FindsSales};
 ghost use Rattle.book_facts.specs.Looking.{LooksUpByRules};
 ghost use Rattle.book_facts.specs.LookupsSeen.{FindsSalesSeen};
+ghost use Rattle.book_facts.specs.LookupsSpoilt.{AreSalesSpoilt};
 
 use book_lists::PAGE;
 use book_states::Found;
@@ -21,7 +22,7 @@ pub(crate) fn sale_page<S: Alter>(
     after: u32,
 ) -> Result<Result<Found, Refusal>, TableError>
     ensures { Over S.Store conn (λ old new. LooksUpByRules IsUnchanged (λ o. FindsSales o after)
-        (FindsSalesSeen after) old new result) }
+        (FindsSalesSeen after) (AreSalesSpoilt after) old new result) }
 {
     let sales = sale_lists::sales_after(alloc, conn, after, PAGE)?;
     Ok(Ok(Found::Sales(sales)))

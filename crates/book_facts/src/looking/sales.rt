@@ -7,6 +7,7 @@ ghost use Rattle.office_rules.specs.Office.Lookup.{sale_of_ref};
 ghost use Rattle.book_facts.specs.Lookups.{IsOfRules, sale_found};
 ghost use Rattle.book_facts.specs.Looking.{LooksUpByRules};
 ghost use Rattle.book_facts.specs.LookupsSeen.{IsSaleFoundSeen};
+ghost use Rattle.book_facts.specs.LookupsSpoilt.{IsSaleFoundSpoilt};
 
 use book_states::Found;
 use book_tables::TableError;
@@ -22,7 +23,8 @@ pub(crate) fn sale_under<S: Alter>(
 ) -> Result<Result<Found, Refusal>, TableError>
     ensures { Over S.Store conn (λ old new. LooksUpByRules IsUnchanged
         (λ o found. found ≡ sale_found (sale_of_ref o operator.now order_ref.now))
-        (IsSaleFoundSeen operator.now order_ref.now) old new result) }
+        (IsSaleFoundSeen operator.now order_ref.now) (IsSaleFoundSpoilt operator.now order_ref.now)
+        old new result) }
 {
     let there = sales::sale_of_ref(conn, operator, order_ref)?;
     Ok(sale_or_none(there))

@@ -5,6 +5,7 @@ ghost use Rattle.book_states.specs.Same.{IsSame};
 ghost use Rattle.book_facts.specs.Lookups.{FindsShifts};
 ghost use Rattle.book_facts.specs.Looking.{LooksUpByRules};
 ghost use Rattle.book_facts.specs.LookupsSeen.{FindsShiftsSeen};
+ghost use Rattle.book_facts.specs.LookupsSpoilt.{AreShiftsSpoilt};
 
 use book_lists::shifts_after;
 use book_states::{Found, ListedShift};
@@ -21,7 +22,7 @@ pub(crate) fn shift_page<S: Alter>(
     after: u32,
 ) -> Result<Result<Found, Refusal>, TableError>
     ensures { Over S.Store conn (λ old new. LooksUpByRules IsSame (λ o. FindsShifts o after)
-        (FindsShiftsSeen after) old new result) }
+        (FindsShiftsSeen after) (AreShiftsSpoilt after) old new result) }
 {
     let shifts = shifts_after(alloc, conn, after)?;
     let mut listed = Vec::new(alloc);

@@ -4,7 +4,7 @@ ghost use Rattle.std.specs.Prelude.{◌≡◌, IfErr};
 ghost use Rattle.sqlite.specs.State.{IsUnchanged};
 ghost use Rattle.one_table.specs.Over.{Over};
 ghost use Rattle.book_facts.specs.Lookups.{IsOfRules, totals_found};
-ghost use Rattle.book_facts.specs.Totals.{shift_totals};
+ghost use Rattle.book_facts.specs.Totals.{AreTotalsSpoilt, shift_totals};
 ghost use Rattle.book_facts.specs.Looking.{LooksUpByRules};
 ghost use Rattle.book_facts.specs.LookupsSeen.{AreTotalsFoundSeen};
 
@@ -21,7 +21,7 @@ pub(crate) fn totals_under<S: Alter>(
 ) -> Result<Result<Found, Refusal>, TableError>
     ensures { Over S.Store conn (λ old new. LooksUpByRules IsUnchanged
         (λ o found. found ≡ totals_found number (shift_totals o number))
-        (AreTotalsFoundSeen number) old new result) }
+        (AreTotalsFoundSeen number) (AreTotalsSpoilt number) old new result) }
 {
     let there = totals_of(conn, number)?;
     Ok(totals_or_none(number, there))

@@ -9,6 +9,7 @@ ghost use Rattle.book_facts.specs.Listing.{TellsOf};
 ghost use Rattle.book_facts.specs.Lookups.{FindsTariffs};
 ghost use Rattle.book_facts.specs.Looking.{LooksUp, LooksUpByRules};
 ghost use Rattle.book_facts.specs.LookupsSeen.{FindsTariffsSeen, IsTariffNamedSeen};
+ghost use Rattle.book_facts.specs.LookupsSpoilt.{AreTariffsSpoilt, IsTariffNamedSpoilt};
 
 use crate::facts::steps::steps_on;
 use crate::looking::later_steps::later_steps;
@@ -29,7 +30,8 @@ pub(crate) fn tariff_page<S: Alter>(
     after: &Option<TariffName>,
 ) -> Result<Result<Found, Refusal>, TableError>
     ensures { Over S.Store conn (λ old new. LooksUpByRules IsSame (λ o. FindsTariffs o
-        (day_at moment) after.now) (FindsTariffsSeen (day_at moment) after.now) old new result) }
+        (day_at moment) after.now) (FindsTariffsSeen (day_at moment) after.now)
+        (AreTariffsSpoilt (day_at moment) after.now) old new result) }
 {
     let names = tariffs_after(alloc, conn, name_or_none(after))?;
     let day = day_of(moment);
@@ -63,7 +65,7 @@ fn tariff_named<S: Alter>(
     day: Day,
 ) -> Result<Option<ListedTariff>, TableError>
     ensures { Over S.Store conn (λ old new. LooksUp IsUnchanged (λ o. TellsOf o day name.now)
-        (IsTariffNamedSeen day name.now) old new result) }
+        (IsTariffNamedSeen day name.now) (IsTariffNamedSpoilt day name.now) old new result) }
 {
     let found = steps_on(alloc, conn, name, day)?;
     let Some(steps) = found else {

@@ -1,22 +1,21 @@
 //! One request: it is decided by what the tables hold, and what it changes is committed before the
 //! answer.
 
-ghost use Rattle.std.specs.Prelude.{◌≡◌, ◌≢◌, ◌+◌, Err, IfErr, IfOk, length};
+ghost use Rattle.std.specs.Prelude.{◌≡◌, ◌≢◌, ◌+◌, ◌-◌, ◌^◌, ◌<◌, true, Some, Err, IfErr, IfOk};
 ghost use Rattle.sqlite.specs.State.{HasCleanDisk};
 ghost use Rattle.sqlite.specs.Held.{state};
-ghost use Rattle.office_rules.specs.Decision.Edits.{applied};
 ghost use Rattle.office_rules.specs.Office.{Office};
 ghost use Rattle.office_rules.specs.Decision.Requests.{IsStamped};
-ghost use Rattle.office_rules.specs.Law.Store.{Meets};
 ghost use Rattle.book_tables.specs.reading.Reading.{HasAllTables};
 ghost use Rattle.books.specs.Keeps.{Across};
 ghost use Rattle.book_states.specs.Others.{LeavesOthers};
 ghost use Rattle.books.specs.Serving.{FailsToServe, HoldsOffice, ServesGranted, ServingEnds};
+ghost use Rattle.books.specs.Serving.{moment_after, sales_added};
 
 use super::Books;
 use book_edits::commit;
 use book_facts::decision_of;
-use office_rules::{Edit, Refusal, Reply, Stamped, store_law};
+use office_rules::{Edit, Moment, Refusal, Reply, Stamped, store_law};
 use sqlite::Alter;
 use sts_token::BlockTransform;
 use vend_core::office_law;
@@ -51,8 +50,17 @@ impl<S: Alter, T: BlockTransform> Books<S, T> {
             self.next_number,
         )?;
         if let Some(edit) = &decided.change.edit {
-            commit(&mut self.conn, edit, decided.prior)?;
-            self.next_number = next_after(edit, self.next_number);
+            match commit(&mut self.conn, edit, decided.prior) {
+                Ok(()) => {
+                    self.write_failed = false;
+                    self.next_number = next_after(edit, self.next_number);
+                    self.last_moment = moment_after(edit, self.last_moment);
+                }
+                Err(refusal) => {
+                    self.write_failed = failed_after(refusal, self.write_failed);
+                    return Err(refusal);
+                }
+            }
         }
         Ok(decided.change.answer)
     }
@@ -60,11 +68,29 @@ impl<S: Alter, T: BlockTransform> Books<S, T> {
 
 // The number of the next sale after an edit.
 fn next_after(edit: &Edit, next_number: u64) -> u64
-    ensures { (o : Office) → Meets edit.now o → next_number ≡ length o.sales + 1
-        → result ≡ length (applied edit.now o).sales + 1 }
+    ensures { next_number < 2 ^ 64 - 1 → result ≡ next_number + sales_added (Some edit.now) }
 {
     match edit {
-        Edit::AddSale(sale) => u64::from(sale.number) + 1,
+        Edit::AddSale(_) => next_number.saturating_add(1),
         _ => next_number,
     }
+}
+
+// The moment of the last sale after an edit.
+fn moment_after(edit: &Edit, last_moment: Option<Moment>) -> Option<Moment>
+    ensures { result ≡ moment_after (Some edit.now) last_moment }
+{
+    match edit {
+        Edit::AddSale(sale) => Some(sale.moment),
+        _ => last_moment,
+    }
+}
+
+// Whether a write failed and none was made since, where a commit was refused so. For want of
+// memory nothing was written.
+fn failed_after(refusal: Refusal, write_failed: bool) -> bool
+    ensures store { refusal ≡ Refusal.Store → result ≡ true }
+    ensures memory { refusal ≡ Refusal.Memory → result ≡ write_failed }
+{
+    matches!(refusal, Refusal::Store) || write_failed
 }

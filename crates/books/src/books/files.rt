@@ -19,7 +19,7 @@ impl<D: Disk + Drop, T: BlockTransform + Drop> Books<FileStore<D>, T> {
     /// that failed (`is_usable`).
     ///
     /// # Errors
-    /// As those of `open_path`. The files come back, with the connection to them if there is one.
+    /// As those of `open_file`. The files come back, with the connection to them if there is one.
     pub fn open_files(
         alloc: Global,
         files: Files<D>,

@@ -30,12 +30,14 @@ impl<S: Alter, T: BlockTransform + Drop> Books<S, T> {
     {
         life_law();
         match next_here(alloc, &mut conn) {
-            Ok(next_number) => Ok(Books {
+            Ok(sold) => Ok(Books {
                 alloc,
                 conn,
                 transform,
-                next_number,
+                next_number: sold.next_number,
+                last_moment: sold.last_moment,
                 stopped: false,
+                write_failed: false,
             }),
             Err(fault) => Err((fault, conn)),
         }

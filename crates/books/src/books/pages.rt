@@ -5,7 +5,7 @@ ghost use Rattle.vend_core.specs.Law.Life.{MayLeave, present};
 ghost use Rattle.office_rules.specs.Office.{Office};
 ghost use Rattle.office_rules.specs.Law.Store.{sales_above};
 ghost use Rattle.book_tables.specs.reading.Questions.{the_sales_after};
-ghost use Rattle.book_tables.specs.reading.Seen.{ShowsAll};
+ghost use Rattle.book_tables.specs.reading.Seen.{HasSpoilt, ShowsAll};
 ghost use Rattle.books.specs.Keeps.{IsNextOrOneBefore, OfEachLife, UnlessStopped};
 ghost use Rattle.books.specs.Reads.{ReadsOfLife};
 
@@ -27,8 +27,8 @@ impl<S: Alter, T: BlockTransform> Books<S, T> {
         requires few { limit ≤ 1000 }
         ensures { UnlessStopped (ReadsOfLife (λ life. IfOk result (λ sales.
             sales.items ≡ sales_above (present life) number limit)) (λ why. ⊥) (λ db given.
-            IfOk given (λ sales. ShowsAll (the_sales_after number limit) db sales.items)) result)
-            self.old self.new }
+            IfOk given (λ sales. ShowsAll (the_sales_after number limit) db sales.items))
+            (HasSpoilt (the_sales_after number limit)) result) self.old self.new }
     {
         if self.stopped {
             return Err(Refusal::Stopped);

@@ -1,14 +1,13 @@
 //! An office in a file.
 
-ghost use Rattle.std.specs.Prelude.{◌≡◌, codes, Err, IfOk, IfErr, IsErrAnd};
+ghost use Rattle.std.specs.Prelude.{◌≡◌, codes, IfOk, IfErr, IsErrAnd};
 ghost use Rattle.sqlite_wal.specs.Files.{image_at};
-ghost use Rattle.books.specs.Path.{AreOpenedIn, RefusedAt, RefusesPath};
+ghost use Rattle.books.specs.Path.{AreOpenedIn, RefusesPath};
 
 use crate::books::Books;
 use crate::reopening::found_law;
 use book_opening::{OpenFault, fault_of};
 use sqlite::{Connection, FileFrom, FileStore, Start};
-use sqlite_disk::Disk;
 use std::rt::HostRuntime;
 use sts_token::BlockTransform;
 
@@ -19,27 +18,8 @@ impl<B: Start, T: BlockTransform + Drop> Books<FileStore<FileFrom<B>>, T> {
     ///
     /// # Errors
     /// `NotAnOffice` where the file stands for no office; `Store` where it cannot be opened, and
-    /// `Memory`. The file stands for what it stood for (`open_file`).
-    pub fn open_path(
-        rt: &HostRuntime,
-        path: &str,
-        start: B,
-        transform: T,
-    ) -> Result<Books<FileStore<FileFrom<B>>, T>, OpenFault>
-        ensures opened { IfOk result (AreOpenedIn (image_at B.Start) (T.forwards transform)) }
-        ensures refused { IfErr result (RefusedAt ⟦<FileFrom<B> as Disk>⟧ (image_at B.Start)) }
-        ensures no_memory { path.now ≡ codes ":memory:" → result ≡ Err OpenFault.Store }
-    {
-        match Books::open_file(rt, path, start, transform) {
-            Ok(books) => Ok(books),
-            Err((fault, _)) => Err(fault),
-        }
-    }
-
-    /// The same. Where it is refused, the connection to the file comes back, if there is one.
-    ///
-    /// # Errors
-    /// As those of `open_path`.
+    /// `Memory`. The file stands for what it stood for. The connection to it comes back, if there is
+    /// one.
     pub fn open_file(
         rt: &HostRuntime,
         path: &str,

@@ -4,7 +4,7 @@ ghost use Rattle.std.specs.Prelude.{◌≡◌};
 ghost use Rattle.vend_core.specs.Law.Life.{present};
 ghost use Rattle.books.specs.Keeps.{UnlessStopped};
 ghost use Rattle.books.specs.Reads.{ReadsOfLife};
-ghost use Rattle.book_facts.specs.Totals.{AreTotalsIn, GivesTotals};
+ghost use Rattle.book_facts.specs.Totals.{AreTotalsIn, AreTotalsSpoilt, GivesTotals};
 
 use super::Books;
 use book_facts::totals;
@@ -24,7 +24,8 @@ impl<S: Alter, T: BlockTransform> Books<S, T> {
     /// puts nothing in doubt.
     pub fn shift_totals(&mut self, number: u32) -> Result<Totals, Refusal>
         ensures { UnlessStopped (ReadsOfLife (λ life. AreTotalsIn (present life) number result)
-            (λ why. why ≡ Refusal.NoSuchShift) (GivesTotals number) result) self.old self.new }
+            (λ why. why ≡ Refusal.NoSuchShift) (GivesTotals number) (AreTotalsSpoilt number) result)
+            self.old self.new }
     {
         if self.stopped {
             return Err(Refusal::Stopped);

@@ -5,7 +5,7 @@ use crate::lapses::ports::{LapsingOffice, NoTexts, ScriptedMachine, Texts, Troub
 use crate::support::words_of;
 use desk::Script;
 use std::test::Fail;
-use vend_commands::{CommandEnd, Ports, Watched, run_over};
+use vend_commands::{CommandEnd, MachineLoopback, Ports, Watched, run_over};
 
 // A new office has nothing of these.
 const LOOK_UPS: [(&str, &str); 5] = [
@@ -98,7 +98,7 @@ fn ran(
             texts: &[],
             next: 0,
         },
-        loopback: rt,
+        loopback: MachineLoopback::new(rt, rt),
         progress: Unseen,
     };
     let mut out = Vec::new(rt.alloc());

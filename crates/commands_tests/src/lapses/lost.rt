@@ -1,10 +1,10 @@
 //! A store that fails for good: what was answered stands, and nobody is served after it.
 use crate::folder;
-use crate::lapses::lapse::{Faults, NO_FAULTS};
 use crate::lapses::ports::Trouble;
 use crate::lapses::{
     CALLS, LISTENING, MESSAGES, OPEN_AGAIN, Outcome, STOPPED, calls_fail, count_in, served,
 };
+use disk_testing::{Faults, NO_FAULTS};
 use std::test::Fail;
 use vend_commands::CommandEnd;
 

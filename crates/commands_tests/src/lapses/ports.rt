@@ -1,17 +1,18 @@
 //! A machine in memory: an office's file that lapses, and connections that are texts.
 ghost use Rattle.std.specs.Prelude.{◌≡◌, ⊤, [], IfSome};
 
-use crate::lapses::lapse::{Faults, Lapse, NO_FAULTS};
 use books::OpenFault;
 use command_line::Address;
 use desk::{End, Script};
+use disk_testing::{Faults, Lapse, NO_FAULTS};
 use sqlite_disk::Memory;
 use std::alloc::Global;
 use std::fs::OpenOptions;
 use std::io::{self, Read, Write};
 use std::marker::PhantomData;
 use vend_commands::{
-    Back, Door, FileFault, Follows, Machine, OfficeFile, Part, Progress, SaltSource, TextFiles,
+    Back, Door, FileFault, Follows, Machine, MachineLoopback, OfficeFile, Part, Progress,
+    SaltSource, TextFiles,
 };
 
 /// A machine with an office's file of this type, and whose clock is a script. Nothing of it is the
@@ -30,7 +31,7 @@ impl<'a, O: OfficeFile> Machine for ScriptedMachine<'a, O> {
 
     type Door = Texts<'a>;
 
-    type Loopback = &'a HostRuntime;
+    type Loopback = MachineLoopback<'a, HostRuntime, HostRuntime>;
 
     type Progress = Unseen;
 }

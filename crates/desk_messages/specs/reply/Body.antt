@@ -1,5 +1,5 @@
 -- The bodies of replies.
-use Rattle.std.specs.Prelude.{ℕ, ◌-◌, true, List, [], ◌∷◌, codes, map, Ok, Err}
+use Rattle.std.specs.Prelude.{ℕ, ◌-◌, Bool, true, false, List, [], ◌∷◌, codes, map, Ok, Err}
 use Rattle.std.specs.Str.Lossy.{utf8_lossy}
 use Rattle.serde_json.specs.Data.{Data, boolean, string}
 use Rattle.conversation.specs.message.MessageFault.{message_fault_word}
@@ -16,6 +16,7 @@ use Rattle.book_tables.specs.row.Rows.{present_format}
 use Rattle.book_tables.specs.declared.row.totals.Totals.{Totals}
 use Rattle.book_states.specs.declared.lookup.Found.{Found}
 use Rattle.book_states.specs.declared.lookup.Found.TheVariants as found
+use Rattle.book_states.specs.declared.lookup.Health.{Health}
 use Rattle.book_states.specs.declared.lookup.MeterSummary.{MeterSummary}
 use Rattle.book_states.specs.declared.lookup.Quote.{Quote}
 use Rattle.papers.specs.Receipt.{receipt_of}
@@ -103,11 +104,19 @@ answer_body form (Sold sale) = sale_body form sale
 answer_body form (Reprinted sale) = sale_body form sale
 answer_body form (Report shift sales) = report_of shift sales
 
--- that the office answers: the format of its file, and how many sales there are
-abbrev pub health_members : ℕ → List Pair
-health_members sales =
+-- what became of the last change that was to be written
+abbrev pub last_write : (failed : Bool) → List ℕ
+last_write true = codes "failed"
+last_write false = codes "done"
+
+-- that the office answers: the format of its file, the moment of its last sale, what became of its
+-- last change, and how many sales there are
+abbrev pub health_members : Health → List Pair
+health_members h =
     (codes "format", whole_number present_format)
-    ∷ (codes "sales", whole_number sales)
+    ∷ (codes "last_moment", some_number h.last_moment)
+    ∷ (codes "last_write", string (last_write h.write_failed))
+    ∷ (codes "sales", whole_number h.sales)
     ∷ []
 
 -- a meter, without its key: the year of its base date, its number, the number of the last sale to
@@ -143,7 +152,7 @@ totals_members number totals =
 
 -- what was found, where a sale is to have this form
 abbrev pub found_body : Form → Found → List ℕ
-found_body form (found.SaleCount sales) = json_text (health_members sales)
+found_body form (found.Health health) = json_text (health_members health)
 found_body form (found.Meter summary) = json_text (meter_members summary)
 found_body form (found.Sale sale) = sale_body form sale
 found_body form (found.Quote quote) = json_text (quote_members quote)

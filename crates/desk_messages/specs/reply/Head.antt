@@ -55,7 +55,7 @@ answer_form form (Report shift sales) = Paper
 
 -- the form of what was found, where a sale is to have this one: all else is JSON
 abbrev pub found_form : Form → Found → Form
-found_form form (found.SaleCount sales) = Json
+found_form form (found.Health health) = Json
 found_form form (found.Meter summary) = Json
 found_form form (found.Sale sale) = form
 found_form form (found.Quote quote) = Json

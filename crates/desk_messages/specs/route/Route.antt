@@ -39,7 +39,7 @@ use Rattle.desk_messages.specs.route.Endpoint.{sale_target, table}
 
 -- the endpoint at which something is looked up
 abbrev pub lookup_endpoint : Lookup → Endpoint
-lookup_endpoint lookups.SaleCount = Health
+lookup_endpoint lookups.Health = Health
 lookup_endpoint (lookups.Meter meter) = Meter
 lookup_endpoint (lookups.LastSale meter) = LastSale
 lookup_endpoint (lookups.SaleOfRef operator order_ref) = SaleOfRef
@@ -92,7 +92,7 @@ pub record FindsRoute (target : List ℕ) (endpoint : Endpoint) : Type 0 where
 -- or a meter's number and, as its query, a tender in decimal digits without leading zeros. Of a
 -- page its query names what the page begins after: a tariff, a meter, or a number; or nothing.
 abbrev pub NamesLookup : List ℕ → Lookup → Type 0
-NamesLookup target lookups.SaleCount = ⊤
+NamesLookup target lookups.Health = ⊤
 NamesLookup target (lookups.Meter meter) =
     (target ≡ filled (pattern_of Meter) meter) × IsMeterNo meter
 NamesLookup target (lookups.LastSale meter) =

@@ -106,7 +106,7 @@ fn found_body(alloc: Global, form: Form, found: &Found) -> Result<Vec<u8>, Alloc
     ensures { IfOk result (λ body. body.items ≡ found_body form found.now) }
 {
     match found {
-        Found::SaleCount(sales) => health_body(alloc, *sales),
+        Found::Health(health) => health_body(alloc, health),
         Found::Meter(meter) => meter_body(alloc, meter),
         Found::Sale(sale) => sale_body(alloc, form, sale),
         Found::Quote(quote) => quote_body(alloc, quote),

@@ -33,7 +33,7 @@ impl Form {
     {
         match found {
             Found::Sale(_) => self,
-            Found::SaleCount(_) | Found::Meter(_) | Found::Quote(_) | Found::ShiftTotals(..) =>
+            Found::Health(_) | Found::Meter(_) | Found::Quote(_) | Found::ShiftTotals(..) =>
                 Form::Json,
             Found::Tariffs(_) | Found::Meters(_) | Found::Shifts(_) | Found::Sales(_) => Form::Json,
         }

@@ -1,24 +1,46 @@
 //! What is found in an office, as JSON.
 
 ghost use Rattle.std.specs.Prelude.{◌≡◌, IfOk};
-ghost use Rattle.desk_messages.specs.reply.Body.{health_members, meter_members, quote_members};
-ghost use Rattle.desk_messages.specs.reply.Body.{totals_members};
+ghost use Rattle.desk_messages.specs.reply.Body.{health_members, last_write, meter_members};
+ghost use Rattle.desk_messages.specs.reply.Body.{quote_members, totals_members};
 ghost use Rattle.desk_messages.specs.reply.Members.{data_of, json_text, some_number};
 
 use crate::reply::members::{Member, object_text};
-use book_states::{MeterSummary, Quote};
+use crate::reply::sale_text::seconds;
+use book_states::{Health, MeterSummary, Quote};
 use book_tables::{PRESENT_FORMAT, Totals};
+use office_rules::Moment;
 use std::alloc::{AllocError, Global};
 
-// The format of the office's file, and how many sales there are.
-pub(crate) fn health_body(alloc: Global, sales: u64) -> Result<Vec<u8>, AllocError>
-    ensures { IfOk result (λ body. body.items ≡ json_text (health_members sales)) }
+// The format of the office's file, the moment of its last sale, what became of its last change, and
+// how many sales there are.
+pub(crate) fn health_body(alloc: Global, health: &Health) -> Result<Vec<u8>, AllocError>
+    ensures { IfOk result (λ body. body.items ≡ json_text (health_members health.now)) }
 {
     let members = [
         ("format", Member::Number(u64::from(PRESENT_FORMAT))),
-        ("sales", Member::Number(sales)),
+        ("last_moment", moment_or_nothing(health.last_moment)),
+        ("last_write", Member::Word(last_write(health.write_failed))),
+        ("sales", Member::Number(health.sales)),
     ];
     object_text(alloc, &members)
+}
+
+// A moment, or that there is none.
+fn moment_or_nothing<'a>(moment: Option<Moment>) -> Member<'a>
+    ensures { data_of result ≡ some_number moment }
+{
+    match moment {
+        Some(moment) => Member::Number(seconds(moment)),
+        None => Member::Nothing,
+    }
+}
+
+// What became of the last change that was to be written.
+fn last_write(failed: bool) -> &'static str
+    ensures { result.now ≡ last_write failed }
+{
+    if failed { "failed" } else { "done" }
 }
 
 // A meter, without its key.

@@ -174,7 +174,7 @@ fn read_lookup(endpoint: Endpoint, target: &[u8]) -> Option<Lookup>
         × NamesLookup target.now lookup) result }
 {
     match endpoint {
-        Endpoint::Health => Some(Lookup::SaleCount),
+        Endpoint::Health => Some(Lookup::Health),
         Endpoint::Meter => meter_at(endpoint, target).map(Lookup::Meter),
         Endpoint::LastSale => meter_at(endpoint, target).map(Lookup::LastSale),
         Endpoint::Quote => match quote_at(target) {

@@ -6,7 +6,7 @@ pub(crate) fn looks() -> &'static str {
 Each
 > Closed 1388534430
 GET /health HTTP/1.1~Host: d~~
-200 OK, 22 = {'format':4,'sales':5}
+200 OK, 67 = {'format':4,'last_moment':1590926520,'last_write':'done','sales':5}
 > Closed 1388534430
 GET /meters/12345678903 HTTP/1.1~Host: d~~
 200 OK, 72 = {'base':2014,'meter':'12345678903','sale':5,'tariff':'block','tenths':1}
@@ -93,14 +93,14 @@ GET /shifts/3/totals HTTP/1.1~Host: d~~
 404 Not Found, 36 = {'error':'NoSuchShift','refusal':13}
 > Closed 1388534430
 GET /health HTTP/1.1~Host: d~Content-Length: 1~~{
-200 OK, 22 = {'format':4,'sales':5}
+200 OK, 67 = {'format':4,'last_moment':1590926520,'last_write':'done','sales':5}
 > Closed 725846399
 GET /health HTTP/1.1~Host: d~~
 503 Service Unavailable, 17 = {'error':'Clock'}
 > Closed 1388534430 1591012800
 GET /health HTTP/1.1~Host: d~~GET /meters/12345678903 HTTP/1.1~Host: d~~GET /meters HTTP/1.1~Host: \
     d~~GET /sales/1/receipt HTTP/1.1~Host: d~~GET /meters/12345678903/last HTTP/1.1~Host: d~~
-200 OK, 22 = {'format':4,'sales':5}
+200 OK, 67 = {'format':4,'last_moment':1590926520,'last_write':'done','sales':5}
 200 OK, 74 = {'base':2014,'meter':'12345678903','sale':5,'tariff':'block','tenths':505}
 405 Method Not Allowed, 18, Allow: POST~ = {'error':'Method'}
 200 OK, 118 = SALE 1|METER 12345678903|TIME 2014-01-01T00:00:30Z|KWH 0.1|PRICE 10|TENDER 10|CHANGE \
@@ -110,10 +110,10 @@ GET /health HTTP/1.1~Host: d~~GET /meters/12345678903 HTTP/1.1~Host: d~~GET /met
 > Closed 1388534430
 HEAD /sales/1/receipt HTTP/1.1~Host: d~~GET http://d/health HTTP/1.1~Host: d~~
 200 OK, 118 =\u{20}
-200 OK, 22 = {'format':4,'sales':5}
+200 OK, 67 = {'format':4,'last_moment':1590926520,'last_write':'done','sales':5}
 > Closed 1388534430
 GET /health HTTP/1.0~Host: d~~
-200 OK, 22, Connection: close~ = {'format':4,'sales':5}
+200 OK, 67, Connection: close~ = {'format':4,'last_moment':1590926520,'last_write':'done','sales':5}
 > Closed 1388534430
 POST /health HTTP/1.1~Host: d~~
 405 Method Not Allowed, 18, Allow: GET, HEAD~ = {'error':'Method'}
@@ -258,7 +258,7 @@ pub(crate) fn looks_later() -> &'static str {
 Each
 > Closed 1388534430
 GET /health HTTP/1.1~Host: d~~
-200 OK, 22 = {'format':4,'sales':6}
+200 OK, 67 = {'format':4,'last_moment':1732479359,'last_write':'done','sales':6}
 > Closed 1732479359
 GET /meters/10000000009 HTTP/1.1~Host: d~~
 200 OK, 72 = {'base':2014,'meter':'10000000009','sale':6,'tariff':'flat','tenths':25}

@@ -1,7 +1,8 @@
 -- Why books that are only read refuse.
 use Rattle.std.specs.Prelude.{◌≡◌, ◌⊎◌, ◌↔◌, true, false}
 use Rattle.sqlite.specs.State.{HasCleanDisk}
-use Rattle.books.specs.Failing.{IsToldOfRead}
+use Rattle.sqlite.specs.Effect.{Database}
+use Rattle.books.specs.Failing.{HasFailedAt, IsToldOfRead}
 use Rattle.books.specs.Keeps.{BooksHaveTables, Seen}
 use Rattle.office_rules.specs.declared.decision.refusal.Refusal.{Refusal}
 use Rattle.office_rules.specs.declared.decision.refusal.Refusal.TheVariants.{Stopped, Store}
@@ -12,10 +13,19 @@ pub record TellsStopped (old new : Seen) (refusal : Refusal) : Type 0 where
   pub stopped : (refusal ≡ Stopped) ↔ (old.stopped ≡ true)
   pub stops : (new.stopped ≡ true) ↔ ((refusal ≡ Store) ⊎ (refusal ≡ Stopped))
 
--- The same. Books that were not stopped, and have their tables, refuse for another cause of their
--- own, or as a read of the tables failed, by its error.
-pub record RefusesToRead (Other : Refusal → Type 0) (old new : Seen)
-    (refusal : Refusal) : Type 0 where
+-- Books that were not stopped, and have their tables, tell that the store failed only for a cause:
+-- the disk failed more often than before, the connection was shut, a limit on steps is set, or this
+-- is so of what they had.
+abbrev pub FailsOnlyFor : (Database → Type 0) → (old new : Seen) → Refusal → Type 0
+FailsOnlyFor IsSpoilt old new refusal =
+    HasCleanDisk new.state → BooksHaveTables old → old.stopped ≡ false → refusal ≡ Store
+    → HasFailedAt IsSpoilt old.state new.state
+
+-- They are told to be stopped where they were. Books that were not stopped, and have their tables,
+-- refuse for another cause of their own, or as a read of the tables failed, by its error: of their
+-- rows only one of an answer to its questions is a cause.
+pub record RefusesToRead (Other : Refusal → Type 0) (IsSpoilt : Database → Type 0)
+    (old new : Seen) (refusal : Refusal) : Type 0 where
   pub tells : TellsStopped old new refusal
   pub failures : HasCleanDisk new.state → BooksHaveTables old → old.stopped ≡ false
-      → Other refusal ⊎ IsToldOfRead refusal old.state new.state
+      → Other refusal ⊎ IsToldOfRead IsSpoilt refusal old.state new.state

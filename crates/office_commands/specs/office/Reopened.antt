@@ -46,7 +46,8 @@ pub record IsNextLife (forward : BlockFunction) (old new : Seen) : Type 0 where
   pub left : ∥ OpensLeft forward old new ∥₁
   pub unlimited : new.state.step_limit ≡ None
 
--- the file of books was opened again, by others that go on
+-- the file of books was opened again, by others that go on: where a write failed, it still has
 pub record IsReopened (forward : BlockFunction) (old new : Seen) : Type 0 where
   pub running : new.stopped ≡ false
+  pub writes : new.write_failed ≡ old.write_failed
   pub next : HasCleanDisk new.state → IsNextLife forward old new

@@ -21,12 +21,13 @@ abbrev pub seen_in : {S : Type 0} → {store : Ghosts S} → Books S Shipped sto
 seen_in books = seen books
 
 -- Books that were just opened in these files: they keep the life that opens there, of each office
--- that the files stand for, and have its tables; and so they were opened.
+-- that the files stand for, and have its tables; no write has failed; and so they were opened.
 pub record IsOpened {S : Type 0} {store : Ghosts S} (image : Image) (Opens : Seen → Type 0)
     (transform : Shipped) (books : Books S Shipped store shipped) : Type 0 where
   pub opens : (office : Office) → StandsIn image office
       → Represents (opened (forward_of transform) office) (seen_in books)
   pub running : books.stopped ≡ false
+  pub writes : books.write_failed ≡ false
   pub tables : BooksHaveTables (seen_in books)
   pub finds : Opens (seen_in books)
 

@@ -1,5 +1,5 @@
 -- The files that keep offices, each at its path.
-use Rattle.std.specs.Prelude.{◌≡◌, ◌⊎◌, ℕ, false, Option, None, Result}
+use Rattle.std.specs.Prelude.{◌≡◌, ◌≢◌, ◌⊎◌, ℕ, false, Option, None, Result}
 use Rattle.sqlite_disk.specs.Disk.{MoreFaults}
 use Rattle.sqlite_disk.specs.declared.Disk as disk
 use Rattle.sqlite_disk.specs.declared.Files.{Files}
@@ -9,7 +9,7 @@ use Rattle.audit_rows.specs.declared.finding.AuditFault.{AuditFault}
 use Rattle.books.specs.Keeps.{Seen}
 use Rattle.books.specs.Path.{AreTakenFrom, RefusesFiles}
 use Rattle.book_opening.specs.declared.fault.OpenFault.{OpenFault}
-use Rattle.book_opening.specs.declared.fault.OpenFault.TheVariants.{Store}
+use Rattle.book_opening.specs.declared.fault.OpenFault.TheVariants.{NotAnOffice, Store}
 use Rattle.books.specs.declared.refused_files.RefusedFiles.{RefusedFiles}
 use Rattle.sts_fields.specs.Text.{Text}
 use Rattle.sts_token.specs.Token.{BlockFunction}
@@ -80,6 +80,11 @@ where_present place = record place {
   fails = place.refuses;
 }
 
+-- no files were opened at the path, and the fault names no file: none was looked into
+abbrev pub IsUnfound : {H D S : Type 0} → file.Ghosts H D S → H → Text → (wait : ℕ) → OpenFault
+    → Type 0
+IsUnfound of office path wait fault = of.fails office path wait fault × (fault ≢ NotAnOffice)
+
 -- what keeps offices has a file at each path, and this was given back of it
 abbrev pub places_of : {H D S : Type 0} → (disk : disk.Ghosts D) → source.Ghosts S
     → file.Ghosts H D S → H → (back : Option (D × D))
@@ -89,7 +94,7 @@ places_of {D = D} disk salts of office back path wait = record {
   finds = (log : D) × (db : D) × of.finds office path wait log db;
   opens = OpensIn disk (of.image office path);
   fails = IsUnopened disk salts (of.finds office path wait) (lets_go_giving of back false)
-      (λ fault. of.fails office path wait fault × (back ≡ None));
+      (λ fault. IsUnfound of office path wait fault × (back ≡ None));
   closes = IsClosed disk (lets_go_giving of back);
   loses = IsUnreopened disk salts (lets_go_giving of back false);
   meets = (log : D) × (db : D) × of.meets office path wait log db;
@@ -99,6 +104,6 @@ places_of {D = D} disk salts of office back path wait = record {
   opens_there = OpensThere disk (of.image office path);
   refuses = IsUnopened disk salts (AreMeasured disk (of.meets office path wait))
       (lets_go_giving of back false)
-      (λ fault. of.fails office path wait fault × (back ≡ None));
+      (λ fault. IsUnfound of office path wait fault × (back ≡ None));
   audits = AuditsIn disk (of.image office path) (lets_go_giving of back);
 }

@@ -10,7 +10,7 @@ ghost use Rattle.vend_ports.specs.print.Told.{outputs};
 use crate::office::listing::page_lookup;
 use crate::office::looking::tell_found;
 use crate::office::wanted::Wanted;
-use books::{Found, Lookup};
+use books::{Found, Health, Lookup};
 use command_line::Paper;
 use desk_commands::put_page;
 use office_rules::{Moment, Refusal, Sale};
@@ -49,7 +49,11 @@ fn find_in_empty(alloc: Global, lookup: &Lookup) -> Result<Found, Refusal>
     ensures { (moment : ℕ) → Finds empty_office moment lookup.now result }
 {
     match lookup {
-        Lookup::SaleCount => Ok(Found::SaleCount(0)),
+        Lookup::Health => Ok(Found::Health(Health {
+            sales: 0,
+            last_moment: None,
+            write_failed: false,
+        })),
         Lookup::Meter(_) => Err(Refusal::NoMeter),
         Lookup::LastSale(_) => Err(Refusal::NoMeter),
         Lookup::SaleOfRef(_, _) => Err(Refusal::NoSale),

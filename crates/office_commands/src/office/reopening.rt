@@ -52,7 +52,8 @@ pub fn open_again<H: OfficeFile>(
     }
 }
 
-/// Opens the office of some books again, in the same files. It finds what they may have left.
+/// Opens the office of some books again, in the same files. It finds what they may have left, and
+/// keeps whether their last write failed: it is not known to be mended before one is made.
 ///
 /// # Errors
 /// `Store` where the files cannot be used any more, as after a sync that failed, or are not opened;
@@ -65,17 +66,19 @@ pub fn reopen<D: Disk + Drop, T: BlockTransform + Drop>(
     transform: T,
 ) -> Result<Books<FileStore<D>, T>, (OpenFault, RefusedFiles<D>)>
     ensures running { IfOk result (λ next. next.stopped ≡ false) }
+    ensures writes { IfOk result (λ next. next.write_failed ≡ books.write_failed) }
     ensures left { IfOk result (λ next. HasCleanDisk (seen next).state
         → IsNextLife (T.forwards transform) (seen books) (seen next)) }
     ensures refused { IfErr result (λ e. RefusesAgain books.conn e.0 e.1) }
 {
     opening_law::<FileStore<D>>();
+    let write_failed = books.write_failed();
     let conn = match reconnect(alloc, options, books.into_connection()) {
         Ok(conn) => conn,
         Err((error, left)) => return Err((fault_of(error), RefusedFiles::Unconnected(left))),
     };
     match Books::open_from(alloc, conn, transform) {
-        Ok(next) => Ok(next),
+        Ok(next) => Ok(next.with_write_failed(write_failed)),
         Err((fault, conn)) => Err((fault, RefusedFiles::Connected(conn))),
     }
 }

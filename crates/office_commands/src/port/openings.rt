@@ -1,6 +1,6 @@
 //! Tries to open the files of an office on this machine.
 
-ghost use Rattle.std.specs.Prelude.{◌≡◌, IfSome, MatchResult};
+ghost use Rattle.std.specs.Prelude.{◌≡◌, false, IfSome, MatchResult};
 ghost use Rattle.office_commands.specs.port.Found.{AreFresh, IsUnopenable};
 ghost use Rattle.office_commands.specs.port.Names.{is_address};
 
@@ -13,9 +13,6 @@ use std::io::ErrorKind;
 use std::marker::PhantomData;
 use std::os::unix::fs::OpenOptionsExt;
 use std::time::{Clock, Duration};
-
-// So many milliseconds.
-const PAUSE: u64 = 10;
 
 // Its owner may read and write a file, and nobody else.
 const PRIVATE: u32 = 0o600;
@@ -47,19 +44,23 @@ pub type Pair<B> = (FileFrom<EachTry<B>>, FileFrom<EachTry<B>>);
 pub(crate) struct Openings<'a, B: Start> {
     rt: &'a HostRuntime,
     path: &'a str,
-    pauses: u64,
+    // So many milliseconds.
+    paused: u64,
+    is_busy: bool,
     start: PhantomData<B>,
 }
 
 impl<'a, B: Start> Openings<'a, B> {
     /// None was tried.
     pub(crate) fn new(rt: &'a HostRuntime, path: &'a str) -> Openings<'a, B>
-        ensures { result.pauses ≡ 0 }
+        ensures paused { result.paused ≡ 0 }
+        ensures idle { result.is_busy ≡ false }
     {
         Openings {
             rt,
             path,
-            pauses: 0,
+            paused: 0,
+            is_busy: false,
             start: PhantomData,
         }
     }
@@ -68,7 +69,9 @@ impl<'a, B: Start> Openings<'a, B> {
 impl<B: Start> Tries for Openings<'_, B> {
     type Outcome = Result<Pair<B>, OpenFault>;
 
-    ghost pauses = { λ openings. openings.pauses };
+    ghost paused = { λ openings. openings.paused };
+
+    ghost is_busy = { λ openings. openings.is_busy };
 
     ghost gives = { λ outcome.
         MatchResult outcome (λ pair. AreFresh pair.0 pair.1) IsUnopenable };
@@ -80,14 +83,18 @@ impl<B: Start> Tries for Openings<'_, B> {
         let start = EachTry::<B> { start: PhantomData };
         match sqlite_std_file::open(self.rt, self.path, start) {
             Ok(files) => Some(Ok((files.log, files.db))),
-            Err(OpenError::Busy) => None,
+            Err(OpenError::Busy) => {
+                self.is_busy = true;
+                None
+            }
             Err(error) => Some(Err(refused_files_fault(error))),
         }
     }
 
-    fn pause(&mut self) {
-        self.rt.sleep(Duration::from_millis(PAUSE));
-        self.pauses += 1;
+    fn pause(&mut self, milliseconds: u64) {
+        self.rt.sleep(Duration::from_millis(milliseconds));
+        self.paused += milliseconds;
+        self.is_busy = false;
     }
 }
 
@@ -100,7 +107,9 @@ pub(crate) struct PresentOpenings<'a, B: Start> {
 impl<B: Start> Tries for PresentOpenings<'_, B> {
     type Outcome = Result<Option<Pair<B>>, OpenFault>;
 
-    ghost pauses = { λ present. present.openings.pauses };
+    ghost paused = { λ present. present.openings.paused };
+
+    ghost is_busy = { λ present. present.openings.is_busy };
 
     ghost gives = { λ outcome. MatchResult outcome
         (λ found. IfSome found (λ pair. AreFresh pair.0 pair.1)) IsUnopenable };
@@ -118,8 +127,8 @@ impl<B: Start> Tries for PresentOpenings<'_, B> {
         }
     }
 
-    fn pause(&mut self) {
-        self.openings.pause();
+    fn pause(&mut self, milliseconds: u64) {
+        self.openings.pause(milliseconds);
     }
 }
 

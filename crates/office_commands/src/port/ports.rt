@@ -1,7 +1,7 @@
 //! What a command has of the machine beside its outputs: each a small trait that says what it
 //! means. Whatever stands over them is proved for every machine.
 
-ghost use Rattle.std.specs.Prelude.{◌≡◌, ⊤, ℕ, IfErr, IfNone, IfOk, IfSome, IsTrue};
+ghost use Rattle.std.specs.Prelude.{◌≡◌, ◌≢◌, ⊤, ℕ, IfErr, IfNone, IfOk, IfSome, IsTrue};
 ghost use Rattle.sqlite_wal.specs.Files.{seen_image};
 ghost use Rattle.sqlite_wal.specs.Recovery.{Image};
 ghost use Rattle.sts_fields.specs.Text.{Text};
@@ -73,7 +73,9 @@ pub trait OfficeFile: Drop {
         ensures log { IfOk result (λ pair. IsTrue (Self.Medium.Disk.is_usable pair.0)) }
         ensures db { IfOk result (λ pair. IsTrue (Self.Medium.Disk.is_usable pair.1)) }
         ensures finds { IfOk result (λ pair. finds self path.now wait pair.0 pair.1) }
-        ensures fails { IfErr result (fails self path.now wait) };
+        ensures fails { IfErr result (fails self path.now wait) }
+        // What was not opened was not looked into.
+        ensures unnamed { IfErr result (λ fault. fault ≢ OpenFault.NotAnOffice) };
 
     /// Opens the log and the database file at a path where that file is there, and makes neither
     /// where it is not. Waits as `find` does.
@@ -91,7 +93,9 @@ pub trait OfficeFile: Drop {
         ensures meets { IfOk result (λ found. IfSome found
             (λ pair. meets self path.now wait pair.0 pair.1)) }
         ensures misses { IfOk result (λ found. IfNone found (misses self path.now wait)) }
-        ensures fails { IfErr result (fails self path.now wait) };
+        ensures fails { IfErr result (fails self path.now wait) }
+        // What was not opened was not looked into.
+        ensures unnamed { IfErr result (λ fault. fault ≢ OpenFault.NotAnOffice) };
 
     /// Lets the log and the database file go, or gives them back to whoever gave the port. Whatever
     /// this is given, it can do nothing else with it.

@@ -1,19 +1,18 @@
 //! How an import is decided: its rows in order, each against the office with the rows before it.
 ghost use Rattle.std.specs.Prelude.{◌≡◌, ◌≢◌, ◌≤◌, ◌⊎◌, ℕ, List, IfErr, IfOk, Ok, Err, None, Some};
-ghost use Rattle.std.specs.Prelude.{is_some, length};
+ghost use Rattle.std.specs.Prelude.{[], length, unwrap_or};
 ghost use Rattle.std.specs.Option.{option_copied, option_or};
 ghost use Rattle.sts_fields.specs.Day.{day_at};
 ghost use Rattle.office_rules.specs.Decision.{at_row, import, new_rows};
 ghost use Rattle.office_rules.specs.Decision.Edits.{with_rows};
 ghost use Rattle.office_rules.specs.Decision.Facts.{AreRowsFacts, HasNewRow, IsUnlessMemory};
-ghost use Rattle.office_rules.specs.Decision.Facts.{row_facts};
 ghost use Rattle.office_rules.specs.Office.{Office};
 ghost use Rattle.office_rules.specs.Office.Rows.{greatest_rows};
+ghost use Rattle.office_decisions.specs.OverFacts.{dated_found, import_on, meter_there};
+ghost use Rattle.office_decisions.specs.OverFacts.{new_rows_on, steps_found, tariff_stands};
+ghost use Rattle.office_decisions.specs.OverFacts.{tariff_there};
 ghost use Rattle.office_decisions.specs.RowsTaken.{dated_under, under};
 ghost use Rattle.office_rules.specs.declared.decision.row_facts.RowFacts.{RowFacts};
-ghost use Rattle.office_rules.specs.declared.office.meter.Meter.{Meter};
-ghost use Rattle.office_rules.specs.declared.office.row.Row.TheVariants as kinds;
-ghost use Rattle.tariff.specs.declared.step.Step.{Step};
 
 use crate::decision::additions::{is_new_meter, is_new_steps, is_new_tariff};
 use office_rules::{
@@ -48,9 +47,9 @@ impl<'a> RowsTaken<'a> {
     ghost use Rattle.std.specs.Option.{option_copied};
     ghost use Rattle.office_rules.specs.Decision.{at_row, is_new, row_decision};
     ghost use Rattle.office_rules.specs.Decision.Edits.{with_rows};
-    ghost use Rattle.office_rules.specs.Decision.Facts.{row_facts};
     ghost use Rattle.office_rules.specs.Office.{Office};
     ghost use Rattle.office_rules.specs.declared.decision.change.Change.{Change};
+    ghost use Rattle.office_decisions.specs.OverFacts.{Shows};
 
     fn new(alloc: Global) -> RowsTaken<'a>
         ensures { result.rows.items ≡ [] }
@@ -112,7 +111,7 @@ impl<'a> RowsTaken<'a> {
     // Whether a row is new in the office with the rows taken before, where it is today, or why it
     // is refused.
     fn is_new(&self, today: Day, row: &'a Row, found: Option<&'a RowFacts>) -> Result<bool, Refusal>
-        ensures value { (o : Office) → option_copied found.entry ≡ Some (row_facts o row.now)
+        ensures value { (o : Office) → Shows o row.now (option_copied found.entry)
             → result ≡ is_new (row_decision (with_rows self.now.rows.items o) today row.now) }
         ensures causes { IfErr result (λ refusal. (refusal ≡ Refusal.Differs)
             ⊎ (refusal ≡ Refusal.NoTariff) ⊎ (refusal ≡ Refusal.DayPast)) }
@@ -144,16 +143,16 @@ impl<'a> RowsTaken<'a> {
         row: &'a Row,
         found: Option<&'a RowFacts>,
     ) -> Result<(), Refusal>
-        ensures ok { (o : Office) → option_copied found.entry ≡ Some (row_facts o row.now)
+        ensures ok { (o : Office) → Shows o row.now (option_copied found.entry)
             → OnOk result ((change : Change)
             × (row_decision (with_rows self.old.rows.items o) today row.now ≡ Ok change)
             × (self.new.rows.items
             ≡ self.old.rows.items ++ (if is_some change.edit then row.now ∷ [] else []))) }
-        ensures err { (o : Office) → option_copied found.entry ≡ Some (row_facts o row.now)
+        ensures err { (o : Office) → Shows o row.now (option_copied found.entry)
             → IfErr result (λ refusal.
             (at_row number (row_decision (with_rows self.old.rows.items o) today row.now)
             ≡ Err refusal) ⊎ (refusal ≡ Refusal.Memory)) }
-        ensures memory { (o : Office) → option_copied found.entry ≡ Some (row_facts o row.now)
+        ensures memory { (o : Office) → Shows o row.now (option_copied found.entry)
             → IfErr result (λ refusal. refusal ≡ Refusal.Memory
             → is_new (row_decision (with_rows self.old.rows.items o) today row.now) ≡ Ok true) }
         ensures one { OnOk result (length self.new.rows.items ≤ length self.old.rows.items + 1) }
@@ -197,9 +196,7 @@ impl<'a> RowsTaken<'a> {
 
 // What is found of a tariff row: the steps in the office.
 fn steps_of<'a>(found: Option<&'a RowFacts>) -> Option<&'a Steps>
-    ensures { (o : Office) (name : List ℕ) (steps : List Step)
-        → option_copied found.entry ≡ Some (row_facts o (kinds.Tariff name steps))
-        → option_copied result ≡ o.tariffs name }
+    ensures { option_copied result ≡ steps_found (option_copied found.entry) }
 {
     match found {
         Some(RowFacts::Tariff(there)) => there.as_ref(),
@@ -209,18 +206,14 @@ fn steps_of<'a>(found: Option<&'a RowFacts>) -> Option<&'a Steps>
 
 // What is found of a row of steps: whether there is the tariff in the office.
 fn stands(found: Option<&RowFacts>) -> bool
-    ensures { (o : Office) (name : List ℕ) (day : ℕ) (steps : List Step)
-        → option_copied found.entry ≡ Some (row_facts o (kinds.Steps name day steps))
-        → result ≡ is_some (o.tariffs name) }
+    ensures { result ≡ tariff_stands (option_copied found.entry) }
 {
     matches!(found, Some(RowFacts::Steps(true, _)))
 }
 
 // And its steps of the first day.
 fn dated_steps_of<'a>(found: Option<&'a RowFacts>) -> Option<&'a Steps>
-    ensures { (o : Office) (name : List ℕ) (day : ℕ) (steps : List Step)
-        → option_copied found.entry ≡ Some (row_facts o (kinds.Steps name day steps))
-        → option_copied result ≡ o.dated_steps name day }
+    ensures { option_copied result ≡ dated_found (option_copied found.entry) }
 {
     match found {
         Some(RowFacts::Steps(_, there)) => there.as_ref(),
@@ -230,9 +223,7 @@ fn dated_steps_of<'a>(found: Option<&'a RowFacts>) -> Option<&'a Steps>
 
 // What is found of a meter row: the meter in the office.
 fn meter_of(found: Option<&RowFacts>) -> Option<Meter>
-    ensures { (o : Office) (number : List ℕ) (m : Meter)
-        → option_copied found.entry ≡ Some (row_facts o (kinds.Meter number m))
-        → result ≡ o.meters number }
+    ensures { result ≡ meter_there (option_copied found.entry) }
 {
     match found {
         Some(RowFacts::Meter(there)) => Some(*there),
@@ -242,9 +233,7 @@ fn meter_of(found: Option<&RowFacts>) -> Option<Meter>
 
 // What is found of a meter row, where the office has no such meter: whether it has the tariff.
 fn has_tariff_of(found: Option<&RowFacts>) -> bool
-    ensures { (o : Office) (number : List ℕ) (m : Meter)
-        → option_copied found.entry ≡ Some (row_facts o (kinds.Meter number m))
-        → o.meters number ≡ None → result ≡ is_some (o.tariffs m.tariff) }
+    ensures { result ≡ tariff_there (option_copied found.entry) }
 {
     matches!(found, Some(RowFacts::NoMeter(true)))
 }
@@ -261,13 +250,15 @@ fn at_row(number: u32, refusal: Refusal) -> Refusal
     }
 }
 
-/// Decides an import at a moment, where an office has this under the names of its rows.
+/// Decides an import at a moment, where this was found under the names of its rows.
 pub(crate) fn import<'a>(
     alloc: Global,
     rows: &'a Rows,
     moment: Moment,
     found: Option<&'a ImportFacts>,
 ) -> Result<Change, Refusal>
+    ensures exact { IsUnlessMemory result
+        (import_on (day_at moment) rows.now (unwrap_or (option_copied found.entry) [])) }
     ensures decided { (o : Office) (fs : List RowFacts) → option_copied found.entry ≡ Some fs
         → AreRowsFacts o (day_at moment) rows.now fs
         → IsUnlessMemory result (import o (day_at moment) rows.now) }
@@ -302,6 +293,10 @@ fn new_rows<'a>(
     found: &'a [RowFacts],
 ) -> Result<Vec<Row>, Refusal>
     requires { length rows.now ≤ greatest_rows }
+    ensures exact_ok { IfOk result (λ new.
+        new_rows_on [] today 0 rows.now found.now ≡ Ok new.items) }
+    ensures exact_err { IfErr result (λ refusal.
+        (new_rows_on [] today 0 rows.now found.now ≡ Err refusal) ⊎ (refusal ≡ Refusal.Memory)) }
     ensures ok { (o : Office) → AreRowsFacts o today rows.now found.now
         → IfOk result (λ new. new_rows o today 1 rows.now ≡ Ok new.items) }
     ensures err { (o : Office) → AreRowsFacts o today rows.now found.now

@@ -38,7 +38,7 @@ use Rattle.program_laws.proofs.AtDeskLemmas.MeaningLemmas.{looked}
 use Rattle.program_laws.proofs.AtDeskLemmas.OneLemmas.{Came, DeskLaws}
 use Rattle.program_laws.proofs.AtDeskLemmas.PageLemmas.{CanAsk, IsSamePage, behind_askable, page_as_told, page_told, same_page, told_text}
 use Rattle.program_laws.proofs.AtDeskLemmas.RuleLemmas.{present_is}
-use Rattle.program_laws.proofs.AtDeskLemmas.TellableLemmas.{look_tells, no_count, told_look}
+use Rattle.program_laws.proofs.AtDeskLemmas.TellableLemmas.{look_tells, no_health, told_look}
 use Rattle.program_laws.proofs.AskedLemmas.SaysLemmas.{dated, looks_so, told_open}
 
 -- What it says where a page of a list is asked for: whatever page is read of that is one that was
@@ -79,7 +79,7 @@ module _ (laws : DeskLaws) (old new : Timed Life) (x : MessageExchange) (opening
         is_date = given_dated laws.dates now;
         text =
             text ∙ says (moment_given now) laws.texts wants.Page (outcomes.Found forms.Json r.0) u keeps
-            (look_tells forms.Json r.0 (no_count forms.Json wants.Page r.0 (λ e. absurd cc) keeps));
+            (look_tells forms.Json r.0 (no_health forms.Json wants.Page r.0 (λ e. absurd cc) keeps));
         tellable = keeps;
         page = λ body page alike is_told as_read.
             let it = page_of body r.0 alike in

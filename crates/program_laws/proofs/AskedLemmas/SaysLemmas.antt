@@ -66,7 +66,7 @@ use Rattle.program_laws.proofs.AtDeskLemmas.MeaningLemmas.{ComesOfRows, IsRead, 
 use Rattle.program_laws.proofs.AtDeskLemmas.OneLemmas.{Came, DeskLaws, few_rows, has_body, import_for, may_be, row_tellable}
 use Rattle.program_laws.proofs.AtDeskLemmas.PrintedLemmas.{prints_last, prints_meter, prints_quote, prints_reply, prints_sale_of_ref, prints_totals}
 use Rattle.program_laws.proofs.AtDeskLemmas.RuleLemmas.{IsOfDesk, MayReplyTo, present_is}
-use Rattle.program_laws.proofs.AtDeskLemmas.TellableLemmas.{MayAsk, MayLook, look_tells, no_count, reply_tells, tellable_look, tellable_reply, told_look, told_reply, wanted_for, wanted_look}
+use Rattle.program_laws.proofs.AtDeskLemmas.TellableLemmas.{MayAsk, MayLook, look_tells, no_health, reply_tells, tellable_look, tellable_reply, told_look, told_reply, wanted_for, wanted_look}
 
 -- a reply to rows has no sale
 no_sales : (rows : List Row) (r : Result Answer Refusal) → MayReplyTo (requests.Import rows) r → (s : Sale) → Contains (sales_of r) s → ⊥
@@ -220,7 +220,7 @@ module _ (laws : DeskLaws) (old new : Timed Life) (x : MessageExchange) (opening
           is_date = given_dated laws.dates now;
           text =
               text ∙ says (moment_given now) laws.texts (wanted_by q) (outcomes.Found (lookup_form lookup) r.0) u tellable
-              (look_tells (lookup_form lookup) r.0 (no_count (lookup_form lookup) (wanted_look lookup) r.0 some keeps));
+              (look_tells (lookup_form lookup) r.0 (no_health (lookup_form lookup) (wanted_look lookup) r.0 some keeps));
           tellable = tellable;
           prints = λ json o end one is. (
             shows json o end r.0 one r.2 is (λ s there. inr (

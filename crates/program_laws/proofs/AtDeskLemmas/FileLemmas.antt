@@ -1,5 +1,5 @@
 -- A life goes on by one reply to a request, and has one of what is looked up.
-use Rattle.std.proofs.Common.{◌≡◌, ◌≢◌, ◌∙◌, ◌⊎◌, ℕ, true, Result, Ok, Err, inl, inr, refl, sym, ap, subst}
+use Rattle.std.proofs.Common.{◌≡◌, ◌≢◌, ◌∙◌, ◌⊎◌, ℕ, true, Result, Ok, Err, inl, inr, tt, refl, sym, ap, subst}
 use Rattle.std.specs.Prelude.{IfErr}
 use Rattle.std.proofs.lemmas.Bool.{false≢true}
 use Rattle.sts_token.specs.Token.{BlockFunction}
@@ -14,7 +14,10 @@ use Rattle.office_rules.specs.declared.decision.refusal.Refusal.TheVariants.{Mem
 use Rattle.office_rules.specs.declared.decision.request.Request.{Request}
 use Rattle.office_rules.specs.declared.decision.request.Stamped.{Stamped}
 use Rattle.book_facts.specs.Lookups.{Finds, IsOfRules}
+use Rattle.book_states.specs.Health.{IsHealthOf}
 use Rattle.book_states.specs.declared.lookup.Found.{Found}
+use Rattle.book_states.specs.declared.lookup.Found.TheVariants as found
+use Rattle.book_states.specs.declared.lookup.Health.{Health}
 use Rattle.book_states.specs.declared.lookup.Lookup.{Lookup}
 use Rattle.book_states.specs.declared.lookup.Lookup.TheVariants as lookups
 use Rattle.books.specs.Looking.{IsFoundAt}
@@ -73,7 +76,7 @@ by_finds life moment lookup r rules (inr (inr (inr is))) = absurd ((subst (λ (r
 
 one_found : (o : Office) (moment : ℕ) (lookup : Lookup) (a b : Result Found Refusal) → IsOneLookup lookup → Finds o moment lookup a → Finds o moment lookup b
     → a ≡ b
-one_found o moment lookups.SaleCount a b one x y = x ∙ sym y
+one_found o moment lookups.Health a b one x y = absurd one
 one_found o moment (lookups.Meter number) a b one x y = x ∙ sym y
 one_found o moment (lookups.LastSale number) a b one x y = x ∙ sym y
 one_found o moment (lookups.SaleOfRef operator order_ref) a b one x y = x ∙ sym y
@@ -90,3 +93,12 @@ pub same_found : (life : Life) (moment : ℕ) (lookup : Lookup) (a b : Result Fo
     → IfErr a IsOfRules → IfErr b IsOfRules → a ≡ b
 same_found life moment lookup a b one x y first second =
     one_found (present life) moment lookup a b one (by_finds life moment lookup a first x) (by_finds life moment lookup b second y)
+
+-- its health tells the same of its sales
+pub same_health : (life : Life) (moment later : ℕ) (a b : Health) → IsFoundAt life moment lookups.Health (Ok (found.Health a))
+    → IsFoundAt life later lookups.Health (Ok (found.Health b))
+    → (a.sales ≡ b.sales) × (a.last_moment ≡ b.last_moment)
+same_health life moment later a b first second =
+    let one : IsHealthOf (present life) a = by_finds life moment lookups.Health (Ok (found.Health a)) tt first in
+    let other : IsHealthOf (present life) b = by_finds life later lookups.Health (Ok (found.Health b)) tt second in
+    (one.sales ∙ sym other.sales, one.last ∙ sym other.last)

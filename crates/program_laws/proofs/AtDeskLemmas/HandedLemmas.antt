@@ -50,7 +50,7 @@ use Rattle.program_laws.specs.AtDesk.{IsAnsweredAt, IsSoldIn}
 use Rattle.program_laws.proofs.AtDeskLemmas.MeaningLemmas.{looked, replied}
 use Rattle.program_laws.proofs.AtDeskLemmas.OneLemmas.{Came, DeskLaws, came_of, may_be, same_told}
 use Rattle.program_laws.proofs.AtDeskLemmas.RuleLemmas.{MayReplyTo, present_is}
-use Rattle.program_laws.proofs.AtDeskLemmas.TellableLemmas.{MayAsk, look_tells, no_count, reply_tells, tellable_look, tellable_reply, told_look, told_reply, wanted_for}
+use Rattle.program_laws.proofs.AtDeskLemmas.TellableLemmas.{MayAsk, look_tells, no_health, reply_tells, tellable_look, tellable_reply, told_look, told_reply, wanted_for}
 
 -- the sale that is told
 abbrev it_tells : Sale → Told
@@ -147,7 +147,7 @@ module _ (laws : DeskLaws) (hands : (life : Life) (at : Stamped) (reply : Result
       subst (λ (x : List ℕ). IsReply (wanted_by q) x (it_tells s)) (c.text ∙ ap (λ (x : Outcome). reply_bytes_of (moment_given (Some (pos moment))) x false) r.1) is in
       let alike =
       same_told laws (wanted_by q) (Some (pos moment)) (outcomes.Found forms.Json r.0) (it_tells s) u text keeps
-      (look_tells forms.Json r.0 (no_count forms.Json (wanted_by q) r.0 (λ e. absurd cc) keeps)) in
+      (look_tells forms.Json r.0 (no_health forms.Json (wanted_by q) r.0 (λ e. absurd cc) keeps)) in
       let t = found_as s r.0 alike in
       let there = ref_stands old.0 moment operator order_ref t.0 (subst (IsFoundAt old.0 moment lookup) t.2 r.2) in
       (t.0, t.1, subst (λ (l : Life). HandsOut l t.0) (sym r.3) (stands_handed old.0 t.0 there))

@@ -50,7 +50,7 @@ use Rattle.program_laws.proofs.AtDeskLemmas.AnswerLemmas.{IsShown, shows_meters,
 use Rattle.program_laws.proofs.AtDeskLemmas.OrderLemmas.{page_after}
 use Rattle.program_laws.proofs.AtDeskLemmas.ReadLemmas.{Reads, shown_at, whole_reply}
 use Rattle.program_laws.proofs.AtDeskLemmas.RuleLemmas.{present_is}
-use Rattle.program_laws.proofs.AtDeskLemmas.TellableLemmas.{look_tells, no_count, tellable_look, told_found, told_look}
+use Rattle.program_laws.proofs.AtDeskLemmas.TellableLemmas.{look_tells, no_health, tellable_look, told_found, told_look}
 use Rattle.program_laws.proofs.AtDeskLemmas.TokenLemmas.{plausible_present}
 
 -- one body tells one page
@@ -62,7 +62,7 @@ OnePage =
 -- what was told as a page is one that was found
 pub page_of : (body : Bor (List ℕ)) (r : Result Found Refusal) → TellAlike (told.Granted (granted.Page body)) (told_look forms.Json r)
     → (it : Found) × (r ≡ Ok it) × (body.now ≡ pages.page_as_read it)
-page_of body (Ok (found.SaleCount n)) alike = absurd alike
+page_of body (Ok (found.Health health)) alike = absurd alike
 page_of body (Ok (found.Meter m)) alike = absurd alike
 page_of body (Ok (found.Sale s)) alike = absurd alike
 page_of body (Ok (found.Quote q)) alike = absurd alike
@@ -76,7 +76,7 @@ page_of body (Err refusal) alike = absurd alike
 -- what is found as a page is told as its text
 as_page : (it : Found) → IsTellable wants.Page (told_found forms.Json it)
     → (body : Bor (List ℕ)) × (told_found forms.Json it ≡ told.Granted (granted.Page body)) × (body.now ≡ pages.page_as_read it)
-as_page (found.SaleCount n) h = let same : wants.Done ≡ wants.Page = h.1 in absurd cc
+as_page (found.Health health) h = let same : wants.Done ≡ wants.Page = h.1 in absurd cc
 as_page (found.Meter m) h = let same : wants.Meter ≡ wants.Page = h.1 in absurd cc
 as_page (found.Sale s) h = let same : wants.Sale ≡ wants.Page = h.1 in absurd cc
 as_page (found.Quote q) h = let same : wants.Quote ≡ wants.Page = h.1 in absurd cc
@@ -153,7 +153,7 @@ module _ (laws : DeskLaws) where
         result = r.0;
         found = r.2;
         tellable = keeps;
-        tells = look_tells forms.Json r.0 (no_count forms.Json wants.Page r.0 (λ e. absurd cc) keeps);
+        tells = look_tells forms.Json r.0 (no_health forms.Json wants.Page r.0 (λ e. absurd cc) keeps);
         text = c.text ∙ ap (λ (x : Outcome). reply_bytes_of (moment_given (Some (pos moment))) x false) r.1;
         same = r.3;
       }

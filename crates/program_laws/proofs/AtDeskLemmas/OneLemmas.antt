@@ -84,7 +84,7 @@ use Rattle.vend_ports.specs.print.Told.{IsTold, Outputs}
 use Rattle.program_laws.proofs.AtDeskLemmas.MeaningLemmas.{ComesOfRows, IsRead, came_rows, idled, looked, replied}
 use Rattle.program_laws.proofs.AtDeskLemmas.PrintedLemmas.{prints_last, prints_meter, prints_quote, prints_reply, prints_sale_of_ref, prints_totals, tell_alike}
 use Rattle.program_laws.proofs.AtDeskLemmas.RuleLemmas.{MayReply, by_rules, may_reply, present_before, present_is}
-use Rattle.program_laws.proofs.AtDeskLemmas.TellableLemmas.{AreToldSales, MayAsk, MayLook, RangeLaws, look_tells, no_count, reply_tells, sale_told, tellable_look, tellable_reply, told_look, told_reply, wanted_for, wanted_look}
+use Rattle.program_laws.proofs.AtDeskLemmas.TellableLemmas.{AreToldSales, MayAsk, MayLook, RangeLaws, look_tells, no_health, reply_tells, sale_told, tellable_look, tellable_reply, told_look, told_reply, wanted_for, wanted_look}
 
 -- what the laws of the crates below say
 pub record DeskLaws : Type 0 where
@@ -333,7 +333,7 @@ module _ (laws : DeskLaws) where
         subst (λ (x : List ℕ). IsReply (wanted_by q) x t) (c.text ∙ ap (λ (x : Outcome). reply_bytes_of (moment_given (Some (pos moment))) x false) r.1) is in
         let alike =
         same_told (wanted_by q) (Some (pos moment)) (outcomes.Found (lookup_form lookup) r.0) t u text tellable
-        (look_tells (lookup_form lookup) r.0 (no_count (lookup_form lookup) (wanted_look lookup) r.0 some keeps)) in
+        (look_tells (lookup_form lookup) r.0 (no_health (lookup_form lookup) (wanted_look lookup) r.0 some keeps)) in
         record { result = r.0; found = r.2; same = r.3; printed = tell_alike json q o end t u alike told }
 
     -- ---- the rows of a file

@@ -251,7 +251,7 @@ same_data (s ∷ items) = ap (λ rest. sale_data s ∷ rest) (same_data items)
 
 -- the text of a page is the same without the nibbles of its sales
 pub told_text : (page : Found) → pages.page_as_read (page_as_told page) ≡ pages.page_as_read page
-told_text (found.SaleCount n) = refl
+told_text (found.Health health) = refl
 told_text (found.Meter m) = refl
 told_text (found.Sale s) = refl
 told_text (found.Quote q) = refl

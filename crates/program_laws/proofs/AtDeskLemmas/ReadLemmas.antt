@@ -52,7 +52,7 @@ use Rattle.office_rules.specs.Law.Handed.{sales_of}
 use Rattle.std.specs.Prelude.{All}
 use Rattle.program_laws.proofs.AtDeskLemmas.TokenLemmas.{HasToken, plausible_present, reply_tokens}
 use Rattle.program_laws.proofs.AtDeskLemmas.RuleLemmas.{IsOfDesk, MayReplyTo, present_is}
-use Rattle.program_laws.proofs.AtDeskLemmas.TellableLemmas.{MayAsk, MayLook, look_tells, no_count, reply_tells, tellable_look, tellable_reply, told_look, told_reply, wanted_for, wanted_look}
+use Rattle.program_laws.proofs.AtDeskLemmas.TellableLemmas.{MayAsk, MayLook, look_tells, no_health, reply_tells, tellable_look, tellable_reply, told_look, told_reply, wanted_for, wanted_look}
 
 -- what came of a message, as it is told
 pub record Reads (w : Wanted) (outcome : Outcome) : Type 0 where
@@ -111,7 +111,7 @@ module _ (laws : DeskLaws) (moment : ℕ) (is_moment : IsMoment moment) (old new
           tellable = subst (λ (w : Wanted). IsTellable w u) (sym wanted) keeps;
           tells =
               subst (λ (x : Outcome). Tells x u) (sym r.1)
-              (look_tells (lookup_form lookup) r.0 (no_count (lookup_form lookup) (wanted_look lookup) r.0 some keeps));
+              (look_tells (lookup_form lookup) r.0 (no_health (lookup_form lookup) (wanted_look lookup) r.0 some keeps));
         };
         answers =
             shown_at q (lookup_form lookup) lookup old.0 moment

@@ -97,7 +97,7 @@ told_reply form (Err refusal) = told.Refused refusal
 
 -- what is told of something that was found
 abbrev pub told_found : Form → Found → Told
-told_found form (found.SaleCount n) = told.Granted granted.Done
+told_found form (found.Health health) = told.Granted granted.Done
 told_found form (found.Meter m) = told.Granted (granted.Meter m)
 told_found form (found.Sale s) = told_sale form s
 told_found form (found.Quote q) = told.Granted (granted.Quote q)
@@ -127,14 +127,14 @@ reply_tells form (Ok (answers.Reprinted s)) = sale_tells form s
 reply_tells form (Ok (answers.Report shift sales)) = refl
 reply_tells form (Err refusal) = refl
 
--- what was found is no count of sales
-abbrev pub IsNoCount : Result Found Refusal → Type 0
-IsNoCount (Ok (found.SaleCount n)) = ⊥
-IsNoCount r = ⊤
+-- what was found is not the health of an office
+abbrev pub IsNoHealth : Result Found Refusal → Type 0
+IsNoHealth (Ok (found.Health health)) = ⊥
+IsNoHealth r = ⊤
 
--- so does its reply to a look-up, but for the count of sales
-pub look_tells : (form : Form) (r : Result Found Refusal) → IsNoCount r → Tells (outcomes.Found form r) (told_look form r)
-look_tells form (Ok (found.SaleCount n)) h = absurd h
+-- so does its reply to a look-up, but for the health of an office
+pub look_tells : (form : Form) (r : Result Found Refusal) → IsNoHealth r → Tells (outcomes.Found form r) (told_look form r)
+look_tells form (Ok (found.Health health)) h = absurd h
 look_tells form (Ok (found.Meter m)) h = refl
 look_tells form (Ok (found.Sale s)) h = sale_tells form s
 look_tells form (Ok (found.Quote q)) h = refl
@@ -145,18 +145,18 @@ look_tells form (Ok (found.Shifts items)) h = refl
 look_tells form (Ok (found.Sales items)) h = refl
 look_tells form (Err refusal) h = refl
 
--- where something else is wanted than that it was done, it is told of no count
-pub no_count : (form : Form) (w : Wanted) (r : Result Found Refusal) → w ≢ wanted.Done → IsTellable w (told_look form r) → IsNoCount r
-no_count form w (Ok (found.SaleCount n)) other h = absurd (other (sym h.1))
-no_count form w (Ok (found.Meter m)) other h = tt
-no_count form w (Ok (found.Sale s)) other h = tt
-no_count form w (Ok (found.Quote q)) other h = tt
-no_count form w (Ok (found.ShiftTotals n totals)) other h = tt
-no_count form w (Ok (found.Tariffs items)) other h = tt
-no_count form w (Ok (found.Meters items)) other h = tt
-no_count form w (Ok (found.Shifts items)) other h = tt
-no_count form w (Ok (found.Sales items)) other h = tt
-no_count form w (Err refusal) other h = tt
+-- where something else is wanted than that it was done, it is told of no health
+pub no_health : (form : Form) (w : Wanted) (r : Result Found Refusal) → w ≢ wanted.Done → IsTellable w (told_look form r) → IsNoHealth r
+no_health form w (Ok (found.Health health)) other h = absurd (other (sym h.1))
+no_health form w (Ok (found.Meter m)) other h = tt
+no_health form w (Ok (found.Sale s)) other h = tt
+no_health form w (Ok (found.Quote q)) other h = tt
+no_health form w (Ok (found.ShiftTotals n totals)) other h = tt
+no_health form w (Ok (found.Tariffs items)) other h = tt
+no_health form w (Ok (found.Meters items)) other h = tt
+no_health form w (Ok (found.Shifts items)) other h = tt
+no_health form w (Ok (found.Sales items)) other h = tt
+no_health form w (Err refusal) other h = tt
 
 -- ---- sales and refusals
 
@@ -390,7 +390,7 @@ quote_or_none laws o office moment number tender is_number is_tender there is =
 
 -- what is wanted of the reply to a look-up
 abbrev pub wanted_look : Lookup → Wanted
-wanted_look lookups.SaleCount = wanted.Done
+wanted_look lookups.Health = wanted.Done
 wanted_look (lookups.Meter number) = wanted.Meter
 wanted_look (lookups.LastSale number) = wanted.Paper
 wanted_look (lookups.SaleOfRef operator order_ref) = wanted.Sale
@@ -403,7 +403,7 @@ wanted_look (lookups.Sales after) = wanted.Page
 
 -- a command looks it up at a desk, by names and numbers that keep their rules
 abbrev pub MayLook : Lookup → Type 0
-MayLook lookups.SaleCount = ⊥
+MayLook lookups.Health = ⊥
 MayLook (lookups.Quote number tender) = IsMeterNo number × IsTender tender
 MayLook (lookups.ShiftTotals number) = IsTargetNumber number
 MayLook lookup = ⊤
@@ -434,7 +434,7 @@ LookTold lookup r = IsTellable (wanted_look lookup) (told_look (lookup_form look
 
 tellable_finds : RangeLaws → (o : Office) → IsOffice o → (moment : ℕ) (lookup : Lookup) (r : Result Found Refusal) → MayLook lookup → Finds o moment lookup r
     → LookTold lookup r
-tellable_finds laws o office moment lookups.SaleCount r may h = absurd may
+tellable_finds laws o office moment lookups.Health r may h = absurd may
 tellable_finds laws o office moment (lookups.Meter number) r may h =
     subst (LookTold (lookups.Meter number)) (sym h) (meter_or_none laws o office number moment (o.meters number) refl)
 tellable_finds laws o office moment (lookups.LastSale number) r may h =

@@ -17,7 +17,6 @@ use Rattle.sqlite_wal.specs.Files.{outcomes}
 use Rattle.sqlite_wal.specs.Recovery.{Image}
 use Rattle.vend_core.specs.Law.Life.{LeadTo, Life}
 use Rattle.office_rules.specs.Office.{Office, empty_office}
-use Rattle.office_rules.proofs.OfficeLemmas.RowLemmas.{both_true}
 use Rattle.book_opening.specs.declared.fault.OpenFault.{OpenFault}
 use Rattle.books.specs.Found.{FindsOffice}
 use Rattle.books.specs.Headline.{with_last}
@@ -32,7 +31,7 @@ use Rattle.program_laws.specs.Courses.{Course, KeepsLast}
 use Rattle.program_laws.specs.runs.Files.{AreFoundSo, IsLeftBy, MayLeaveOf}
 use Rattle.program_laws.specs.runs.Steps.{IsOf}
 use Rattle.program_laws.specs.runs.Uses.{ends_lost}
-use Rattle.program_laws.proofs.RunsLemmas.CleanLemmas.{clean_connection, clean_left}
+use Rattle.program_laws.proofs.RunsLemmas.CleanLemmas.{clean_left, closed_clean, taken_clean}
 use Rattle.program_laws.proofs.RunsLemmas.KeptLemmas.{Kept, Laws, kept_by, last_kept}
 use Rattle.program_laws.proofs.RunsLemmas.MadeLemmas.{LosesState}
 
@@ -118,11 +117,11 @@ module _ {start : Office} (laws : Laws start) {M : Type 0} {disk : disk.Ghosts M
       (lost : IsUnreopened disk salts lets_go old fault) → LosesState start old (ends_lost old fault lost)
   lost_state old fault (lost_unsalted it lacks is conn seen left taken gone) = record {
     goes = λ clean. (clean, λ c here. ∣ last_kept laws c.over c.life old here ∣₁);
-    clean = λ all. ap doubt seen.is_clean ∙ clean_connection all conn;
+    clean = λ clean. ap doubt seen.is_clean ∙ taken_clean conn left taken clean;
   }
   lost_state old fault (lost_refused it salt draws conn seen (Connected last) why left taken gone) = record {
     goes = refused_again old fault conn last seen why;
-    clean = λ all. clean_connection all last;
+    clean = λ clean. taken_clean last left taken clean;
   }
   lost_state old fault (lost_refused it salt draws conn seen (Unconnected rest) why left taken gone) =
       let lost = why.2 in
@@ -137,10 +136,10 @@ module _ {start : Office} (laws : Laws start) {M : Type 0} {disk : disk.Ghosts M
               (by_books (image_of disk lost.here) holds.present, λ image out. by_books image (holds.crash image out))
               (last_kept laws c.over c.life old here) ∣₁,
         );
-        clean = λ all. (
-          ap doubt seen.is_clean ∙ clean_connection all conn,
-          both_true _ _ (all lost.here.log) (all lost.here.db),
-          clean_left all rest,
+        clean = λ clean. (
+          ap doubt seen.is_clean ∙ closed_clean conn lost.last lost.here.log lost.here.db lost.closed lost.files clean.0,
+          clean.0,
+          clean_left rest clean.1,
         );
       }
 

@@ -26,8 +26,7 @@ use Rattle.office_commands.specs.declared.port.ports.OfficeFile as file
 use Rattle.vend_ports.specs.print.Told.{Outputs}
 use Rattle.vend_ports.specs.declared.command_end.CommandEnd.{CommandEnd}
 use Rattle.program_laws.specs.Courses.{Course, KeepsLast}
-use Rattle.program_laws.specs.runs.Files.{AreFoundSo, EndsClean, FindsImage, IsClean, IsLeftBy, MayHold, MayHoldAfter}
-use Rattle.program_laws.specs.runs.Here.{IsAlwaysClean}
+use Rattle.program_laws.specs.runs.Files.{AreFoundSo, EndsClean, FindsImage, IsClean, IsLeftBy, IsLetGoClean, LetsGoClean, MayHold, MayHoldAfter}
 use Rattle.program_laws.specs.runs.Steps.{AsksIn, LivesIn}
 use Rattle.program_laws.specs.runs.Uses.{RunEnding, RunQuestion, RunUse, unseen}
 use Rattle.program_laws.proofs.RunsLemmas.KeptLemmas.{Kept, stays}
@@ -71,16 +70,16 @@ closed_gives {g = g} stays of back s (unclosed conn last error seen closes fails
 pub record LosesState {M : Type 0} {g : disk.Ghosts M} (start : Office) (old : Seen) (last : RunEnding g) : Type 0 where
   pub goes : EndsClean last → HasCleanDisk old.state
       × ((c : Course) → KeepsLast start c.over c.life old → ∥ Kept start (MayHoldAfter last) (with_last c.over c.life) ∥₁)
-  pub clean : IsAlwaysClean g → EndsClean last
+  pub clean : IsLetGoClean last → EndsClean last
 
 -- What is known of it: by which lives it goes on from what was found; that what it asked was wanted, and what it told; that it found what its
--- ports can find, and had a clean disk where no file ever lies; and what the files hold that it gave back.
+-- ports can find, and had a clean disk where the files were clean that it let go; and what the files hold that it gave back.
 pub record IsMade {M : Type 0} {g : disk.Ghosts M} (start : Office) (Before : Image → Type 0) (lives : List Life) (Holds : Type 0)
     (back : Option (M × M)) (Wants : Request → Type 0) (o : Outputs) (end : CommandEnd) (made : RunUse g) : Type 0 where
   pub goes : FindsImage made Before → IsClean made → Kept start Before lives → ∥ GoesOn start made Before lives ∥₁
   pub told : (q : RunQuestion) → AsksIn made q → Wants q.request × TellsReply q.reply o end
   pub finds : Holds → FindsImage made Before
-  pub clean : IsAlwaysClean g → IsClean made
+  pub clean : LetsGoClean made → IsClean made
   pub given : GivesBack g back (MayHold made Before)
 
 module _ {M : Type 0} {g : disk.Ghosts M} (start : Office) (Before : Image → Type 0) (lives : List Life) (Holds : Type 0)
@@ -91,6 +90,6 @@ module _ {M : Type 0} {g : disk.Ghosts M} (start : Office) (Before : Image → T
     goes = λ found clean kept. ∣ ([], refl, stays start Before lives kept) ∣₁;
     told = λ q asks. absurd asks;
     finds = λ holds. tt;
-    clean = λ all. tt;
+    clean = λ clean. tt;
     given = none_given g back Before none;
   }

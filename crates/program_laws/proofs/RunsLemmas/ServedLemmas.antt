@@ -3,6 +3,8 @@ use Rattle.std.proofs.Common.{◌≡◌, ◌∙◌, ℕ, ℤ, zero, suc, Bool, t
 use Rattle.std.proofs.Math.Logic.{∥∥₁_elim, ∥∥₁_map}
 use Rattle.sqlite.specs.State.{HasCleanDisk}
 use Rattle.sqlite_disk.specs.declared.Disk as disk
+use Rattle.sqlite_disk.specs.declared.Files.{Files}
+use Rattle.sqlite_wal.specs.Reads.{AreClean}
 use Rattle.sqlite_wal.specs.Recovery.{Image}
 use Rattle.sts_fields.specs.Text.{Text}
 use Rattle.sts_token.specs.Token.{BlockFunction}
@@ -21,7 +23,6 @@ use Rattle.vend_commands.specs.serving.Connections.{AreHeld, AreReady, AreServed
 use Rattle.vend_commands.specs.serving.Listening.{IsClosedAfter}
 use Rattle.program_laws.specs.Courses.{AreLived, Course, IsNext, KeepsLast, course}
 use Rattle.program_laws.specs.runs.Files.{IsLeftBy, MayHoldAfter}
-use Rattle.program_laws.specs.runs.Here.{IsAlwaysClean}
 use Rattle.program_laws.specs.runs.Uses.{AreCoursed, RunEnding, use_served}
 use Rattle.program_laws.proofs.CourseLemmas.{live_on, next_course, ready_clean}
 use Rattle.program_laws.proofs.RunsLemmas.KeptLemmas.{Kept, Laws, last_kept}
@@ -78,26 +79,27 @@ module _ {D R W B : Type 0} (way : Way D R W) (gives : ℤ → Type 0) (forward 
       )))
 
   module _ {M : Type 0} {disk : disk.Ghosts M} (Before : Image → Type 0) (back : Option (M × M)) (closes : Seen → Type 0)
-      (loses : Seen → OpenFault → Type 0) (if_lost : (old : Seen) (fault : OpenFault) → loses old fault → RunEnding disk) (lives : List Life)
+      (loses : Seen → OpenFault → Type 0) (if_lost : (old : Seen) (fault : OpenFault) → loses old fault → RunEnding disk)
+      (left : (books : Seen) → closes books → Files M) (lives : List Life)
       (Holds : Type 0) (Wants : Request → Type 0) (o : Outputs) (end : CommandEnd)
       (closed_so : (books : Seen) → closes books → GivesBack disk back (IsLeftBy books.state))
       (lost_so : (old : Seen) (fault : OpenFault) (lost : loses old fault) → LosesState start old (if_lost old fault lost))
       (none : (old : Seen) (fault : OpenFault) → loses old fault → back ≡ None)
-      (clean_books : IsAlwaysClean disk → (books : B) → HasCleanDisk (see books).state)
+      (cleans : (books : Seen) (closed : closes books) → AreClean disk (left books closed).log (left books closed).db → HasCleanDisk books.state)
       (image : Image) (held : Holds → Before image) (wanted : ℕ) (old : Service D B)
       (opens : (office : Office) → StandsIn image office → Represents (opened forward office) (see old.books))
       (door : D) (answers : Option (List ℤ)) (printed : Text) where
     -- what a run made that served connections
     pub served_made : (served : Result (B × Bool) OpenFault) (are : AreServed way gives forward see loses wanted old door answers served printed)
-        → IsClosedAfter (λ books. closes (see books)) served → IsMade start Before lives Holds back Wants o end
-        (use_served way gives forward see loses if_lost wanted old door answers printed image served are)
+        (closed : IsClosedAfter (λ books. closes (see books)) served) → IsMade start Before lives Holds back Wants o end
+        (use_served way gives forward see loses if_lost closes left wanted old door answers printed image served are closed)
     served_made (Ok (books, true)) are closed = record {
       goes = λ found clean kept. ∥∥₁_elim (kept.left image found) squash₁ (λ here.
           coursed_on (IsLeftBy (see books).state) lives wanted old (service door books answers) printed are clean
           (λ c last. ∣ (c, inl refl, last_kept laws c.over c.life (see books) last) ∣₁) here.office here.lead (opens here.office here.stands));
       told = λ q asks. absurd asks;
       finds = held;
-      clean = λ all. clean_books all books;
+      clean = cleans (see books) closed;
       given = closed_so (see books) closed;
     }
     served_made (Ok (books, false)) are closed =
@@ -110,7 +112,7 @@ module _ {D R W B : Type 0} (way : Way D R W) (gives : ℤ → Type 0) (forward 
               (λ next. (next.0, next.1, last_kept laws next.0.over next.0.life (see books) next.2))) here.office here.lead (opens here.office here.stands));
           told = λ q asks. absurd asks;
           finds = held;
-          clean = λ all. clean_books all books;
+          clean = cleans (see books) closed;
           given = closed_so (see books) closed;
         }
     served_made (Err fault) are closed =

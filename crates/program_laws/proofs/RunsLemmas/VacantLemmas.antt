@@ -1,9 +1,9 @@
 -- What a run made of a file that has none of the office's tables.
-use Rattle.std.proofs.Common.{◌≡◌, true, List, [], ◌∷◌, ◌++◌, Option, Some, None, Ok, Err, inl, inr, refl, sym, subst, append-nil, arith}
+use Rattle.std.proofs.Common.{◌≡◌, true, List, [], ◌∷◌, ◌++◌, Option, None, Ok, Err, inl, inr, refl, sym, subst, append-nil, arith}
 use Rattle.std.proofs.Math.Logic.{∥∥₁_map}
 use Rattle.std.proofs.lemmas.List.Elements.{All-cons, All-nil}
 use Rattle.std.specs.Prelude.{ℕ}
-use Rattle.sqlite.specs.Files.{IsNothing, file_state}
+use Rattle.sqlite.specs.Files.{file_state}
 use Rattle.sqlite.specs.Held.{Held}
 use Rattle.sqlite.specs.State.{IsLive, Opens}
 use Rattle.sqlite_disk.specs.declared.Disk as disk
@@ -13,7 +13,6 @@ use Rattle.sqlite_wal.specs.Recovery.{Image}
 use Rattle.papers.specs.Export.{export_of}
 use Rattle.vend_core.specs.Law.Life.{Exchange, IsLife, LeadTo, Life, present}
 use Rattle.vend_core.specs.Law.LifeLaws.{extended_by, opened}
-use Rattle.office_rules.proofs.OfficeLemmas.RowLemmas.{both_true}
 use Rattle.office_rules.specs.Decision.Requests.{IsStamped}
 use Rattle.office_rules.specs.Decision.Fold.{after, replies_to}
 use Rattle.office_rules.specs.Office.{Office, empty_office}
@@ -41,7 +40,7 @@ use Rattle.program_laws.specs.runs.Readings.{empty_reading}
 use Rattle.program_laws.specs.runs.Steps.{AsksSo}
 use Rattle.program_laws.specs.runs.Uses.{IsAskedLife, Living, LivesSo, RunQuestion, empty_question, left_blank, lives_empty, no_life, reading_life, use_vacant}
 use Rattle.program_laws.specs.runs.Words.{Reports}
-use Rattle.program_laws.proofs.RunsLemmas.CleanLemmas.{clean_connection}
+use Rattle.program_laws.proofs.RunsLemmas.CleanLemmas.{taken_clean}
 use Rattle.program_laws.proofs.RunsLemmas.KeptLemmas.{Laws, kept_by}
 use Rattle.program_laws.proofs.RunsLemmas.MadeLemmas.{IsMade, none_given}
 
@@ -205,7 +204,7 @@ module _ {start : Office} (laws : Laws start) (Before : Image → Type 0) (lives
         ));
     told = tells;
     finds = held;
-    clean = λ all. both_true _ _ (all left.log) (all left.db);
+    clean = λ clean. clean;
     given = none_given disk back (MayHoldAfter {g = disk} (left_blank left)) (ungiven left.log left.db gone);
   }
   vacant_made image held ungiven living stays tells (without conn left is taken gone) = record {
@@ -221,6 +220,6 @@ module _ {start : Office} (laws : Laws start) (Before : Image → Type 0) (lives
         ));
     told = tells;
     finds = held;
-    clean = λ all. clean_connection all conn;
+    clean = λ clean. taken_clean conn left taken clean;
     given = none_given disk back (IsLeftBy (file_state conn)) (ungiven left.log left.db gone);
   }

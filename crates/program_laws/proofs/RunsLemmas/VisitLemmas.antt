@@ -7,6 +7,7 @@ use Rattle.sqlite_disk.specs.declared.Disk as disk
 use Rattle.sqlite_disk.specs.declared.Files.{Files}
 use Rattle.sqlite_store.specs.declared.store.FileStore.{FileStore}
 use Rattle.sqlite_trees.specs.declared.store.Store.{Ghosts}
+use Rattle.sqlite_wal.specs.Reads.{AreClean}
 use Rattle.sqlite_wal.specs.Recovery.{Image}
 use Rattle.sts_fields.specs.Moment.{first_moment}
 use Rattle.vend_core.specs.Law.Life.{LeadTo, Life}
@@ -42,7 +43,7 @@ use Rattle.program_laws.specs.runs.Readings.{IsReadIn, reading_of}
 use Rattle.program_laws.specs.runs.Steps.{AsksSo}
 use Rattle.program_laws.specs.runs.Uses.{Living, LivesSo, RunQuestion, RunUse, idle_life, lives_asking, lives_printing, reading_life, unconnected, use_refused, use_visited}
 use Rattle.program_laws.specs.runs.Words.{Reports}
-use Rattle.program_laws.proofs.RunsLemmas.CleanLemmas.{clean_connection, clean_left}
+use Rattle.program_laws.proofs.RunsLemmas.CleanLemmas.{clean_left, taken_clean}
 use Rattle.program_laws.proofs.RunsLemmas.KeptLemmas.{Kept, Laws, none_more, one_more, stays}
 use Rattle.program_laws.proofs.RunsLemmas.LeftLemmas.{attempted}
 use Rattle.program_laws.proofs.RunsLemmas.MadeLemmas.{GivesBack, IsMade, none_given, unseen_made}
@@ -179,7 +180,7 @@ module _ {start : Office} (laws : Laws start) (Before : Image → Type 0) (lives
         ([], refl, none_more laws lives (file_state last) here.office here.lead (λ trees may. stands.left trees may)));
     told = λ q asks. absurd asks;
     finds = λ holds. (held holds files finds).0;
-    clean = λ all. clean_connection all last;
+    clean = λ clean. taken_clean last left taken clean;
     given = none_given disk back (IsLeftBy (file_state last)) (ungiven left.log left.db gone);
   }
   refused_made held unmade ungiven fault (found_unopened files finds (refused left (Unconnected rest) why taken gone)) = record {
@@ -187,26 +188,27 @@ module _ {start : Office} (laws : Laws start) (Before : Image → Type 0) (lives
         ∣ ([], refl, stays start (MayHold (unconnected files rest) Before) lives (attempted laws Before lives disk files rest (why.kept clean) found kept)) ∣₁;
     told = λ q asks. absurd asks;
     finds = λ holds. held holds files finds;
-    clean = λ all. clean_left all rest;
+    clean = λ clean. clean_left rest clean;
     given = none_given disk back (MayHold (unconnected files rest) Before) (ungiven left.log left.db gone);
   }
 
   module _ (place : Place) {transform : Shipped} where
     -- a visit, where it is known what is done there
     pub visited_made : (Does : (old new : Seen) → Type 0) (if_refused : (fault : OpenFault) → place.fails fault → RunUse disk)
-        (living : (old new : Seen) → Does old new → Living)
+        (living : (old new : Seen) → Does old new → Living) (left : (books : Seen) → place.closes books → Files M)
         → ((fault : OpenFault) (why : place.fails fault) → Made (if_refused fault why)) → (Holds → place.finds → Before place.image)
         → ((books : Seen) → place.closes books → GivesBack disk back (IsLeftBy books.state))
+        → ((books : Seen) (closes : place.closes books) → AreClean disk (left books closes).log (left books closes).db → HasCleanDisk books.state)
         → ((old new : Books (FileStore M disk) Shipped (over_files {g = disk}) shipped) (begins : IsOpenedAt place transform old)
         (does : Does (seen_in old) (seen_in new)) → HasCleanDisk (seen_in new).state → (office : Office) → StandsIn place.image office
         → LeadTo start lives office → LivedOne start lives (living (seen_in old) (seen_in new) does) (seen_in new))
         → ((old new : Seen) (does : Does old new) (q : RunQuestion) → AsksSo (living old new does) q → Wants q.request × TellsReply q.reply o end)
-        → (visit : IsVisited (over_files {g = disk}) place transform Does o end) → Made (use_visited if_refused living visit)
-    visited_made Does if_refused living refused_is held gives lived tells (visit_unopened fault fails told) = refused_is fault fails
-    visited_made Does if_refused living refused_is held gives lived tells (visit_opened old new begins finds does closes) = record {
+        → (visit : IsVisited (over_files {g = disk}) place transform Does o end) → Made (use_visited if_refused living left visit)
+    visited_made Does if_refused living left refused_is held gives cleans lived tells (visit_unopened fault fails told) = refused_is fault fails
+    visited_made Does if_refused living left refused_is held gives cleans lived tells (visit_opened old new begins finds does closes) = record {
       goes = λ found clean kept. ∥∥₁_map (kept.left place.image found) (λ here. lived old new begins does clean here.office here.stands here.lead);
       told = tells (seen_in old) (seen_in new) does;
       finds = λ holds. held holds finds;
-      clean = λ all. clean_connection all new.conn;
+      clean = cleans (seen_in new) closes;
       given = gives (seen_in new) closes;
     }

@@ -6,8 +6,10 @@ use Rattle.sqlite.specs.Files.{file_state, over_files}
 use Rattle.sqlite.specs.Held.{Held}
 use Rattle.sqlite.specs.State.{HasCleanDisk, IsLive, Opens}
 use Rattle.sqlite_disk.specs.declared.Disk as disk
+use Rattle.sqlite_disk.specs.declared.Files.{Files}
 use Rattle.sqlite_store.specs.declared.store.FileStore.{FileStore}
 use Rattle.sqlite_wal.proofs.LogLemmas.{SeenMayStay}
+use Rattle.sqlite_wal.specs.Reads.{AreClean}
 use Rattle.sqlite_wal.specs.Recovery.{Image}
 use Rattle.sts_fields.specs.Text.{Text}
 use Rattle.vend_core.specs.Law.Life.{Life}
@@ -59,8 +61,8 @@ use Rattle.program_laws.specs.runs.Files.{IsLeftBy}
 use Rattle.program_laws.specs.runs.Here.{HoldsSo}
 use Rattle.program_laws.specs.runs.Readings.{empty_reading, reading_of}
 use Rattle.program_laws.specs.runs.Words.{Reports, Requests, WordsRequest}
-use Rattle.program_laws.specs.runs.Uses.{RunUse, ends_lost, lives_asking, lives_empty, lives_printing, no_life, reading_life, use_added, use_asked, use_audited, use_carried, use_imported, use_refused, use_reported, use_run, use_serving, use_shown, use_timed, unseen, with_file}
-use Rattle.program_laws.proofs.RunsLemmas.CleanLemmas.{clean_connection}
+use Rattle.program_laws.specs.runs.Uses.{RunUse, ends_lost, files_let_go, lives_asking, lives_empty, lives_printing, no_life, reading_life, use_added, use_asked, use_audited, use_carried, use_imported, use_refused, use_reported, use_run, use_serving, use_shown, use_timed, unseen, with_file}
+use Rattle.program_laws.proofs.RunsLemmas.CleanLemmas.{shut_clean}
 use Rattle.program_laws.proofs.RunsLemmas.KeptLemmas.{Laws, none_more}
 use Rattle.program_laws.proofs.RunsLemmas.LeftLemmas.{lost_none, lost_state}
 use Rattle.program_laws.proofs.RunsLemmas.MadeLemmas.{GivesBack, IsMade, closed_gives, unseen_made}
@@ -91,6 +93,14 @@ module _ {start : Office} (laws : Laws start) (Before : Image → Type 0) (lives
     books_give : (books : Seen) → IsClosed disk (lets_go_giving of back) books → GivesBack disk back (IsLeftBy books.state)
     books_give books closes = closed_gives stays of back books.state closes
 
+    -- the files that are let go then; if these are clean, the disk of the books was
+    abbrev shut_files : (books : Seen) → IsClosed disk (lets_go_giving of back) books → Files M
+    shut_files = files_let_go disk salts of office back m
+
+    books_clean : (books : Seen) (closes : IsClosed disk (lets_go_giving of back) books)
+        → AreClean disk (shut_files books closes).log (shut_files books closes).db → HasCleanDisk books.state
+    books_clean books closes clean = shut_clean closes clean
+
     -- where no office was opened in what was found, or met
     unopened_made : (path : Text) (wait : ℕ) (fault : OpenFault) (why : (here.at path wait).fails fault) (o : Outputs) (end : CommandEnd)
         → Made o end (use_refused fault why)
@@ -115,8 +125,8 @@ module _ {start : Office} (laws : Laws start) (Before : Image → Type 0) (lives
         → Made o end (use_asked disk salts of office back m transform path wait moment request o end asks)
     asking_made transform path wait moment request wants o end asks =
         visited_made laws Before lives Holds back Wants o end (here.at path wait) _ use_refused
-        (lives_asking transform moment request o end) (λ fault why. unopened_made path wait fault why o end) (found_image path wait) books_give
-        (asked_on laws lives (here.at path wait) moment request o end) (asked_tells Wants transform moment request wants o end) asks
+        (lives_asking transform moment request o end) shut_files (λ fault why. unopened_made path wait fault why o end) (found_image path wait) books_give
+        books_clean (asked_on laws lives (here.at path wait) moment request o end) (asked_tells Wants transform moment request wants o end) asks
 
     adding_made : ((rows : List Row) → Wants (requests.Import rows)) → (words : ImportWords) (moment : ℕ) (rows : Result (List Row) RowFault) (o : Outputs) (end : CommandEnd)
         (added : AreAdded (over_files {g = disk}) here.at here.untouched words moment rows o end)
@@ -142,8 +152,8 @@ module _ {start : Office} (laws : Laws start) (Before : Image → Type 0) (lives
     reporting_made words wants o end (report_present visit) =
         let path = words.file.now in
         visited_made laws Before lives Holds back Wants o end (where_present (here.at path words.wait)) _ use_refused
-        (lives_printing words.paper o end) (λ fault why. unmet_made path words.wait fault why o end)
-        (met_image path words.wait) books_give (printed_on laws lives (where_present (here.at path words.wait)) words.paper o end)
+        (lives_printing words.paper o end) shut_files (λ fault why. unmet_made path words.wait fault why o end)
+        (met_image path words.wait) books_give books_clean (printed_on laws lives (where_present (here.at path words.wait)) words.paper o end)
         (printed_tells Wants words.paper wants o end) visit
 
     showing_made : (path : Text) (wait moment : ℕ) (wanted : Wanted) (o : Outputs) (end : CommandEnd)
@@ -156,8 +166,8 @@ module _ {start : Office} (laws : Laws start) (Before : Image → Type 0) (lives
         (λ q asks. absurd asks) vacant
     showing_made path wait moment wanted o end (shown_present visit) =
         visited_made laws Before lives Holds back Wants o end (where_present (here.at path wait)) _ use_refused
-        (λ old new done. reading_life moment (reading_of moment wanted old new o end done))
-        (λ fault why. unmet_made path wait fault why o end) (met_image path wait) books_give
+        (λ old new done. reading_life moment (reading_of moment wanted old new o end done)) shut_files
+        (λ fault why. unmet_made path wait fault why o end) (met_image path wait) books_give books_clean
         (looked_on laws lives (where_present (here.at path wait)) moment wanted o end) (λ old new done q asks. absurd asks) visit
 
     timed_made : (Idle : Type 0) (At : ℕ → Type 0) (o : Outputs) (end : CommandEnd) (made : (moment : ℕ) → At moment → RunUse disk)
@@ -190,7 +200,7 @@ module _ {start : Office} (laws : Laws start) (Before : Image → Type 0) (lives
               ));
           told = λ q asks. absurd asks;
           finds = λ holds. met_image words.file.now words.wait holds meets;
-          clean = λ all. clean_connection all audit.last;
+          clean = shut_clean audit.closed;
           given = closed_gives stays of back last audit.closed;
         }
 
@@ -203,14 +213,14 @@ module _ {start : Office} (laws : Laws start) (Before : Image → Type 0) (lives
           idle_on laws lives (here.at words.file.now words.wait) old old begins (λ life it. it) clean was.office was.stands was.lead);
       told = λ q asks. absurd asks;
       finds = λ holds. found_image words.file.now words.wait holds finds;
-      clean = λ all. clean_connection all old.conn;
+      clean = books_clean (seen_in old) closes;
       given = books_give (seen_in old) closes;
     }
     serving_made words o err_old err_new end (serve_open old begins finds were) =
         let place = here.at words.file.now words.wait in
-        served_made m.way m.clock.reads (forward_of words.transform) seen_in laws Before back place.closes place.loses ends_lost lives Holds Wants o end
+        served_made m.way m.clock.reads (forward_of words.transform) seen_in laws Before back place.closes place.loses ends_lost shut_files lives Holds Wants o end
         books_give (lost_state laws opens loses) (λ old fault lost. lost_none back (λ log db gone. gone.1) old fault lost)
-        (λ all books. clean_connection all books.conn) (of.image office words.file.now) (λ holds. found_image words.file.now words.wait holds finds)
+        books_clean (of.image office words.file.now) (λ holds. found_image words.file.now words.wait holds finds)
         words.connections (service were.listening old m.clock.answers) begins.opens were.last were.left were.printed were.served were.are_served were.closed
 
     -- what is asked for was done

@@ -18,8 +18,8 @@ use Rattle.vend_ports.specs.print.Told.{IsTold}
 use Rattle.vend_ports.specs.declared.command_end.CommandEnd.TheVariants.{Refused}
 use Rattle.program_laws.specs.Selling.{PrintsSale}
 use Rattle.program_laws.specs.runs.Asked.{AsksDesk, WordsSellAtDesk}
-use Rattle.program_laws.specs.runs.Files.{FindsImage, IsClean}
-use Rattle.program_laws.specs.runs.Here.{Here, HoldsSo, IsAlwaysClean, ProgramRun, use_of}
+use Rattle.program_laws.specs.runs.Files.{FindsImage, IsClean, LetsGoClean}
+use Rattle.program_laws.specs.runs.Here.{Here, HoldsSo, ProgramRun, use_of}
 use Rattle.program_laws.specs.runs.Steps.{Asks, AsksOrTells, Goes, IsOf}
 use Rattle.program_laws.specs.runs.Uses.{RunQuestion}
 use Rattle.program_laws.specs.runs.Words.{WordsRequest}
@@ -35,12 +35,13 @@ pub record KeepsEachRun {P D R W : Type 0} (here : Here P D R W) : Type 0 where
   pub goes_on : (start : Office) (lives : List Life) (o : Office) (run : ProgramRun here)
       → IsOffice start → LeadTo start lives o → FindsImage (use_of here run) (IsOf start lives)
       → IsClean (use_of here run) → ∥ ((more : List Life) × Goes here start run lives more) ∥₁
-  -- It finds that where all that its ports can find is so, and the disk returns what was written
-  -- where no file ever fails to.
+  -- It finds that where all that its ports can find is so.
   pub finds : (start : Office) (lives : List Life) (run : ProgramRun here)
       → HoldsSo here.disk here.of (here.office run.ports) (IsOf start lives)
       → FindsImage (use_of here run) (IsOf start lives)
-  pub clean : (run : ProgramRun here) → IsAlwaysClean here.disk → IsClean (use_of here run)
+  -- The disk returned what was written where the files that the run let go returned it: these
+  -- files, and no others of their kind.
+  pub clean : (run : ProgramRun here) → LetsGoClean (use_of here run) → IsClean (use_of here run)
   -- It asks of the office what its words ask. If they ask to sell an order or to print the receipt
   -- of a sale, it asks that, or tells why not.
   pub asks : (run : ProgramRun here) (q : RunQuestion) → Asks here run q

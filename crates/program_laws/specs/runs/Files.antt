@@ -1,5 +1,6 @@
 -- What the file held that a run found, and what it may hold after the run.
 use Rattle.std.specs.Prelude.{◌⊎◌, ⊤}
+use Rattle.sqlite.specs.Closing.{files_left}
 use Rattle.sqlite.specs.Files.{HoldsDatabase, IsCleanLeft, IsNothing, image_of}
 use Rattle.sqlite.specs.State.{HasCleanDisk, State}
 use Rattle.sqlite.specs.declared.file.Leftover.{Leftover}
@@ -47,7 +48,7 @@ module _ {M : Type 0} {g : disk.Ghosts M} where
   -- crash may leave of files in which nothing was ever written.
   abbrev pub MayHoldAfter : RunEnding g → Image → Type 0
   MayHoldAfter (left_blank files) image = outcomes g files.log files.db image
-  MayHoldAfter (let_go s) image = IsLeftBy s image
+  MayHoldAfter (let_go s files) image = IsLeftBy s image
   MayHoldAfter (cut_off s found left) image = IsLeftBy s image ⊎ MayLeaveOf found left image
 
   -- What it may hold after a run. Where no connection was made, what it held before, or what may be
@@ -60,7 +61,7 @@ module _ {M : Type 0} {g : disk.Ghosts M} where
   -- the disk returned what was written, also as the files were found again
   abbrev pub EndsClean : RunEnding g → Type 0
   EndsClean (left_blank files) = AreClean g files.log files.db
-  EndsClean (let_go s) = HasCleanDisk s
+  EndsClean (let_go s files) = HasCleanDisk s
   EndsClean (cut_off s found left) =
       HasCleanDisk s × AreClean g found.log found.db × IsCleanLeft left
 
@@ -68,3 +69,17 @@ module _ {M : Type 0} {g : disk.Ghosts M} where
   IsClean unseen = ⊤
   IsClean (unconnected found left) = IsCleanLeft left
   IsClean (connected image living last) = EndsClean last
+
+  -- The files returned what was written until they were let go. Where they were found again, they
+  -- had done so until then too.
+  abbrev pub IsLetGoClean : RunEnding g → Type 0
+  IsLetGoClean (left_blank files) = AreClean g files.log files.db
+  IsLetGoClean (let_go s files) = AreClean g files.log files.db
+  IsLetGoClean (cut_off s found left) =
+      AreClean g found.log found.db × AreClean g (files_left left).0 (files_left left).1
+
+  -- so did those that a run let go, where it saw anything of them
+  abbrev pub LetsGoClean : RunUse g → Type 0
+  LetsGoClean unseen = ⊤
+  LetsGoClean (unconnected found left) = AreClean g (files_left left).0 (files_left left).1
+  LetsGoClean (connected image living last) = IsLetGoClean last

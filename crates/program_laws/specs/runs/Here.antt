@@ -1,5 +1,5 @@
 -- One run of the program with the ports of a machine.
-use Rattle.std.specs.Prelude.{◌⊎◌, ℕ, IsTrue, List, Option}
+use Rattle.std.specs.Prelude.{◌⊎◌, ℕ, List, Option}
 use Rattle.sqlite.specs.Files.{over_files}
 use Rattle.sqlite_disk.specs.declared.Disk as disk
 use Rattle.sqlite_disk.specs.declared.Files.{Files}
@@ -55,10 +55,6 @@ module _ {M S H : Type 0} (disk : disk.Ghosts M) (of : file.Ghosts H M S) (offic
   HoldsSo Before = (path : Text) (wait : ℕ) (found : Files M)
       → of.finds office path wait found.log found.db ⊎ of.meets office path wait found.log found.db
       → AreFoundSo disk found Before × Before (of.image office path)
-
--- no file ever returned anything but what was written
-abbrev pub IsAlwaysClean : {M : Type 0} → disk.Ghosts M → Type 0
-IsAlwaysClean {M} disk = (it : M) → IsTrue (disk.is_clean it)
 
 module _ {P D R W : Type 0} (here : Here P D R W) where
   -- A run with the ports of a machine, as it is promised to go. One that was stopped goes as one

@@ -7,6 +7,7 @@ use Rattle.sqlite.specs.State.{State}
 use Rattle.sqlite.specs.declared.file.Leftover.{Leftover}
 use Rattle.sqlite_disk.specs.declared.Disk as disk
 use Rattle.sqlite_disk.specs.declared.Files.{Files}
+use Rattle.sqlite_store.specs.FileStore.{files as store_files}
 use Rattle.sqlite_trees.specs.declared.store.Store.{Ghosts}
 use Rattle.sqlite_wal.specs.Recovery.{Image}
 use Rattle.sts_fields.specs.Moment.{first_moment}
@@ -61,6 +62,8 @@ use Rattle.office_commands.specs.commands.Reported.IsReported.{present as report
 use Rattle.office_commands.specs.commands.Reported.IsReported.{vacant as report_vacant}
 use Rattle.vend_ports.specs.commands.Timed.{IsDoneAt}
 use Rattle.office_commands.specs.office.Served.{IsServedAndTold}
+use Rattle.office_commands.specs.office.Closed.{AreClosed, IsClosed}
+use Rattle.office_commands.specs.office.Closed.AreClosed.{closed, unclosed}
 use Rattle.office_commands.specs.office.Vacant.{IsVacant}
 use Rattle.office_commands.specs.office.Vacant.IsVacant.{blank as vacant_blank}
 use Rattle.office_commands.specs.office.Vacant.IsVacant.{without as vacant_without}
@@ -70,7 +73,7 @@ use Rattle.office_commands.specs.office.Visited.IsVisited.{visited as visit_open
 use Rattle.office_commands.specs.office.Lost.{IsUnreopened}
 use Rattle.office_commands.specs.office.Lost.IsUnreopened.{refused as lost_refused}
 use Rattle.office_commands.specs.office.Lost.IsUnreopened.{unsalted as lost_unsalted}
-use Rattle.office_commands.specs.port.Back.{is_untouched}
+use Rattle.office_commands.specs.port.Back.{is_untouched, lets_go_giving}
 use Rattle.office_commands.specs.port.Places.{IsUnopened, Place, places_of, where_present}
 use Rattle.vend_commands.specs.port.Machines.{Machine, Way}
 use Rattle.office_commands.specs.port.Places.IsUnopened.{unfound, unopened as found_unopened}
@@ -81,7 +84,7 @@ use Rattle.program_laws.specs.runs.Readings.{IsReadIn, IsSaleRead, Reading, empt
 use Rattle.program_laws.specs.runs.Readings.{reading_of}
 use Rattle.vend_commands.specs.serving.Connections.{AreServed, Service, service}
 use Rattle.program_laws.specs.Courses.{AreLived, Course, IsNext, course}
-use Rattle.vend_commands.specs.serving.Listening.{IsServing}
+use Rattle.vend_commands.specs.serving.Listening.{IsClosedAfter, IsServing}
 use Rattle.vend_commands.specs.serving.Listening.IsServing.{unheard as serve_unheard}
 use Rattle.vend_commands.specs.serving.Listening.IsServing.{unopened as serve_unopened}
 use Rattle.vend_commands.specs.serving.Listening.IsServing.{was_open as serve_open}
@@ -160,11 +163,12 @@ TellsSo (many_lives way forward count door answers last_door left) before lives
 -- ---- what a run made of the file
 
 -- how the file was left: no connection was made to these files, in which nothing was ever written;
--- or in this state the last one was let go; or then its files were found again, no connection could
--- be made to them, and this is what was left of them
+-- or in this state the last one was given up, and these were its files as they were let go; or then
+-- its files were found again, no connection could be made to them, and this is what was left of
+-- them
 pub data RunEnding {M : Type 0} (g : disk.Ghosts M) : Type 1 where
   left_blank : (files : Files M) → RunEnding g
-  let_go : State → RunEnding g
+  let_go : State → (files : Files M) → RunEnding g
   cut_off : State → (found : Files M) → (left : Leftover M g) → RunEnding g
 
 -- Nothing of the file was seen: none was found, or it was not looked into. Or it was found as these
@@ -175,6 +179,13 @@ pub data RunUse {M : Type 0} (g : disk.Ghosts M) : Type 1 where
   unconnected : (found : Files M) → (left : Leftover M g) → RunUse g
   connected : (image : Image) → (living : Living) → (last : RunEnding g) → RunUse g
 
+-- the files of a connection as they were let go, closed whole or not
+abbrev pub closed_files : {M : Type 0} → {disk : disk.Ghosts M}
+    → {LetsGo : (whole : Bool) → M → M → Type 0} → {s : State} → AreClosed disk LetsGo s → Files M
+closed_files (closed conn last here seen closes files copied gone) = here
+closed_files (unclosed conn last error seen closes fails gone) =
+    record { log = (store_files last).0; db = (store_files last).1 }
+
 -- where no office was opened
 abbrev pub use_refused : {M S : Type 0} → {disk : disk.Ghosts M} → {salts : source.Ghosts S}
     → {finds lets_go : M → M → Type 0} → {fails : OpenFault → Type 0} → (fault : OpenFault)
@@ -184,27 +195,30 @@ use_refused fault (found_unopened found finds (not_read before more is gone)) = 
 use_refused fault (found_unopened found finds (unsalted it lacks is gone)) = unseen
 use_refused {disk = disk} fault
     (found_unopened found finds (refused left (Connected last) why taken gone)) =
-    connected (image_of disk found) no_life (let_go (file_state last))
+    connected (image_of disk found) no_life (let_go (file_state last) left)
 use_refused fault (found_unopened found finds (refused left (Unconnected rest) why taken gone)) =
     unconnected found rest
 
--- a visit, by what is known where it opened none, and by how the office lives in it
+-- a visit, by what is known where it opened none, by how the office lives in it, and by the files
+-- that were let go as it was closed
 abbrev pub use_visited : {M S : Type 0} → {disk : disk.Ghosts M} → {store : Ghosts S}
     → {place : Place} → {transform : Shipped} → {Does : (old new : Seen) → Type 0}
     → {o : Outputs} → {end : CommandEnd}
     → ((fault : OpenFault) → place.fails fault → RunUse disk)
     → ((old new : Seen) → Does old new → Living)
+    → ((books : Seen) → place.closes books → Files M)
     → IsVisited store place transform Does o end → RunUse disk
-use_visited if_refused lives (visit_unopened fault fails told) = if_refused fault fails
-use_visited {place = place} if_refused lives (visit_opened old new opens finds does closes) =
-    connected place.image (lives (seen_in old) (seen_in new) does) (let_go (seen_in new).state)
+use_visited if_refused lives left (visit_unopened fault fails told) = if_refused fault fails
+use_visited {place = place} if_refused lives left (visit_opened old new opens finds does closes) =
+    connected place.image (lives (seen_in old) (seen_in new) does)
+    (let_go (seen_in new).state (left (seen_in new) closes))
 
 -- a file that has none of the office's tables: the empty office lived so, and the file is as it was
 abbrev pub use_vacant : {M : Type 0} → {disk : disk.Ghosts M} → (image : Image)
     → {lets_go : M → M → Type 0} → Living → IsVacant disk image lets_go → RunUse disk
 use_vacant image living (vacant_blank left is gone) = connected image living (left_blank left)
 use_vacant image living (vacant_without conn left is taken gone) =
-    connected image living (let_go (file_state conn))
+    connected image living (let_go (file_state conn) left)
 
 -- a request that was served, and a paper that was printed
 abbrev pub lives_asking : (transform : Shipped) → (moment : ℕ) → (request : Request)
@@ -257,30 +271,34 @@ use_timed Idle At o end at None idle = unseen
 abbrev pub ends_lost : {M S : Type 0} → {disk : disk.Ghosts M} → {salts : source.Ghosts S}
     → {lets_go : M → M → Type 0} → (old : Seen) → (fault : OpenFault)
     → IsUnreopened disk salts lets_go old fault → RunEnding disk
-ends_lost old fault (lost_unsalted it lacks is conn seen left taken gone) = let_go old.state
+ends_lost old fault (lost_unsalted it lacks is conn seen left taken gone) = let_go old.state left
 ends_lost old fault (lost_refused it salt draws conn seen (Connected last) why left taken gone) =
-    let_go (file_state last)
+    let_go (file_state last) left
 ends_lost old fault
     (lost_refused it salt draws conn seen (Unconnected rest) why left taken gone) =
     cut_off old.state why.2.here rest
 
--- connections that are served, by how lost books end
+-- connections that are served, by how lost books end, and by the files that were let go as others
+-- were closed
 abbrev pub use_served : {M D R W B : Type 0} → {disk : disk.Ghosts M} → (way : Way D R W)
     → (gives : ℤ → Type 0) → (forward : BlockFunction) → (see : B → Seen)
     → (loses : Seen → OpenFault → Type 0)
-    → ((old : Seen) → (fault : OpenFault) → loses old fault → RunEnding disk) → (wanted : ℕ)
+    → ((old : Seen) → (fault : OpenFault) → loses old fault → RunEnding disk)
+    → (closes : Seen → Type 0) → ((books : Seen) → closes books → Files M) → (wanted : ℕ)
     → (old : Service D B) → (door : D) → (answers : Option (List ℤ)) → (printed : Text) → Image
     → (served : Result (B × Bool) OpenFault)
-    → AreServed way gives forward see loses wanted old door answers served printed → RunUse disk
-use_served way gives forward see loses ends wanted old door answers printed image (Ok (books, true))
-    held = connected image (many_lives way forward wanted old.door old.answers door answers)
-    (let_go (see books).state)
-use_served way gives forward see loses ends wanted old door answers printed image
-    (Ok (books, false)) none = connected image
+    → AreServed way gives forward see loses wanted old door answers served printed
+    → IsClosedAfter (λ books. closes (see books)) served → RunUse disk
+use_served way gives forward see loses ends closes left wanted old door answers printed image
+    (Ok (books, true)) held shut = connected image
+    (many_lives way forward wanted old.door old.answers door answers)
+    (let_go (see books).state (left (see books) shut))
+use_served way gives forward see loses ends closes left wanted old door answers printed image
+    (Ok (books, false)) none shut = connected image
     (many_lives way forward none.count old.door old.answers none.last.door none.last.answers)
-    (let_go (see books).state)
-use_served way gives forward see loses ends wanted old door answers printed image (Err fault) lost =
-    connected image
+    (let_go (see books).state (left (see books) shut))
+use_served way gives forward see loses ends closes left wanted old door answers printed image
+    (Err fault) lost shut = connected image
     (many_lives way forward lost.count old.door old.answers lost.last.door lost.last.answers)
     (ends (see lost.last.books) fault lost.lost.1)
 
@@ -293,6 +311,10 @@ module _ {M S H D R W : Type 0} (disk : disk.Ghosts M) (salts : source.Ghosts S)
     untouched = is_untouched of office back;
   }
 
+  -- the files of books as they were let go
+  abbrev pub files_let_go : (books : Seen) → IsClosed disk (lets_go_giving of back) books → Files M
+  files_let_go books closes = closed_files closes
+
   -- one request
   abbrev pub use_asked : (transform : Shipped) → (path : Text) → (wait moment : ℕ)
       → (request : Request) → (o : Outputs) → (end : CommandEnd)
@@ -300,7 +322,7 @@ module _ {M S H D R W : Type 0} (disk : disk.Ghosts M) (salts : source.Ghosts S)
       → RunUse disk
   use_asked transform path wait moment request o end asks =
       use_visited {place = with_file.at path wait} use_refused
-      (lives_asking transform moment request o end) asks
+      (lives_asking transform moment request o end) files_let_go asks
 
   abbrev pub use_added : (words : ImportWords) → (moment : ℕ)
       → (rows : Result (List Row) RowFault) → (o : Outputs) → (end : CommandEnd)
@@ -325,7 +347,7 @@ module _ {M S H D R W : Type 0} (disk : disk.Ghosts M) (salts : source.Ghosts S)
       use_vacant (of.image office words.file.now) (lives_empty words.paper o end printed) vacant
   use_reported words o end (report_present visit) =
       use_visited {place = where_present (with_file.at words.file.now words.wait)} use_refused
-      (lives_printing words.paper o end) visit
+      (lives_printing words.paper o end) files_let_go visit
 
   -- a look-up, or a list
   abbrev pub use_shown : (path : Text) → (wait moment : ℕ) → (wanted : Wanted) → (o : Outputs)
@@ -337,7 +359,8 @@ module _ {M S H D R W : Type 0} (disk : disk.Ghosts M) (salts : source.Ghosts S)
       (reading_life moment (empty_reading moment wanted o end read)) vacant
   use_shown path wait moment wanted o end (shown_present visit) =
       use_visited {place = where_present (with_file.at path wait)} use_refused
-      (λ old new done. reading_life moment (reading_of moment wanted old new o end done)) visit
+      (λ old new done. reading_life moment (reading_of moment wanted old new o end done))
+      files_let_go visit
 
   abbrev pub use_serving : (words : ServeWords) → (err_old err_new : Sink) → (end : CommandEnd)
       → IsServing (over_files {g = disk}) m.way with_file.at m.door m.clock words err_old
@@ -347,12 +370,13 @@ module _ {M S H D R W : Type 0} (disk : disk.Ghosts M) (salts : source.Ghosts S)
   use_serving words err_old err_new end
       (serve_unheard old opens finds last deaf leaves closes ends) =
       connected (of.image office words.file.now) (idle_life words.transform)
-      (let_go (seen_in old).state)
+      (let_go (seen_in old).state (files_let_go (seen_in old) closes))
   use_serving words err_old err_new end (serve_open old opens finds were) =
       use_served m.way m.clock.reads (forward_of words.transform) seen_in
-      (with_file.at words.file.now words.wait).loses ends_lost words.connections
+      (with_file.at words.file.now words.wait).loses ends_lost
+      (with_file.at words.file.now words.wait).closes files_let_go words.connections
       (service were.listening old m.clock.answers) were.last were.left were.printed
-      (of.image office words.file.now) were.served were.are_served
+      (of.image office words.file.now) were.served were.are_served were.closed
 
   abbrev pub use_audited : (words : AuditWords) → (o : Outputs) → (end : CommandEnd)
       → IsAudited (with_file.at words.file.now words.wait) (option_map forward_of words.transform)
@@ -362,7 +386,8 @@ module _ {M S H D R W : Type 0} (disk : disk.Ghosts M) (salts : source.Ghosts S)
   use_audited words o end (audit_vacant (meets, vacant) told) =
       use_vacant (of.image office words.file.now) no_life vacant
   use_audited words o end (audit_looked answer meets audit told) =
-      connected (of.image office words.file.now) no_life (let_go (file_state audit.last))
+      connected (of.image office words.file.now) no_life
+      (let_go (file_state audit.last) (closed_files audit.closed))
 
   -- what is asked for
   abbrev pub use_carried : (asked : Asked) → (o : Outputs) → (end : CommandEnd)

@@ -1,6 +1,6 @@
 -- Connections that are served one after another, each over the bytes of its own.
-use Rattle.std.specs.Prelude.{◌≡◌, ◌⊎◌, ℕ, ℤ, zero, suc, ◌<◌, Bool, true, false, if◌then◌else◌}
-use Rattle.std.specs.Prelude.{List, [], ◌++◌, Option, Result, Ok, Err}
+use Rattle.std.specs.Prelude.{◌≡◌, ◌⊎◌, ℕ, ℤ, zero, suc, ◌<◌, ◌&&◌, not, Bool, true, false}
+use Rattle.std.specs.Prelude.{if◌then◌else◌, List, [], ◌++◌, Option, Result, Ok, Err}
 use Rattle.sqlite.specs.State.{HasCleanDisk}
 use Rattle.books.specs.Keeps.{Represents, Seen}
 use Rattle.books.specs.Others.{LeavesOthers}
@@ -75,26 +75,37 @@ module _ {B : Type 0} (see : B → Seen) where
   abbrev pub AreLost : (Seen → OpenFault → Type 0) → B → OpenFault → Type 0
   AreLost loses old fault = ((see old).stopped ≡ true) × loses (see old) fault
 
--- what is printed of books once they are made ready: if they were stopped, that they are open again
+-- what is printed of books once they are made ready: if they were stopped by a read that failed,
+-- that they are open again
 abbrev pub open_text : Seen → Text
-open_text books = if books.stopped then open_line else []
+open_text books = if (books.stopped && not books.write_failed) then open_line else []
 
--- and behind a connection: if it left them stopped, that they are
+-- and behind a connection: if a write had failed before it and one was made since, that they are
+-- open again, since writes work
+abbrev pub written_text : (had_failed : Bool) → Seen → Text
+written_text had_failed books =
+    if (had_failed && not books.write_failed) then open_line else []
+
+-- and if it left them stopped, that they are
 abbrev pub stopped_text : Seen → Text
 stopped_text books = if books.stopped then stopped_line else []
+
+abbrev pub end_text : (had_failed : Bool) → Seen → Text
+end_text had_failed books = written_text had_failed books ++ stopped_text books
 
 module _ {D R W B : Type 0} (way : Way D R W) (gives : ℤ → Type 0) (forward : BlockFunction)
     (see : B → Seen) where
   -- So many connections, one after another, and before each the books are made ready. What is
-  -- printed by then: each time that a connection left the books stopped, and that they were open
-  -- again before the next one, in that order, and nothing else.
+  -- printed by then, in that order, and nothing else: each time that a connection left the books
+  -- stopped; and each time that they were open again, before the next one where a read had stopped
+  -- them, and where a write had, behind the first one that left a write made.
   abbrev pub AreHeld : ℕ → (old new : Service D B) → (printed : Text) → Type 0
   AreHeld zero old new printed = (new ≡ old) × (printed ≡ [])
   AreHeld (suc count) old new printed = (mid : Service D B) × (before : Text)
       × AreHeld count old mid before
       × ((ready : B) × AreReady see forward mid.books ready
       × IsHeld way gives see (service mid.door ready mid.answers) new)
-      × (printed ≡ before ++ (open_text (see mid.books) ++ stopped_text (see new.books)))
+      × (printed ≡ before ++ (open_text (see mid.books) ++ end_text (see mid.books).write_failed (see new.books)))
 
   -- one could not be had after fewer than were asked for
   pub record IsRefused (asked : ℕ) (old new : Service D B) (printed : Text) : Type 0 where

@@ -1,6 +1,6 @@
 -- The edit of a granted request fits the office: its meter's tariff is there, its identifier is in
 -- range, and there is room.
-use Rattle.std.proofs.Common.{◌≡◌, ℕ, ◌<◌, ◌≤◌, Bool, true, false, List, [], ◌∷◌, Option, Some, None, Result, Ok, Err, IsSome, bytes_eq, is_some, length, nat_lt, refl, sym, subst, inl, inr, if◌then◌else◌, arith}
+use Rattle.std.proofs.Common.{◌≡◌, ℕ, ◌<◌, ◌≤◌, Bool, true, false, List, [], ◌∷◌, Option, Some, None, Result, Ok, Err, IsSome, bytes_eq, is_some, length, nat_lt, refl, sym, subst, inl, inr, if◌then◌else◌, arith, ◌⊎◌}
 use Rattle.std.proofs.lemmas.Bool.Decides.{nat_tests}
 use Rattle.std.proofs.lemmas.Option.{none-some, same_Some}
 use Rattle.std.specs.Option.{ok_or}
@@ -10,9 +10,9 @@ use Rattle.sts_fields.specs.Day.{day_at}
 use Rattle.sts_fields.specs.declared.base.Base.{Base}
 use Rattle.tariff.specs.Purchase.{purchase_of}
 use Rattle.tariff.specs.declared.step.Step.{Step}
-use Rattle.office_rules.specs.Decision.{◌>>=◌, MeterAccount, add_meter, add_rows, add_steps, add_tariff, changed, close_shift, decision, decision_of, import, is_earlier, meter_eq, move_base, new_rows, account_of, next_number, open_a_shift, or_refusal, report, reprint, sell, sell_again, sell_once, set_tariff, steps_eq, unchanged}
-use Rattle.office_rules.specs.Decision.Facts.{IsUnlessMemory}
-use Rattle.vend_core.specs.Lists.{AddsRow, Fits, sets_only}
+use Rattle.office_rules.specs.Decision.{◌>>=◌, MeterAccount, add_meter, add_rows, add_steps, add_tariff, changed, close_shift, decision, decision_of, import, is_earlier, is_new, meter_eq, move_base, new_rows, account_of, next_number, open_a_shift, or_refusal, report, reprint, sell, sell_again, sell_once, set_tariff, steps_eq, unchanged}
+use Rattle.office_rules.specs.Decision.Facts.{IsUnlessMemory, TakesMemory}
+use Rattle.vend_core.specs.Lists.{AddsRow, CopiesList, Fits, sets_only}
 use Rattle.office_rules.specs.Decision.Edits.{RowsFit}
 use Rattle.office_rules.specs.Office.Lookup.{open_shift, sale_numbered, sale_of_ref, sales_of_shift, shift_numbered}
 use Rattle.office_rules.specs.Office.{Office, greatest_count}
@@ -180,3 +180,39 @@ pub adds_if_decided : (forward : ℕ → ℕ → ℕ) (o : Office) (at : Stamped
 adds_if_decided forward o at change edit (inl is) edits sets_not =
     subst AddsRow is (edit, edits, adds_if_not_set edit (sets_only edit) refl sets_not)
 adds_if_decided forward o at change edit (inr is) edits sets_not = cc
+
+-- ---- want of memory
+
+room_for_tariff : (name : List ℕ) (steps : List Step) (there : Option (List Step)) → is_new (add_tariff name steps there) ≡ Ok true
+    → IsSome there ⊎ AddsRow (add_tariff name steps there)
+room_for_tariff name steps None new = inr (edits.AddTariff name steps, refl, refl)
+room_for_tariff name steps (Some there) new = inl refl
+
+room_for_day : (name : List ℕ) (day : ℕ) (steps : List Step) (later : Bool)
+    → is_new (if later then changed (edits.AddSteps name day steps) answers.Done else Err refusals.DayPast) ≡ Ok true
+    → AddsRow (if later then changed (edits.AddSteps name day steps) answers.Done else Err refusals.DayPast)
+room_for_day name day steps true new = (edits.AddSteps name day steps, refl, refl)
+room_for_day name day steps false new = cc
+
+room_for_steps : (name : List ℕ) (day : ℕ) (steps : List Step) (today : ℕ) (tariff there : Option (List Step))
+    → is_new (add_steps name day steps today (is_some tariff) there) ≡ Ok true
+    → (IsSome tariff × IsSome there) ⊎ AddsRow (add_steps name day steps today (is_some tariff) there)
+room_for_steps name day steps today None there new = cc
+room_for_steps name day steps today (Some first) (Some there) new = inl (refl, refl)
+room_for_steps name day steps today (Some first) None new = inr (room_for_day name day steps (nat_lt today day) new)
+
+-- what takes memory to be decided copies a list, or adds a row
+pub room_if_taken : (forward : ℕ → ℕ → ℕ) (o : Office) (moment nibble : ℕ) (request : Request) → TakesMemory o moment request
+    → CopiesList o moment request ⊎ AddsRow (decision_of forward o moment nibble request)
+room_if_taken forward o moment nibble (AddTariff name steps) takes = room_for_tariff name steps (o.tariffs name) takes
+room_if_taken forward o moment nibble (AddSteps name day steps) takes =
+    room_for_steps name day steps (day_at moment) (o.tariffs name) (o.dated_steps name day) takes
+room_if_taken forward o moment nibble (AddMeter number m) takes = absurd takes
+room_if_taken forward o moment nibble (Import rows) takes = inl tt
+room_if_taken forward o moment nibble (SetTariff number name) takes = absurd takes
+room_if_taken forward o moment nibble (MoveBase number base) takes = absurd takes
+room_if_taken forward o moment nibble (OpenShift operator) takes = absurd takes
+room_if_taken forward o moment nibble (CloseShift operator) takes = absurd takes
+room_if_taken forward o moment nibble (Sell order) takes = absurd takes
+room_if_taken forward o moment nibble (Reprint number) takes = absurd takes
+room_if_taken forward o moment nibble (ShiftReport number) takes = inl takes

@@ -1,5 +1,7 @@
 -- For how long a use of a connection may wait, in nanoseconds.
 use Rattle.std.specs.Prelude.{◌≡◌, ℕ, ◌+◌, ◌<◌, ◌≤◌, ◌⊎◌, Bool, true, false, Option, None, Some, min}
+use Rattle.std.specs.Prelude.{List, [], ◌∷◌}
+use Rattle.std.specs.List.{AllByRecursion, sum}
 use Rattle.std.specs.Duration.{as_nanos}
 use Rattle.std.specs.declared.time.Duration.{Duration}
 
@@ -32,6 +34,38 @@ IsNextWait tells most vain (Some passed) (Some wait) =
     MayWait most (as_nanos passed) vain (as_nanos wait)
     ⊎ ((most ≤ as_nanos passed) × tells false × IsLeft longest_wait vain (as_nanos wait))
 
+-- the time that a connection has for what is read of it while others wait, from its beginning: 60
+-- seconds
+abbrev pub reading_time : ℕ
+reading_time = 60000000000
+
+-- and that which all its writes may wait: 30 seconds
+abbrev pub writing_time : ℕ
+writing_time = 30000000000
+
+-- ---- of all uses
+
+-- By its uses a connection became another, and each of them waited no longer than one of these
+-- times, the last one first.
+abbrev pub AreWaits : {S : Type 0} → (waits : S → ℕ → S → Type 0) → List ℕ → (first last : S)
+    → Type 0
+AreWaits waits [] first last = last ≡ first
+AreWaits {S} waits (wait ∷ before) first last =
+    (mid : S) × AreWaits waits before first mid × waits mid wait last
+
+-- they waited no longer than that in all
+abbrev pub WaitInAll : {S : Type 0} → (waits : S → ℕ → S → Type 0) → (most : ℕ) → (first last : S)
+    → Type 0
+WaitInAll waits most first last =
+    (times : List ℕ) × (sum times ≤ most) × AreWaits waits times first last
+
+-- each of them waited no longer than that
+abbrev pub WaitEach : {S : Type 0} → (waits : S → ℕ → S → Type 0) → (most : ℕ) → (first last : S)
+    → Type 0
+WaitEach waits most first last =
+    (times : List ℕ) × AllByRecursion (λ wait. wait ≤ most) times
+    × AreWaits waits times first last
+
 -- ---- at a desk
 
 -- the time that a command has at a desk for all that it does there, from its call: 120 seconds
@@ -45,6 +79,10 @@ IsWaitLeft None None = ⊥
 IsWaitLeft None (Some wait) = as_nanos wait ≡ command_time
 IsWaitLeft (Some passed) None = command_time ≤ as_nanos passed
 IsWaitLeft (Some passed) (Some wait) = IsLeft command_time (as_nanos passed) (as_nanos wait)
+
+-- so long the desk may let it wait for the connection: 10 seconds
+abbrev pub connecting_time : ℕ
+connecting_time = 10000000000
 
 -- nothing is told of the first two seconds of a wait
 abbrev pub quiet_time : ℕ

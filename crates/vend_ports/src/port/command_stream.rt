@@ -1,21 +1,25 @@
 //! The connection with a desk that a command has, and for how long it waits there.
 
-ghost use Rattle.std.specs.Prelude.{◌≡◌};
+ghost use Rattle.std.specs.Prelude.{◌≡◌, IfSome, ◌≤◌};
+ghost use Rattle.std.specs.Duration.{as_nanos};
+ghost use Rattle.std.specs.Io.{ReadsAtMost, WritesAtMost};
+ghost use Rattle.std.specs.Io.KnownBytes.{ReadConsumes, WriteAppends};
+ghost use Rattle.vend_ports.specs.port.Waits.{WaitEach, command_time};
 
-use crate::port::machine_door::HasOptions;
+use crate::port::network::{Connection, ReadsWithin, WritesWithin};
+use crate::port::terminal::Terminal;
 use crate::port::wait::{passed_since, slice, wait_left};
 use crate::print::lines::put_waiting;
 use crate::print::watched::Watched;
-use std::io::{self, ErrorKind, IsTerminal, Read, Write};
-use std::net::{OpenStream, Shutdown};
-use std::time::{Duration, Instant};
+use std::io::{self, ErrorKind, Read, Write};
+use std::time::{Clock, Duration, Instant};
 
 /// A stream that is read and written until the command's time is over, which is one for all that
 /// it does. Once a use of it has waited for two seconds, the terminal where the error output goes
 /// is told so, once; where it goes elsewhere nothing is.
 #[derive(Drop)]
-pub struct CommandStream<'a, S> {
-    rt: &'a HostRuntime,
+pub struct CommandStream<'a, H, S> {
+    host: &'a H,
     inner: S,
     // None where the clock could not be read.
     began: Option<Instant>,
@@ -23,22 +27,24 @@ pub struct CommandStream<'a, S> {
     tells: bool,
 }
 
-impl<'a, S> CommandStream<'a, S> {
+impl<'a, H: Clock + Terminal, S> CommandStream<'a, H, S> {
     /// Nothing has been read or written. The command's time began then.
-    pub(crate) fn new(rt: &'a HostRuntime, began: Option<Instant>, inner: S) -> CommandStream<'a, S>
+    pub(crate) fn new(host: &'a H, began: Option<Instant>, inner: S) -> CommandStream<'a, H, S>
         ensures { result.inner ≡ inner }
     {
         CommandStream {
-            rt,
+            host,
             inner,
             began,
-            tells: rt.stderr().is_terminal(),
+            tells: host.screen().is_some(),
         }
     }
 
     // For how long it waits next, if it may.
-    fn next_wait(&self) -> Option<Duration> {
-        match wait_left(passed_since(self.began, self.rt)) {
+    fn next_wait(&self) -> Option<Duration>
+        ensures { IfSome result (λ wait. as_nanos wait ≤ command_time) }
+    {
+        match wait_left(passed_since(self.began, self.host)) {
             Some(left) => Some(slice(left, self.tells)),
             None => None,
         }
@@ -50,31 +56,34 @@ impl<'a, S> CommandStream<'a, S> {
     {
         if self.tells {
             self.tells = false;
-            put_waiting(&mut Watched::new(&mut self.rt.stderr()));
+            if let Some(mut screen) = self.host.screen() {
+                put_waiting(&mut Watched::new(&mut screen));
+            }
         }
     }
 }
 
-impl<S: OpenStream> CommandStream<'_, S> {
+impl<H, S: Connection> CommandStream<'_, H, S> {
     /// Nothing more is written. The other end is told so.
     pub(crate) fn end_writing(&self) -> io::Result<()> {
-        self.inner.shutdown(Shutdown::Write)
+        self.inner.end_writing()
     }
 }
 
-impl<S: Read + HasOptions> Read for CommandStream<'_, S> {
+impl<H: Clock + Terminal, S: ReadsWithin> Read for CommandStream<'_, H, S> {
     ghost remaining = { λ stream. S.remaining stream.inner };
 
-    fn read(&mut self, buf: &mut [u8]) -> io::Result<usize> {
+    fn read(&mut self, buf: &mut [u8]) -> io::Result<usize>
+        ensures bound { ReadsAtMost result buf.new }
+        ensures bytes { ReadConsumes (S.remaining self.old.inner) (S.remaining self.new.inner)
+            result buf.new }
+        ensures waits { WaitEach S.waits command_time self.old.inner self.new.inner }
+    {
         for _ in 0..u64::MAX {
             let Some(wait) = self.next_wait() else {
                 return Err(ErrorKind::TimedOut.into());
             };
-            // Without it a desk that hangs would hold the command for ever.
-            if let Err(error) = self.inner.read_within(wait) {
-                return Err(error);
-            }
-            match self.inner.read(buf) {
+            match self.inner.read_within(wait, buf) {
                 Err(error) if error.kind() == ErrorKind::WouldBlock => self.tell(),
                 result => return result,
             }
@@ -83,19 +92,20 @@ impl<S: Read + HasOptions> Read for CommandStream<'_, S> {
     }
 }
 
-impl<S: Write + HasOptions> Write for CommandStream<'_, S> {
+impl<H: Clock + Terminal, S: WritesWithin> Write for CommandStream<'_, H, S> {
     ghost contents = { λ stream. S.contents stream.inner };
 
-    fn write(&mut self, buf: &[u8]) -> io::Result<usize> {
+    fn write(&mut self, buf: &[u8]) -> io::Result<usize>
+        ensures bound { WritesAtMost result buf.now }
+        ensures bytes { WriteAppends (S.contents self.old.inner) (S.contents self.new.inner)
+            result buf.now }
+        ensures waits { WaitEach S.waits command_time self.old.inner self.new.inner }
+    {
         for _ in 0..u64::MAX {
             let Some(wait) = self.next_wait() else {
                 return Err(ErrorKind::TimedOut.into());
             };
-            // As for a read.
-            if let Err(error) = self.inner.write_within(wait) {
-                return Err(error);
-            }
-            match self.inner.write(buf) {
+            match self.inner.write_within(wait, buf) {
                 Err(error) if error.kind() == ErrorKind::WouldBlock => self.tell(),
                 result => return result,
             }
@@ -104,6 +114,6 @@ impl<S: Write + HasOptions> Write for CommandStream<'_, S> {
     }
 
     fn flush(&mut self) -> io::Result<()> {
-        self.inner.flush()
+        Ok(())
     }
 }

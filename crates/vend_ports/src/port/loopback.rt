@@ -1,18 +1,12 @@
 //! A connection that a command makes: of the machine with itself, or with a desk that runs.
 
-ghost use Rattle.std.specs.Prelude.{⊤, IfErr, IfOk};
+ghost use Rattle.std.specs.Prelude.{IfErr, IfOk};
 ghost use Rattle.sts_fields.specs.Text.{Text};
 ghost use Rattle.command_line.specs.declared.address.Address.{Address};
 ghost use Rattle.vend_ports.specs.port.Sent.{IsSent};
 
-use crate::port::command_stream::CommandStream;
 use command_line::Address;
 use std::io::{self, Read, Write};
-use std::net::{Net, OpenListener, OpenStream, TcpListener, TcpStream};
-use std::time::{Duration, Instant};
-
-// For so many seconds a desk may let a caller wait for the connection.
-const CONNECTING: u64 = 10;
 
 /// What the one connection that a command makes comes of: of the machine with itself, where the
 /// command has both ends, or with a desk. It is had once.
@@ -63,59 +57,4 @@ pub trait Loopback: Drop {
     /// Leaves it as it is. Whatever this is given, it can do nothing with it.
     fn leave<T: Drop>(it: T)
         ensures { leaves T it };
-}
-
-// A stream of this machine.
-type HostStream = <HostRuntime as Net>::Stream;
-
-impl<'a> Loopback for &'a HostRuntime {
-    type Stream = CommandStream<'a, HostStream>;
-
-    ghost joins = { λ _ _. ⊤ };
-
-    ghost connects = { λ _ _ _ _ _. ⊤ };
-
-    ghost lacks = { λ _. ⊤ };
-
-    ghost calls = { λ _ _ _. ⊤ };
-
-    ghost misses = { λ _ _. ⊤ };
-
-    ghost ends = { λ _ _. ⊤ };
-
-    ghost leaves = { λ _ _. ⊤ };
-
-    fn connect(self, text: &[u8]) -> io::Result<(Self::Stream, Self::Stream, Self::Stream)> {
-        let began = Instant::now(self).ok();
-        let listener = TcpListener::bind(self, "127.0.0.1:0")?;
-        let stream = TcpStream::connect(self, listener.local_addr()?)?;
-        let mut near = CommandStream::new(self, began, stream);
-        near.write_all(text)?;
-        near.end_writing()?;
-        let (far, _) = listener.accept()?;
-        // Else each reply but the first waits for the one before to be acknowledged.
-        far.set_nodelay(true)?;
-        let reader = CommandStream::new(self, began, far.try_clone()?);
-        let far = CommandStream::new(self, began, far);
-        Ok((near, reader, far))
-    }
-
-    fn call(self, address: Address) -> io::Result<Self::Stream> {
-        let began = Instant::now(self).ok();
-        let patience = Duration::from_secs(CONNECTING);
-        let stream = TcpStream::connect_timeout(self, &address.socket(), patience)?;
-        Ok(CommandStream::new(self, began, stream))
-    }
-
-    fn end<S: Drop>(stream: S)
-        ensures { ⊤ }
-    {
-        drop(stream);
-    }
-
-    fn leave<T: Drop>(it: T)
-        ensures { ⊤ }
-    {
-        drop(it);
-    }
 }

@@ -1,73 +1,80 @@
 //! The connections of this machine.
 
-ghost use Rattle.std.specs.Prelude.{◌≡◌, ◌≢◌, ⊤, ℕ, IfSome};
+ghost use Rattle.std.specs.Prelude.{◌≡◌, ◌≢◌, ⊤, IfSome, IsSomeAnd};
+ghost use Rattle.vend_ports.specs.port.Port.{ListensAt};
 
 use crate::port::door::Door;
+use crate::port::network::{Connection, Listener, Network};
 use crate::port::patient::PatientReader;
 use crate::port::patient_writer::PatientWriter;
 use crate::port::queue::Listening;
-use crate::port::wait::PATIENCE;
 use command_line::Address;
 use conversation::End;
 use std::alloc::Global;
-use std::io;
-use std::net::{Net, OpenListener, OpenStream, TcpListener};
 use std::rc::Rc;
-use std::time::{Clock, Duration};
+use std::time::Clock;
 
 /// Connections to a port of this machine.
 #[derive(Drop)]
-pub struct MachineDoor<'a, N: Net> {
+pub struct MachineDoor<'a, N: Network, K> {
     net: &'a N,
+    clock: &'a K,
     alloc: Global,
     listening: Option<Rc<Listening<N::Listener>>>,
 }
 
-impl<'a, N: Net> MachineDoor<'a, N> {
+impl<'a, N: Network, K> MachineDoor<'a, N, K> {
     /// A door that does not listen yet.
-    pub fn new(net: &'a N, alloc: Global) -> MachineDoor<'a, N> {
+    pub fn new(net: &'a N, clock: &'a K, alloc: Global) -> MachineDoor<'a, N, K> {
         MachineDoor {
             net,
+            clock,
             alloc,
             listening: None,
         }
     }
 }
 
-impl<'a, N: Net + Clock> Door for MachineDoor<'a, N> {
-    type Reader = PatientReader<'a, N, Rc<Listening<N::Listener>>, N::Stream>;
+impl<'a, N: Network, K: Clock> Door for MachineDoor<'a, N, K> {
+    type Reader = PatientReader<'a, K, Rc<Listening<N::Listener>>, N::Stream>;
 
-    type Writer = PatientWriter<'a, N, Rc<Listening<N::Listener>>, N::Stream>;
+    type Writer = PatientWriter<'a, K, Rc<Listening<N::Listener>>, N::Stream>;
 
-    ghost listens = { λ _ _ _ _. ⊤ };
+    // At just the address that was asked for, and no wider one.
+    ghost listens = { λ old address port new. IsSomeAnd new.listening (λ listening.
+        ListensAt N.listens N.Listener.has_port old.net.now listening.value.listener address port) };
 
     ghost fails = { λ _ _ _. ⊤ };
 
-    ghost accepts = { λ _ _ _ _. ⊤ };
+    // What is read and what is written are of one connection, and each use of it waits for so long
+    // at the most (`PatientReader`, `PatientWriter`).
+    ghost accepts = { λ old reader writer new. (new ≡ old)
+        × N.Stream.are_one writer.inner reader.inner };
 
-    ghost refuses = { λ _ _. ⊤ };
+    ghost refuses = { λ old new. new ≡ old };
 
     ghost ends = { λ old _ _ _ new. new ≡ old };
 
     ghost leaves = { λ _ _. ⊤ };
 
     fn listen(&mut self, address: Address) -> Option<u16> {
-        let listener = TcpListener::bind(self.net, address.socket()).ok()?;
+        let listener = self.net.listen_at(address.socket()).ok()?;
         let port = port_of(&listener, address.port)?;
         self.listening = Rc::new(self.alloc, Listening::new(listener)).ok();
         self.listening.as_ref()?;
         Some(port)
     }
 
-    // A connection of which there can be no second half counts as one that cannot be had.
-    // A wait that the system interrupts goes on: `accept` of std sees to that.
+    // A connection that cannot be had twice counts as one that cannot be had.
     fn accept(&mut self) -> Option<(Self::Reader, Self::Writer)> {
         let listening = self.listening.as_ref()?;
         let stream = listening.accept()?;
-        set_options(&stream);
-        let half = stream.try_clone().ok()?;
-        let reader = PatientReader::new(self.net, listening.clone().ok()?, half);
-        let writer = PatientWriter::new(self.net, listening.clone().ok()?, stream);
+        // Else a reply may wait until the peer acknowledges the one before. A connection that
+        // refuses it is served all the same.
+        let _ = stream.send_at_once();
+        let again = stream.again().ok()?;
+        let reader = PatientReader::new(self.clock, listening.clone().ok()?, again);
+        let writer = PatientWriter::new(self.clock, listening.clone().ok()?, stream);
         Some((reader, writer))
     }
 
@@ -83,68 +90,11 @@ impl<'a, N: Net + Clock> Door for MachineDoor<'a, N> {
     }
 }
 
-/// The options of a connection, and no right to read it, to write to it or to shut it.
-pub trait HasOptions {
-    /// Sends each piece at once, and not after the peer has acknowledged the one before.
-    fn send_at_once(&self) -> io::Result<()>;
-
-    /// Waits so long for the peer to send something.
-    fn read_within(&self, patience: Duration) -> io::Result<()>;
-
-    /// Waits so long for the peer to take something.
-    fn write_within(&self, patience: Duration) -> io::Result<()>;
-}
-
-impl<S: OpenStream> HasOptions for S {
-    fn send_at_once(&self) -> io::Result<()> {
-        self.set_nodelay(true)
-    }
-
-    fn read_within(&self, patience: Duration) -> io::Result<()> {
-        self.set_read_timeout(Some(patience))
-    }
-
-    fn write_within(&self, patience: Duration) -> io::Result<()> {
-        self.set_write_timeout(Some(patience))
-    }
-}
-
-/// Readies a connection for a conversation. One that refuses an option is served all the same.
-pub fn set_options<S: HasOptions>(stream: &S) {
-    // Else a reply may wait until the peer acknowledges the one before.
-    let _ = stream.send_at_once();
-    // Else one silent peer holds up all that come after it.
-    let patience = Duration::from_secs(PATIENCE);
-    let _ = stream.read_within(patience);
-    let _ = stream.write_within(patience);
-}
-
-/// What has a port of its own, where that can be told.
-trait HasPort {
-    /// It has this one.
-    ghost has: { Self → ℕ → Type 0 };
-
-    /// The port.
-    fn own_port(&self) -> Option<u16>
-        ensures { IfSome result (has self.now) };
-}
-
-impl<L: OpenListener> HasPort for L {
-    ghost has = { λ _ _. ⊤ };
-
-    fn own_port(&self) -> Option<u16> {
-        match self.local_addr() {
-            Ok(address) => Some(address.port()),
-            Err(_) => None,
-        }
-    }
-}
-
 // The port that a listener has, where that can be told: the one that was asked for, or with 0 the
 // one that the system chose, which is never 0.
-fn port_of<L: HasPort>(listener: &L, asked: u16) -> Option<u16>
+fn port_of<L: Listener>(listener: &L, asked: u16) -> Option<u16>
     ensures asked { asked ≢ 0 → IfSome result (λ port. port ≡ asked) }
-    ensures chosen { asked ≡ 0 → IfSome result (L.has listener.now) }
+    ensures chosen { asked ≡ 0 → IfSome result (L.has_port listener.now) }
     ensures some { IfSome result (λ port. port ≢ 0) }
 {
     if asked != 0 {

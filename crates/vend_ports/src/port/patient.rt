@@ -1,13 +1,16 @@
 //! A stream that is read for so long while others wait, and where little comes at a time with
 //! patience.
 
-ghost use Rattle.std.specs.Prelude.{◌≡◌};
+ghost use Rattle.std.specs.Prelude.{◌≡◌, Option};
+ghost use Rattle.std.specs.Duration.{as_nanos};
 ghost use Rattle.std.specs.Io.{ReadsAtMost};
 ghost use Rattle.std.specs.Io.KnownBytes.{ReadConsumes};
+ghost use Rattle.std.specs.declared.time.Duration.{Duration as Time};
+ghost use Rattle.vend_ports.specs.port.Waits.{IsNextWait, WaitInAll, longest_wait, reading_time};
 
-use crate::port::machine_door::HasOptions;
+use crate::port::network::ReadsWithin;
 use crate::port::queue::Queue;
-use crate::port::wait::{PATIENCE, next_wait, passed_since};
+use crate::port::wait::{next_wait, passed_since};
 use std::io::{self, ErrorKind, Read};
 use std::time::{Clock, Duration, Instant};
 
@@ -33,12 +36,10 @@ pub struct PatientReader<'a, K, Q, R> {
     little: u16,
     // None where the clock could not be read.
     began: Option<Instant>,
-    // How long the system has a read wait.
-    wait: Duration,
 }
 
-impl<'a, K: Clock, Q: Queue, R: Read> PatientReader<'a, K, Q, R> {
-    /// Nothing has been read, and each read waits for as long as any may. Its time begins now.
+impl<'a, K: Clock, Q: Queue, R: ReadsWithin> PatientReader<'a, K, Q, R> {
+    /// Nothing has been read. Its time begins now.
     pub(crate) fn new(clock: &'a K, queue: Q, inner: R) -> PatientReader<'a, K, Q, R>
         ensures { result.inner ≡ inner }
     {
@@ -48,12 +49,14 @@ impl<'a, K: Clock, Q: Queue, R: Read> PatientReader<'a, K, Q, R> {
             inner,
             little: 0,
             began: Instant::now(clock).ok(),
-            wait: Duration::from_secs(PATIENCE),
         }
     }
 
     // For how long a read may wait next that has waited for so long in vain, if it may.
-    fn next_wait(&self, vain: Duration) -> Option<Duration> {
+    fn next_wait(&self, vain: Duration) -> Option<Duration>
+        ensures { (passed : Option Time)
+            × IsNextWait (Q.tells self.now.queue) reading_time (as_nanos vain) passed result }
+    {
         let most = Duration::from_secs(READING);
         next_wait(
             &self.queue,
@@ -64,24 +67,21 @@ impl<'a, K: Clock, Q: Queue, R: Read> PatientReader<'a, K, Q, R> {
     }
 }
 
-impl<K: Clock, Q: Queue, R: Read + HasOptions> PatientReader<'_, K, Q, R> {
+impl<K: Clock, Q: Queue, R: ReadsWithin> PatientReader<'_, K, Q, R> {
     // Reads some bytes as soon as they come. After each wait in which none came it looks again
     // whether it may wait: so a client that is alone is not left for those who might have waited.
     fn read_in_time(&mut self, buf: &mut [u8]) -> io::Result<usize>
         ensures bound { ReadsAtMost result buf.new }
         ensures bytes { ReadConsumes (R.remaining self.old.inner) (R.remaining self.new.inner)
             result buf.new }
+        ensures waits { WaitInAll R.waits longest_wait self.old.inner self.new.inner }
     {
         let mut vain = Duration::from_secs(0);
         for _ in 0..u64::MAX {
             let Some(wait) = self.next_wait(vain) else {
                 return Err(ErrorKind::TimedOut.into());
             };
-            if wait != self.wait {
-                let _ = self.inner.read_within(wait);
-                self.wait = wait;
-            }
-            match self.inner.read(buf) {
+            match self.inner.read_within(wait, buf) {
                 Err(error) if error.kind() == ErrorKind::WouldBlock => {
                     vain = vain.saturating_add(wait);
                 }
@@ -92,10 +92,15 @@ impl<K: Clock, Q: Queue, R: Read + HasOptions> PatientReader<'_, K, Q, R> {
     }
 }
 
-impl<K: Clock, Q: Queue + Drop, R: Read + HasOptions> Read for PatientReader<'_, K, Q, R> {
+impl<K: Clock, Q: Queue + Drop, R: ReadsWithin> Read for PatientReader<'_, K, Q, R> {
     ghost remaining = { λ reader. R.remaining reader.inner };
 
-    fn read(&mut self, buf: &mut [u8]) -> io::Result<usize> {
+    fn read(&mut self, buf: &mut [u8]) -> io::Result<usize>
+        ensures bound { ReadsAtMost result buf.new }
+        ensures bytes { ReadConsumes (R.remaining self.old.inner) (R.remaining self.new.inner)
+            result buf.new }
+        ensures waits { WaitInAll R.waits longest_wait self.old.inner self.new.inner }
+    {
         if self.little >= MANY {
             self.clock.sleep(Duration::from_millis(PAUSE));
         }

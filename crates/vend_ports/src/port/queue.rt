@@ -1,9 +1,9 @@
 //! Who waits at a door while a connection is held.
 
-ghost use Rattle.std.specs.Prelude.{Bool, ⊤};
+ghost use Rattle.std.specs.Prelude.{◌≡◌, Bool, ⊤};
 
+use crate::port::network::Listener;
 use std::cell::Cell;
-use std::net::OpenListener;
 use std::rc::Rc;
 
 /// What tells whether somebody waits.
@@ -18,14 +18,16 @@ pub trait Queue {
 
 /// A listener, and the connection that was taken while another one was held.
 #[derive(Drop)]
-pub struct Listening<L: OpenListener> {
+pub struct Listening<L: Listener> {
     listener: L,
     next: Cell<Option<L::Stream>>,
 }
 
-impl<L: OpenListener> Listening<L> {
+impl<L: Listener> Listening<L> {
     /// Nobody was taken yet.
-    pub(crate) fn new(listener: L) -> Listening<L> {
+    pub(crate) fn new(listener: L) -> Listening<L>
+        ensures { result.listener ≡ listener }
+    {
         Listening {
             listener,
             next: Cell::new(None),
@@ -36,39 +38,21 @@ impl<L: OpenListener> Listening<L> {
     pub(crate) fn accept(&self) -> Option<L::Stream> {
         match self.next.replace(None) {
             Some(stream) => Some(stream),
-            None => taken(&self.listener),
+            None => self.listener.taken(),
         }
     }
 }
 
-impl<L: OpenListener> Queue for Rc<Listening<L>> {
+impl<L: Listener> Queue for Rc<Listening<L>> {
     ghost tells = { λ _ _. ⊤ };
 
     fn has_next(&self) -> bool {
         let next = match self.next.replace(None) {
             Some(stream) => Some(stream),
-            None => taken_at_once(&self.listener),
+            None => self.listener.taken_at_once(),
         };
         let has = next.is_some();
         self.next.set(next);
         has
     }
-}
-
-// The next connection, once there is one.
-fn taken<L: OpenListener>(listener: &L) -> Option<L::Stream> {
-    match listener.accept() {
-        Ok((stream, _)) => Some(stream),
-        Err(_) => None,
-    }
-}
-
-// The next connection, if it is there.
-fn taken_at_once<L: OpenListener>(listener: &L) -> Option<L::Stream> {
-    if listener.set_nonblocking(true).is_err() {
-        return None;
-    }
-    let next = taken(listener);
-    let _ = listener.set_nonblocking(false);
-    next
 }

@@ -13,14 +13,14 @@ returns-in_err-test_reached-clause-found g c =
 pub returns-in-Some-clause-passes : goal.returns-in-Some-clause-passes
 returns-in-Some-clause-passes g c =
     passed_by g.T.BlockTransform.forwards c.args.transform c.args.rows.now c.in_ok-test_reached.ensures.passes c.in-Some.transform
-    c.in-Some.is c.test_tokens.result
-    c.test_tokens.ensures.passes
+    c.in-Some.is c.test_written.result
+    c.test_written.ensures.passes
 
 pub returns-in-Some-clause-found : goal.returns-in-Some-clause-found
 returns-in-Some-clause-found g c =
     told_by g.T.BlockTransform.forwards c.args.transform c.args.rows.now c.in_ok-test_reached.ensures.passes c.in-Some.transform
-    c.in-Some.is c.test_tokens.result
-    c.test_tokens.ensures.found
+    c.in-Some.is c.test_written.result
+    c.test_written.ensures.found
 
 pub returns-in-None-clause-passes : goal.returns-in-None-clause-passes
 returns-in-None-clause-passes g c =

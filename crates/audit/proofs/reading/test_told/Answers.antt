@@ -11,7 +11,7 @@ use Rattle.audit.proofs.reading.test_told.Goals as goal
 
 pub returns-in-Err-clause-reads : goal.returns-in-Err-clause-reads
 returns-in-Err-clause-reads g c = told_stops c.args.format c.requires.some c.requires.known
-    (λ _ _. ⊥) c.in-Err.error c.cause_of.result c.cause_of.ensures c.in-Err.ensures.reads
+    c.rows_law.ensures.no_format (λ _ _. ⊥) c.in-Err.error c.cause_of.result c.cause_of.ensures c.in-Err.ensures.reads
 
 pub returns-then-eq-clause-tells : goal.returns-then-eq-clause-tells
 returns-then-eq-clause-tells g c clean has =

@@ -30,7 +30,7 @@ rows-preserved g c =
       apart = each_more (IsNew g.K.KeyOf.key c.args.rows.now) c.args.rows.now c.rows.at row there
           (is_new g.K.KeyOf.key c.args.rows.now c.rows.places c.rows.at row there c.of.result c.of.ensures c.rows.invariant.places new) c.rows.invariant.apart;
       places = λ q. places_more g.K.KeyOf.key c.args.rows.now c.rows.places c.rows.at row there c.of.result c.of.ensures
-          c.rows.invariant.places new c.insert.new.self c.in-Ok-None.ensures.updates q;
+          c.rows.invariant.places c.insert.new.self c.in-Ok-None.ensures.updates q;
     }
 
 pub returns-clause-apart : goal.returns-clause-apart

@@ -1,30 +1,13 @@
-use Rattle.std.proofs.Common.{◌≡◌, ◌≤◌, ◌<◌, ◌∙◌, List, Some, ap, arith, length, rules, subst, sym}
+use Rattle.std.proofs.Common.{◌≡◌, ◌∙◌, List, Some, ap, arith, length, subst, sym}
 use Rattle.std.specs.Prelude.{slice_get}
 use Rattle.std.proofs.lemmas.Bool.{false≢true}
 use Rattle.std.proofs.lemmas.Option.{slice_get_within}
 use Rattle.vend_core.specs.Law.Reached.{IsWrittenBy}
 use Rattle.office_rules.specs.Office.{IsSaleRow}
 use Rattle.office_rules.specs.declared.office.sale.Sale.{Sale}
-use Rattle.book_tables.specs.declared.reading.pages.MeterRow.{MeterRow}
-use Rattle.audit_rows.specs.declared.finding.Rule.TheVariants as rule
-use Rattle.audit_lists.specs.RowKeys.{meter_key}
-use Rattle.audit_lists.specs.Tables.{listed_meters}
-use Rattle.audit_lists.specs.Ties.{IsFirst, Says, once}
-use Rattle.audit_lists.specs.Tokens.{TellsUnwritten}
 use Rattle.audit_lists.proofs.EachLemmas.{each_more, row_at}
 use Rattle.audit_lists.proofs.ListLemmas.{all_at, all_from}
-use Rattle.audit_lists.proofs.ReachedLemmas.FaultLemmas.{told_on}
-use Rattle.audit_lists.proofs.TokenLemmas.{tells_twice}
 use Rattle.audit_lists.proofs.tokens.test_tokens.Goals as goal
-
-pub returns-in_err-places-clause-found : goal.returns-in_err-places-clause-found
-returns-in_err-places-clause-found g c =
-    let r = c.args.rows.now in
-    let forward = g.T.BlockTransform.forwards c.args.transform.now in
-    let e = c.in_err-places.field-0.0 in
-    let found = subst (λ (l : List MeterRow). Says (IsFirst (once (listed_meters l) rule.Twice meter_key)) e) c.deref.ensures.value
-    c.in_err-places.ensures.found in
-    told_on (TellsUnwritten forward r) c.from_residual.result e c.from_residual.ensures.1 (tells_twice forward r rule.Twice e (search rules) found)
 
 pub returns-then-not-is_written-clause-found : goal.returns-then-not-is_written-clause-found
 returns-then-not-is_written-clause-found g c o are =

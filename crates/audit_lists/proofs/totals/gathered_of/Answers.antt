@@ -2,8 +2,8 @@ use Rattle.std.proofs.Common.{◌+◌, ◌≤◌, ◌^◌, List, [], arith, leng
 use Rattle.office_rules.specs.declared.office.sale.Sale.{Sale}
 use Rattle.audit_lists.proofs.totals.gathered_of.Goals as goal
 
-pub returns-in-Ok-clause-gathered : goal.returns-in-Ok-clause-gathered
-returns-in-Ok-clause-gathered c =
+pub returns : goal.returns
+returns c =
     let none : List Sale = [] in
     let few : 0 + length c.args.sales.now ≤ 2 ^ 32 = omega (arith, c.requires) in
-    c.in-Ok.ensures none few c.new-gathered.ensures
+    c.in_ok-add_all.ensures none few c.new-gathered.ensures

@@ -49,12 +49,12 @@ returns-in-Ok-clause-failures g c clean tables =
           subst (λ n. AreFactsSeen n at old.now c.in-Ok.facts) is (c.in-Ok.ensures.shown clean has);
     } in
     refused_by_facts forward at c.args.next_number old (state g.S.Store c.facts_of.new.conn) c.in-Ok.facts read c.decided_by.result
-    c.decided_by.ensures.decided c.decided_by.ensures.no_store.0
+    (c.decided_by.ensures.exact, c.decided_by.ensures.decided) c.decided_by.ensures.no_store.0
 
 pub returns-in-Err-clause-failures : goal.returns-in-Err-clause-failures
 returns-in-Err-clause-failures g c clean tables =
     inl (told_of_read (state g.S.Store c.args.conn.now) (state g.S.Store c.facts_of.new.conn) c.in-Err.error c.refusal_of.result
-    c.refusal_of.ensures.value (c.in-Err.ensures.reads.faults clean tables) clean
+    c.refusal_of.ensures.value (c.in-Err.ensures.reads.faults clean tables) (c.in-Err.ensures.spoilt clean tables) clean
     (c.facts_of.ensures.reads.survives tables))
 
 pub returns-in-Ok-clause-read : goal.returns-in-Ok-clause-read
@@ -69,4 +69,4 @@ returns-in-Ok-clause-read g c clean =
           subst (λ n. AreFactsSeen n at old.now c.in-Ok.facts) is (c.in-Ok.ensures.shown clean has);
     } in
     granted_by_facts forward at c.args.next_number old (state g.S.Store c.facts_of.new.conn) c.in-Ok.facts read c.decided_by.result
-    c.decided_by.ensures.decided c.decided_by.ensures.prior
+    (c.decided_by.ensures.exact, c.decided_by.ensures.decided) c.decided_by.ensures.prior

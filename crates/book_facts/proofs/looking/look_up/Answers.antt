@@ -1,32 +1,27 @@
-use Rattle.std.proofs.Common.{◌≡◌, arith, length, rules, IsTrue, ap, inl, inr, Err, refl, subst}
+use Rattle.std.proofs.Common.{rules, IsTrue, ap, inl, inr, Err, refl}
 use Rattle.sqlite.specs.Held.{state}
-use Rattle.book_facts.specs.LookupsSeen.{FindsSeen}
 use Rattle.book_facts.proofs.TellsLemmas.{tells_failed, tells_read}
 use Rattle.book_facts.proofs.looking.look_up.Goals as goal
 
 pub returns-in-Ok-clause-found : goal.returns-in-Ok-clause-found
-returns-in-Ok-clause-found g c clean o at next =
-    let count : c.saturating_sub.result ≡ length o.sales = omega (arith, c.saturating_sub.ensures, next) in
-    inl (c.in-Ok.ensures.looks.facts clean o at.office at.members count)
+returns-in-Ok-clause-found g c clean o at told = inl (c.in-Ok.ensures.finds.looks.facts clean o at.office at.members told)
 
 pub returns-in-Err-clause-found : goal.returns-in-Err-clause-found
-returns-in-Err-clause-found g c clean o at next =
+returns-in-Err-clause-found g c clean o at told =
     inr (elim c.refusal_of.ensures.either [ inl memory ↦ inl (ap (λ r. Err r) memory) | inr failed ↦ inr (ap (λ r. Err r) failed) ])
 
 pub returns-in-Ok-clause-tells : goal.returns-in-Ok-clause-tells
 returns-in-Ok-clause-tells g c =
     let old = state g.S.Store c.args.conn.now in
-    tells_read c.in-Ok.found old (state g.S.Store c.found_of.new.conn) c.in-Ok.ensures.looks.reads (λ same. same)
+    tells_read c.in-Ok.found old (state g.S.Store c.found_of.new.conn) c.in-Ok.ensures.finds.looks.reads (λ same. same)
     (g.met.S.Store.shut_if_dirty c.args.conn.now.store) c.requires
-    (λ clean has. inl (λ count next.
-    let is : c.saturating_sub.result ≡ count = omega (arith, c.saturating_sub.ensures, next) in
-    subst (λ n. FindsSeen n c.args.moment c.args.lookup.now old.now c.in-Ok.found) is (c.in-Ok.ensures.looks.shown clean has)))
-    c.in-Ok.ensures.rules (λ own. own.not_stopped refl)
+    (λ clean has. inl (c.in-Ok.ensures.finds.looks.shown clean has)) c.in-Ok.ensures.finds.rules (λ own. own.not_stopped refl)
 
 pub returns-in-Err-clause-tells : goal.returns-in-Err-clause-tells
 returns-in-Err-clause-tells g c =
     let outside : IsTrue c.is_autocommit-settled.result = search rules in
     tells_failed (state g.S.Store c.args.conn.now) (state g.S.Store c.found_of.new.conn) c.in-Err.error c.refusal_of.result
-    c.refusal_of.ensures.value c.refusal_of.ensures.either c.in-Err.ensures.looks.reads (c.is_autocommit-settled.ensures.settled outside)
+    c.refusal_of.ensures.value c.refusal_of.ensures.either c.in-Err.ensures.finds.looks.reads c.in-Err.ensures.finds.looks.spoilt
+    (c.is_autocommit-settled.ensures.settled outside)
     (g.met.S.Store.shut_if_dirty c.args.conn.now.store) c.requires
     (inr (elim c.refusal_of.ensures.either [ inl memory ↦ inl (ap (λ r. Err r) memory) | inr failed ↦ inr (ap (λ r. Err r) failed) ]))

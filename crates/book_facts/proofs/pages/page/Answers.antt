@@ -1,11 +1,8 @@
-use Rattle.std.proofs.Common.{rules, IsTrue, Ok, sym, ◌∙◌}
+use Rattle.std.proofs.Common.{rules, IsTrue, Ok}
 use Rattle.sqlite.specs.Held.{state}
-use Rattle.book_states.proofs.FailingLemmas.{has_failed}
 use Rattle.book_states.proofs.StayLemmas.{has_tables, unchanged_same}
-use Rattle.book_tables.specs.reading.Questions.{the_sales_after}
-use Rattle.book_tables.specs.reading.Seen.{HasSpoilt}
-use Rattle.book_tables.proofs.OfficeTableLemmas.{has_table, read_in_office, sales_in}
-use Rattle.book_facts.proofs.LooksLemmas.{first_shown}
+use Rattle.book_tables.proofs.OfficeTableLemmas.{read_in_office, sales_in}
+use Rattle.book_facts.proofs.LooksLemmas.{first_shown, first_spoilt}
 use Rattle.book_facts.proofs.PageLemmas.{page_of}
 use Rattle.book_facts.proofs.TellsLemmas.{tells_failed, tells_read}
 use Rattle.book_facts.proofs.pages.page.Goals as goal
@@ -29,11 +26,4 @@ returns-in-Err-clause-tells g c =
     let outside : IsTrue c.is_autocommit-settled.result = search rules in
     tells_failed (state g.S.Store c.args.conn.now) (state g.S.Store c.sales_after.new.conn) c.in-Err.error c.refusal_of.result
     c.refusal_of.ensures.value c.refusal_of.ensures.either (read_in_office sales_in c.in-Err.ensures.reads)
-    (c.is_autocommit-settled.ensures.settled outside) (g.met.S.Store.shut_if_dirty c.args.conn.now.store) c.requires tt
-
-pub returns-in-Err-clause-spoilt : goal.returns-in-Err-clause-spoilt
-returns-in-Err-clause-spoilt g c clean tables is =
-    let old = state g.S.Store c.args.conn.now in
-    has_failed old (state g.S.Store c.sales_after.new.conn) (HasSpoilt (the_sales_after c.args.number c.args.limit)) c.in-Err.error
-    ((read_in_office sales_in c.in-Err.ensures.reads).faults clean tables)
-    (c.in-Err.ensures.sees.spoilt clean (has_table sales_in old tables)) (sym c.refusal_of.ensures.value ∙ is)
+    (first_spoilt sales_in c.in-Err.ensures.sees) (c.is_autocommit-settled.ensures.settled outside) (g.met.S.Store.shut_if_dirty c.args.conn.now.store) c.requires tt

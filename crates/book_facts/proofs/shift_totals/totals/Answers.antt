@@ -27,6 +27,6 @@ returns-in-Err-clause-tells g c =
     let old = state g.S.Store c.args.conn.now in
     let outside : IsTrue c.is_autocommit-settled.result = search rules in
     tells_failed old (state g.S.Store c.totals_of.new.conn) c.in-Err.error c.refusal_of.result c.refusal_of.ensures.value
-    c.refusal_of.ensures.either c.in-Err.ensures.reads (c.is_autocommit-settled.ensures.settled outside)
+    c.refusal_of.ensures.either c.in-Err.ensures.reads c.in-Err.ensures.spoilt (c.is_autocommit-settled.ensures.settled outside)
     (g.met.S.Store.shut_if_dirty c.args.conn.now.store) c.requires
     (no_totals c.args.number old.now c.refusal_of.result c.refusal_of.ensures.either)

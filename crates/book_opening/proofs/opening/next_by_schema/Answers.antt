@@ -3,6 +3,7 @@ use Rattle.sqlite.specs.Held.{state}
 use Rattle.book_tables.specs.Holds.{HasOfficeOf}
 use Rattle.book_tables.specs.row.Rows.{present_format}
 use Rattle.book_states.proofs.StayLemmas.{nothing_same}
+use Rattle.book_opening.specs.NoOffice.IsNoOffice.{by_tables}
 use Rattle.book_opening.proofs.CauseLemmas.{fails_schema}
 use Rattle.book_opening.proofs.EndingLemmas.{refuses_nothing}
 use Rattle.book_opening.proofs.LookingLemmas.{has_found}
@@ -66,8 +67,11 @@ returns-in-Ok-None-clause-ends g c opens =
     let it = c.in-Ok-None in
     let none : (n : ℕ) → n ≤ present_format → ¬ HasOfficeOf n old.now.schema = λ n known has. absurd
     (let e = sym it.field-0-is ∙ (it.ensures.found n known).1 (subst (HasOfficeOf n) (sym c.schema.ensures.value) has) in cc) in
-    refuses_nothing old old _ (λ _. (nothing_same old).same) (nothing_same old).survives
-    (λ clean o at. let stands = at.now (opens clean) in none stands.format stands.known stands.held.1.has)
+    refuses_nothing old old _ (λ _. (nothing_same old).same) (nothing_same old).survives (λ clean. record {
+      is_open = opens clean;
+      named = by_tables none;
+      none = λ o at. let stands = at.now (opens clean) in none stands.format stands.known stands.held.1.has;
+    })
 
 pub returns-in-Err-clause-ends : goal.returns-in-Err-clause-ends
 returns-in-Err-clause-ends g c opens =

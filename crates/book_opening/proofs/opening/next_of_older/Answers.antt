@@ -1,4 +1,4 @@
-use Rattle.std.proofs.Common.{rules, Err, IsTrue, ap, arith, length, refl}
+use Rattle.std.proofs.Common.{rules, Err, IsTrue, arith, refl, sym, ◌∙◌}
 use Rattle.sqlite.specs.Held.{state}
 use Rattle.sqlite.specs.Effect.{Database, IsDatabase}
 use Rattle.sqlite.specs.State.{HasCleanDisk, IsUnchanged}
@@ -6,7 +6,8 @@ use Rattle.one_table.proofs.ReadsOnlyLemmas.{fail_as}
 use Rattle.book_tables.specs.Holds.{HasOfficeOf}
 use Rattle.audit.specs.Fails.{IsNoOffices}
 use Rattle.audit.specs.Shown.{AreOfficeRows}
-use Rattle.book_opening.proofs.BringingLemmas.{audit_tells, next_of_rows, none_of, rows_after, rows_there, sound_with}
+use Rattle.book_opening.proofs.BringingLemmas.{audit_tells, none_of, rows_after, rows_there, sold_of_rows, sound_with}
+use Rattle.book_opening.specs.NoOffice.IsNoOffice.{by_audit}
 use Rattle.book_opening.proofs.CauseLemmas.{fails_after, fails_audit, fails_bringing}
 use Rattle.book_opening.proofs.EndingLemmas.{ends_after, ends_brought, ends_looked, ends_unbrought, known_after}
 use Rattle.book_opening.proofs.opening.next_of_older.Goals as goal
@@ -19,8 +20,9 @@ returns-in-Err-clause-ends g c has =
     let fault = c.fault_of_audit.result in
     ends_looked old new {T = Unit {0}} fault (Err fault) refl has (c.is_autocommit-outside.ensures.settled outside)
     (fail_as fault (Err fault) refl c.in-Err.ensures.reads
-    (audit_tells IsNoOffices old new (λ f. none_of f old.now) c.in-Err.fault fault c.fault_of_audit.ensures.kind
-    c.fault_of_audit.ensures.value))
+    (audit_tells IsNoOffices old new c.args.from c.requires.some (omega (arith, c.requires.older)) has
+    (λ there f found. (by_audit c.args.from c.requires.some c.requires.older there f found, none_of f old.now found))
+    c.in-Err.fault fault c.fault_of_audit.ensures.kind c.fault_of_audit.ensures.value))
 
 pub returns-clause-ends : goal.returns-clause-ends
 returns-clause-ends g c has =
@@ -37,8 +39,8 @@ returns-clause-ends g c has =
     let with = sound_with c.args.from rows old mid shut same has given c.deref.result.now c.deref-2.result.now c.deref.ensures.value c.deref-2.ensures.value in
     ends_after old mid new _ same (reads.survives has)
     (ends_brought c.args.from mid new c.requires.older opens (λ clean. rows_there c.args.from mid.now rows (after clean))
-    (c.bring_office.ensures.survives opens with) _ (λ clean. next_of_rows c.args.from rows mid _
-    (omega (arith, c.len.ensures, c.deref-2.ensures.len, ap length c.deref-2.ensures.value)) (opens clean) (after clean))
+    (c.bring_office.ensures.survives opens with) c.of_sales.result (λ clean. sold_of_rows c.args.from rows mid c.of_sales.result
+    (λ o is. c.of_sales.ensures o (is ∙ sym c.deref-3.ensures.value)) (opens clean) (after clean))
     (λ clean. c.in_ok-bring_office.ensures.brought clean with))
 
 pub returns-in_err-bring_office-clause-ends : goal.returns-in_err-bring_office-clause-ends

@@ -34,7 +34,8 @@ returns-in-Err-clause-ends g c has =
     let fault = c.fault_of_audit.result in
     ends_looked old new {T = Unit {0}} fault (Err fault) refl has (c.is_autocommit-outside.ensures.settled outside)
     (fail_as fault (Err fault) refl c.in-Err.ensures.reads
-    (audit_tells (λ _ _. ⊥) old new (λ f none. absurd none) c.in-Err.fault fault c.fault_of_audit.ensures.kind c.fault_of_audit.ensures.value))
+    (audit_tells (λ _ _. ⊥) old new present_format (omega arith) (omega arith) has (λ _ f none. absurd none)
+    c.in-Err.fault fault c.fault_of_audit.ensures.kind c.fault_of_audit.ensures.value))
 
 pub returns-in-Ok-clause-fails : goal.returns-in-Ok-clause-fails
 returns-in-Ok-clause-fails g c opens has clean =

@@ -1,4 +1,4 @@
-use Rattle.std.proofs.Common.{◌≡◌, ◌∙◌, Ok, Err, false, List, ℕ, [], ◌+◌, ◌++◌, drop, ap, refl, subst, sym, arith, append_assoc, append-nil}
+use Rattle.std.proofs.Common.{◌≡◌, ◌∙◌, Ok, Err, false, List, ℕ, [], ◌+◌, ◌++◌, drop, ap, subst, sym, arith, append_assoc, append-nil}
 use Rattle.std.proofs.Math.ListN.{drop_of_length-le}
 use Rattle.std.proofs.lemmas.List.{drop-drop, length-drop, take_rest}
 use Rattle.conversation.specs.message.Heads.{longest_head}

@@ -1,6 +1,6 @@
 use Rattle.std.proofs.Common.{◌≡◌, ℤ, List}
 use Rattle.conversation.specs.Exchanges.{clocked}
-use Rattle.conversation.specs.Uses.{AreOpen, Use, reads_in, received, written}
+use Rattle.conversation.specs.Uses.{AreOpen, Use, least_read, reads_in, received, window_behind, written}
 use Rattle.conversation.proofs.RunLemmas.{Answered, Used}
 use Rattle.conversation.proofs.conversation.run.Given as goal
 
@@ -16,4 +16,5 @@ invariant-reads g l = record {
   answered : Answered (clocked (g.C.Clock.reads l.fn.clock) g.S.Service.step) (l.fn.office, g.C.Clock.answers l.fn.clock)
       (received uses) (written uses) l.unanswered.bytes.items l.wants (l.office, g.C.Clock.answers l.clock);
   counted : reads_in uses ≡ l.made;
+  window : l.unanswered.window ≡ window_behind least_read uses;
 }

@@ -1,4 +1,4 @@
-use Rattle.std.proofs.Common.{◌≡◌, ◌∙◌, ◌+◌, ◌≤◌, true, not, is_ok, length, take, drop, ap, arith}
+use Rattle.std.proofs.Common.{◌≡◌, ◌∙◌, ◌+◌, ◌≤◌, min, true, not, is_ok, length, take, drop, ap, arith}
 use Rattle.std.proofs.lemmas.Bool.{cond-true}
 use Rattle.std.proofs.lemmas.List.{length-drop, length-take-le}
 use Rattle.conversation.proofs.BufferLemmas.{read_behind, read_none}
@@ -23,7 +23,7 @@ returns-in-Ok g c =
     let come = length-take-le count (drop filled after) fits in
     let came : length (take count (drop filled after)) ≤ length (drop filled mid) =
     omega (arith, come, fits, length-drop filled after, length-drop filled mid, long_enough) in
-    let within : length (drop filled mid) ≤ c.args.wanted = omega (arith, length-drop filled mid, room, c.min-room.ensures) in
+    let within : length (drop filled mid) ≤ min c.args.wanted c.args.window = omega (arith, length-drop filled mid, room, c.min-room.ensures) in
     record {
       read = (
         take count (drop filled after),
@@ -47,7 +47,7 @@ returns-else-is_interrupted-clause-read g c =
     let long : filled ≡ length old = omega (arith, c.len-filled.ensures, c.args.buffer.now.ok.0) in
     let all = c.resize.ensures.len ∙ cond-true _ _ _ ok in
     let room : length mid ≤ filled + c.min-room.result = omega (arith, all, c.resize.new.self.ok.0) in
-    let within : length (drop filled mid) ≤ c.args.wanted = omega (arith, length-drop filled mid, room, c.min-room.ensures) in
+    let within : length (drop filled mid) ≤ min c.args.wanted c.args.window = omega (arith, length-drop filled mid, room, c.min-room.ensures) in
     let passed = passed_by (drop filled after) c.in-Err.error c.is_interrupted.result c.is_interrupted.ensures in
     let gave = rw c.if-is_interrupted.false at passed in (
       c.in-Err.ensures.bytes,
@@ -66,7 +66,7 @@ returns-then-is_interrupted-clause-read g c =
     let long : filled ≡ length old = omega (arith, c.len-filled.ensures, c.args.buffer.now.ok.0) in
     let all = c.resize.ensures.len ∙ cond-true _ _ _ ok in
     let room : length mid ≤ filled + c.min-room.result = omega (arith, all, c.resize.new.self.ok.0) in
-    let within : length (drop filled mid) ≤ c.args.wanted = omega (arith, length-drop filled mid, room, c.min-room.ensures) in
+    let within : length (drop filled mid) ≤ min c.args.wanted c.args.window = omega (arith, length-drop filled mid, room, c.min-room.ensures) in
     let passed = passed_by (drop filled after) c.in-Err.error c.is_interrupted.result c.is_interrupted.ensures in
     let gave = rw c.if-is_interrupted.true at passed in (
       c.in-Err.ensures.bytes,

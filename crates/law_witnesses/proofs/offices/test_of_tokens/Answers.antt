@@ -9,11 +9,11 @@ use Rattle.book_tables.specs.reading.Reading.{HasAllTables}
 use Rattle.books.specs.Keeps.{seen}
 use Rattle.vend_core.specs.Law.Life.{present}
 use Rattle.law_witnesses.specs.Offices.{life_of}
-use Rattle.law_witnesses.proofs.OfficeLemmas.{leads, memory_alone, one_forward}
+use Rattle.law_witnesses.proofs.OfficeLemmas.{found_nothing, leads, one_forward}
 use Rattle.law_witnesses.proofs.offices.test_of_tokens.Goals as goal
 
-pub returns-in-Ok : goal.returns-in-Ok
-returns-in-Ok c =
+pub returns-in-Ok-Ok : goal.returns-in-Ok-Ok
+returns-in-Ok-Ok c =
     let it = c.in-Some.ensures {u = tt} in
     let life = life_of it.forward c.args.ats.now c.in-Some._replies.items in
     let o = present life in
@@ -30,6 +30,6 @@ returns-in-Ok c =
     let kept = it.keeps.kept it.keeps.clean in
     let led = leads life kept.is_life refl in
     let forward = (seen c.in-Some.books).forward in
-    memory_alone (TellsUnwritten forward c.in-Ok.rows) c.test_tokens.result c.test_tokens.ensures.found
+    found_nothing (TellsUnwritten forward c.in-Ok.rows) c.test_tokens.result c.test_tokens.ensures.found
     (λ f tells. c.tokens_law.ensures.lives forward (life ∷ []) o f led (one_forward life forward kept.forward)
     (tells o (rows.only o (holds.now was_open))))

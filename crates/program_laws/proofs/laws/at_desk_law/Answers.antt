@@ -1,6 +1,6 @@
 use Rattle.program_laws.proofs.AtDeskLemmas.LineLemmas.{line_answers}
 use Rattle.program_laws.proofs.AtDeskLemmas.RoundLemmas.{lines_answer}
-use Rattle.program_laws.proofs.AtDeskLemmas.FileLemmas.{same_found, same_reply}
+use Rattle.program_laws.proofs.AtDeskLemmas.FileLemmas.{same_found, same_health, same_reply}
 use Rattle.program_laws.proofs.AtDeskLemmas.SaidLemmas.{says_askable, says_by_one}
 use Rattle.program_laws.proofs.AtDeskLemmas.HandedLemmas.{sale_handed, sale_sold}
 use Rattle.program_laws.proofs.AtDeskLemmas.ReadLemmas.{question_read}
@@ -44,5 +44,6 @@ returns c =
           c.page_law.ensures.one list day old new rounds pages left ending askable opening life tells few held given;
       same_reply = same_reply;
       same_found = same_found;
+      same_health = same_health;
       clock = λ q json second old new came told o end askable none at is says. clock_prints laws json q second old new came told o end askable none at is says;
     }

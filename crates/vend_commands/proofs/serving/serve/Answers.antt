@@ -4,7 +4,7 @@ use Rattle.vend_commands.specs.serving.Connections.{service}
 use Rattle.vend_commands.specs.port.Machines.{way}
 use Rattle.office_commands.specs.office.Visited.{seen_in}
 use Rattle.vend_ports.specs.print.Told.{Takes}
-use Rattle.vend_commands.proofs.ConnectionLemmas.{all_held, one_more}
+use Rattle.vend_commands.proofs.ConnectionLemmas.{all_held, ended_as, one_more}
 use Rattle.vend_ports.proofs.TakeLemmas.{takes_next, takes_none}
 use Rattle.vend_commands.proofs.serving.serve.Goals as goal
 
@@ -22,7 +22,7 @@ loop-connection-preserved g c =
     (service c.args.door.now c.args.books (C.answers c.args.clock.now)) (service before.door before.books (C.answers before.clock))
     (service c.hold.new.door c.hold.new.books (C.answers c.hold.new.clock)) c.in-Ok.books _ _ _ _ before.invariant.1 before.invariant.0
     c.in-Ok.ensures.ready c.if-not-hold.ensures.held
-    c.in-Ok.ensures.told c.tell_stop.ensures in
+    c.in-Ok.ensures.told (ended_as _ _ _ _ (seen_in c.hold.new.books) c.write_failed-had_failed.ensures c.tell_end.ensures) in
     (one, λ given gives. before.invariant.1 given (c.if-not-hold.ensures.stays given gives))
 
 pub returns-in-Err : goal.returns-in-Err

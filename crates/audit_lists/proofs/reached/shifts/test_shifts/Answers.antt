@@ -1,41 +1,37 @@
-use Rattle.std.proofs.Common.{◌≡◌, ◌≢◌, ◌∙◌, ◌++◌, ◌∷◌, [], List, ap, subst, sym, take}
-use Rattle.std.specs.Prelude.{All, Any, cond, filter}
-use Rattle.std.proofs.lemmas.List.Elements.{filter_more}
+use Rattle.std.proofs.Common.{◌∙◌, inl, inr, take, sym, subst, arith}
+use Rattle.std.specs.Prelude.{All}
+use Rattle.std.proofs.lemmas.Option.{same_Some, slice_get_within}
 use Rattle.vend_core.specs.Law.Reached.{IsClosedFirst}
 use Rattle.office_rules.specs.declared.office.shift.Shift.{Shift}
-use Rattle.audit_lists.proofs.EachLemmas.{each_more, row_at}
-use Rattle.audit_lists.proofs.ReachedLemmas.ShiftLemmas.{closed_all, is_open, not_all_closed}
+use Rattle.audit_lists.proofs.EachLemmas.{row_at}
+use Rattle.audit_lists.proofs.ReachedLemmas.ShiftLemmas.{all_before, not_all_before}
 use Rattle.audit_lists.proofs.reached.shifts.test_shifts.Goals as goal
 
-pub returns-then-has_operator_of-clause-found : goal.returns-then-has_operator_of-clause-found
-returns-then-has_operator_of-clause-found c =
+pub returns-then-end-shifts-clause-found : goal.returns-then-end-shifts-clause-found
+returns-then-end-shifts-clause-found c =
     let shifts = c.args.shifts.now in
-    let at = c.shifts.at in
-    let s = c.index-shifts-at.result in
-    let unclosed = subst (Any (λ (a : Shift). a.operator ≡ s.operator)) (c.deref.ensures.value ∙ c.shifts.invariant.unclosed)
-    (c.has_operator_of.ensures.yes c.if-has_operator_of.true) in (
-      at,
-      s,
-      record {
-        there = row_at shifts at s c.shifts-test.true c.index-shifts-at.is;
-        before = c.shifts.invariant.before;
-        breaks = not_all_closed (take at shifts) s unclosed;
-      },
-      c.found.ensures,
-    )
+    let end = c.shifts.end in
+    let s = c.index-shifts-end.result in
+    let there = row_at shifts end s c.if-end-shifts.true c.index-shifts-end.is in
+    elim c.shifts.invariant.after [
+      | inl none ↦ absurd (omega (arith, none, c.if-end-shifts.true))
+      | inr after ↦ (
+        end,
+        s,
+        record {
+          there = there;
+          before = λ i x low at. all_before shifts i c.shifts.at end x c.shifts.invariant.closed low
+              (omega (arith, low, c.shifts.invariant.within, c.shifts-test.false)) at;
+          breaks = subst (λ (x : Shift). ¬ All (λ a. IsClosedFirst a x) (take end shifts)) (same_Some after.shift s (sym after.there ∙ there))
+              (not_all_before shifts end after);
+        },
+        c.found.ensures,
+      )
+    ]
 
-pub shifts-preserved : goal.shifts-preserved
-shifts-preserved c =
+pub returns-clause-passes : goal.returns-clause-passes
+returns-clause-passes c i s there =
     let shifts = c.args.shifts.now in
-    let at = c.shifts.at in
-    let s = c.index-shifts-at.result in
-    let none = subst (All (λ (a : Shift). a.operator ≢ s.operator)) (c.deref.ensures.value ∙ c.shifts.invariant.unclosed)
-    (c.has_operator_of.ensures.no c.if-has_operator_of.false) in
-    record {
-      unclosed =
-          c.in_ok-add_unclosed.ensures ∙ ap (λ (l : List Shift). l ++ cond (is_open s) (s ∷ []) []) c.shifts.invariant.unclosed
-          ∙ sym (filter_more is_open shifts at s c.shifts-test.true
-          ∙ ap (λ (x : Shift). filter is_open (take at shifts) ++ cond (is_open x) (x ∷ []) []) (sym c.index-shifts-at.is));
-      before = each_more (λ i x. All (λ a. IsClosedFirst a x) (take i shifts)) shifts at s
-          (row_at shifts at s c.shifts-test.true c.index-shifts-at.is) (closed_all (take at shifts) s none) c.shifts.invariant.before;
-    }
+    let low = slice_get_within shifts i s there in
+    all_before shifts i c.shifts.at c.shifts.end s c.shifts.invariant.closed (omega (arith, low, c.if-end-shifts.false))
+    (omega (arith, low, c.shifts-test.false)) there

@@ -1,4 +1,5 @@
-use Rattle.std.proofs.Common.{List, [], length, ap, arith, IfErr, subst}
+use Rattle.std.proofs.Common.{List, [], length, ap, arith, IfErr, OnOk, subst}
+use Rattle.std.specs.List.{flat_map}
 use Rattle.sqlite.specs.Held.{state}
 use Rattle.tariff.specs.declared.step.Step.{Step}
 use Rattle.office_rules.specs.declared.decision.change.Edit.TheVariants as edits
@@ -6,7 +7,7 @@ use Rattle.office_rules.specs.declared.office.row.Row.{Row}
 use Rattle.one_table.proofs.ChangeLemmas.{if_err}
 use Rattle.book_tables.proofs.WritingLemmas.CauseLemmas.{came_here, of_store}
 use Rattle.book_tables.specs.writing.Failing.{FailsToWriteAll}
-use Rattle.book_tables.specs.writing.Writes.{new_shift, shift_ended, steps_writes, tariff_set, tariff_writes}
+use Rattle.book_tables.specs.writing.Writes.{AreCarriedOut, new_shift, row_writes, shift_ended, steps_writes, tariff_set, tariff_writes}
 use Rattle.book_tables.specs.writing.Writing.{AddsSteps, AddsTariff}
 use Rattle.book_states.specs.Changing.{MakesRows}
 use Rattle.book_edits.proofs.ChangeLemmas.{edit_refused, told_where, refused_by, rows_refused, made_by, makes_closing, makes_import, makes_meter, makes_moving, makes_sale, makes_setting, makes_shift, makes_steps, makes_tariff}
@@ -22,8 +23,10 @@ returns-in-AddTariff-clause-made g c = record {
       let name = c.in-AddTariff.name in
       made_by c.add_tariff.result c.args.self.now.edit.now (edits.AddTariff name c.in-AddTariff.steps) c.args.self.now.prior old new
       c.in-AddTariff.is (c.add_tariff.ensures.added.says clean)
-      (λ adds. (
-        makes_tariff c.members_law.ensures.edited old new name c.in-AddTariff.steps
+      (λ has. subst (λ (l : List Step). OnOk c.add_tariff.result (AreCarriedOut (tariff_writes name l) old new)) c.as_slice.ensures.view
+      (c.add_tariff.ensures.ends clean way has).0)
+      (λ has adds carried. (
+        makes_tariff c.members_law.ensures.edited old new has name c.in-AddTariff.steps carried
             (subst (λ (l : List Step). AddsTariff name l old new) c.as_slice.ensures.view adds),
         tt,
       ));
@@ -39,8 +42,8 @@ returns-in-AddMeter-clause-made g c = record {
       let number = c.in-AddMeter.number in
       let meter = c.in-AddMeter.meter in
       made_by c.add_meter.result c.args.self.now.edit.now (edits.AddMeter number meter) c.args.self.now.prior old new c.in-AddMeter.is
-      (c.add_meter.ensures.added.says clean)
-      (λ adds. (makes_meter c.members_law.ensures.edited old new number meter adds, tt));
+      (c.add_meter.ensures.added.says clean) (λ has. (c.add_meter.ensures.ends clean way has).0)
+      (λ has adds carried. (makes_meter c.members_law.ensures.edited old new has number meter carried adds, tt));
 }
 
 pub returns-in-AddRows-clause-made : goal.returns-in-AddRows-clause-made
@@ -53,7 +56,9 @@ returns-in-AddRows-clause-made g c = record {
       let rows = c.in-AddRows.rows in
       made_by c.add_rows.result c.args.self.now.edit.now (edits.AddRows rows) c.args.self.now.prior old new c.in-AddRows.is
       (c.add_rows.ensures.added.says clean way)
-      (λ made. (makes_import rows old.now new.now (subst (λ (l : List Row). MakesRows l old.now new.now) c.as_slice-in-AddRows.ensures.view made), tt));
+      (λ has. subst (λ (l : List Row). OnOk c.add_rows.result (AreCarriedOut (flat_map row_writes l) old new)) c.as_slice-in-AddRows.ensures.view
+      (c.add_rows.ensures.carried clean way has))
+      (λ has made carried. (makes_import rows old.now new.now carried (subst (λ (l : List Row). MakesRows l old.now new.now) c.as_slice-in-AddRows.ensures.view made), tt));
 }
 
 pub returns-in-SetTariff-clause-made : goal.returns-in-SetTariff-clause-made
@@ -66,8 +71,8 @@ returns-in-SetTariff-clause-made g c = record {
       let number = c.in-SetTariff.number in
       let name = c.in-SetTariff.name in
       made_by c.set_tariff.result c.args.self.now.edit.now (edits.SetTariff number name) c.args.self.now.prior old new c.in-SetTariff.is
-      (c.set_tariff.ensures.writes.says.made clean)
-      (λ sets. (makes_setting c.members_law.ensures.edited old new number name sets, tt));
+      (c.set_tariff.ensures.writes.says.made clean) (λ has. (c.set_tariff.ensures.writes.says.ends clean has).0)
+      (λ has sets carried. (makes_setting c.members_law.ensures.edited old new number name carried sets, tt));
 }
 
 pub returns-in-OpenShift-clause-made : goal.returns-in-OpenShift-clause-made
@@ -79,8 +84,8 @@ returns-in-OpenShift-clause-made g c = record {
       let new = state g.S.Store c.add_shift.new.tx.conn.now in
       let shift = c.in-OpenShift.shift in
       made_by c.add_shift.result c.args.self.now.edit.now (edits.OpenShift shift) c.args.self.now.prior old new c.in-OpenShift.is
-      (c.add_shift.ensures.writes.says.made clean)
-      (λ adds. (makes_shift c.members_law.ensures.edited old new shift adds, tt));
+      (c.add_shift.ensures.writes.says.made clean) (λ has. (c.add_shift.ensures.writes.says.ends clean has).0)
+      (λ has adds carried. (makes_shift c.members_law.ensures.edited old new shift carried adds, tt));
 }
 
 pub returns-in-CloseShift-clause-made : goal.returns-in-CloseShift-clause-made
@@ -93,8 +98,8 @@ returns-in-CloseShift-clause-made g c = record {
       let number = c.in-CloseShift.number in
       let moment = c.in-CloseShift.moment in
       made_by c.close_shift.result c.args.self.now.edit.now (edits.CloseShift number moment) c.args.self.now.prior old new c.in-CloseShift.is
-      (c.close_shift.ensures.writes.says.made clean)
-      (λ closes. (makes_closing c.members_law.ensures.edited old new number moment closes, tt));
+      (c.close_shift.ensures.writes.says.made clean) (λ has. (c.close_shift.ensures.writes.says.ends clean has).0)
+      (λ has closes carried. (makes_closing c.members_law.ensures.edited old new number moment carried closes, tt));
 }
 
 pub returns-in-AddSteps-clause-made : goal.returns-in-AddSteps-clause-made
@@ -106,10 +111,13 @@ returns-in-AddSteps-clause-made g c = record {
       let new = state g.S.Store c.add_steps.new.tx.conn.now in
       let name = c.in-AddSteps.name in
       let day = c.in-AddSteps.day in
+      let steps = c.as_slice-in-AddSteps.ensures in
       made_by c.add_steps.result c.args.self.now.edit.now (edits.AddSteps name day c.in-AddSteps.steps) c.args.self.now.prior old new
       c.in-AddSteps.is (c.add_steps.ensures.added.says clean)
-      (λ adds. (
-        makes_steps c.members_law.ensures.edited old new name day c.in-AddSteps.steps
+      (λ has. subst (λ (l : List Step). OnOk c.add_steps.result (AreCarriedOut (steps_writes name day l) old new)) steps.view
+      (c.add_steps.ensures.ends clean way has (omega (arith, steps.steps.count.0, ap length steps.view))).0)
+      (λ has adds carried. (
+        makes_steps c.members_law.ensures.edited old new has name day c.in-AddSteps.steps carried
             (subst (λ (l : List Step). AddsSteps name day l old new) c.as_slice-in-AddSteps.ensures.view adds),
         tt,
       ));
@@ -125,8 +133,8 @@ returns-in-MoveBase-clause-made g c = record {
       let number = c.in-MoveBase.number in
       let base = c.in-MoveBase.base in
       made_by c.move_base.result c.args.self.now.edit.now (edits.MoveBase number base) c.args.self.now.prior old new c.in-MoveBase.is
-      (c.move_base.ensures.moved.says clean)
-      (λ moves. (makes_moving c.members_law.ensures.edited old new number base moves, tt));
+      (c.move_base.ensures.moved.says clean) (λ has. (c.move_base.ensures.ends clean way has).0)
+      (λ has moves carried. (makes_moving c.members_law.ensures.edited old new number base carried moves, tt));
 }
 
 pub returns-in-AddSale-clause-made : goal.returns-in-AddSale-clause-made
@@ -138,8 +146,8 @@ returns-in-AddSale-clause-made g c = record {
       let new = state g.S.Store c.add_counted.new.tx.conn.now in
       let sale = c.in-AddSale.sale in
       made_by c.add_counted.result c.args.self.now.edit.now (edits.AddSale sale) c.args.self.now.prior old new c.in-AddSale.is
-      (c.add_counted.ensures.added.says clean way)
-      (λ adds. (makes_sale c.members_law.ensures.edited old new sale adds.tells.adds, (adds.shown, adds.tells.tells, adds.month)));
+      (c.add_counted.ensures.added.says clean way) (c.add_counted.ensures.carried clean way)
+      (λ has adds carried. (makes_sale c.members_law.ensures.edited old new sale carried adds.tells.adds, (adds.shown, adds.tells.tells, adds.month)));
 }
 
 pub returns-in-AddTariff-clause-refused : goal.returns-in-AddTariff-clause-refused

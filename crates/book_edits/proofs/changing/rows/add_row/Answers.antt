@@ -14,7 +14,7 @@ returns-in-Tariff-clause-added g c = record {
   says = λ clean has.
       let old = state g.S.Store c.args.tx.now.conn.now in
       let new = state g.S.Store c.add_tariff.new.tx.conn.now in
-      on_ok c.add_tariff.result (λ adds. makes_tariff_row c.members_law.ensures.edited old new c.args.row.now c.in-Tariff.name
+      on_ok c.add_tariff.result (λ adds. makes_tariff_row c.members_law.ensures.edited old new has c.args.row.now c.in-Tariff.name
       c.in-Tariff.steps c.as_slice.result.now c.in-Tariff.is c.as_slice.ensures.view adds) (c.add_tariff.ensures.added.says clean has);
 }
 
@@ -25,7 +25,7 @@ returns-in-Meter-clause-added g c = record {
   says = λ clean has.
       let old = state g.S.Store c.args.tx.now.conn.now in
       let new = state g.S.Store c.add_meter.new.tx.conn.now in
-      on_ok c.add_meter.result (λ adds. makes_meter_row c.members_law.ensures.edited old new c.args.row.now c.in-Meter.number
+      on_ok c.add_meter.result (λ adds. makes_meter_row c.members_law.ensures.edited old new has c.args.row.now c.in-Meter.number
       c.in-Meter.meter c.in-Meter.is adds) (c.add_meter.ensures.added.says clean has);
 }
 
@@ -37,7 +37,7 @@ returns-in-Steps-clause-added g c = record {
       let old = state g.S.Store c.args.tx.now.conn.now in
       let new = state g.S.Store c.add_steps.new.tx.conn.now in
       let arm = c.in-Steps in
-      on_ok c.add_steps.result (λ adds. makes_steps_row c.members_law.ensures.edited old new c.args.row.now arm.name arm.day arm.steps
+      on_ok c.add_steps.result (λ adds. makes_steps_row c.members_law.ensures.edited old new has c.args.row.now arm.name arm.day arm.steps
       c.as_slice-in-Steps.result.now arm.is c.as_slice-in-Steps.ensures.view adds) (c.add_steps.ensures.added.says clean has);
 }
 

@@ -151,3 +151,16 @@ returns-clause-added g c = record {
       let all = ap (λ (l : List Row). it.0 ∷ l) (take_all c.others.row-index c.in-Some.others.now c.others-test.false) ∙ sym it.1 in
       subst (λ (l : List Row). MakesRows l (state g.S.Store c.args.tx.now.conn.now).now (state g.S.Store c.others.tx.conn.now).now) all it.2;
 }
+
+pub returns-in_err-add_row-clause-carried : goal.returns-in_err-add_row-clause-carried
+returns-in_err-add_row-clause-carried g c clean way has = none_of _ _ c.from_residual.result c.from_residual.ensures.1
+
+pub returns-in_err-add_row-2-clause-carried : goal.returns-in_err-add_row-2-clause-carried
+returns-in_err-add_row-2-clause-carried g c clean way has = none_of _ _ c.from_residual-in_err-add_row-2.result c.from_residual-in_err-add_row-2.ensures.1
+
+pub returns-clause-carried : goal.returns-clause-carried
+returns-clause-carried g c clean way has =
+    let it = c.others.invariant.written clean way has in
+    let all = ap (λ (l : List Row). it.0 ∷ l) (take_all c.others.row-index c.in-Some.others.now c.others-test.false) ∙ sym it.1 in
+    subst (λ (l : List Row). AreCarriedOut (flat_map row_writes l) (state g.S.Store c.args.tx.now.conn.now)
+    (state g.S.Store c.others.tx.conn.now)) all it.2

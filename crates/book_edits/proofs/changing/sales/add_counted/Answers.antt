@@ -3,6 +3,7 @@ use Rattle.sqlite.specs.Held.{state}
 use Rattle.one_table.proofs.ChangeLemmas.{told_as, transaction_off}
 use Rattle.office_rules.specs.declared.decision.change.Edit.TheVariants.{AddSale}
 use Rattle.book_states.specs.Failing.{FailsToMakeEdit}
+use Rattle.book_tables.proofs.ReadingLemmas.SeenLemmas.{none_of}
 use Rattle.book_edits.proofs.ChangeLemmas.{sold_refused}
 use Rattle.book_edits.proofs.changing.sales.add_counted.Goals as goal
 
@@ -38,3 +39,9 @@ returns-then-totals-tenths-2-clause-refused g c clean way has =
       λ same. omega
           (arith, c.if-totals-tenths.false, c.if-totals-tenths-2.true, same, c.tenths.ensures.value, c.from-tenths.ensures),
     ))
+
+pub returns-in_err-totals-clause-carried : goal.returns-in_err-totals-clause-carried
+returns-in_err-totals-clause-carried g c clean way has = none_of _ _ c.from_residual.result c.from_residual.ensures.1
+
+pub returns-clause-carried : goal.returns-clause-carried
+returns-clause-carried g c clean way has = (c.in_ok-totals.ensures.ends clean way has).0

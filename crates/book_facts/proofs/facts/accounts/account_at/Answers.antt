@@ -1,4 +1,4 @@
-use Rattle.std.proofs.Common.{List, Option, ap, arith, filter, map, rules, unwrap_or, ℕ, ◌&&◌, ◌==◌, ◌^◌, ◌∙◌, ◌≡◌, ◌≤◌, refl}
+use Rattle.std.proofs.Common.{List, Option, ap, arith, filter, inl, inr, map, rules, unwrap_or, ℕ, ◌&&◌, ◌==◌, ◌^◌, ◌∙◌, ◌≡◌, ◌≤◌, refl}
 use Rattle.std.specs.Prelude.{bytes_eq, sum_by}
 use Rattle.sqlite.specs.Held.{state}
 use Rattle.one_table.proofs.ReadsOnlyLemmas.{read_on}
@@ -13,17 +13,22 @@ use Rattle.book_tables.proofs.OfficeTableLemmas.{last_ids_in, month_tenths_in, r
 use Rattle.book_facts.proofs.facts.accounts.account_at.Goals.{then-unwrap_or-gt-LAST_TID-via-then-unwrap_or-gt-LAST_TID, then-unwrap_or-gt-LAST_TID-via-else-unwrap_or-gt-LAST_TID+then-prior-gt-MAX_PRIOR}
 use Rattle.book_facts.proofs.FactsLemmas.{last_within, of_no_office, sales_told, was_clean}
 use Rattle.book_facts.proofs.PassedLemmas.{passed, passed_none, read_after, stops_on, clean_before}
-use Rattle.book_facts.proofs.LooksLemmas.{looks_none, looks_on, table_shown, first_shown}
+use Rattle.book_facts.proofs.LooksLemmas.{looks_none, looks_on, table_shown, table_spoilt, first_shown, first_spoilt}
 use Rattle.book_facts.proofs.facts.accounts.account_at.Goals as goal
 
 pub returns-in_err-last : goal.returns-in_err-last
 returns-in_err-last g c = looks_on c.from_residual.result c.from_residual.ensures.1 (read_in_office last_ids_in c.in_err-last.ensures.reads)
+    (λ clean has row. inl (first_spoilt last_ids_in c.in_err-last.ensures.sees clean has row))
 
 pub returns-in_err-prior : goal.returns-in_err-prior
 returns-in_err-prior g c =
     let first = passed (read_in_office last_ids_in c.in_ok-last.ensures.reads) (g.met.S.Store.shut_if_dirty c.greatest_tid.new.conn.store) in
+    let month_is : c.unwrap-month.result ≡ month_at c.args.moment = search rules in
     looks_on c.from_residual-in_err-prior.result c.from_residual-in_err-prior.ensures.1
     (read_after first (read_in_office month_tenths_in c.in_err-prior.ensures.reads))
+    (λ clean has row.
+    let spoilt = table_spoilt first month_tenths_in c.in_err-prior.ensures.reads c.in_err-prior.ensures.sees clean has row in
+    inr (inl (rw month_is at spoilt)))
 
 pub returns-then-unwrap_or-gt-LAST_TID : goal.returns-then-unwrap_or-gt-LAST_TID
 returns-then-unwrap_or-gt-LAST_TID g c =
@@ -48,7 +53,20 @@ returns-then-unwrap_or-gt-LAST_TID g c =
     elim c.then-unwrap_or-gt-LAST_TID.branch [
       | then-unwrap_or-gt-LAST_TID-via-then-unwrap_or-gt-LAST_TID w ↦ omega (arith, w.if-unwrap_or-gt-LAST_TID.true)
       | then-unwrap_or-gt-LAST_TID-via-else-unwrap_or-gt-LAST_TID+then-prior-gt-MAX_PRIOR w ↦ omega (arith, w.if-prior-gt-MAX_PRIOR.true)
-    ])))
+    ]))) (λ clean has row.
+    let was = clean_before first read_2.survives has clean in
+    let month_is : c.unwrap-month.result ≡ month_at c.args.moment = search rules in
+    let tenths = table_shown first month_tenths_in c.in_ok-prior.ensures.reads c.in_ok-prior.ensures.sees clean has in
+    inr (inr (record {
+      last = c.in_ok-last.last;
+      prior = c.in_ok-prior.prior;
+      last_shown = first_shown last_ids_in c.in_ok-last.ensures.sees was has;
+      prior_shown = rw month_is at tenths;
+      beyond = elim c.then-unwrap_or-gt-LAST_TID.branch [
+        | then-unwrap_or-gt-LAST_TID-via-then-unwrap_or-gt-LAST_TID w ↦ inl (omega (arith, w.if-unwrap_or-gt-LAST_TID.true))
+        | then-unwrap_or-gt-LAST_TID-via-else-unwrap_or-gt-LAST_TID+then-prior-gt-MAX_PRIOR w ↦ inr (omega (arith, w.if-prior-gt-MAX_PRIOR.true))
+      ];
+    })))
 
 pub returns : goal.returns
 returns g c =
@@ -82,5 +100,6 @@ returns g c =
           let month_is : c.unwrap-month.result ≡ month_at c.args.moment = search rules in
           let tenths = table_shown first month_tenths_in c.in_ok-prior.ensures.reads c.in_ok-prior.ensures.sees clean has in
           (refl, refl, record { last = first_shown last_ids_in c.in_ok-last.ensures.sees was has; prior = rw month_is at tenths });
+      spoilt = λ _ _. tt;
       reads = read_on (read_after first (read_in_office month_tenths_in c.in_ok-prior.ensures.reads));
     }

@@ -10,7 +10,7 @@ use Rattle.office_rules.specs.declared.decision.row_facts.RowFacts.{RowFacts}
 use Rattle.book_tables.specs.declared.error.TableError.TheVariants.{Database}
 use Rattle.book_states.specs.FactsSeen.{AreRowsSeen, IsPassedBy, IsRefusedFor}
 use Rattle.book_facts.proofs.FactsLemmas.{members_after, rows_more, was_clean}
-use Rattle.book_facts.proofs.LooksLemmas.{looks_on, looks_shown, rows_seen_more}
+use Rattle.book_facts.proofs.LooksLemmas.{later_spoilt, looks_on, looks_shown, looks_spoilt, row_spoilt, rows_seen_more}
 use Rattle.book_facts.proofs.PassedLemmas.{clean_before, passed_after, passed_none, passed_reads, read_after, same_on, stops_on}
 use Rattle.book_facts.proofs.facts.imports.found_of.Goals as goal
 
@@ -20,17 +20,25 @@ loop-row-init g c =
       passed = passed_none (state g.S.Store c.args.conn.now) (g.met.S.Store.shut_if_dirty c.args.conn.now.store);
       found = λ clean o office members today more facts. rw c.new-found.ensures.items facts;
       seen = λ clean has more seen. rw c.new-found.ensures.items seen;
+      spoilt = λ clean has spoilt. spoilt;
     }
 
 pub returns-in_err-facts : goal.returns-in_err-facts
-returns-in_err-facts g c = looks_on c.from_residual.result c.from_residual.ensures.1
-    (same_on (read_after c.loop-row.invariant.passed c.in_err-facts.ensures.reads))
+returns-in_err-facts g c =
+    let old = state g.S.Store c.args.conn.now in
+    let before = c.loop-row.invariant.passed in
+    let read = c.in_err-facts.ensures.reads in
+    looks_on c.from_residual.result c.from_residual.ensures.1 (same_on (read_after before read)) (λ clean has told.
+    let was = clean_before before read.survives has clean in
+    c.loop-row.invariant.spoilt was has (row_spoilt old.now c.args.rows.now c.loop-row.row-index c.row-item.result c.loop-row-test.true
+    c.row-item.is (looks_spoilt before c.in_err-facts.ensures clean has told)))
 
 pub returns-in_err-map_err : goal.returns-in_err-map_err
 returns-in_err-map_err g c =
     let read = read_after c.loop-row.invariant.passed c.in_ok-facts.ensures.reads in
     looks_on {U = ⊤} c.from_residual-in_err-map_err.result c.from_residual-in_err-map_err.ensures.1
     (same_on (stops_on (Database (SqliteFailure OutOfMemory)) read (λ clean has. inr (refl, read.same clean has))))
+    (λ clean has row. absurd (let e = row in cc))
 
 pub returns-then-differs : goal.returns-then-differs
 returns-then-differs g c =
@@ -57,6 +65,7 @@ returns-then-differs g c =
           let differs : IsRefusedFor row f = λ o today same. (c.differs-differs.ensures o today same).0 c.if-differs.true in
           rw pushed (subst (λ (found : List RowFacts). AreRowsSeen rows old.now found) (append-nil (found ++ f ∷ []))
           (rows_seen_more old.now rows i row found [] f c.loop-row-test.true c.row-item.is is (inl (differs, refl)) (c.loop-row.invariant.seen was has)));
+      spoilt = λ _ _. tt;
       reads = passed_reads (passed_after before read (g.met.S.Store.shut_if_dirty c.row_facts.new.conn.store));
     }
 
@@ -85,6 +94,12 @@ loop-row-preserved g c =
           (let differs = (c.differs-differs.ensures o today same).1 refused in let not = c.if-differs.false in cc) in
           rw pushed (rows_seen_more old.now rows i row found more f c.loop-row-test.true c.row-item.is is (inr (passed, rest))
           (c.loop-row.invariant.seen was has));
+      spoilt = λ clean has rest.
+          let was = clean_before before read.survives has clean in
+          let is = looks_shown before c.in_ok-facts.ensures clean has in
+          let passed : IsPassedBy row f = λ o today same refused. absurd
+          (let differs = (c.differs-differs.ensures o today same).1 refused in let not = c.if-differs.false in cc) in
+          c.loop-row.invariant.spoilt was has (later_spoilt old.now rows i row c.loop-row-test.true c.row-item.is f is passed rest);
     }
 
 pub returns : goal.returns
@@ -101,5 +116,6 @@ returns g c =
           subst (λ (found : List RowFacts). AreRowsSeen rows old.now found) (append-nil found)
           (c.loop-row.invariant.seen clean has [] (subst (λ (rest : List Row). AreRowsSeen rest old.now [])
           (sym (drop_all c.loop-row.row-index rows c.loop-row-test.false)) refl));
+      spoilt = λ _ _. tt;
       reads = passed_reads c.loop-row.invariant.passed;
     }

@@ -5,11 +5,14 @@ use Rattle.office_rules.specs.Decision.Facts.{AreRowsFacts}
 use Rattle.office_rules.specs.declared.decision.row_facts.RowFacts.{RowFacts}
 use Rattle.office_rules.specs.declared.office.row.Row.{Row}
 use Rattle.book_states.specs.FactsSeen.{AreRowsSeen}
+use Rattle.book_states.specs.Spoilt.{AreRowsSpoilt}
 use Rattle.book_facts.proofs.LooksLemmas.{looks_on}
 use Rattle.book_facts.proofs.facts.imports.import_facts.Goals as goal
 
 pub returns-in_err-found : goal.returns-in_err-found
 returns-in_err-found g c = looks_on c.from_residual.result c.from_residual.ensures.1 c.in_err-found.ensures.reads
+    (λ clean has row. subst (λ (rows : List Row). AreRowsSpoilt rows (state g.S.Store c.args.conn.now).now) c.as_slice.ensures.view
+    (c.in_err-found.ensures.spoilt clean has row))
 
 pub returns : goal.returns
 returns g c =
@@ -28,5 +31,6 @@ returns g c =
         subst (λ (rows : List Row). AreRowsSeen rows old.now found) c.as_slice.ensures.view
             (c.in_ok-found.ensures.shown clean has),
       );
+      spoilt = λ _ _. tt;
       reads = read_on c.in_ok-found.ensures.reads;
     }

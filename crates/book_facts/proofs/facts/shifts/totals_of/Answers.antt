@@ -1,4 +1,4 @@
-use Rattle.std.proofs.Common.{List, Option, Some, ap, false, find, is_none, option_map, rules, true, ◌==◌, ◌∙◌, ◌≡◌, subst, sym}
+use Rattle.std.proofs.Common.{List, Option, Some, ap, false, find, inl, inr, is_none, option_map, rules, true, ◌==◌, ◌∙◌, ◌≡◌, subst, sym}
 use Rattle.sqlite.specs.Held.{state}
 use Rattle.one_table.proofs.ReadsOnlyLemmas.{read_on}
 use Rattle.office_rules.specs.Office.Lookup.{sales_of_shift}
@@ -11,11 +11,12 @@ use Rattle.book_tables.specs.reading.Questions.{the_shift}
 use Rattle.book_tables.specs.reading.Seen.{ShowsFirst}
 use Rattle.book_facts.proofs.FactsLemmas.{none_if, sales_told, shifts_told, told_there, was_clean}
 use Rattle.book_facts.proofs.PassedLemmas.{passed, passed_none, read_after, clean_before}
-use Rattle.book_facts.proofs.LooksLemmas.{looks_on, table_shown, there_is_one, first_shown}
+use Rattle.book_facts.proofs.LooksLemmas.{looks_on, table_shown, table_spoilt, there_is_one, first_shown, first_spoilt}
 use Rattle.book_facts.proofs.facts.shifts.totals_of.Goals as goal
 
 pub returns-in_err-found : goal.returns-in_err-found
 returns-in_err-found g c = looks_on c.from_residual.result c.from_residual.ensures.1 (read_in_office shifts_in c.in_err-found.ensures.reads)
+    (λ clean has row. inl (first_spoilt shifts_in c.in_err-found.ensures.sees clean has row))
 
 pub returns-then-is_none : goal.returns-then-is_none
 returns-then-is_none g c =
@@ -32,14 +33,22 @@ returns-then-is_none g c =
           let gone : is_none c.in_ok-found.found ≡ true = search rules in
           subst (ShowsFirst (the_shift c.args.number) old.now) (sym (none_if c.in_ok-found.found gone))
           (first_shown shifts_in c.in_ok-found.ensures.sees clean has);
+      spoilt = λ _ _. tt;
       reads = read_on (read_in_office shifts_in c.in_ok-found.ensures.reads);
     }
 
 pub returns-in_err-totals : goal.returns-in_err-totals
 returns-in_err-totals g c =
+    let old = state g.S.Store c.args.conn.now in
     let first = passed (read_in_office shifts_in c.in_ok-found.ensures.reads) (g.met.S.Store.shut_if_dirty c.shift_numbered.new.conn.store) in
-    looks_on c.from_residual-in_err-totals.result c.from_residual-in_err-totals.ensures.1
-    (read_after first (read_in_office shift_totals_in c.in_err-totals.ensures.reads))
+    let read_2 = read_in_office shift_totals_in c.in_err-totals.ensures.reads in
+    let some : is_none c.in_ok-found.found ≡ false = search rules in
+    looks_on c.from_residual-in_err-totals.result c.from_residual-in_err-totals.ensures.1 (read_after first read_2)
+    (λ clean has row.
+    let was = clean_before first read_2.survives has clean in
+    let there = there_is_one c.in_ok-found.found some (ShowsFirst (the_shift c.args.number) old.now)
+    (first_shown shifts_in c.in_ok-found.ensures.sees was has) in
+    inr (there.0, there.1, table_spoilt first shift_totals_in c.in_err-totals.ensures.reads c.in_err-totals.ensures.sees clean has row))
 
 pub returns : goal.returns
 returns g c =
@@ -66,5 +75,6 @@ returns g c =
             there_is_one c.in_ok-found.found some (ShowsFirst (the_shift c.args.number) old.now) (first_shown shifts_in c.in_ok-found.ensures.sees was has),
             table_shown first shift_totals_in c.in_ok-totals.ensures.reads c.in_ok-totals.ensures.sees clean has,
           );
+      spoilt = λ _ _. tt;
       reads = read_on (read_after first (read_in_office shift_totals_in c.in_ok-totals.ensures.reads));
     }

@@ -1,4 +1,4 @@
-use Rattle.std.proofs.Common.{List, Option, ap, filter, rules, sym, ℕ, ◌&&◌, ◌==◌, ◌∙◌, ◌≡◌, subst, refl, Some, None, true, false}
+use Rattle.std.proofs.Common.{List, Option, ap, filter, inl, inr, rules, sym, ℕ, ◌&&◌, ◌==◌, ◌∙◌, ◌≡◌, subst, refl, Some, None}
 use Rattle.std.specs.Prelude.{bytes_eq, sum_by}
 use Rattle.std.proofs.lemmas.Bool.{false≢true}
 use Rattle.sqlite.specs.Held.{state}
@@ -8,17 +8,18 @@ use Rattle.office_rules.specs.Office.Lookup.{prior}
 use Rattle.office_rules.specs.declared.office.meter.Meter.{Meter}
 use Rattle.office_rules.specs.declared.office.sale.Sale.{Sale}
 use Rattle.book_tables.proofs.OfficeTableLemmas.{meters_in, month_tenths_in, read_in_office}
-use Rattle.book_tables.specs.reading.Questions.{the_meter}
-use Rattle.book_tables.specs.reading.Seen.{ShowsFirst}
+use Rattle.book_tables.specs.reading.Questions.{the_meter, the_month_tenths}
+use Rattle.book_tables.specs.reading.Seen.{HasSpoilt, ShowsFirst}
 use Rattle.book_facts.specs.Lookups.{last_sale, meter_found}
 use Rattle.book_facts.proofs.FactsLemmas.{members_after, meter_told, sales_told, was_clean}
 use Rattle.book_facts.proofs.LookupLemmas.{meter_is_told, no_meter}
 use Rattle.book_facts.proofs.PassedLemmas.{passed, passed_after, passed_none, read_after, clean_before}
-use Rattle.book_facts.proofs.LooksLemmas.{by_rules_on, looks_shown, first_shown, table_shown}
+use Rattle.book_facts.proofs.LooksLemmas.{by_rules_on, looks_shown, looks_spoilt, first_shown, first_spoilt, table_shown, table_spoilt}
 use Rattle.book_facts.proofs.looking.meters.meter_of.Goals as goal
 
 pub returns-in_err-there : goal.returns-in_err-there
 returns-in_err-there g c = by_rules_on c.from_residual.result c.from_residual.ensures.1 (read_in_office meters_in c.in_err-there.ensures.reads)
+    (λ clean has row. inl (first_spoilt meters_in c.in_err-there.ensures.sees clean has row))
 
 pub returns-in_default : goal.returns-in_default
 returns-in_default g c =
@@ -43,6 +44,7 @@ returns-in_default g c =
               last = λ some. absurd (false≢true some);
               told = refl;
             };
+        spoilt = λ clean has. tt;
         reads = read_on (read_in_office meters_in c.in_ok-there.ensures.reads);
       };
       rules = no_meter;
@@ -51,15 +53,34 @@ returns-in_default g c =
 pub returns-in_err-tenths : goal.returns-in_err-tenths
 returns-in_err-tenths g c =
     let first = passed (read_in_office meters_in c.in_ok-there.ensures.reads) (g.met.S.Store.shut_if_dirty c.meter_numbered.new.conn.store) in
-    by_rules_on c.from_residual-in_err-tenths.result c.from_residual-in_err-tenths.ensures.1
-    (read_after first (read_in_office month_tenths_in c.in_err-tenths.ensures.reads))
+    let old = state g.S.Store c.args.conn.now in
+    let number = c.args.number.now in
+    let read_2 = read_in_office month_tenths_in c.in_err-tenths.ensures.reads in
+    let month_is : c.unwrap-month.result ≡ month_at c.args.moment = search rules in
+    by_rules_on c.from_residual-in_err-tenths.result c.from_residual-in_err-tenths.ensures.1 (read_after first read_2) (λ clean has row.
+    let was = clean_before first read_2.survives has clean in
+    inr (
+      c.in-Some.meter,
+      subst (ShowsFirst (the_meter number) old.now) c.in-Some.is (first_shown meters_in c.in_ok-there.ensures.sees was has),
+      inl (subst (λ month. HasSpoilt (the_month_tenths number month) old.now) month_is
+          (table_spoilt first month_tenths_in c.in_err-tenths.ensures.reads c.in_err-tenths.ensures.sees clean has row)),
+    ))
 
 pub returns-in_err-last : goal.returns-in_err-last
 returns-in_err-last g c =
     let first = passed (read_in_office meters_in c.in_ok-there.ensures.reads) (g.met.S.Store.shut_if_dirty c.meter_numbered.new.conn.store) in
     let second = passed_after first (read_in_office month_tenths_in c.in_ok-tenths.ensures.reads)
     (g.met.S.Store.shut_if_dirty c.tenths_in_month.new.conn.store) in
-    by_rules_on c.from_residual-in_err-last.result c.from_residual-in_err-last.ensures.1 (read_after second c.in_err-last.ensures.reads)
+    let old = state g.S.Store c.args.conn.now in
+    let read_3 = c.in_err-last.ensures.reads in
+    by_rules_on c.from_residual-in_err-last.result c.from_residual-in_err-last.ensures.1 (read_after second read_3) (λ clean has row.
+    let was_2 = clean_before second read_3.survives has clean in
+    let was_1 = clean_before first (read_in_office month_tenths_in c.in_ok-tenths.ensures.reads).survives has was_2 in
+    inr (
+      c.in-Some.meter,
+      subst (ShowsFirst (the_meter c.args.number.now) old.now) c.in-Some.is (first_shown meters_in c.in_ok-there.ensures.sees was_1 has),
+      inr (looks_spoilt second c.in_err-last.ensures clean has row),
+    ))
 
 pub returns : goal.returns
 returns g c =
@@ -102,6 +123,7 @@ returns g c =
               told = meter_is_told number c.in-Some.meter (Some c.in-Some.meter) c.in_ok-tenths.tenths c.in_ok-tenths.tenths
                   c.in_ok-last.last c.in_ok-last.last c.number_of.result c.number_of.ensures refl refl refl;
             };
+        spoilt = λ clean has. tt;
         reads = read_on (read_after second c.in_ok-last.ensures.reads);
       };
       rules = tt;

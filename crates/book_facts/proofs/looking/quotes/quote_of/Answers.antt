@@ -8,11 +8,10 @@ use Rattle.book_facts.specs.Lookups.{IsOfRules, quote_for}
 use Rattle.book_states.specs.declared.lookup.Found.{Found}
 use Rattle.book_facts.proofs.LookupLemmas.{quote_rules}
 use Rattle.book_facts.proofs.LooksLemmas.{by_rules_on}
-use Rattle.book_facts.proofs.FactsLemmas.{account_is}
 use Rattle.book_facts.proofs.looking.quotes.quote_of.Goals as goal
 
 pub returns-in_err-account : goal.returns-in_err-account
-returns-in_err-account g c = by_rules_on c.from_residual.result c.from_residual.ensures.1 c.in_err-account.ensures.reads
+returns-in_err-account g c = by_rules_on c.from_residual.result c.from_residual.ensures.1 c.in_err-account.ensures.reads c.in_err-account.ensures.spoilt
 
 pub returns : goal.returns
 returns g c =
@@ -31,6 +30,7 @@ returns g c =
               c.quoted.ensures ∙ ap (λ (account : Option MeterAccount). quote_for c.args.moment c.args.number.now c.args.tender account
                   c.args.sale_count) same,
             );
+        spoilt = λ clean has. tt;
         reads = read_on c.in_ok-account.ensures.reads;
       };
       rules = subst (λ (r : Result Found Refusal). IfErr r IsOfRules) (sym c.quoted.ensures)

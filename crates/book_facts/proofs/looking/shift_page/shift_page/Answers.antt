@@ -1,5 +1,5 @@
-use Rattle.std.proofs.Common.{rules, ◌≡◌, ◌++◌, [], ◌∷◌, List, ap, filter, inr, map, refl, sym, take, take_all, ◌∙◌, subst}
-use Rattle.std.specs.Prelude.{⊤, nat_lt}
+use Rattle.std.proofs.Common.{rules, ◌≡◌, ◌++◌, [], ◌∷◌, List, ap, filter, inl, inr, map, refl, sym, take, take_all, ◌∙◌, subst}
+use Rattle.std.specs.Prelude.{⊤, Any, nat_lt}
 use Rattle.std.specs.List.{AllZip}
 use Rattle.sqlite.specs.Held.{state}
 use Rattle.sqlite.specs.declared.error.Error.TheVariants.{SqliteFailure}
@@ -17,12 +17,14 @@ use Rattle.book_facts.proofs.FactsLemmas.{members_after, sales_told, shifts_told
 use Rattle.book_facts.proofs.ListedLemmas.{map_more}
 use Rattle.book_facts.proofs.PassedLemmas.{clean_before, passed, passed_after, passed_none, passed_reads, passed_then, read_after, same_on, stops_on, earlier, tables_after}
 use Rattle.book_facts.specs.LookupsSeen.{IsShiftListedSeen}
-use Rattle.book_facts.proofs.LooksLemmas.{by_rules_on, first_shown, table_shown, zip_more}
+use Rattle.book_facts.specs.LookupsSpoilt.{IsShiftListedSpoilt}
+use Rattle.book_facts.proofs.LooksLemmas.{by_rules_on, first_shown, first_spoilt, table_shown, table_spoilt, zip_more}
 use Rattle.book_facts.proofs.looking.shift_page.shift_page.Goals as goal
 
 pub returns-in_err-shifts : goal.returns-in_err-shifts
 returns-in_err-shifts g c = by_rules_on c.from_residual.result c.from_residual.ensures.1
     (same_on (read_in_office shifts_in c.in_err-shifts.ensures.reads))
+    (λ clean has row. inl (first_spoilt shifts_in c.in_err-shifts.ensures.sees clean has row))
 
 pub loop-shift-init : goal.loop-shift-init
 loop-shift-init g c =
@@ -34,17 +36,28 @@ loop-shift-init g c =
 
 pub returns-in_err-totals : goal.returns-in_err-totals
 returns-in_err-totals g c =
+    let old = state g.S.Store c.args.conn.now in
     let first = passed (read_in_office shifts_in c.in_ok-shifts.ensures.reads) (g.met.S.Store.shut_if_dirty c.shifts_after.new.conn.store) in
     let before = passed_then first c.loop-shift.invariant.passed in
-    by_rules_on c.from_residual-in_err-totals.result c.from_residual-in_err-totals.ensures.1
-    (same_on (read_after before (read_in_office shift_totals_in c.in_err-totals.ensures.reads)))
+    let read = read_in_office shift_totals_in c.in_err-totals.ensures.reads in
+    let items_are : c.deref-shift-items.result.now ≡ c.in_ok-shifts.shifts.items = search rules in
+    by_rules_on c.from_residual-in_err-totals.result c.from_residual-in_err-totals.ensures.1 (same_on (read_after before read)) (λ clean has row.
+    let was = clean_before first c.loop-shift.invariant.passed.survives has (clean_before before read.survives has clean) in
+    let spoilt = table_spoilt before shift_totals_in c.in_err-totals.ensures.reads c.in_err-totals.ensures.sees clean has row in
+    let any : Any (IsShiftListedSpoilt old.now) c.deref-shift-items.result.now =
+    (c.loop-shift.shift-index, c.shift-item.result, c.loop-shift-test.true, sym c.shift-item.is, spoilt) in
+    inr (
+      c.in_ok-shifts.shifts.items,
+      first_shown shifts_in c.in_ok-shifts.ensures.sees was has,
+      subst (Any (IsShiftListedSpoilt old.now)) items_are any,
+    ))
 
 pub returns-in_err-map_err : goal.returns-in_err-map_err
 returns-in_err-map_err g c =
     let first = passed (read_in_office shifts_in c.in_ok-shifts.ensures.reads) (g.met.S.Store.shut_if_dirty c.shifts_after.new.conn.store) in
     let read = read_after (passed_then first c.loop-shift.invariant.passed) (read_in_office shift_totals_in c.in_ok-totals.ensures.reads) in
     by_rules_on {U = ⊤} c.from_residual-in_err-map_err.result c.from_residual-in_err-map_err.ensures.1
-    (same_on (stops_on (Database (SqliteFailure OutOfMemory)) read (λ clean has. inr (refl, read.same clean has))))
+    (same_on (stops_on (Database (SqliteFailure OutOfMemory)) read (λ clean has. inr (refl, read.same clean has)))) (λ clean has row. absurd cc)
 
 pub loop-shift-preserved : goal.loop-shift-preserved
 loop-shift-preserved g c =
@@ -107,6 +120,7 @@ returns g c =
               first_shown shifts_in c.in_ok-shifts.ensures.sees was has,
               subst (λ db. AllZip (IsShiftListedSeen db) c.in_ok-shifts.shifts.items listed) as_was.now_is told,
             );
+        spoilt = λ clean has. tt;
         reads = passed_reads (passed_then first after);
       };
       rules = tt;

@@ -3,7 +3,7 @@ use Rattle.std.proofs.lemmas.Bool.{false≢true}
 use Rattle.books.specs.Keeps.{seen}
 use Rattle.books.specs.Serving.{ServingEnds}
 use Rattle.book_states.proofs.OthersLemmas.{others_same, tables_stay}
-use Rattle.books.proofs.ServeLemmas.{GoesOnWith, granted_on, kept_attempted, kept_stopped, stops_on, with_stopped}
+use Rattle.books.proofs.ServeLemmas.{GoesOnWith, failures_on, granted_on, kept_attempted, kept_stopped, stops_on, with_stopped}
 use Rattle.books.proofs.books.Books.serve.Goals as goal
 
 pub returns-then-self : goal.returns-then-self
@@ -50,7 +50,7 @@ returns g c =
               doubted = λ p. law.doubted life o p at here.running stamped;
               alone = law.running;
             } in
-            let attempts = tried.attempts clean o (record { at = here.at; next = here.next }) in
+            let attempts = tried.attempts clean o (record { at = here.at; next = here.next; last = here.last }) in
             let ends = subst (λ f. ServingEnds f o at answer mid) (sym kept.forward) attempts in
             let forward = kept.forward ∙ ap g.T.BlockTransform.forwards (sym tried.transform) in
             kept_attempted life o at answer (record mid { stopped = c.has_failed-self.result }) laws kept.opening forward
@@ -61,7 +61,7 @@ returns g c =
         others = λ clean has. tried.others clean (has (tried.clean clean) c.if-self.false);
         clean = tried.clean;
         granted = λ clean has runs. granted_on at answer old mid c.has_failed-self.result (tried.granted clean (has (tried.clean clean) runs));
-        failures = λ clean has runs. tried.failures clean (has (tried.clean clean) runs);
+        failures = λ clean has runs. failures_on at answer old mid c.has_failed-self.result (tried.failures clean (has (tried.clean clean) runs));
         stopped = search rules;
         stops = stops_on c.has_failed-self.result answer c.has_failed-self.ensures tried.never_stopped;
       };

@@ -21,7 +21,7 @@ returns-clause-ok g c =
       | in-Asks w ↦ comes_asked serves m now _ w.in-Asks.form w.in-Asks.moment w.in-Asks.request w.ask.result outcome _ w.ask.new.self _
           means w.in-Asks.is w.outcome-is w.office-is w.ask.ensures.says
       | in-Looks w ↦ comes_looked serves m now _ w.in-Looks.form w.in-Looks.moment w.in-Looks.lookup w.look_up.result outcome _
-          w.look_up.new.self _ means w.in-Looks.is w.outcome-is w.office-is w.look_up.ensures.says
+          w.look_up.new.self _ means w.in-Looks.is w.outcome-is w.office-is (w.look_up.ensures.says, w.look_up.ensures.health)
       | in-Told w ↦ comes_told serves m now _ w.in-Told.outcome outcome _ _ means w.in-Told.is w.outcome-is w.office-is
     ] in
     was_answered serves (g.C.Clock.reads c.args.clock.now) (λ v. v.items) (c.args.office.now, g.C.Clock.answers c.args.clock.now)
@@ -43,7 +43,7 @@ returns-clause-err g c =
       | in-Asks w ↦ comes_asked serves m now _ w.in-Asks.form w.in-Asks.moment w.in-Asks.request w.ask.result outcome _ w.ask.new.self _
           means w.in-Asks.is w.outcome-is w.office-is w.ask.ensures.says
       | in-Looks w ↦ comes_looked serves m now _ w.in-Looks.form w.in-Looks.moment w.in-Looks.lookup w.look_up.result outcome _
-          w.look_up.new.self _ means w.in-Looks.is w.outcome-is w.office-is w.look_up.ensures.says
+          w.look_up.new.self _ means w.in-Looks.is w.outcome-is w.office-is (w.look_up.ensures.says, w.look_up.ensures.health)
       | in-Told w ↦ comes_told serves m now _ w.in-Told.outcome outcome _ _ means w.in-Told.is w.outcome-is w.office-is
     ] in
     was_given_up serves (g.C.Clock.reads c.args.clock.now) (c.args.office.now, g.C.Clock.answers c.args.clock.now)

@@ -9,6 +9,7 @@ pub returns-in-Ok-clause-opened : goal.returns-in-Ok-clause-opened
 returns-in-Ok-clause-opened g c = record {
   opens = c.in-Ok.ensures.opened.books.opens;
   running = c.in-Ok.ensures.opened.books.running;
+  writes = c.in-Ok.ensures.opened.books.writes;
   tables = c.in-Ok.ensures.opened.books.tables;
   finds = record {
     conn = c.in-Ok.books.conn;

@@ -1,6 +1,6 @@
-use Rattle.std.proofs.Common.{◌≡◌}
+use Rattle.std.proofs.Common.{◌≡◌, ◌*◌}
 use Rattle.office_commands.proofs.port.tries.try_for.Given as goal
 
--- so many pauses were made
+-- it paused for ten milliseconds so often
 abbrev pub invariant-loop-pause : goal.invariant-loop-pause
-invariant-loop-pause g l = g.T.Tries.pauses l.tries ≡ l._pause
+invariant-loop-pause g l = g.T.Tries.paused l.tries ≡ l._pause * 10

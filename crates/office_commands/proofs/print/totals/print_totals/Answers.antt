@@ -9,6 +9,7 @@ pub returns-in-Ok : goal.returns-in-Ok
 returns-in-Ok g c = record {
   totals = Ok c.in-Ok.totals;
   are_totals = c.in-Ok.ensures.says.of_life;
+  seen = c.in-Ok.ensures.says.reads.seen;
   told = (c.put_totals.ensures, takes_none c.args.err.now, refl);
   reads = read_once _ _ c.in-Ok.ensures.says.reads;
 }
@@ -24,6 +25,7 @@ returns-in-Err g c = record {
       failures = c.in-Err.ensures.says.reads.failures;
     };
   };
+  seen = c.in-Err.ensures.says.reads.seen;
   told = (takes_none c.args.out.now, c.put_refusal.ensures, refl);
   reads = read_once _ _ c.in-Err.ensures.says.reads;
 }

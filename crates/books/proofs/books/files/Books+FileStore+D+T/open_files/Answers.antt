@@ -17,6 +17,7 @@ returns-in-Ok-open_from-clause-opened g c =
             told.books.opens o at clean;
         tables = told.books.tables;
         running = told.books.running;
+        writes = told.books.writes;
       };
       finds = opens_files _ c.in-Ok.conn c.in-Ok-open_from.books.conn c.in-Ok.ensures.opened
           (λ clean. let it = c.in-Ok.ensures.found clean in record { holds = it.holds; reads = it.reads })

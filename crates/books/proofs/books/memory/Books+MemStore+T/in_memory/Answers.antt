@@ -15,6 +15,7 @@ returns-in-Ok-open_from-clause-opened g c =
       opens = λ o is. told.books.opens o (subst (StoreStandsFor (state over_memory c.in-Ok.conn)) (sym is) stands);
       tables = told.books.tables;
       running = told.books.running;
+      writes = told.books.writes;
     }
 
 pub returns-in-Ok-open_from-clause-unlimited : goal.returns-in-Ok-open_from-clause-unlimited

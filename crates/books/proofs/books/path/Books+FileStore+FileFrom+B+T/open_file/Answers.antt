@@ -16,6 +16,7 @@ returns-in-Ok-open_from-clause-opened g c =
             told.books.opens o at clean;
         tables = told.books.tables;
         running = told.books.running;
+        writes = told.books.writes;
       };
       finds = opens_files _ c.in-Ok.conn c.in-Ok-open_from.books.conn c.in-Ok.ensures.opened c.in-Ok.ensures.found
           c.found_law.ensures.in_order c.in-Ok.ensures.fresh.unlimited c.in-Ok.ensures.sums told.finds told.survives;

@@ -1,4 +1,6 @@
-//! A disk that lapses: some of its calls fail, and it goes on as before.
+//! A disk for tests that lapses: some of its calls fail, and it goes on as before.
+#![tactic(auto)]
+
 ghost use Rattle.std.specs.Prelude.{◌+◌, ◌≡◌, ◌&&◌, false, not};
 ghost use Rattle.sqlite_disk.specs.Disk.{CountsFault};
 ghost use Rattle.sqlite_disk.specs.Refusal.{finds_no_room};
@@ -8,40 +10,63 @@ use std::io;
 
 /// Which calls fail: after so many that do not, so many.
 #[derive(Clone, Copy)]
-pub(crate) struct Faults {
-    pub(crate) before: u64,
-    pub(crate) failing: u64,
+pub struct Faults {
+    pub before: u64,
+    pub failing: u64,
 }
 
 /// No call fails.
-pub(crate) const NO_FAULTS: Faults = Faults {
+pub const NO_FAULTS: Faults = Faults {
     before: 0,
     failing: 0,
 };
 
 /// Passes its calls on, but for those that fail. After a failed sync it is not used any more.
 #[derive(Drop)]
-pub(crate) struct Lapse<D: Disk> {
+pub struct Lapse<D: Disk> {
     inner: D,
     calls: Faults,
-    syncs: Faults,
+    // Where there are none of its own, a sync is a call as others are.
+    syncs: Option<Faults>,
     refused: u64,
     sync_refused: bool,
 }
 
 impl<D: Disk> Lapse<D> {
     /// Of its syncs some fail, and of all its other calls some.
-    pub(crate) fn new(inner: D, calls: Faults, syncs: Faults) -> Lapse<D>
+    pub fn new(inner: D, calls: Faults, syncs: Faults) -> Lapse<D>
         ensures inner { result.inner ≡ inner }
         ensures usable { result.sync_refused ≡ false }
     {
         Lapse {
             inner,
             calls,
-            syncs,
+            syncs: Some(syncs),
             refused: 0,
             sync_refused: false,
         }
+    }
+
+    /// Of all its calls some fail, syncs counted among them.
+    pub fn of_all_calls(inner: D, calls: Faults) -> Lapse<D>
+        ensures inner { result.inner ≡ inner }
+        ensures usable { result.sync_refused ≡ false }
+    {
+        Lapse {
+            inner,
+            calls,
+            syncs: None,
+            refused: 0,
+            sync_refused: false,
+        }
+    }
+
+    /// The disk under it.
+    pub fn into_inner(self) -> D
+        ensures { result ≡ self.inner }
+    {
+        let Lapse { inner, .. } = self;
+        inner
     }
 }
 
@@ -129,7 +154,11 @@ impl<D: Disk> Disk for Lapse<D> {
     }
 
     fn sync(&mut self) -> io::Result<()> {
-        if let Err(error) = count(&mut self.syncs, &mut self.refused) {
+        let counted = match &mut self.syncs {
+            Some(syncs) => count(syncs, &mut self.refused),
+            None => count(&mut self.calls, &mut self.refused),
+        };
+        if let Err(error) = counted {
             self.sync_refused = true;
             return Err(error);
         }
