@@ -9,8 +9,6 @@ ghost use Rattle.vend_ports.specs.port.Waits.{WaitEach, command_time};
 use crate::port::network::{Connection, ReadsWithin, WritesWithin};
 use crate::port::terminal::Terminal;
 use crate::port::wait::{passed_since, slice, wait_left};
-use crate::print::lines::put_waiting;
-use crate::print::watched::Watched;
 use std::io::{self, ErrorKind, Read, Write};
 use std::time::{Clock, Duration, Instant};
 
@@ -36,7 +34,7 @@ impl<'a, H: Clock + Terminal, S> CommandStream<'a, H, S> {
             host,
             inner,
             began,
-            tells: host.screen().is_some(),
+            tells: host.is_watched(),
         }
     }
 
@@ -56,9 +54,7 @@ impl<'a, H: Clock + Terminal, S> CommandStream<'a, H, S> {
     {
         if self.tells {
             self.tells = false;
-            if let Some(mut screen) = self.host.screen() {
-                put_waiting(&mut Watched::new(&mut screen));
-            }
+            self.host.tell_waiting();
         }
     }
 }

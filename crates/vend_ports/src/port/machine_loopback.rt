@@ -26,12 +26,12 @@ const ITSELF: Address = Address {
 
 /// The connection that a command makes on this machine.
 #[derive(Drop)]
-pub struct MachineLoopback<'a, N, H> {
+pub struct MachineLoopback<'a, N: Network, H> {
     net: &'a N,
     host: &'a H,
 }
 
-impl<'a, N, H> MachineLoopback<'a, N, H> {
+impl<'a, N: Network, H> MachineLoopback<'a, N, H> {
     /// No connection was made. While one waits, `host` is told so.
     pub fn new(net: &'a N, host: &'a H) -> MachineLoopback<'a, N, H> {
         MachineLoopback { net, host }

@@ -1,26 +1,24 @@
 //! Where a person who waits is told how a command gets on.
 
-use std::io::{IsTerminal, Write};
-use std::rt::Stderr;
+use crate::print::lines::put_waiting;
+use crate::print::watched::Watched;
+use std::io::IsTerminal;
 
 /// The error output, where it goes to a terminal.
 pub trait Terminal {
-    /// What is shown there is written to this.
-    type Screen: Write + Drop;
+    /// Whether it goes to one.
+    fn is_watched(&self) -> bool;
 
-    /// `None` where the error output goes elsewhere.
-    fn screen(&self) -> Option<Self::Screen>;
+    /// Tells there that the command waits.
+    fn tell_waiting(&self);
 }
 
 impl Terminal for HostRuntime {
-    type Screen = Stderr;
+    fn is_watched(&self) -> bool {
+        self.stderr().is_terminal()
+    }
 
-    fn screen(&self) -> Option<Stderr> {
-        let screen = self.stderr();
-        if screen.is_terminal() {
-            Some(screen)
-        } else {
-            None
-        }
+    fn tell_waiting(&self) {
+        put_waiting(&mut Watched::new(&mut self.stderr()));
     }
 }
