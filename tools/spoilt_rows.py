@@ -78,6 +78,8 @@ def commands(file, texts):
     again = ["--tender", "1000", "--operator"]
     yield ["sell", *at, *again, "ann", "--ref", "A-1", "--meter", METER], {"sale"}
     yield ["sell", *now, *again, "bob", "--ref", "B-1", "--meter", OTHER_METER], {"other-sale"}
+    # Of a new order whose operator has no open shift nothing else is looked at.
+    yield ["sell", *now, *again, "bob", "--ref", "N-1", "--meter", METER], set()
     yield ["offer", *now, "--meter", METER, "1000"], {"meter", "flat-later", "last-id", "month"}
     yield ["offer", *now, "--meter", OTHER_METER, "1000"], {"other-meter", "later-steps"}
     yield ["offer", *late, "--meter", MOVED_METER, "1000"], {"plain-steps", "moved-id"}
@@ -86,6 +88,7 @@ def commands(file, texts):
     yield ["shift", *now, "--operator", "ann", "open"], {"shift"}
     yield ["shift", *now, "--operator", "ann", "close"], {"shift"}
     yield ["shift", *now, "--operator", "bob", "open"], set()
+    yield ["shift", *now, "--operator", "bob", "close"], set()
     yield ["import", *now, "tariffs", texts["new-tariff"]], set()
     yield ["import", *now, "tariffs", texts["known-steps"]], {"flat-later"}
     yield ["import", *now, "tariffs", texts["known-tariff"]], {"flat-steps"}
@@ -95,7 +98,10 @@ def commands(file, texts):
     yield ["import", *now, "meters", texts["known-meters"]], {"meter", "other-meter"}
     yield ["import", *now, "meters", texts["other-key"]], {"meter"}
     yield ["tariff", *now, "--meter", METER, "--tariff", "flat"], {"meter"}
+    yield ["tariff", *now, "--meter", METER, "--tariff", "none"], {"meter"}
+    yield ["tariff", *now, "--meter", NEW_METER, "--tariff", "flat"], set()
     yield ["base", *now, "--meter", METER, "--base", "2014"], {"meter"}
+    yield ["base", *now, "--meter", NEW_METER, "--base", "2014"], set()
     yield [*report, "shift", "--number", "1"], {"shift", "sale", "left-sale"}
     yield [*report, "shift", "--number", "2"], {"closed-shift", "other-sale"}
     yield [*report, "totals", "--number", "1"], {"shift", "totals"}
@@ -105,6 +111,8 @@ def commands(file, texts):
     yield [*report, "receipt", "--number", "1"], {"sale"}
     yield [*report, "receipt", "--number", "2"], {"other-sale"}
     yield [*report, "receipt", "--number", "3"], set()
+    yield [*report, "receipt", "--number", "4"], {"left-sale"}
+    yield [*report, "receipt", "--number", "5"], set()
     yield [*report, "sales"], SALES
     yield ["show", *now, "--meter", METER, "meter"], {"meter", "month", "last-id"}
     yield ["show", *now, "--meter", OTHER_METER, "meter"], {"other-meter", "other-sale"}
@@ -117,6 +125,7 @@ def commands(file, texts):
     yield ["show", *now, "--meter", NEW_METER, "last"], set()
     yield ["show", *now, "--operator", "ann", "--ref", "A-1", "sale"], {"sale"}
     yield ["show", *now, "--operator", "bob", "--ref", "A-1", "sale"], set()
+    yield ["show", *now, "--operator", "ann", "--ref", "A-3", "sale"], {"left-sale"}
     yield ["list", *now, "tariffs"], STEPS
     yield ["list", *now, "--after", "flat", "tariffs"], STEPS - {"flat-later"}
     yield ["list", *now, "--after", "later", "tariffs"], {"plain-steps"}
@@ -129,6 +138,7 @@ def commands(file, texts):
     yield ["list", *now, "--after", "2", "shifts"], set()
     yield ["list", *now, "sales"], SALES
     yield ["list", *now, "--after", "1", "sales"], {"other-sale", "left-sale"}
+    yield ["list", *now, "--after", "3", "sales"], {"left-sale"}
     yield ["list", *now, "--after", "4", "sales"], set()
 
 

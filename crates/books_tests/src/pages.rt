@@ -196,10 +196,12 @@ fn books_over_the_same_connection(rt: HostRuntime) -> Result<(), Fail> {
 }
 
 // Rows that are no office's, which a sale to the other meter meets.
-static SPOILS: [&str; 8] = [
+static SPOILS: [&str; 10] = [
     "UPDATE meters SET secret = 'xyz' WHERE meter = '10000000009'",
     "UPDATE meters SET base = 2015 WHERE meter = '10000000009'",
     "UPDATE tariff_steps SET price = 0",
+    "INSERT INTO dated_steps VALUES ('block', 0, 0, NULL, 0)",
+    "UPDATE shifts SET opened = -1",
     "INSERT INTO last_ids VALUES ('10000000009', 2014, 16777216)",
     "INSERT INTO month_tenths VALUES ('10000000009', 252, -1)",
     "UPDATE shift_totals SET sales = -7",
