@@ -1,5 +1,5 @@
--- An import that was granted and comes again, with no SetTariff and no MoveBase in between, changes
--- nothing.
+-- An import that was granted and comes again, where nothing in between changed what its rows may have
+-- added, changes nothing.
 use Rattle.std.proofs.Common.{◌≡◌, ℕ, ◌+◌, Bool, true, false, List, [], ◌∷◌, length, Option, Some, None, Result, Ok, Err, is_some, refl, sym, ◌∙◌, ap, subst}
 use Rattle.std.specs.Prelude.{◌&&◌, ◌==◌, All, bytes_eq, nat_lt, if◌then◌else◌}
 use Rattle.sts_fields.specs.Day.{day_at}
@@ -13,7 +13,7 @@ use Rattle.office_rules.specs.Decision.{◌>>=◌, MeterAccount, at_row, add_met
 use Rattle.office_rules.specs.Decision.Edits.{office_after, with_rows}
 use Rattle.office_rules.specs.Decision.Fold.{after, reply, reply_of, step}
 use Rattle.office_rules.specs.Law.Growth.{HaveStayed}
-use Rattle.vend_core.specs.Law.Imports.{ImportsNothing, ChangesNoMeter}
+use Rattle.vend_core.specs.Law.Imports.{ImportsNothing, ChangesNoRow}
 use Rattle.office_rules.specs.Office.Lookup.{open_shift, sale_numbered, sale_of_ref, sales_of_shift, shift_numbered}
 use Rattle.office_rules.specs.Office.{Office}
 use Rattle.office_rules.specs.declared.decision.answer.Answer.{Answer}
@@ -38,7 +38,7 @@ use Rattle.office_rules.proofs.DecisionLemmas.EditLemmas.{base_eq-refl}
 use Rattle.office_rules.proofs.OfficeLemmas.RowLemmas.{both_true}
 use Rattle.office_rules.proofs.DecisionLemmas.StayLemmas.{stayed_by_meter, stayed_by_row, stayed_by_steps, stayed_by_tariff, still_there, stayed_if, stayed_none, stayed_twice}
 
--- whatever is asked but SetTariff and MoveBase, the tariffs and the meters stand
+-- whatever is asked that changes no row, the tariffs and the meters stand
 stayed_by_import : (o : Office) (today : ℕ) (rows : List Row) → HaveStayed o (office_after o (import o today rows))
 stayed_by_import o today rows =
     import_keeps (HaveStayed o) (λ row. Unit {0}) today
@@ -85,15 +85,17 @@ module _ (o : Office) where
   stayed_by_report None sales = stayed_none o
   stayed_by_report (Some s) sales = stayed_none o
 
-  stayed_by : (forward : ℕ → ℕ → ℕ) (at : Stamped) (request : Request) → at.request ≡ request → ChangesNoMeter at
+  stayed_by : (forward : ℕ → ℕ → ℕ) (at : Stamped) (request : Request) → at.request ≡ request → ChangesNoRow at
       → HaveStayed o (office_after o (decision_of forward o at.moment at.nibble request))
   stayed_by forward at (requests.AddTariff name steps) e other = stayed_by_tariff o name steps (o.tariffs name) refl
   stayed_by forward at (requests.AddSteps name day steps) e other =
       stayed_by_steps o name day (day_at at.moment) steps (is_some (o.tariffs name)) (o.dated_steps name day) refl
+  stayed_by forward at (requests.WithdrawSteps name day) e other = absurd (subst (λ (r : Request). ChangesNoRow (record at { request = r })) e other)
   stayed_by forward at (requests.AddMeter number m) e other = stayed_by_meter o number m (o.meters number) (is_some (o.tariffs m.tariff)) refl
   stayed_by forward at (requests.Import rows) e other = stayed_by_import o (day_at at.moment) rows
-  stayed_by forward at (requests.SetTariff number name) e other = absurd (subst (λ (r : Request). ChangesNoMeter (record at { request = r })) e other)
-  stayed_by forward at (requests.MoveBase number base) e other = absurd (subst (λ (r : Request). ChangesNoMeter (record at { request = r })) e other)
+  stayed_by forward at (requests.SetTariff number name) e other = absurd (subst (λ (r : Request). ChangesNoRow (record at { request = r })) e other)
+  stayed_by forward at (requests.MoveBase number base) e other = absurd (subst (λ (r : Request). ChangesNoRow (record at { request = r })) e other)
+  stayed_by forward at (requests.SetKey number key) e other = absurd (subst (λ (r : Request). ChangesNoRow (record at { request = r })) e other)
   stayed_by forward at (requests.OpenShift operator) e other = stayed_by_open at.moment operator (open_shift o operator) (length o.shifts)
   stayed_by forward at (requests.CloseShift operator) e other = stayed_by_close at.moment (open_shift o operator)
   stayed_by forward at (requests.Sell order) e other =
@@ -102,17 +104,17 @@ module _ (o : Office) where
   stayed_by forward at (requests.Reprint number) e other = stayed_by_reprint (sale_numbered o number)
   stayed_by forward at (requests.ShiftReport number) e other = stayed_by_report (shift_numbered o number) (sales_of_shift o number)
 
--- tariffs and meters stay as they are over any request but SetTariff and MoveBase
-pub step_stays : (forward : ℕ → ℕ → ℕ) (o : Office) (at : Stamped) → ChangesNoMeter at → HaveStayed o (step forward o at)
+-- tariffs and meters stay as they are over any request that changes no row
+pub step_stays : (forward : ℕ → ℕ → ℕ) (o : Office) (at : Stamped) → ChangesNoRow at → HaveStayed o (step forward o at)
 step_stays forward o at other = stayed_by o forward at at.request refl other
 
 -- the same over any number of such requests
-pub after_stays : (forward : ℕ → ℕ → ℕ) (o : Office) (ats : List Stamped) → All ChangesNoMeter ats → HaveStayed o (after forward o ats)
+pub after_stays : (forward : ℕ → ℕ → ℕ) (o : Office) (ats : List Stamped) → All ChangesNoRow ats → HaveStayed o (after forward o ats)
 unfolding after
 after_stays forward o [] others = stayed_none o
 after_stays forward o (at ∷ ats) others =
-    stayed_twice o (step forward o at) (after forward (step forward o at) ats) (step_stays forward o at (All-head ChangesNoMeter at ats others))
-    (after_stays forward (step forward o at) ats (All-tail ChangesNoMeter at ats others))
+    stayed_twice o (step forward o at) (after forward (step forward o at) ats) (step_stays forward o at (All-head ChangesNoRow at ats others))
+    (after_stays forward (step forward o at) ats (All-tail ChangesNoRow at ats others))
 
 -- a row that stands in an office: on whatever day, it would be granted, and change nothing
 abbrev pub Stands : Office → Row → Type 0
@@ -274,9 +276,9 @@ rows_stand forward o at rows new asks granted =
     subst (λ (r : Result Change Refusal). All (Stands (office_after o r)) rows) (sym decided)
     (granted_import (day_at at.moment) o rows (new_rows o (day_at at.moment) 1 rows) new refl (ap reply_of (sym decided) ∙ granted))
 
--- a granted import that comes again with no meter changed between changes nothing
+-- a granted import that comes again with no row changed between changes nothing
 pub imported_again : (forward : ℕ → ℕ → ℕ) (o : Office) (at again : Stamped) (between : List Stamped) (rows : List Row) (new : ℕ)
-    → at.request ≡ requests.Import rows → again.request ≡ requests.Import rows → reply forward o at ≡ Ok (answers.Imported new) → All ChangesNoMeter between
+    → at.request ≡ requests.Import rows → again.request ≡ requests.Import rows → reply forward o at ≡ Ok (answers.Imported new) → All ChangesNoRow between
     → ImportsNothing forward (after forward (step forward o at) between) again
 imported_again forward o at again between rows new asks asks_again granted others =
     let p = step forward o at in

@@ -7,20 +7,24 @@ use Rattle.office_rules.specs.Office.{Office}
 use Rattle.office_rules.specs.declared.decision.answer.Answer.TheVariants.{Imported}
 use Rattle.office_rules.specs.declared.decision.request.Request.{Request}
 use Rattle.office_rules.specs.declared.decision.request.Request.TheVariants.{SetTariff, MoveBase}
+use Rattle.office_rules.specs.declared.decision.request.Request.TheVariants.{SetKey, WithdrawSteps}
 use Rattle.office_rules.specs.declared.decision.request.Stamped.{Stamped}
 
--- a request other than SetTariff and MoveBase
-abbrev pub IsNoMeterChange : Request → Type 0
-IsNoMeterChange (SetTariff number name) = ⊥
-IsNoMeterChange (MoveBase number base) = ⊥
-IsNoMeterChange request = Unit {0}
+-- a request that leaves what stands under the names of rows: it is no SetTariff, MoveBase or SetKey,
+-- which change a meter, and no WithdrawSteps
+abbrev pub IsNoRowChange : Request → Type 0
+IsNoRowChange (SetTariff number name) = ⊥
+IsNoRowChange (MoveBase number base) = ⊥
+IsNoRowChange (SetKey number key) = ⊥
+IsNoRowChange (WithdrawSteps name day) = ⊥
+IsNoRowChange request = Unit {0}
 
-abbrev pub ChangesNoMeter : Stamped → Type 0
-ChangesNoMeter at = IsNoMeterChange at.request
+abbrev pub ChangesNoRow : Stamped → Type 0
+ChangesNoRow at = IsNoRowChange at.request
 
--- an exchange whose request is another
-abbrev pub AsksNoMeterChange : Exchange → Type 0
-AsksNoMeterChange e = ChangesNoMeter e.request
+-- an exchange whose request is such
+abbrev pub AsksNoRowChange : Exchange → Type 0
+AsksNoRowChange e = ChangesNoRow e.request
 
 -- a request is answered that no row was new, and changes nothing
 abbrev pub ImportsNothing : BlockFunction → Office → Stamped → Type 0
