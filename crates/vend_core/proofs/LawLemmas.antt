@@ -10,6 +10,7 @@ pub mod EachAfterLemmas
 pub mod EffectLemmas
 pub mod FoldLemmas
 pub mod GrowthLemmas
+pub mod LeaveLemmas
 pub mod MeterLemmas
 pub mod PlausibleLemmas
 pub mod PriceLemmas

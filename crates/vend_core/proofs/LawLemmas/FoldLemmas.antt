@@ -1,6 +1,6 @@
 -- What holds along steps and along whole folds: an office stays one, and its rows only grow.
 use Rattle.std.proofs.Common.{◌≡◌, ◌≢◌, ℕ, Bool, true, false, List, [], ◌∷◌, ◌++◌, length, Option, Some, None, Result, Ok, Err, refl, sym, ◌∙◌, ap, subst, arith}
-use Rattle.std.specs.Prelude.{◌≤◌, ◌&&◌, ◌==◌, All, Contains, IsNone, bytes_eq, is_none, is_some, nat_lt, not, option_map, slice_get}
+use Rattle.std.specs.Prelude.{◌≤◌, ◌&&◌, ◌==◌, All, Contains, IsNone, bytes_eq, is_none, is_some, nat_lt, not, if◌then◌else◌, option_map, slice_get}
 use Rattle.std.proofs.lemmas.Bool.{false≢true}
 use Rattle.std.proofs.lemmas.Bool.Decides.{Decides-eqb, nat_tests}
 use Rattle.std.proofs.lemmas.List.{append-nil, length-append, get_or_append_left}
@@ -132,7 +132,7 @@ module _ (o : Office) where
           false≢true (sym (none refl) ∙ (sold_since_is o day).1 (subst (WasSoldSince o) same sold))) at;
     };
     meters = λ q m at. (m, at, omega arith);
-    keys = keys_stay o _ (λ q m at. at);
+    keys = keys_stay o (applied (edits.WithdrawSteps name day) o) (λ q m at. at);
     bases = λ q b had. had;
   }) refl refl
   grown_by_withdrawing name day false none = grown_none o

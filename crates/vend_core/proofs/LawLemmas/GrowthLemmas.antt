@@ -1,16 +1,15 @@
 -- What an office that has grown keeps: sales and shifts, and the steps and keys that something was
 -- sold by.
 use Rattle.std.proofs.Common.{◌≡◌, ℕ, Bool, true, List, [], ◌++◌, Option, Some, refl, sym, ◌∙◌, ap, subst, arith}
-use Rattle.std.specs.Prelude.{◌≤◌, Contains, is_some, not, slice_get}
+use Rattle.std.specs.Prelude.{◌≤◌, Contains, is_some, slice_get}
 use Rattle.std.proofs.lemmas.List.{append-nil, append_assoc}
 use Rattle.std.proofs.lemmas.List.Elements.{Contains-append_left}
 use Rattle.std.proofs.lemmas.Option.{same_Some}
 use Rattle.sts_fields.specs.Base.{year_of}
 use Rattle.sts_fields.specs.declared.base.Base.{Base}
 use Rattle.tariff.specs.declared.step.Step.{Step}
-use Rattle.office_rules.specs.Decision.Fold.{step}
 use Rattle.office_rules.specs.Law.Growth.{BeginsWith, HasGrown, IsSameShift, SoldStepsStay, TariffsStay}
-use Rattle.office_rules.specs.Office.Lookup.{WasSoldSince, WasSoldTo, sold_since}
+use Rattle.office_rules.specs.Office.Lookup.{WasSoldSince, WasSoldTo}
 use Rattle.office_rules.specs.Office.{Office}
 use Rattle.office_rules.specs.declared.office.meter.Meter.{Meter}
 use Rattle.office_rules.specs.declared.office.sale.Sale.{Sale}

@@ -7,7 +7,7 @@ use Rattle.std.proofs.lemmas.Option.{same_Some}
 use Rattle.sts_token.specs.Token.{IsToken, KeepsRange}
 use Rattle.office_rules.specs.Decision.Fold.{after, step}
 use Rattle.office_rules.specs.Decision.Requests.{IsStamped}
-use Rattle.vend_core.specs.Law.Imports.{IsNoRowChange}
+use Rattle.vend_core.specs.Law.Imports.{LeavesRow}
 use Rattle.vend_core.specs.Law.Life.{LeadTo, Life, WasMadeSince}
 use Rattle.office_rules.specs.Law.Growth.{HasGrown}
 use Rattle.office_rules.specs.Law.NewSale.{IsNewSale, fields_of}
@@ -18,10 +18,11 @@ use Rattle.office_rules.specs.declared.decision.request.Order.{Order}
 use Rattle.office_rules.specs.declared.decision.request.Request.TheVariants as requests
 use Rattle.office_rules.specs.declared.decision.request.Stamped.{Stamped}
 use Rattle.office_rules.specs.declared.office.meter.Meter.{Meter}
+use Rattle.office_rules.specs.declared.office.row.Row.TheVariants as kinds
 use Rattle.office_rules.specs.declared.office.sale.Sale.{Sale}
 use Rattle.office_rules.proofs.DecisionLemmas.NewSaleLemmas.{LowerLaws}
 use Rattle.vend_core.proofs.LawLemmas.AnswerLemmas.{sells_one}
-use Rattle.vend_core.proofs.LawLemmas.AgainLemmas.{step_stays}
+use Rattle.vend_core.proofs.LawLemmas.LeaveLemmas.{step_stays}
 use Rattle.vend_core.proofs.LawLemmas.FoldLemmas.{step_grows}
 use Rattle.vend_core.proofs.LifeLemmas.{led_office}
 use Rattle.vend_core.proofs.LifeLemmas.AlongLemmas.{StepKeepsBy, after_keeps_by, led_keeps}
@@ -70,7 +71,8 @@ module _ (laws : LowerLaws) where
       → at.request ≡ requests.Sell order → (new : IsNewSale forward o at order s)
       → (step forward o at).meters s.meter ≡ Some new.to_meter
   meter_of_new forward o at order s asks new =
-      (step_stays forward o at (subst IsNoRowChange (sym asks) tt)).meters s.meter new.to_meter
+      step_stays forward o at (kinds.Meter s.meter new.to_meter)
+      (subst (λ request. LeavesRow request (kinds.Meter s.meter new.to_meter)) (sym asks) tt)
       (ap o.meters new.meter ∙ new.meter_is)
 
   -- if each sale but those of the start has the token of its fields, it has it after a request too

@@ -8,9 +8,9 @@ ghost use Rattle.sts_token.specs.Token.{KeepsRange, BlockFunction};
 ghost use Rattle.tariff.specs.declared.step.Step.{Step};
 ghost use Rattle.office_rules.specs.Law.Cash.{AskForReports, cash_of, cash_of_reports};
 ghost use Rattle.office_rules.specs.Decision.Fold.{after, reply, step, with_key};
-ghost use Rattle.office_rules.specs.Law.Growth.{HasGrown, HaveStayed};
+ghost use Rattle.office_rules.specs.Law.Growth.{HasGrown};
 ghost use Rattle.office_rules.specs.Law.Handed.{sales_of};
-ghost use Rattle.vend_core.specs.Law.Imports.{ImportsNothing, ChangesNoRow};
+ghost use Rattle.vend_core.specs.Law.Imports.{HasRow, ImportsNothing, LeavesRow, LeavesRows};
 ghost use Rattle.office_rules.specs.Office.Lookup.{WasSoldSince, WasSoldTo, greatest_of};
 ghost use Rattle.office_rules.specs.Office.Lookup.{sale_of_ref, sales_of_shift, steps_on, used};
 ghost use Rattle.office_rules.specs.Law.NewSale.{IsNewSale};
@@ -89,16 +89,17 @@ pub fn office_law()
     ensures answers_stand { (forward : BlockFunction) (o : Office) (at : Stamped)
         → All (Contains (step forward o at).sales) (sales_of (reply forward o at)) }
 
-    // Tariffs and meters stand as they are, whatever is asked but SetTariff, MoveBase, SetKey and
-    // WithdrawSteps. So an import that was granted and comes again, on whatever day and with none of
-    // these four in between, changes nothing and has no new row.
-    ensures stays { (forward : BlockFunction) (o : Office) (at : Stamped)
-        → ChangesNoRow at → HaveStayed o (step forward o at) }
+    // A tariff stands as it is, and so do further steps but for WithdrawSteps of them, and a meter
+    // but for SetTariff, MoveBase and SetKey of it. So an import that was granted and comes again,
+    // on whatever day and with none of these of its rows in between, changes nothing and has no new
+    // row.
+    ensures stays { (forward : BlockFunction) (o : Office) (at : Stamped) (row : Row)
+        → LeavesRow at.request row → HasRow o row → HasRow (step forward o at) row }
     ensures imported_again { (forward : BlockFunction) (o : Office) (at again : Stamped)
         (between : List Stamped)
         (rows : List Row) (new : ℕ)
         → at.request ≡ Request.Import rows → again.request ≡ Request.Import rows
-        → reply forward o at ≡ Ok (Answer.Imported new) → All ChangesNoRow between
+        → reply forward o at ≡ Ok (Answer.Imported new) → All (LeavesRows rows) between
         → ImportsNothing forward (after forward (step forward o at) between) again }
 
     // Rows only come at the end, and a sale stays as it was made. A tariff's first steps stay too,

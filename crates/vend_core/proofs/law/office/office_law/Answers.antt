@@ -1,7 +1,8 @@
 use Rattle.std.proofs.Common.{arith, refl}
 use Rattle.office_rules.specs.Office.Lookup.{used}
 use Rattle.office_rules.specs.declared.decision.refusal.Refusal.TheVariants.{Memory, Store, Stopped}
-use Rattle.vend_core.proofs.LawLemmas.AgainLemmas.{imported_again, step_stays}
+use Rattle.vend_core.proofs.LawLemmas.AgainLemmas.{imported_again}
+use Rattle.vend_core.proofs.LawLemmas.LeaveLemmas.{step_stays}
 use Rattle.vend_core.proofs.LawLemmas.AnswerLemmas.{answered_stand, sells_one}
 use Rattle.vend_core.proofs.LawLemmas.BaseLemmas.{moves, moves_not_back, moves_not_before, moves_once, present_is_greatest, sales_have_bases}
 use Rattle.vend_core.proofs.LawLemmas.CashLemmas.{cash_adds_up}
