@@ -1,8 +1,7 @@
 -- An import that was granted and comes again, where nothing in between changed what its rows may have
 -- added, changes nothing.
 use Rattle.std.proofs.Common.{◌≡◌, ℕ, ◌+◌, Bool, true, false, List, [], ◌∷◌, Option, Some, None, Result, Ok, Err, is_some, refl, sym, ◌∙◌, ap, subst}
-use Rattle.std.specs.Prelude.{◌&&◌, ◌==◌, All, bytes_eq, nat_lt, not, if◌then◌else◌}
-use Rattle.sts_fields.specs.Base.{base_eq}
+use Rattle.std.specs.Prelude.{◌&&◌, ◌==◌, All, bytes_eq, nat_lt, if◌then◌else◌}
 use Rattle.sts_fields.specs.Day.{day_at}
 use Rattle.std.proofs.lemmas.List.Elements.{All-cons, All-contains, All-head, All-nil, All-tail}
 use Rattle.std.proofs.lemmas.Option.{none-some}

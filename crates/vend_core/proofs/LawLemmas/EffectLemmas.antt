@@ -1,14 +1,13 @@
 -- What an edit makes of the shifts.
-use Rattle.std.proofs.Common.{◌≡◌, ℕ, ◌+◌, ◌⊎◌, inl, inr, Bool, true, false, List, [], ◌∷◌, ◌++◌, length, Option, Some, None, Result, Ok, Err, refl, ◌∙◌}
-use Rattle.std.specs.Prelude.{bytes_eq, if◌then◌else◌, map}
+use Rattle.std.proofs.Common.{◌≡◌, ℕ, ◌+◌, ◌⊎◌, inl, inr, List, [], ◌∷◌, ◌++◌, length, Option, Some, None, Result, Ok, Err, refl, ◌∙◌}
+use Rattle.std.specs.Prelude.{map}
 use Rattle.std.specs.Option.{option_map_or}
 use Rattle.sts_token.specs.Token.{KeepsRange}
-use Rattle.sts_fields.specs.declared.base.Base.{Base}
 use Rattle.office_rules.specs.Decision.{decision}
-use Rattle.office_rules.specs.Decision.Edits.{applied, office_after, with_base, with_row, with_rows, with_tariff}
+use Rattle.office_rules.specs.Decision.Edits.{applied, office_after, with_row, with_rows}
 use Rattle.office_rules.specs.Decision.Fold.{step}
 use Rattle.office_rules.specs.Decision.Requests.{IsStamped}
-use Rattle.office_rules.specs.Law.Store.{Meets, MeetRows, MeetsRow}
+use Rattle.office_rules.specs.Law.Store.{Meets}
 use Rattle.office_rules.specs.Office.Lookup.{open_shift}
 use Rattle.office_rules.specs.Office.{IsOffice, Office}
 use Rattle.office_rules.specs.declared.decision.change.Change.{Change}
@@ -16,13 +15,11 @@ use Rattle.office_rules.specs.declared.decision.change.Edit.{Edit}
 use Rattle.office_rules.specs.declared.decision.change.Edit.TheVariants as edits
 use Rattle.office_rules.specs.declared.decision.refusal.Refusal.{Refusal}
 use Rattle.office_rules.specs.declared.decision.request.Stamped.{Stamped}
-use Rattle.office_rules.specs.declared.office.meter.Meter.{Meter}
 use Rattle.office_rules.specs.declared.office.row.Row.{Row}
 use Rattle.office_rules.specs.declared.office.row.Row.TheVariants as kinds
 use Rattle.office_rules.specs.declared.office.shift.Shift.{Shift}
-use Rattle.office_rules.proofs.DecisionLemmas.EditLemmas.{closing, set_kept}
+use Rattle.office_rules.proofs.DecisionLemmas.EditLemmas.{closing}
 use Rattle.office_rules.proofs.DecisionLemmas.NewSaleLemmas.{LowerLaws}
-use Rattle.office_rules.proofs.DecisionLemmas.StayLemmas.{put_beside}
 use Rattle.office_rules.proofs.StoreLemmas.MeetsLemmas.{decided_meets}
 
 -- what holds of no change, and of each edit that meets its office, holds of a step

@@ -9,7 +9,7 @@ use Rattle.std.proofs.lemmas.Bool.Decides.{Decides-eqb}
 use Rattle.tariff.specs.declared.step.Step.{Step}
 use Rattle.office_rules.specs.Decision.{MeterAccount, account_of, changed, close_shift, decision_of, import, is_earlier, move_base, next_number, open_a_shift, report, reprint, row_decision, sell, sell_once, set_key, set_tariff, unchanged, withdraw_steps}
 use Rattle.office_rules.specs.Decision.Edits.{office_after, with_base, with_key, with_tariff}
-use Rattle.office_rules.specs.Decision.Fold.{after, step}
+use Rattle.office_rules.specs.Decision.Fold.{step}
 use Rattle.office_rules.specs.Law.Growth.{HaveStayed, TariffsStay}
 use Rattle.vend_core.specs.Law.Imports.{AreOtherSteps, HasRow, IsOtherMeter, LeavesRow}
 use Rattle.office_rules.specs.Office.Lookup.{has_sales, open_shift, sale_numbered, sale_of_ref, sales_of_shift, shift_numbered, sold_since}
