@@ -113,6 +113,8 @@ pub(crate) const NEW_STEP: &str =
 
 pub(crate) const TARIFF_SET: &str = "UPDATE meters SET tariff = ?2 WHERE meter = ?1";
 
+pub(crate) const KEY_SET: &str = "UPDATE meters SET secret = ?2 WHERE meter = ?1";
+
 pub(crate) const SALES_AFTER: &str = select_sale!(
     " FROM sales WHERE number > ?1 ORDER BY number LIMIT ?2"
 );
@@ -134,6 +136,8 @@ pub(crate) const FIRST_DAY_UNTIL: &str =
 
 pub(crate) const NEW_DATED_STEP: &str =
     "INSERT INTO dated_steps (tariff, day, place, ends, price) VALUES (?1, ?2, ?3, ?4, ?5)";
+
+pub(crate) const STEPS_WITHDRAWN: &str = "DELETE FROM dated_steps WHERE tariff = ?1 AND day = ?2";
 
 pub(crate) const NEW_BASE: &str = "INSERT INTO meter_bases (meter, base) VALUES (?1, ?2)";
 
