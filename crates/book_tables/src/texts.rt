@@ -77,6 +77,10 @@ pub(crate) const SALE_OF_TID: &str = select_sale!(
 
 pub(crate) const LAST_SALE_NUMBER: &str = "SELECT number FROM sales ORDER BY number DESC LIMIT 1";
 
+// No index serves it: it walks the sales back from the last one to the first that passes.
+pub(crate) const SOLD_SINCE: &str =
+    "SELECT number FROM sales WHERE moment >= ?1 ORDER BY number DESC LIMIT 1";
+
 pub(crate) const SHIFT_NUMBERED: &str = select_shift!(" WHERE number = ?1");
 
 // At most one row passes; while a shift is open, it is found from the end.
@@ -125,6 +129,10 @@ pub(crate) const SALES_OF_SHIFT: &str = select_sale!(
 );
 
 pub(crate) const LAST_ID: &str = "SELECT tid FROM last_ids WHERE meter = ?1 AND base = ?2";
+
+// The index of meter and base gives the few rows of a meter.
+pub(crate) const LAST_ID_OF_METER: &str =
+    "SELECT tid FROM last_ids WHERE meter = ?1 ORDER BY tid DESC LIMIT 1";
 
 pub(crate) const STEPS_FROM: &str =
     "SELECT ends, price FROM dated_steps WHERE tariff = ?1 AND day = ?2 ORDER BY place";
