@@ -37,7 +37,7 @@ use Rattle.office_rules.proofs.DecisionLemmas.NewSaleLemmas.{LowerLaws, granted_
 use Rattle.office_rules.proofs.OfficeLemmas.{after_sales, new_row}
 use Rattle.office_rules.proofs.OfficeLemmas.RowLemmas.{same_number}
 use Rattle.office_rules.proofs.StoreLemmas.{open_shift_is}
-use Rattle.office_rules.proofs.StoreLemmas.SoldLemmas.{not_sold_since_is, not_sold_to_is}
+use Rattle.office_rules.proofs.StoreLemmas.SoldLemmas.{not_sold_since_is, not_sold_to_is, passed_both}
 use Rattle.office_rules.proofs.StoreLemmas.RowMeetsLemmas.{EditMeets, if_changed, if_import, if_tested, if_unchanged, not_moved_yet, row_meets}
 
 if_set : (o : Office) (number name : List ℕ) (m : Meter) (b : Bool) → bytes_eq m.tariff name ≡ b
@@ -53,12 +53,6 @@ if_set o number name m false is meter_is there =
           λ same. false≢true (sym is ∙ (bytes_eq-Decides m.tariff name).1 same);
       tariff = there;
     })
-
--- both tests of a withdrawal
-passed_both : (later sold : Bool) → (later && not sold) ≡ true → sold ≡ false
-passed_both true false e = refl
-passed_both true true e = cc
-passed_both false sold e = cc
 
 if_withdrawing : (o : Office) (name : List ℕ) (day : ℕ) (steps : List Step) (b : Bool)
     → o.dated_steps name day ≡ Some steps → (b ≡ true → sold_since o day ≡ false)

@@ -1,8 +1,8 @@
 -- Whether something was sold, to a meter or since a day: which sales stand then.
-use Rattle.std.proofs.Common.{◌≡◌, ◌≢◌, ℕ, ◌<◌, ◌≤◌, ◌↔◌, Bool, true, false, List, [], ◌∷◌, refl, sym, ◌∙◌, ap, arith}
-use Rattle.std.specs.Prelude.{◌||◌, Contains, bytes_eq, nat_le}
+use Rattle.std.proofs.Common.{◌≡◌, ◌≢◌, ℕ, ◌<◌, ◌↔◌, Bool, true, false, List, [], ◌∷◌, refl, sym, ◌∙◌, ap, arith}
+use Rattle.std.specs.Prelude.{◌&&◌, ◌||◌, Contains, bytes_eq, nat_le, not}
 use Rattle.std.specs.List.{list_any}
-use Rattle.std.proofs.lemmas.Bool.{false≢true, le-leb, leb-false, leb-true, lt-leb}
+use Rattle.std.proofs.lemmas.Bool.{false≢true, le-leb, leb-false, leb-true}
 use Rattle.std.proofs.lemmas.List.Folds.{list_any_at}
 use Rattle.std.proofs.lemmas.Slice.Eq.{bytes_eq-Decides}
 use Rattle.sts_fields.specs.Day.{day_at}
@@ -79,3 +79,9 @@ not_sold_since_is o day = (
       let since = s.2 in
       absurd (omega (arith, earlier, since))),
 )
+
+-- a withdrawal that passes both of its tests is one before which nothing was sold since the day
+pub passed_both : (later sold : Bool) → (later && not sold) ≡ true → sold ≡ false
+passed_both true false e = refl
+passed_both true true e = cc
+passed_both false sold e = cc
