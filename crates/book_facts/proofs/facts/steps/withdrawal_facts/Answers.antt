@@ -18,8 +18,8 @@ pub returns-in_err-dated : goal.returns-in_err-dated
 returns-in_err-dated g c = looks_on c.from_residual.result c.from_residual.ensures.1 c.in_err-dated.ensures.reads
     (λ clean has row. inl (c.in_err-dated.ensures.spoilt clean has row))
 
-pub returns-then-not-has_tariff : goal.returns-then-not-has_tariff
-returns-then-not-has_tariff g c =
+pub returns-then-not-dated : goal.returns-then-not-dated
+returns-then-not-dated g c =
     let dated = c.in_ok-dated.ensures in
     record {
       facts = λ clean o office members.
