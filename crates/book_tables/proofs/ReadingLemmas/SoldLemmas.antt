@@ -1,15 +1,13 @@
 -- Whether something was sold, to a meter or since a day, as the statements find it.
-use Rattle.std.proofs.Common.{get_or, ◌≡◌, ◌∙◌, ◌+◌, ◌*◌, ◌≤◌, ◌<◌, ◌↔◌, ℕ, suc, true, false, List, [], ◌∷◌, Option, None, Some, IfSome, arith, is_some, map, nat_le, option_map, pos, refl, reverse, sym, ap, ap₂, take, subst, inl, inr}
+use Rattle.std.proofs.Common.{get_or, ◌≡◌, ◌∙◌, ◌+◌, ◌*◌, ◌≤◌, ◌<◌, ℕ, true, false, List, [], ◌∷◌, Option, None, Some, IfSome, arith, is_some, map, nat_le, option_map, pos, refl, sym, ap, ap₂, subst}
 use Rattle.std.specs.Prelude.{◌||◌, ◌&&◌, All, Bool, Contains, bytes_eq, cond, filter, codes}
 use Rattle.std.specs.List.{last_or, list_any}
 use Rattle.std.specs.Option.{option_to_list}
 use Rattle.std.proofs.lemmas.Bool.{and_from, and_parts, false≢true, le-leb, leb-true}
-use Rattle.std.proofs.lemmas.Bool.Decides.{nat_tests}
 use Rattle.std.proofs.lemmas.List.Elements.{All-filter, All-head, All-map, All-tail, All-weaker, Contains-get_or}
 use Rattle.std.proofs.lemmas.List.Folds.{Any-from_list_any, list_any_at}
 use Rattle.std.proofs.lemmas.Slice.Eq.{bytes_eq-Decides}
 use Rattle.sqlite.specs.declared.types.Value.TheVariants.{Int, Text}
-use Rattle.sqlite_keyed.proofs.ListLemmas.{ascending-filter}
 use Rattle.sqlite_sql.specs.Ops.{binary, is_true}
 use Rattle.sqlite_sql.specs.Term.{lit}
 use Rattle.sqlite_sql.specs.declared.ops.BinaryOp.TheVariants.{Compare}
@@ -17,7 +15,7 @@ use Rattle.sqlite_sql.specs.declared.ops.CompareOp.TheVariants.{Ge}
 use Rattle.sqlite_typed.proofs.TestLemmas.{at_ints, last_term}
 use Rattle.sqlite_value.specs.declared.keys.Collation.TheVariants.{Binary}
 use Rattle.sts_fields.specs.Base.{base_eq}
-use Rattle.sts_fields.specs.Day.{IsDay, day_at}
+use Rattle.sts_fields.specs.Day.{day_at}
 use Rattle.sts_fields.specs.Moment.{IsMoment, first_moment}
 use Rattle.sts_fields.specs.Tid.{last_tid}
 use Rattle.sts_fields.specs.declared.base.Base.{Base}
@@ -27,21 +25,19 @@ use Rattle.office_rules.specs.declared.office.sale.Sale.{Sale}
 use Rattle.one_table.proofs.ListedLemmas.{last_by_key}
 use Rattle.one_table.proofs.TestsLemmas.{text_is}
 use Rattle.book_tables.specs.Kept.{last_ids_kept, sales_kept}
-use Rattle.book_tables.specs.Stands.{AreRowsOf, sales_under}
+use Rattle.book_tables.specs.Stands.{sales_under}
 use Rattle.book_tables.specs.Tables.{last_ids_table, sales_table}
 use Rattle.book_tables.specs.declared.row.total_records.Tid.{Tid}
 use Rattle.book_tables.specs.reading.Questions.{first_second}
 use Rattle.book_tables.specs.reading.Reading.{AreOfOffice}
 use Rattle.book_tables.specs.row.Rows.{Rows, last_id_columns, number, shown_number}
 use Rattle.book_tables.specs.row.Values.{AreSaleValues, IsNumber, IsTid}
-use Rattle.book_tables.proofs.ListLemmas.{contains_cases, contains_further, contains_map}
 use Rattle.book_tables.proofs.ReadingLemmas.DatedDayLemmas.{TellsGreatest}
 use Rattle.book_tables.proofs.ReadingLemmas.FindLemmas.{Finds}
 use Rattle.book_tables.proofs.ReadingLemmas.LastLemmas.{last_number_keeps, last_number_shown, numbers_rise}
 use Rattle.book_tables.proofs.ReadingLemmas.LatestLemmas.{greatest_hidden}
 use Rattle.book_tables.proofs.ReadingLemmas.SaleLemmas.{numbered, sales_keep_values}
 use Rattle.book_tables.proofs.ReadingLemmas.SaleTexts.{sold_since_asks, sold_since_query, sold_since_text}
-use Rattle.book_tables.proofs.ReadingLemmas.StepLemmas.{passes_there, there_passes}
 use Rattle.book_tables.proofs.RowLemmas.RecordLemmas.{one_number}
 use Rattle.book_tables.proofs.SalesOfLemmas.{greatest_within}
 use Rattle.book_tables.proofs.ReadingLemmas.TotalsReadLemmas.{keeps_of, one_tid, own_totals, tid_of, tids_within}

@@ -1,6 +1,6 @@
 -- What the rows of dated steps are after those of a tariff and a day were withdrawn.
-use Rattle.std.proofs.Common.{◌≡◌, ℕ, pos, Bool, true, false, List, [], ◌∷◌, Option, None, Some, drop, map, codes, refl, sym, ap, ap₂, subst, ◌∙◌, inl, inr, is_eq}
-use Rattle.std.specs.Prelude.{◌&&◌, ◌||◌, ◌==◌, Contains, bytes_eq, filter, not, if◌then◌else◌}
+use Rattle.std.proofs.Common.{◌≡◌, ℕ, pos, Bool, true, false, List, [], ◌∷◌, Some, drop, map, codes, refl, sym, ap, ap₂, subst, ◌∙◌, inl, inr, is_eq}
+use Rattle.std.specs.Prelude.{◌&&◌, ◌||◌, filter, not, if◌then◌else◌}
 use Rattle.std.specs.List.{AllByRecursion, list_all}
 use Rattle.std.proofs.lemmas.Bool.{and_parts, cases_Bool, false≢true}
 use Rattle.sqlite.specs.Order.{Row}
@@ -23,13 +23,12 @@ use Rattle.one_table.specs.Numbered.{IsInOrder}
 use Rattle.one_table.specs.Standing.{tree_in}
 use Rattle.one_table.proofs.HiddenDeleteLemmas.{removes_hidden}
 use Rattle.one_table.proofs.TestsLemmas.{number_is, text_is}
-use Rattle.book_tables.specs.Holds.{rows_in}
 use Rattle.book_tables.specs.Kept.{dated_steps_kept}
 use Rattle.book_tables.specs.Tables.{dated_steps_table}
 use Rattle.book_tables.specs.reading.Reading.{HasAllTables}
-use Rattle.book_tables.specs.row.Rows.{DatedStepRow, dated_columns, present_format}
+use Rattle.book_tables.specs.row.Rows.{dated_columns, present_format}
 use Rattle.book_tables.specs.writing.Edited.{is_from}
-use Rattle.book_tables.specs.writing.Keeping.{HasNone, Key, dated_key, dated_keys, has_key, is_own}
+use Rattle.book_tables.specs.writing.Keeping.{dated_key, dated_keys, has_key, is_own}
 use Rattle.book_tables.specs.writing.Writing.{WithdrawsSteps}
 use Rattle.book_tables.proofs.KeptLemmas.{dated_steps_changed}
 use Rattle.book_tables.proofs.OfficeTableLemmas.{dated_steps_in}
