@@ -30,7 +30,7 @@ use Rattle.book_tables.specs.Holds.{HasOffice, HoldsMembers, table_names}
 use Rattle.book_tables.specs.reading.Reading.{HasAllTables}
 use Rattle.book_tables.specs.row.Rows.{Rows, present_format}
 use Rattle.book_tables.specs.Stands.{AreMembersOf}
-use Rattle.book_tables.specs.writing.Writing.{AddsMeter, AddsShift, AddsSold, AddsSteps, AddsTariff, ClosesShift, FindsNoFalseRow, IsNextNumber, IsOfNone, MayAddSold, MovesBase, SetsTariff, WritesOnly, totals_names}
+use Rattle.book_tables.specs.writing.Writing.{AddsMeter, AddsShift, AddsSold, AddsSteps, AddsTariff, ClosesShift, FindsNoFalseRow, IsNextNumber, IsOfNone, MayAddSold, MovesBase, SetsKey, SetsTariff, WithdrawsSteps, WritesOnly, totals_names}
 use Rattle.book_tables.specs.declared.error.TableError.{TableError}
 use Rattle.book_tables.specs.declared.row.totals.SaleTotals.{SaleTotals}
 use Rattle.book_tables.specs.writing.Keeping.{AreInOrder, KeepsRows, Keys}
@@ -138,6 +138,21 @@ module _ (law : KeepsMembers) (old new : State) where
       (λ order. sets.kept (order.1.1.1.0, tt)) (λ o office meets held.
       let are = held.2 in
       (edited (edits.SetTariff number name) held.0, sets.rows held.0 held.1 are.meters_once, law held.0 o (edits.SetTariff number name) are meets refl))
+
+  -- a key that is set for a meter makes the edit that sets it
+  pub makes_key : (number : List ℕ) (key : ℕ) → IsCarriedOut (writes_of (edits.SetKey number key)) old.now new.now → SetsKey number key old new → MakesEdit (edits.SetKey number key) old.now new.now
+  makes_key number key carried sets =
+      makes (edits.SetKey number key) (codes "meters" ∷ []) old new (λ t tree none. (none.1.1.1.0, tt)) sets.only carried tt
+      (λ order. sets.kept (order.1.1.1.0, tt)) (λ o office meets held.
+      let are = held.2 in
+      (edited (edits.SetKey number key) held.0, sets.rows held.0 held.1 are.meters_once, law held.0 o (edits.SetKey number key) are meets refl))
+
+  -- steps that are withdrawn make the edit that withdraws them
+  pub makes_withdrawal : (name : List ℕ) (day : ℕ) → IsCarriedOut (writes_of (edits.WithdrawSteps name day)) old.now new.now → WithdrawsSteps name day old new → MakesEdit (edits.WithdrawSteps name day) old.now new.now
+  makes_withdrawal name day carried withdraws =
+      makes (edits.WithdrawSteps name day) (codes "dated_steps" ∷ []) old new (λ t tree none. (none.1.1.1.1.1.1.1.1.1.1.0, tt)) withdraws.only carried
+      withdraws.gone (λ order. withdraws.kept (order.1.1.1.1.1.1.1.1.1.1.0, tt)) (λ o office meets held.
+      (edited (edits.WithdrawSteps name day) held.0, withdraws.rows held.0 held.1, law held.0 o (edits.WithdrawSteps name day) held.2 meets refl))
 
   -- a base that a meter is moved to makes the edit that moves it
   pub makes_moving : (number : List ℕ) (base : Base) → IsCarriedOut (writes_of (edits.MoveBase number base)) old.now new.now → MovesBase number base old new → MakesEdit (edits.MoveBase number base) old.now new.now

@@ -1,5 +1,5 @@
 -- What an upsert leaves, whatever the order of the rows of its table: only these may have changed.
-use Rattle.std.proofs.Common.{◌≡◌, ◌+◌, ℕ, true, List, [], ◌∷◌, ◌++◌, length, Some, Ok, IsTrue, refl, sym, ap, ◌∙◌, subst, inl, inr}
+use Rattle.std.proofs.Common.{◌≡◌, ℕ, true, List, [], ◌∷◌, ◌++◌, length, Some, Ok, IsTrue, refl, sym, ap, ◌∙◌, subst, inl, inr}
 use Rattle.sqlite_value.specs.Order.{Row}
 use Rattle.sqlite_trees.specs.Tree.{Trees, rowid}
 use Rattle.sqlite_schema.specs.declared.command.Conflict.TheVariants.{Abort}

@@ -11,7 +11,7 @@ use Rattle.sqlite_schema.specs.declared.schema.Table.{Table}
 use Rattle.sqlite_sql.specs.Query.{Query, IsAnswer}
 use Rattle.sqlite_rules.specs.declared.error.Rowids.TheVariants.{Given}
 use Rattle.sqlite_rules.specs.Calls.{ids_of}
-use Rattle.sqlite_rules.specs.Edit.{edit_of, edited, is_taken, IsNoIndex}
+use Rattle.sqlite_rules.specs.Edit.{edit_of, edited, is_taken, without_all, IsNoIndex}
 use Rattle.sqlite.specs.Does.{Does, Tally}
 use Rattle.sqlite.specs.Effect.{IsDatabase, SparesFrozen}
 use Rattle.sqlite.specs.Held.{state}
@@ -125,3 +125,9 @@ pub record SetsRows (t : Table) (q : Query) (params : Row) (old new : State) : T
   pub answer : IsAnswer q old.now.trees params found
   pub changed : HasChanged t
       (edited old.now.trees (edit_of old.now.trees t (ids_of found) Given 1 found)) old new
+
+-- the rows that the query finds are taken out by their rowids, which it shows
+pub record RemovesRows (t : Table) (q : Query) (params : Row) (old new : State) : Type 0 where
+  pub found : List Row
+  pub answer : IsAnswer q old.now.trees params found
+  pub changed : HasChanged t (without_all (old.now.trees t.tree) (ids_of found)) old new
