@@ -10,7 +10,7 @@ returns-in-Ok-test_office-clause-given g c clean has =
     let db = (state g.S.Store c.args.conn.now).now in
     let told = c.in-Ok.ensures.given clean has in
     office_rows_of c.args.format db c.in-Ok.rows (has (c.in-Ok.ensures.reads.same clean has).0.was_open).0 told
-    (c.in-Ok-test_office.ensures.passes db told.read)
+    (c.office_law.ensures.shows c.args.format db c.in-Ok.rows told.read c.in-Ok-test_office.ensures.passes)
     (λ in_order k kept. c.order_law.ensures.stands db k.table in_order kept.0) c.stored_law.ensures.stands c.stored_law.ensures.only
 
 pub returns-in-Err-test_office-clause-reads : goal.returns-in-Err-test_office-clause-reads
@@ -20,4 +20,4 @@ returns-in-Err-test_office-clause-reads g c =
     stop_on c.fault_of.result (Err c.fault_of.result) refl c.in-Ok.ensures.reads (λ clean has.
     subst (StopsBy IsNoOffices old new) (sym c.fault_of.ensures)
     (office_stops c.args.format c.in-Ok.rows c.in-Err-test_office.fault c.in-Err-test_office.ensures.found
-    (c.in-Ok.ensures.given clean has) c.office_law.ensures (c.in-Ok.ensures.reads.same clean has)))
+    (c.in-Ok.ensures.given clean has) c.office_law.ensures.none (c.in-Ok.ensures.reads.same clean has)))
