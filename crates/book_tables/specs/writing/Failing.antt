@@ -2,7 +2,6 @@
 -- carried out, or one of them fails for a cause.
 use Rattle.std.specs.Prelude.{◌≡◌, ◌⊎◌, ℕ, false, List, [], ◌∷◌, ◌++◌, None, Some, Result, Err}
 use Rattle.std.specs.Prelude.{IfErr, IsTrue, OnOk}
-use Rattle.std.specs.List.{AllByRecursion}
 use Rattle.sqlite.specs.Effect.{Database}
 use Rattle.sqlite.specs.Order.{Row as Values}
 use Rattle.sqlite.specs.State.{HasCause, State}
@@ -93,10 +92,15 @@ abbrev pub Ends : {T : Type 0} → (Write → State → State → TableError →
 Ends Fails w old new result =
     OnOk result (AreCarriedOut (w ∷ []) old new) × IfErr result (Fails w old new)
 
--- the same of some writes, or of none, each of which is such a one
-abbrev pub EndSomehow : {T : Type 0} → (Write → Type 0) → State → State → Result T TableError
-    → Type 0
-EndSomehow Is old new result =
-    OnOk result ((writes : List Write) × AllByRecursion Is writes × AreCarriedOut writes old new)
-    × IfErr result (λ e. (writes : List Write) × AllByRecursion Is writes
-    × FailsToWriteAll writes old new e)
+-- Why some writes fail that are known by this alone: there was no memory, or they fail as writes do.
+abbrev pub FailsSomehow : (List Write → Type 0) → State → State → TableError → Type 0
+FailsSomehow Are old new e =
+    (e ≡ fails.Database (SqliteFailure OutOfMemory))
+    ⊎ ((writes : List Write) × Are writes × FailsToWriteAll writes old new e)
+
+-- the same of how they end
+abbrev pub EndSomehow : {T : Type 0} → (List Write → Type 0) → State → State
+    → Result T TableError → Type 0
+EndSomehow Are old new result =
+    OnOk result ((writes : List Write) × Are writes × AreCarriedOut writes old new)
+    × IfErr result (FailsSomehow Are old new)
