@@ -338,5 +338,5 @@ pub sold_refused : (s : Sale) (prior : ℕ) (old new : State) (e : TableError) �
 sold_refused s prior old new e way clean (inl fails) never = inl fails
 sold_refused s prior old new e way clean (inr (is, told)) never = inr (inl (
   λ is_open o office meets held. never clean way present_format held.0 (λ _. held.1) (refl, (o, office, meets, held.2)) (ap (λ e. Err e) is),
-  (is, (old.step_limit, told)),
+  (is, old.step_limit, told),
 ))
