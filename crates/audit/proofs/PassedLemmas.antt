@@ -11,10 +11,10 @@ use Rattle.audit.specs.declared.following.Part.TheVariants as part
 
 module _ {F : Type 0} (told : F → Part → F → Type 0) where
   -- a part more
-  told_more : (before mid after : F) (parts : List Part) (part : Part) → AreTold told before parts mid → told mid part after
-      → AreTold told before (parts ++ part ∷ []) after
-  told_more before mid after [] part is then = (after, subst (λ (f : F). told f part after) is then, refl)
-  told_more before mid after (first ∷ more) part (next, one, rest) then = (next, one, told_more next mid after more part rest then)
+  told_more : (before mid after : F) (parts : List Part) (last : Part) → AreTold told before parts mid → told mid last after
+      → AreTold told before (parts ++ last ∷ []) after
+  told_more before mid after [] last is then = (after, subst (λ (f : F). told f last after) is then, refl)
+  told_more before mid after (first ∷ more) last (next, one, rest) then = (next, one, told_more next mid after more last rest then)
 
   -- nothing was told yet
   pub none_passed : (f : F) (db : Database) → TellsPassed told f f db

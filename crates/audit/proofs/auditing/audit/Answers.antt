@@ -3,6 +3,7 @@ use Rattle.sqlite.specs.Held.{state}
 use Rattle.sqlite_schema.specs.declared.schema.Schema.{Schema}
 use Rattle.book_tables.specs.Holds.{HasOfficeOf}
 use Rattle.audit.specs.Fails.{given_by}
+use Rattle.audit.proofs.PassedLemmas.{none_passed}
 use Rattle.audit.proofs.SoundLemmas.{audit_none, audit_of_tables, audit_unknown, sound_none}
 use Rattle.audit.proofs.auditing.audit.Goals as goal
 
@@ -28,3 +29,14 @@ pub returns-in-Err-clause-answers : goal.returns-in-Err-clause-answers
 returns-in-Err-clause-answers g c = audit_unknown (given_by g.T.BlockTransform.forwards c.args.transform) (state g.S.Store c.args.conn.now)
     c.schema.result.now c.schema.ensures.value c.in-Err.fault c.in-Err.ensures.fails
     c.connection_order_law.ensures.now
+
+pub returns-in-Ok-eq0-clause-told : goal.returns-in-Ok-eq0-clause-told
+returns-in-Ok-eq0-clause-told g c clean runs = none_passed g.F.Follows.told c.args.follower.now (state g.S.Store c.args.conn.now).now
+
+pub returns-in-Ok-clause-told : goal.returns-in-Ok-clause-told
+returns-in-Ok-clause-told g c clean runs =
+    let has = subst (λ (schema : Schema). HasOfficeOf c.in-Ok.format schema) c.schema.ensures.value c.in-Ok.ensures.has in
+    c.audit_format.ensures.told clean (λ _. ((c.schema.ensures.live runs).0, has))
+
+pub returns-in-Err-clause-told : goal.returns-in-Err-clause-told
+returns-in-Err-clause-told g c clean runs = none_passed g.F.Follows.told c.args.follower.now (state g.S.Store c.args.conn.now).now
