@@ -3,12 +3,12 @@
 
     examples/client.py 127.0.0.1:8080 ann 12345678903 10 A-1
 
-The words are the desk, the operator, the meter, the tender in cents, and the ref of the order. The
-first connection is closed before its reply is read, so that nobody here knows whether the sale was
-made. The same message with the same ref is then sent on a new connection: there is one sale, and
-this is its token.
+The arguments are the desk, the operator, the meter, the tender in cents, and the ref of the order.
+The first connection is closed before its reply is read, so that nobody here knows whether the sale
+was made. The same message with the same ref is then sent on a new connection: there is one sale,
+and this is its token.
 
-Status 0: sold. Status 1: refused, or still not known; the error output says which.
+Status 0: sold. Status 1: refused, or still not known; standard error says which.
 """
 import http.client
 import json

@@ -76,9 +76,10 @@ def begin_desk(file, connections, listen="127.0.0.1:0", more=(), program=VEND, *
         raise
 
 
-def sell_words(file, ref, tender="10"):
+def sell_words(file, ref, tender="10", at=AT):
+    """The words of a sale, at a moment or by the clock."""
     return ["sell", "--file", str(file), "--operator", "ann", "--ref", ref, "--meter", METER,
-            "--tender", tender, "--at", AT]
+            "--tender", tender, *(["--at", str(at)] if at else [])]
 
 
 def prepare(file, at=AT, with_shift=True):

@@ -1,4 +1,6 @@
 mod AdvisedLemmas
+mod DoubtLemmas
 mod LastLineLemmas
 mod RemembersLemmas
 mod RunLemmas
+mod TimeLemmas

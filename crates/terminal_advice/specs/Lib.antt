@@ -1,5 +1,6 @@
 pub mod Advice
 pub mod Advised
+pub mod Doubt
 pub mod LastLine
 pub mod Lines
 pub mod Remembers

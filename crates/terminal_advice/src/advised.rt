@@ -1,4 +1,4 @@
-ghost use Rattle.std.specs.Prelude.{◌≡◌, ℕ, ◌≤◌, Bool, false, map, Option, Some};
+ghost use Rattle.std.specs.Prelude.{◌≡◌, ℕ, ◌≤◌, Bool, false, map, IfSome, Option, Some};
 ghost use Rattle.sqlite.specs.Files.{over_files};
 ghost use Rattle.command_line.specs.Asked.{AskFor};
 ghost use Rattle.command_line.specs.declared.asked.Asked.{Asked};
@@ -10,9 +10,11 @@ ghost use Rattle.vend_ports.specs.declared.command_end.CommandEnd.{CommandEnd};
 ghost use Rattle.vend_ports.specs.print.Sink.{Held, writer};
 ghost use Rattle.vend_ports.specs.print.Told.{IsTaken, outputs};
 ghost use Rattle.terminal_advice.specs.Advised.{Adds, IsAdvised, fault_advice};
+ghost use Rattle.terminal_advice.specs.Doubt.{Doubts, IsDoubted};
 
 use crate::advice::Advice;
 use crate::begun::Begun;
+use crate::doubt::{Doubt, doubt_over, say_doubt};
 use crate::look::Look;
 use crate::remembering::Remembering;
 use crate::second_line::{advise, put_advice};
@@ -22,8 +24,8 @@ use std::io::Write;
 use vend_commands::{Machine, Ports, Watched, refuse, run};
 
 /// Runs the command that some words give as `run` does. At a terminal a second line comes behind
-/// the last one, if there is advice for that. `B` stands for what `err` holds before, which is
-/// given back.
+/// the last one, if there is advice for that; and one more, if the command sells by a clock that
+/// looks wrong. `B` stands for what `err` holds before, which is given back.
 pub fn run_advised<B: Begun, M: Machine, O: Write, E: Write, L: Look>(
     alloc: Global,
     ports: Ports<M>,
@@ -34,7 +36,7 @@ pub fn run_advised<B: Begun, M: Machine, O: Write, E: Write, L: Look>(
     err: E,
 ) -> (u8, E)
     requires { E.contents err ≡ B.held }
-    ensures run { (printed : Held) × (end : CommandEnd) × (out_failed err_failed : Bool)
+    ensures run { (printed advised : Held) × (end : CommandEnd) × (out_failed err_failed : Bool)
         × (out_name err_name : ℕ) × (back : Option (M.Office.Medium × M.Office.Medium))
         × IsProgramRun (over_files {g = M.Office.Medium.Disk}) (machine_of ports back)
         (map (λ w. w.now) words.now)
@@ -43,9 +45,12 @@ pub fn run_advised<B: Begun, M: Machine, O: Write, E: Write, L: Look>(
         (writer (E.contents err) false err_name)
         (writer printed err_failed err_name)) end
         × (result.0 ≡ status_of end out_failed)
-        × ∥ IsAdvised at_terminal (E.contents err) printed (E.contents result.1) ∥₁ }
+        × ∥ IsAdvised at_terminal (E.contents err) printed advised ∥₁
+        × Doubts at_terminal (IsDoubted (L.is_last look.now) (L.is_now look.now)
+        (map (λ w. w.now) words.now)) advised (E.contents result.1) }
     ensures asked { (asked : Asked) → AskFor (map (λ w. w.now) words.now) asked → result.0 ≤ 1 }
 {
+    let doubt = doubt_at(alloc, words, look, at_terminal);
     let mut remembering = Remembering::<E, B>::new(err);
     let status = run(alloc, ports, words, out, &mut remembering);
     let (mut err, last) = remembering.into_parts();
@@ -53,7 +58,20 @@ pub fn run_advised<B: Begun, M: Machine, O: Write, E: Write, L: Look>(
         return (status, err);
     }
     advise(alloc, words, look, &last, &mut err);
+    say_doubt(doubt, &mut err);
     (status, err)
+}
+
+// What is doubted before a run, at a terminal alone: elsewhere nothing is looked at.
+fn doubt_at<L: Look>(alloc: Global, words: &[&str], look: &L, at_terminal: bool) -> Option<Doubt>
+    ensures { IfSome result (IsDoubted (L.is_last look.now) (L.is_now look.now)
+        (map (λ w. w.now) words.now)) }
+{
+    if at_terminal {
+        doubt_over(alloc, words, look)
+    } else {
+        None
+    }
 }
 
 /// Tells why the words of a command were not had, and at a terminal what that means.

@@ -1,17 +1,21 @@
-//! What the program says at a terminal of a line by which it refused: why, and what to do.
+//! What the program says at a terminal of a line by which it refused: why, and what to do; and
+//! behind a sale whether the clock looks wrong.
 #![tactic(auto)]
 
 mod advice;
 mod advised;
 mod begun;
 mod closer;
+mod doubt;
 mod last_line;
+mod last_sale;
 mod lines;
 mod look;
 mod misread;
 mod remembering;
 mod schema;
 mod second_line;
+mod time;
 mod value_rules;
 
 pub use advice::Advice;

@@ -1,8 +1,14 @@
-//! A look at the computer, to say more closely why the program refused.
+//! A look at the computer, to say more closely why the program refused, and whether its clock is
+//! right.
+ghost use Rattle.std.specs.Prelude.{ℕ, ⊤, IfSome};
+ghost use Rattle.sts_fields.specs.Text.{Text};
 
 use crate::advice::Advice;
+use crate::last_sale::last_moment_here;
 use crate::schema::schema_fault;
+use conversation::MachineClock;
 use os::RangeLock;
+use sqlite::Wary;
 use std::fs::{self, File, Metadata, OpenOptions};
 use std::io::{ErrorKind, Read, Write};
 use std::net::TcpListener;
@@ -10,6 +16,8 @@ use std::num::ParseIntError;
 use std::os::fd::AsRawFd;
 use std::os::unix::fs::MetadataExt;
 use std::time::Instant;
+use sts_fields::Moment;
+use vend_ports::moment_or_now;
 
 // What a database of SQLite begins with, and where its header says whether it has `auto_vacuum`.
 const DATABASE: &[u8] = b"SQLite format 3\0";
@@ -45,8 +53,23 @@ const ROOM_PIECES: u8 = 64;
 
 const PIECE: [u8; 4096] = [0; 4096];
 
-/// What is looked at behind a refusal. No contract says what it sees. It leaves all as it is.
+/// What is looked at, behind a refusal and before a sale. No contract says what it sees. It leaves
+/// all as it is.
 pub trait Look {
+    /// A look found that this is the moment of the last sale in the office's file of this name.
+    ghost is_last: { Self → (path : Text) → ℕ → Type 0 } = { λ _ _ _. ⊤ };
+
+    /// A look found that it is this moment now.
+    ghost is_now: { Self → ℕ → Type 0 } = { λ _ _. ⊤ };
+
+    /// The moment of the last sale in the office's file of this name, if no other program has it.
+    fn last_sale(&self, path: &str) -> Option<Moment>
+        ensures { IfSome result (is_last self.now path.now) };
+
+    /// What the clock says.
+    fn now(&self) -> Option<Moment>
+        ensures { IfSome result (is_now self.now) };
+
     /// What is in the way of the office's file of this name.
     fn office(&self, path: &str) -> Option<Advice>;
 
@@ -91,6 +114,14 @@ impl<'a> Here<'a> {
 }
 
 impl Look for Here<'_> {
+    fn last_sale(&self, path: &str) -> Option<Moment> {
+        last_moment_here(self.rt, Wary, path)
+    }
+
+    fn now(&self) -> Option<Moment> {
+        moment_or_now(None, &mut MachineClock::new(self.rt))
+    }
+
     fn office(&self, path: &str) -> Option<Advice> {
         let rt = self.rt;
         let found = match fs::metadata(rt, path) {

@@ -1,6 +1,9 @@
 //! The second line.
+ghost use Rattle.std.specs.Prelude.{Bool, false, map};
 ghost use Rattle.terminal_advice.specs.Advised.{AddsForm, IsPut, advice_for};
 ghost use Rattle.terminal_advice.specs.LastLine.{IsKept, Line};
+ghost use Rattle.vend_ports.specs.print.Printed.{line_of};
+ghost use Rattle.vend_ports.specs.print.Told.{IsTaken};
 
 use crate::advice::Advice;
 use crate::closer::closer;
@@ -39,7 +42,15 @@ pub(crate) fn put_advice<E: Write>(advice: Advice, err: &mut E)
 {
     let reason = advice.reason().as_bytes();
     let remedy = advice.remedy().as_bytes();
+    put_words(&[reason, remedy], err);
+}
+
+/// Puts these words in one line, with a space between them.
+pub(crate) fn put_words<E: Write>(words: &[&[u8]], err: &mut E)
+    ensures { (failed : Bool) × IsTaken false failed (E.contents err.old) (E.contents err.new)
+        (line_of (map (λ w. w.now) words.now)) }
+{
     let mut watched = Watched::new(err);
-    put_line(&[reason, remedy], &mut watched);
+    put_line(words, &mut watched);
     watched.into_inner();
 }
