@@ -26,7 +26,8 @@ use Rattle.book_tables.specs.writing.Storing.{StoresRow, StoresRows}
 use Rattle.book_tables.specs.writing.Keeping.{AreInOrder, HasNone, KeepsRows, Keys, base_keys}
 use Rattle.book_tables.specs.writing.Keeping.{dated_key, dated_keys, meter_keys, sale_key}
 use Rattle.book_tables.specs.writing.Keeping.{shift_keys, tariff_keys, totals_keys}
-use Rattle.book_tables.specs.writing.Writes.{Make, Write, writes_of}
+use Rattle.book_tables.specs.writing.Telling.{TellsTotals}
+use Rattle.book_tables.specs.writing.Writes.{Make, Write, new_sale, writes_of}
 use Rattle.book_tables.specs.writing.Writing.{AreSaleTotals, TellsSold}
 use Rattle.book_tables.specs.declared.row.totals.SaleTotals.{SaleTotals}
 use Rattle.book_states.specs.Others.{SameOthers}
@@ -127,14 +128,16 @@ pub record MakesEdit (edit : Edit) (old new : Database) : Type 0 where
 pub record AddsAsComputed (s : Sale) (prior : ℕ) (old new : State) : Type 0 where
   pub shown : SaleTotals
   pub tells : TellsSold s shown old new
+  pub told : TellsTotals (new_sale s ∷ []) s s.tid shown old.step_limit old.now
   pub month : shown.month_tenths ≡ prior + s.tenths
 
--- where the tables held an office that the sale meets, these are told as the totals of its month
--- and its shift
-abbrev pub TellTotals : Sale → SaleTotals → Database → Type 0
-TellTotals s shown old =
-    (o : Office) → IsOffice o → MeetsNewSale o s → HoldsMembers old o
-    → AreSaleTotals s (o.sales ++ s ∷ []) shown
+-- These are told as the totals of a sale's month and its shift, by its own writes, whatever rows the
+-- tables had. Where they held an office that the sale meets, they are its totals.
+pub record TellTotals (s : Sale) (shown : SaleTotals) (old : Database) : Type 0 where
+  pub limit : Option ℕ
+  pub told : TellsTotals (new_sale s ∷ []) s s.tid shown limit old
+  pub of_office : (o : Office) → IsOffice o → MeetsNewSale o s → HoldsMembers old o
+      → AreSaleTotals s (o.sales ++ s ∷ []) shown
 
 -- the tenths of a sale's month that are told are those that were read before it and its own; other
 -- edits are told no totals

@@ -1,7 +1,7 @@
 -- What a statement inside a transaction leaves.
 use denote.Triple.Both.{Both}
-use Rattle.std.specs.Prelude.{◌≡◌, ◌≢◌, ◌⊎◌, ℕ, true, false, List, [], None, Err, Ok, OnOk, Option}
-use Rattle.std.specs.Prelude.{Result, Some, IsTrue}
+use Rattle.std.specs.Prelude.{◌≡◌, ◌≢◌, ◌⊎◌, ℕ, true, false, List, [], ◌∷◌, None, Err, Ok, OnOk}
+use Rattle.std.specs.Prelude.{Option, Result, Some, IsTrue}
 use Rattle.std.specs.Borrow.{MutBor}
 use Rattle.std.specs.List.{AllByRecursion}
 use Rattle.sqlite_value.specs.Order.{Row}
@@ -98,6 +98,16 @@ pub record CarriesOut (sql : List ℕ) (params : Row) (old new : State) : Type 0
   pub tally : Tally
   pub does : Does old.step_limit (mode_of old) params old.now [] shows command
       (Ok (tally, new.now))
+
+-- the same, and this is so of the rows that it showed
+abbrev pub ShowsInside : (List Row → Type 0) → List ℕ → Row → State → State → Type 0
+ShowsInside Showed sql params old new =
+    (it : CarriesOut sql params old new) × Showed it.tally.shown
+
+-- there is a first row, and it is such a one
+abbrev pub BeginsWith : (Row → Type 0) → List Row → Type 0
+BeginsWith Is [] = ⊥
+BeginsWith Is (row ∷ more) = Is row
 
 -- The table has these rows. The schema and every other table are as they were, and so is what SQL
 -- here does not understand. It is a database, and nothing is committed.

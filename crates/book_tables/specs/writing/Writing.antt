@@ -4,6 +4,7 @@ use Rattle.std.specs.Prelude.{◌∷◌, ◌++◌, codes, bytes_eq, if◌then◌
 use Rattle.std.specs.Prelude.{unwrap_or, AllPairs, Option, Some, Result, Err, IfOk, OnOk, IsTrue}
 use Rattle.std.specs.List.{AllByRecursion}
 use Rattle.sqlite.specs.Effect.{IsDatabase}
+use Rattle.sqlite.specs.Order.{Row as Values}
 use Rattle.sqlite.specs.State.{HasCleanDisk, Shows, State}
 use Rattle.tariff.specs.declared.step.Step.{Step}
 use Rattle.sqlite_keyed.specs.Keyed.{IsKeyedBy}
@@ -20,7 +21,7 @@ use Rattle.office_rules.specs.declared.decision.change.Edit.TheVariants.{MoveBas
 use Rattle.office_rules.specs.declared.office.meter.Meter.{Meter}
 use Rattle.sqlite_rules.specs.Edit.{IsNoIndex}
 use Rattle.sqlite_schema.specs.declared.schema.Schema.{Schema}
-use Rattle.one_table.specs.InTransaction.{IsUnderWay}
+use Rattle.one_table.specs.InTransaction.{BeginsWith, IsUnderWay, ShowsInside}
 use Rattle.one_table.specs.Standing.{tree_in}
 use Rattle.office_rules.specs.Office.{AreNumbered, IsOffice, Office}
 use Rattle.office_rules.specs.declared.office.sale.Sale.{Sale}
@@ -57,14 +58,17 @@ pub record WritesTables (w : Write) (Makes : State → State → Type 0) (old ne
   pub made : HasCleanDisk new → HasAllTables old → OnOk result (Makes old new)
   pub ends : HasCleanDisk new → HasAllTables old → Ends FailsToStore w old new result
 
--- The same of a write that answers something of the rows, while its transaction is under way: one
--- that has ended would let it run.
-pub record MergesTables {T : Type 0} (w : Write) (Makes : T → State → State → Type 0)
-    (old new : State) (result : Result T TableError) : Type 0 where
+-- The same of a write that answers something of the rows, as the first row that it shows says
+-- (`Says`), while its transaction is under way: one that has ended would let it run.
+pub record MergesTables {T : Type 0} (w : Write) (Says : T → Values → Type 0)
+    (Makes : T → State → State → Type 0) (old new : State) (result : Result T TableError)
+    : Type 0 where
   pub made : HasCleanDisk new → IsUnderWay old → HasAllTables old
       → IfOk result (λ x. Makes x old new)
   pub ends : HasCleanDisk new → IsUnderWay old → HasAllTables old
-      → Ends FailsToMerge w old new result
+      → Ends (FailsToMerge (λ row. (x : T) × Says x row)) w old new result
+  pub told : HasCleanDisk new → IsUnderWay old → HasAllTables old
+      → IfOk result (λ x. ShowsInside (BeginsWith (Says x)) w.sql w.params old new)
 
 -- where the tables hold rows of which this is known, and `about` tells this format, none is told to
 -- be no office's
