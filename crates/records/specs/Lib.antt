@@ -1,0 +1,4 @@
+pub mod Cell
+pub mod Column
+pub mod Front
+pub mod Record
