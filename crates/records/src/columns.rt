@@ -66,10 +66,16 @@ impl<A: Column, B: Columns> Columns for (A, B) {
         let [name, names @ ..] = names else {
             return None;
         };
-        let (cell, rest) = member_at(text, later, name)?;
-        let first = A::of_cell(&cell)?;
-        let (others, rest) = B::read_members(rest, true, names)?;
-        Some(((first, others), rest))
+        let Some((cell, rest)) = member_at(text, later, name) else {
+            return None;
+        };
+        let Some(first) = A::of_cell(&cell) else {
+            return None;
+        };
+        match B::read_members(rest, true, names) {
+            Some((others, rest)) => Some(((first, others), rest)),
+            None => None,
+        }
     }
 
     fn columns_law() {

@@ -26,11 +26,41 @@ pub(crate) fn member_at<'t>(
         ≡ comma_if later ++ (in_quotes name.now ++ (58 ∷ (cell_text (held found.0)
         ++ found.1.now))))) }
 {
-    let text = if later { behind(text, b",")? } else { text };
-    let text = behind(text, b"\"")?;
-    let text = behind(text, name.as_bytes())?;
-    let text = behind(text, b"\":")?;
-    cell_at(text)
+    match behind_name(text, later, name) {
+        Some(rest) => cell_at(rest),
+        None => None,
+    }
+}
+
+// What follows a name and its colon in a text that begins with them, behind a comma where members
+// stand before.
+fn behind_name<'t>(text: &'t [u8], later: bool, name: &str) -> Option<&'t [u8]>
+    ensures { MatchOption result
+        ((rest : List ℕ) → text.now ≢ comma_if later ++ (in_quotes name.now ++ (58 ∷ rest)))
+        (λ rest. text.now ≡ comma_if later ++ (in_quotes name.now ++ (58 ∷ rest.now))) }
+{
+    let Some(quoted) = behind_comma(text, later) else {
+        return None;
+    };
+    let Some(named) = behind(quoted, b"\"") else {
+        return None;
+    };
+    let Some(rest) = behind(named, name.as_bytes()) else {
+        return None;
+    };
+    behind(rest, b"\":")
+}
+
+// What follows a comma in a text that begins with it; the whole text where no members stand before.
+fn behind_comma(text: &[u8], later: bool) -> Option<&[u8]>
+    ensures { MatchOption result ((rest : List ℕ) → text.now ≢ comma_if later ++ rest)
+        (λ rest. text.now ≡ comma_if later ++ rest.now) }
+{
+    if later {
+        behind(text, b",")
+    } else {
+        Some(text)
+    }
 }
 
 // The cell that stands at the front of a text, in front of a comma or a brace, and the text from
@@ -42,16 +72,44 @@ fn cell_at(text: &[u8]) -> Option<(Cell<'_>, &[u8])>
         (λ found. IsTellable (held found.0) × BeginsWithStop found.1.now
         × (text.now ≡ cell_text (held found.0) ++ found.1.now)) }
 {
-    let Some(quoted) = behind(text, b"\"") else {
-        let (word, rest) = word_at(text)?;
-        let cell = word_of(word)?;
-        return Some((cell, rest));
+    match behind(text, b"\"") {
+        Some(quoted) => quoted_at(quoted),
+        None => bare_at(text),
+    }
+}
+
+// The same of a text that begins behind a quotation mark.
+fn quoted_at(quoted: &[u8]) -> Option<(Cell<'_>, &[u8])>
+    ensures { MatchOption result
+        ((bytes rest : List ℕ) → IsPlain bytes → BeginsWithStop rest
+        → quoted.now ≢ bytes ++ 34 ∷ rest)
+        (λ found. IsTellable (held found.0) × BeginsWithStop found.1.now
+        × (34 ∷ quoted.now ≡ cell_text (held found.0) ++ found.1.now)) }
+{
+    let Some((bytes, rest)) = text_at(quoted) else {
+        return None;
     };
-    let (bytes, rest) = text_at(quoted)?;
     if begins_with_stop(rest) {
         Some((Cell::Text(bytes), rest))
     } else {
         None
+    }
+}
+
+// The same of a text that begins with no quotation mark.
+fn bare_at(text: &[u8]) -> Option<(Cell<'_>, &[u8])>
+    ensures { MatchOption result
+        ((cell : Held) (rest : List ℕ) → IsTellable cell → IsBare cell → BeginsWithStop rest
+        → text.now ≢ cell_text cell ++ rest)
+        (λ found. IsTellable (held found.0) × BeginsWithStop found.1.now
+        × (text.now ≡ cell_text (held found.0) ++ found.1.now)) }
+{
+    let Some((word, rest)) = word_at(text) else {
+        return None;
+    };
+    match word_of(word) {
+        Some(cell) => Some((cell, rest)),
+        None => None,
     }
 }
 
@@ -62,9 +120,9 @@ fn text_at(quoted: &[u8]) -> Option<(&[u8], &[u8])>
         (λ found. IsPlain found.0.now × (quoted.now ≡ found.0.now ++ 34 ∷ found.1.now)) }
 {
     let (bytes, rest) = quoted.split_at(plain_len(quoted));
-    match rest {
-        [b'"', rest @ ..] => Some((bytes, rest)),
-        _ => None,
+    match behind(rest, b"\"") {
+        Some(rest) => Some((bytes, rest)),
+        None => None,
     }
 }
 

@@ -34,7 +34,10 @@ fn put_members(
     ensures { OnOk result (text.new.items
         ≡ text.old.items ++ members_text later (map now names.now) (map held cells.now)) }
 {
-    let ([name, names @ ..], [cell, cells @ ..]) = (names, cells) else {
+    let [name, names @ ..] = names else {
+        return text.extend_from_slice(b"}");
+    };
+    let [cell, cells @ ..] = cells else {
         return text.extend_from_slice(b"}");
     };
     put_name(text, later, name)?;
