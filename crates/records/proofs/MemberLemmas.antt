@@ -1,12 +1,13 @@
 -- The members of a record, one by one.
-use Rattle.std.proofs.Common.{◌≡◌, ◌≢◌, ◌∙◌, ℕ, suc, ◌-◌, ◌≤◌, ◌<◌, Bool, true, List, [], ◌∷◌, ◌++◌, length, map, take, drop, get_or, refl, ap, sym, append_assoc, arith}
+use Rattle.std.proofs.Common.{◌≡◌, ◌≢◌, ◌∙◌, ℕ, suc, ◌-◌, ◌≤◌, ◌<◌, Bool, true, false, List, [], ◌∷◌, ◌++◌, length, map, take, drop, get_or, refl, ap, sym, append_assoc, arith}
 use Rattle.std.specs.Borrow.{Bor}
-use Rattle.std.proofs.lemmas.List.{length-map, take_all}
+use Rattle.std.specs.List.{AllByRecursion}
+use Rattle.std.proofs.lemmas.List.{append_cancel_left, length-map, take_all}
 use Rattle.records.specs.Cell.{Held, IsTellable, cell_text, in_quotes}
 use Rattle.records.specs.Front.{BeginsWithStop}
-use Rattle.records.specs.Record.{comma_if, members_text, now}
+use Rattle.records.specs.Record.{Fits, comma_if, members_text, now, record_text}
 use Rattle.records.proofs.FrontLemmas.{one_cell}
-use Rattle.records.proofs.ReadLemmas.{behind_named, one_rest}
+use Rattle.records.proofs.ReadLemmas.{behind_named, one_rest, tails}
 
 -- the names behind the first
 abbrev pub others : List (Bor (List ℕ)) → List (Bor (List ℕ))
@@ -30,6 +31,36 @@ spread later name names cell cells rest =
     append_assoc (comma_if later) (in_quotes name ++ (58 ∷ (text ++ more))) rest
     ∙ ap (λ (b : List ℕ). comma_if later ++ b) (append_assoc (in_quotes name) (58 ∷ (text ++ more)) rest)
     ∙ ap (behind_named later name) (append_assoc text more rest)
+
+-- ---- one list of cells
+
+-- members with these names are those of one list of cells, and have one rest
+pub one_list : (later : Bool) (names : List (List ℕ)) (cells told : List Held) (rest more : List ℕ) → length names ≡ length cells → length names ≡ length told
+    → AllByRecursion IsTellable cells → AllByRecursion IsTellable told → members_text later names cells ++ rest ≡ members_text later names told ++ more
+    → (cells ≡ told) × (rest ≡ more)
+one_list later [] [] [] rest more as_many same is are e = (refl, append_cancel_left (125 ∷ []) rest more e)
+one_list later [] (c ∷ cells) told rest more as_many same is are e = absurd (omega (arith, as_many))
+one_list later [] [] (d ∷ told) rest more as_many same is are e = absurd (omega (arith, same))
+one_list later (n ∷ names) [] told rest more as_many same is are e = absurd (omega (arith, as_many))
+one_list later (n ∷ names) (c ∷ cells) [] rest more as_many same is are e = absurd (omega (arith, same))
+one_list later (n ∷ names) (c ∷ cells) (d ∷ told) rest more as_many same is are e =
+    let behind = members_text true names cells ++ rest in
+    let other = members_text true names told ++ more in
+    let first = one_cell c d behind other is.0 are.0 (begins names cells rest) (begins names told more)
+    (one_rest later n (cell_text c ++ behind) (cell_text d ++ other) (sym (spread later n names c cells rest) ∙ e ∙ spread later n names d told more)) in
+    let left = one_list true names cells told rest more (omega (arith, as_many)) (omega (arith, same)) is.1 are.1 first.1 in
+    let head = first.0 in
+    let tail = left.0 in
+    (cc, left.1)
+
+-- so are records
+pub one_record : (names : List (List ℕ)) (cells told : List Held) (rest more : List ℕ) → Fits names cells → Fits names told
+    → record_text names cells ++ rest ≡ record_text names told ++ more → (cells ≡ told) × (rest ≡ more)
+one_record names cells told rest more fits fit e =
+    one_list false names cells told rest more fits.named fit.named fits.tellable fit.tellable
+    (tails 123 123 (members_text false names cells ++ rest) (members_text false names told ++ more) e)
+
+-- ---- what was read
 
 -- the first member by the first name, and what follows it by the others
 pub first_member : (later : Bool) (names : List (Bor (List ℕ))) (d : Bor (List ℕ)) (cell : Held) (cells : List Held) (rest : List ℕ) → 1 ≤ length names

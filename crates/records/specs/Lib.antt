@@ -1,4 +1,5 @@
 pub mod Cell
 pub mod Column
 pub mod Front
+pub mod Json
 pub mod Record

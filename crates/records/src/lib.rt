@@ -5,6 +5,7 @@
 mod cell;
 mod column;
 mod columns;
+mod law;
 mod numbers;
 mod reading;
 mod writing;
@@ -12,5 +13,6 @@ mod writing;
 pub use cell::Cell;
 pub use column::Column;
 pub use columns::{Columns, read_record};
+pub use law::record_law;
 pub use reading::read_number;
 pub use writing::put_record;
