@@ -1,9 +1,10 @@
 -- The members of a record, one by one.
-use Rattle.std.proofs.Common.{◌≡◌, ◌≢◌, ◌∙◌, ℕ, suc, ◌-◌, ◌≤◌, ◌<◌, Bool, true, false, List, [], ◌∷◌, ◌++◌, length, map, take, drop, get_or, refl, ap, sym, append_assoc, arith}
+use Rattle.std.proofs.Common.{◌≡◌, ◌≢◌, ◌∙◌, ℕ, suc, ◌-◌, ◌≤◌, ◌<◌, Bool, true, false, List, [], ◌∷◌, ◌++◌, length, map, take, drop, get_or, refl, ap, sym, append_assoc, append-nil, arith}
 use Rattle.std.specs.Borrow.{Bor}
 use Rattle.std.specs.List.{AllByRecursion}
 use Rattle.std.proofs.lemmas.List.{append_cancel_left, length-map, take_all}
 use Rattle.records.specs.Cell.{Held, IsTellable, cell_text, in_quotes}
+use Rattle.records.specs.Column.{AreColumns, IsNamed}
 use Rattle.records.specs.Front.{BeginsWithStop}
 use Rattle.records.specs.Record.{Fits, comma_if, members_text, now, record_text}
 use Rattle.records.proofs.FrontLemmas.{one_cell}
@@ -59,6 +60,31 @@ pub one_record : (names : List (List ℕ)) (cells told : List Held) (rest more :
 one_record names cells told rest more fits fit e =
     one_list false names cells told rest more fits.named fit.named fits.tellable fit.tellable
     (tails 123 123 (members_text false names cells ++ rest) (members_text false names told ++ more) e)
+
+-- ---- values
+
+-- a brace alone is written where there is no cell
+pub no_members : (later : Bool) (names : List (List ℕ)) → members_text later names [] ≡ 125 ∷ []
+no_members later [] = refl
+no_members later (n ∷ names) = refl
+
+module _ {A : Type 0} (keep : A → Type 0) (cells_of : A → List Held) (columns : AreColumns keep cells_of) where
+  -- values by their rules have a record
+  pub fits : (names : List (List ℕ)) (a : A) → IsNamed keep cells_of names a → Fits names (cells_of a)
+  fits names a is = record { named = is.named; tellable = columns.tellable a is.kept }
+
+  -- no other values have the same, whatever follows it
+  pub one_value : (names : List (List ℕ)) (a b : A) (rest more : List ℕ) → IsNamed keep cells_of names a → IsNamed keep cells_of names b
+      → record_text names (cells_of a) ++ rest ≡ record_text names (cells_of b) ++ more → (a ≡ b) × (rest ≡ more)
+  one_value names a b rest more is are e =
+      let same = one_record names (cells_of a) (cells_of b) rest more (fits names a is) (fits names b are) e in
+      (columns.one a b is.kept are.kept same.0, same.1)
+
+  -- where something follows a record, it is not the whole text
+  pub not_whole : (text : List ℕ) (names : List (List ℕ)) (a : A) (rest : List ℕ) → IsNamed keep cells_of names a → text ≡ record_text names (cells_of a) ++ rest
+      → rest ≢ [] → (b : A) → IsNamed keep cells_of names b × (text ≡ record_text names (cells_of b)) → ⊥
+  not_whole text names a rest is e more b whole =
+      more (one_value names a b rest [] is whole.0 (sym e ∙ whole.1 ∙ sym (append-nil (record_text names (cells_of b))))).1
 
 -- ---- what was read
 

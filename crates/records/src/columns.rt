@@ -1,19 +1,19 @@
-ghost use Rattle.std.specs.Prelude.{◌++◌, map};
+ghost use Rattle.std.specs.Prelude.{◌≡◌, ◌++◌, OnOk, map};
 ghost use Rattle.records.specs.Column.{IsNamed};
-ghost use Rattle.records.specs.Front.{IsFrontItem};
+ghost use Rattle.records.specs.Front.{IsFound, IsFrontItem};
 ghost use Rattle.records.specs.Record.{members_text, now, record_text};
 
 use crate::column::Column;
 use crate::reading::{behind, member_at};
+use crate::writing::{put_cell, put_name};
+use std::alloc::AllocError;
 
 /// Values that stand in the cells of a record, one behind another: `()`, or a pair of the first
-/// value and of the others. So a record of three cells is read as `(A, (B, (C, ())))`.
+/// value and of those behind it. So a record of three cells has the values `(A, (B, (C, ())))`.
 pub trait Columns: Sized + Drop {
-    ghost use Rattle.std.specs.Prelude.{List, map};
+    ghost use Rattle.std.specs.Prelude.{List};
     ghost use Rattle.records.specs.Cell.{Held};
-    ghost use Rattle.records.specs.Column.{AreColumns, IsNamed};
-    ghost use Rattle.records.specs.Front.{IsFrontItem};
-    ghost use Rattle.records.specs.Record.{members_text, now};
+    ghost use Rattle.records.specs.Column.{AreColumns};
 
     // What their cells hold.
     ghost cells_of: { Self → List Held };
@@ -21,8 +21,21 @@ pub trait Columns: Sized + Drop {
     // That they keep their rules.
     ghost keep: { Self → Type 0 };
 
-    /// The values whose members stand at the front of a text, `later` if other members stand
-    /// before, and what follows the brace that ends the record.
+    /// Adds their members, `later` if others stand before, and the brace that ends the record.
+    ///
+    /// # Errors
+    /// Want of memory; then a part of them may have been added.
+    fn put_members(
+        &self,
+        text: &mut Vec<u8>,
+        later: bool,
+        names: &[&str],
+    ) -> Result<(), AllocError>
+        ensures { OnOk result (text.new.items
+            ≡ text.old.items ++ members_text later (map now names.now) (cells_of self.now)) };
+
+    /// The values whose members stand at the front of a text, `later` if others stand before, and
+    /// what follows the brace that ends the record.
     fn read_members<'t>(text: &'t [u8], later: bool, names: &[&str]) -> Option<(Self, &'t [u8])>
         ensures { IsFrontItem (IsNamed keep cells_of (map now names.now))
             (λ values. members_text later (map now names.now) (cells_of values)) text.now result };
@@ -39,6 +52,15 @@ impl Columns for () {
     ghost cells_of = { λ _. [] };
 
     ghost keep = { λ _. ⊤ };
+
+    fn put_members(
+        &self,
+        text: &mut Vec<u8>,
+        _later: bool,
+        _names: &[&str],
+    ) -> Result<(), AllocError> {
+        text.extend_from_slice(b"}")
+    }
 
     fn read_members<'t>(text: &'t [u8], _later: bool, names: &[&str]) -> Option<((), &'t [u8])> {
         if !names.is_empty() {
@@ -59,6 +81,20 @@ impl<A: Column, B: Columns> Columns for (A, B) {
     ghost cells_of = { λ values. A.cell_of values.0 ∷ B.cells_of values.1 };
 
     ghost keep = { λ values. A.keeps values.0 × B.keep values.1 };
+
+    fn put_members(
+        &self,
+        text: &mut Vec<u8>,
+        later: bool,
+        names: &[&str],
+    ) -> Result<(), AllocError> {
+        let [name, names @ ..] = names else {
+            return text.extend_from_slice(b"}");
+        };
+        put_name(text, later, name)?;
+        put_cell(text, &self.0.cell())?;
+        self.1.put_members(text, true, names)
+    }
 
     fn read_members<'t>(text: &'t [u8], later: bool, names: &[&str]) -> Option<((A, B), &'t [u8])> {
         A::column_law();
@@ -84,13 +120,42 @@ impl<A: Column, B: Columns> Columns for (A, B) {
     }
 }
 
+/// Adds the text of the record with these names and these values: as many as there are of both.
+///
+/// # Errors
+/// Want of memory; then a part of the text may have been added.
+pub fn put_values<T: Columns>(
+    text: &mut Vec<u8>,
+    names: &[&str],
+    values: &T,
+) -> Result<(), AllocError>
+    ensures { OnOk result (text.new.items
+        ≡ text.old.items ++ record_text (map now names.now) (T.cells_of values.now)) }
+{
+    text.extend_from_slice(b"{")?;
+    values.put_members(text, false, names)
+}
+
 /// The values whose record stands at the front of a text, and what follows it: exactly where the
-/// text begins with the record of values that keep their rules, with as many cells as there are
-/// names.
-pub fn read_record<'t, T: Columns>(text: &'t [u8], names: &[&str]) -> Option<(T, &'t [u8])>
+/// text begins with the record of values that keep their rules, with a name for each.
+pub fn read_front<'t, T: Columns>(text: &'t [u8], names: &[&str]) -> Option<(T, &'t [u8])>
     ensures { IsFrontItem (IsNamed T.keep T.cells_of (map now names.now))
         (λ values. record_text (map now names.now) (T.cells_of values)) text.now result }
 {
-    let members = behind(text, b"{")?;
-    T::read_members(members, false, names)
+    match behind(text, b"{") {
+        Some(members) => T::read_members(members, false, names),
+        None => None,
+    }
+}
+
+/// The values whose record is the whole of a text, in the same way.
+pub fn read_whole<T: Columns>(text: &[u8], names: &[&str]) -> Option<T>
+    ensures { IsFound (λ values. IsNamed T.keep T.cells_of (map now names.now) values
+        × (text.now ≡ record_text (map now names.now) (T.cells_of values))) result }
+{
+    T::columns_law();
+    let Some((values, rest)) = read_front::<T>(text, names) else {
+        return None;
+    };
+    if rest.is_empty() { Some(values) } else { None }
 }

@@ -6,13 +6,17 @@ mod cell;
 mod column;
 mod columns;
 mod law;
+mod lists;
 mod numbers;
 mod reading;
+mod texts;
 mod writing;
 
 pub use cell::Cell;
 pub use column::Column;
-pub use columns::{Columns, read_record};
+pub use columns::{Columns, put_values, read_front, read_whole};
 pub use law::record_law;
+pub use lists::{put_list, read_list, read_page};
 pub use reading::read_number;
+pub use texts::is_plain;
 pub use writing::put_record;

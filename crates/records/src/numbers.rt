@@ -1,4 +1,4 @@
-//! Numbers in the cells of records.
+//! Numbers in the cells of records: each that its type has.
 
 use crate::cell::Cell;
 use crate::column::Column;
@@ -10,6 +10,10 @@ impl Column for u64 {
     ghost cell_of = { number };
 
     ghost keeps = { λ n. n < 2 ^ 64 };
+
+    fn cell(&self) -> Cell<'_> {
+        Cell::Number(*self)
+    }
 
     fn of_cell(told: &Cell<'_>) -> Option<u64> {
         match told {
@@ -28,6 +32,10 @@ impl Column for u32 {
     ghost cell_of = { number };
 
     ghost keeps = { λ n. n < 2 ^ 32 };
+
+    fn cell(&self) -> Cell<'_> {
+        Cell::Number(u64::from(*self))
+    }
 
     fn of_cell(told: &Cell<'_>) -> Option<u32> {
         match told {

@@ -34,7 +34,7 @@ pub(crate) fn member_at<'t>(
 
 // What follows a name and its colon in a text that begins with them, behind a comma where members
 // stand before.
-fn behind_name<'t>(text: &'t [u8], later: bool, name: &str) -> Option<&'t [u8]>
+pub(crate) fn behind_name<'t>(text: &'t [u8], later: bool, name: &str) -> Option<&'t [u8]>
     ensures { MatchOption result
         ((rest : List ℕ) → text.now ≢ comma_if later ++ (in_quotes name.now ++ (58 ∷ rest)))
         (λ rest. text.now ≡ comma_if later ++ (in_quotes name.now ++ (58 ∷ rest.now))) }
@@ -127,7 +127,7 @@ fn text_at(quoted: &[u8]) -> Option<(&[u8], &[u8])>
 }
 
 // How many plain bytes a text begins with.
-fn plain_len(text: &[u8]) -> usize
+pub(crate) fn plain_len(text: &[u8]) -> usize
     ensures within { result ≤ length text.now }
     ensures before { All (λ byte. is_plain byte ≡ true) (take result text.now) }
     ensures found { result < length text.now → is_plain (slice_index text.now result) ≡ false }

@@ -46,19 +46,28 @@ fn put_members(
 }
 
 // Adds a name and its colon, behind a comma where members stand before.
-fn put_name(text: &mut Vec<u8>, later: bool, name: &str) -> Result<(), AllocError>
+pub(crate) fn put_name(text: &mut Vec<u8>, later: bool, name: &str) -> Result<(), AllocError>
     ensures { OnOk result (text.new.items
         ≡ text.old.items ++ (comma_if later ++ (in_quotes name.now ++ (58 ∷ [])))) }
 {
-    if later {
-        text.extend_from_slice(b",")?;
-    }
+    put_comma(text, later)?;
     put_text(text, name.as_bytes())?;
     text.extend_from_slice(b":")
 }
 
+// Adds a comma where something stands before.
+pub(crate) fn put_comma(text: &mut Vec<u8>, later: bool) -> Result<(), AllocError>
+    ensures { OnOk result (text.new.items ≡ text.old.items ++ comma_if later) }
+{
+    if later {
+        text.extend_from_slice(b",")
+    } else {
+        Ok(())
+    }
+}
+
 // Adds the text of a cell.
-fn put_cell(text: &mut Vec<u8>, cell: &Cell<'_>) -> Result<(), AllocError>
+pub(crate) fn put_cell(text: &mut Vec<u8>, cell: &Cell<'_>) -> Result<(), AllocError>
     ensures { OnOk result (text.new.items ≡ text.old.items ++ cell_text (held cell.now)) }
 {
     match cell {
