@@ -5,4 +5,5 @@ pub mod JsonLemmas
 pub mod ListLemmas
 pub mod MemberLemmas
 pub mod NumberLemmas
+pub mod ObjectLemmas
 pub mod ReadLemmas

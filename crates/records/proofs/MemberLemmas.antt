@@ -14,7 +14,7 @@ use Rattle.records.proofs.ReadLemmas.{behind_named, one_rest, tails}
 abbrev pub others : List (Bor (List ℕ)) → List (Bor (List ℕ))
 others names = take (length names - 1) (drop 1 names)
 
-others-cons : (n : Bor (List ℕ)) (ns : List (Bor (List ℕ))) → others (n ∷ ns) ≡ ns
+pub others-cons : (n : Bor (List ℕ)) (ns : List (Bor (List ℕ))) → others (n ∷ ns) ≡ ns
 others-cons n ns = take_all (length (n ∷ ns) - 1) ns (omega arith)
 
 -- what follows a member, or the brace, begins with a stop
@@ -91,7 +91,7 @@ module _ {A : Type 0} (keep : A → Type 0) (cells_of : A → List Held) (column
 -- the first member by the first name, and what follows it by the others
 pub first_member : (later : Bool) (names : List (Bor (List ℕ))) (d : Bor (List ℕ)) (cell : Held) (cells : List Held) (rest : List ℕ) → 1 ≤ length names
     → members_text later (map now names) (cell ∷ cells) ++ rest
-        ≡ behind_named later (get_or names 0 d).now (cell_text cell ++ (members_text true (map now (others names)) cells ++ rest))
+    ≡ behind_named later (get_or names 0 d).now (cell_text cell ++ (members_text true (map now (others names)) cells ++ rest))
 first_member later [] d cell cells rest some = absurd (omega (arith, some))
 first_member later (n ∷ ns) d cell cells rest some =
     spread later n.now (map now ns) cell cells rest

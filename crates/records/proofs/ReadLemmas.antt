@@ -12,9 +12,9 @@ use Rattle.records.proofs.FrontLemmas.{no_quoted}
 -- a cell that is a text, by what stands behind its quotation mark
 pub quoted_cell : (whole quoted : List ℕ) (r : Option (Cell × Bor (List ℕ))) → whole ≡ 34 ∷ quoted
     → MatchOption r ((bytes rest : List ℕ) → IsPlain bytes → BeginsWithStop rest → quoted ≢ bytes ++ (34 ∷ rest))
-        (λ found. IsTellable (held found.0) × BeginsWithStop found.1.now × (34 ∷ quoted ≡ cell_text (held found.0) ++ found.1.now))
+    (λ found. IsTellable (held found.0) × BeginsWithStop found.1.now × (34 ∷ quoted ≡ cell_text (held found.0) ++ found.1.now))
     → MatchOption r ((cell : Held) (rest : List ℕ) → IsTellable cell → BeginsWithStop rest → whole ≢ cell_text cell ++ rest)
-        (λ found. IsTellable (held found.0) × BeginsWithStop found.1.now × (whole ≡ cell_text (held found.0) ++ found.1.now))
+    (λ found. IsTellable (held found.0) × BeginsWithStop found.1.now × (whole ≡ cell_text (held found.0) ++ found.1.now))
 quoted_cell whole quoted (Some found) is h = (h.0, h.1, is ∙ h.2)
 quoted_cell whole quoted None is h = λ cell rest tellable begins e. no_quoted quoted h cell rest tellable begins (sym is ∙ e)
 
@@ -49,9 +49,9 @@ name_found later name whole quoted named rest None e f g h = λ more is.
 -- a cell behind its name
 pub named_cell : (later : Bool) (name whole rest : List ℕ) (r : Option (Cell × Bor (List ℕ))) → whole ≡ behind_named later name rest
     → MatchOption r ((cell : Held) (more : List ℕ) → IsTellable cell → BeginsWithStop more → rest ≢ cell_text cell ++ more)
-        (λ found. IsTellable (held found.0) × BeginsWithStop found.1.now × (rest ≡ cell_text (held found.0) ++ found.1.now))
+    (λ found. IsTellable (held found.0) × BeginsWithStop found.1.now × (rest ≡ cell_text (held found.0) ++ found.1.now))
     → MatchOption r ((cell : Held) (more : List ℕ) → IsTellable cell → BeginsWithStop more → whole ≢ behind_named later name (cell_text cell ++ more))
-        (λ found. IsTellable (held found.0) × BeginsWithStop found.1.now × (whole ≡ behind_named later name (cell_text (held found.0) ++ found.1.now)))
+    (λ found. IsTellable (held found.0) × BeginsWithStop found.1.now × (whole ≡ behind_named later name (cell_text (held found.0) ++ found.1.now)))
 named_cell later name whole rest (Some found) is h = (h.0, h.1, is ∙ ap (behind_named later name) h.2)
 named_cell later name whole rest None is h = λ cell more tellable begins e.
     h cell more tellable begins (one_rest later name rest (cell_text cell ++ more) (sym is ∙ e))

@@ -1,11 +1,15 @@
 ghost use Rattle.std.specs.Prelude.{◌≡◌, ◌++◌, OnOk, map};
+ghost use Rattle.serde_json.specs.View.{view};
 ghost use Rattle.records.specs.Column.{IsNamed};
 ghost use Rattle.records.specs.Front.{IsFound, IsFrontItem};
+ghost use Rattle.records.specs.Json.{HasMembers};
 ghost use Rattle.records.specs.Record.{members_text, now, record_text};
 
 use crate::column::Column;
+use crate::objects::cell_in;
 use crate::reading::{behind, member_at};
 use crate::writing::{put_cell, put_name};
+use serde_json::Value;
 use std::alloc::AllocError;
 
 /// Values that stand in the cells of a record, one behind another: `()`, or a pair of the first
@@ -25,12 +29,7 @@ pub trait Columns: Sized + Drop {
     ///
     /// # Errors
     /// Want of memory; then a part of them may have been added.
-    fn put_members(
-        &self,
-        text: &mut Vec<u8>,
-        later: bool,
-        names: &[&str],
-    ) -> Result<(), AllocError>
+    fn put_members(&self, text: &mut Vec<u8>, later: bool, names: &[&str]) -> Result<(), AllocError>
         ensures { OnOk result (text.new.items
             ≡ text.old.items ++ members_text later (map now names.now) (cells_of self.now)) };
 
@@ -39,6 +38,11 @@ pub trait Columns: Sized + Drop {
     fn read_members<'t>(text: &'t [u8], later: bool, names: &[&str]) -> Option<(Self, &'t [u8])>
         ensures { IsFrontItem (IsNamed keep cells_of (map now names.now))
             (λ values. members_text later (map now names.now) (cells_of values)) text.now result };
+
+    /// The values that the members of an object of JSON are, in whatever order; it may have others.
+    fn find_members(value: &Value, names: &[&str]) -> Option<Self>
+        ensures { IsFound (λ values. IsNamed keep cells_of (map now names.now) values
+            × HasMembers (view value.now) (map now names.now) (cells_of values)) result };
 
     /// Values that keep their rules have cells that can be told, and no other such values have the
     /// same.
@@ -70,6 +74,10 @@ impl Columns for () {
             Some(rest) => Some(((), rest)),
             None => None,
         }
+    }
+
+    fn find_members(_value: &Value, names: &[&str]) -> Option<()> {
+        if names.is_empty() { Some(()) } else { None }
     }
 
     fn columns_law() {}
@@ -110,6 +118,22 @@ impl<A: Column, B: Columns> Columns for (A, B) {
         };
         match B::read_members(rest, true, names) {
             Some((others, rest)) => Some(((first, others), rest)),
+            None => None,
+        }
+    }
+
+    fn find_members(value: &Value, names: &[&str]) -> Option<(A, B)> {
+        let [name, names @ ..] = names else {
+            return None;
+        };
+        let Some(cell) = cell_in(value, name) else {
+            return None;
+        };
+        let Some(first) = A::of_cell(&cell) else {
+            return None;
+        };
+        match B::find_members(value, names) {
+            Some(others) => Some((first, others)),
             None => None,
         }
     }

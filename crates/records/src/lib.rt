@@ -8,7 +8,10 @@ mod columns;
 mod law;
 mod lists;
 mod numbers;
+mod objects;
 mod reading;
+#[cfg(test)]
+mod tests;
 mod texts;
 mod writing;
 
@@ -17,6 +20,7 @@ pub use column::Column;
 pub use columns::{Columns, put_values, read_front, read_whole};
 pub use law::record_law;
 pub use lists::{put_list, read_list, read_page};
+pub use objects::read_object;
 pub use reading::read_number;
 pub use texts::is_plain;
 pub use writing::put_record;

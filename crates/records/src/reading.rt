@@ -14,11 +14,7 @@ use std::str;
 
 // The cell that stands at the front of a text behind its name, in front of a comma or a brace, and
 // the text from there on.
-pub(crate) fn member_at<'t>(
-    text: &'t [u8],
-    later: bool,
-    name: &str,
-) -> Option<(Cell<'t>, &'t [u8])>
+pub(crate) fn member_at<'t>(text: &'t [u8], later: bool, name: &str) -> Option<(Cell<'t>, &'t [u8])>
     ensures { MatchOption result
         ((cell : Held) (rest : List ℕ) → IsTellable cell → BeginsWithStop rest → text.now
         ≢ comma_if later ++ (in_quotes name.now ++ (58 ∷ (cell_text cell ++ rest))))
@@ -145,7 +141,11 @@ fn word_at(text: &[u8]) -> Option<(&[u8], &[u8])>
         × (text.now ≡ found.0.now ++ found.1.now)) }
 {
     let (word, rest) = text.split_at(word_len(text));
-    if begins_with_stop(rest) { Some((word, rest)) } else { None }
+    if begins_with_stop(rest) {
+        Some((word, rest))
+    } else {
+        None
+    }
 }
 
 // How many bytes stand in front of the first comma or brace of a text, or all of them.

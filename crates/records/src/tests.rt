@@ -1,7 +1,9 @@
 ghost use Rattle.std.specs.Prelude.{◌≡◌, IfOk, IfSome, Some};
 
-use crate::{Cell, Columns, is_plain, put_list, put_record, put_values, read_front, read_list};
-use crate::{read_page, read_whole, record_law};
+use crate::{
+    Cell, Columns, is_plain, put_list, put_record, put_values, read_front, read_list, read_page,
+    read_whole, record_law,
+};
 use arrayvec::ArrayVec;
 use serde_json::Value;
 use std::alloc::{AllocError, Global};
@@ -13,7 +15,10 @@ const SHIFT: [&str; 1] = ["shift"];
 const NAMES: [&str; 4] = ["meter", "sale", "tariff", "tenths"];
 
 // What NAMES tell of a meter.
-type Meter = (ArrayVec<u8, 11>, (Option<u32>, (ArrayVec<u8, 32>, (u64, ()))));
+type Meter = (
+    ArrayVec<u8, 11>,
+    (Option<u32>, (ArrayVec<u8, 32>, (u64, ()))),
+);
 
 // ---- the law
 
@@ -85,7 +90,12 @@ fn writes_replies(rt: HostRuntime) -> Result<(), Fail> {
     writes(
         &rt,
         &NAMES,
-        &[Text(b"12345678903"), Number(1), Text(b"flat"), Number(u64::MAX)],
+        &[
+            Text(b"12345678903"),
+            Number(1),
+            Text(b"flat"),
+            Number(u64::MAX),
+        ],
         "{\"meter\":\"12345678903\",\"sale\":1,\"tariff\":\"flat\",\"tenths\":18446744073709551615}",
     )?;
     Ok(())
@@ -137,7 +147,10 @@ fn reads_each_kind(rt: HostRuntime) -> Result<(), Fail> {
 fn reads_lists(rt: HostRuntime) -> Result<(), Fail> {
     let mut text = Vec::new(rt.alloc());
     put_list(&mut text, &SHIFT, &[(1u32, ()), (2u32, ())])?;
-    assert_eq!(rt; text.as_slice(), b"[{\"shift\":1},{\"shift\":2}]".as_slice());
+    assert_eq!(rt;
+        text.as_slice(),
+        b"[{\"shift\":1},{\"shift\":2}]".as_slice()
+    );
     let (items, rest) = read_list::<(u32, ())>(rt.alloc(), &text, &SHIFT)?.ok_or("a list")?;
     assert_eq!(rt; items.as_slice(), [(1u32, ()), (2u32, ())].as_slice());
     assert!(rt; rest.is_empty());

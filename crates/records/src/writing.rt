@@ -12,11 +12,7 @@ use std::alloc::AllocError;
 ///
 /// # Errors
 /// Want of memory; then a part of the text may have been added.
-pub fn put_record(
-    text: &mut Vec<u8>,
-    names: &[&str],
-    cells: &[Cell<'_>],
-) -> Result<(), AllocError>
+pub fn put_record(text: &mut Vec<u8>, names: &[&str], cells: &[Cell<'_>]) -> Result<(), AllocError>
     ensures { OnOk result (text.new.items
         ≡ text.old.items ++ record_text (map now names.now) (map held cells.now)) }
 {
