@@ -62,8 +62,14 @@ fn tells_back(rt: HostRuntime) -> Result<(), Fail> {
 // ---- rows: what a desk replies, as docs/DESK.md has it
 
 // That a record has this text.
-fn writes(rt: &HostRuntime, names: &[&str], cells: &[Cell<'_>], told: &str) -> Result<(), Fail> {
-    let mut text = Vec::new(rt.alloc());
+fn writes(
+    rt: &impl Abort,
+    alloc: Global,
+    names: &[&str],
+    cells: &[Cell<'_>],
+    told: &str,
+) -> Result<(), Fail> {
+    let mut text = Vec::new(alloc);
     put_record(&mut text, names, cells)?;
     assert_eq!(rt; text.as_slice(), told.as_bytes());
     Ok(())
@@ -72,23 +78,27 @@ fn writes(rt: &HostRuntime, names: &[&str], cells: &[Cell<'_>], told: &str) -> R
 #[test]
 fn writes_replies(rt: HostRuntime) -> Result<(), Fail> {
     use Cell::{Nothing, Number, Text};
-    writes(&rt, &[], &[], "{}")?;
-    writes(&rt, &SHIFT, &[Number(1)], "{\"shift\":1}")?;
-    writes(&rt, &["error"], &[Text(b"Clock")], "{\"error\":\"Clock\"}")?;
+    let alloc = rt.alloc();
+    writes(&rt, alloc, &[], &[], "{}")?;
+    writes(&rt, alloc, &SHIFT, &[Number(1)], "{\"shift\":1}")?;
+    writes(&rt, alloc, &["error"], &[Text(b"Clock")], "{\"error\":\"Clock\"}")?;
     writes(
         &rt,
+        alloc,
         &["error", "refusal"],
         &[Text(b"TooLittle"), Number(10)],
         "{\"error\":\"TooLittle\",\"refusal\":10}",
     )?;
     writes(
         &rt,
+        alloc,
         &["format", "last_moment", "last_write", "sales"],
         &[Number(4), Nothing, Text(b"done"), Number(0)],
         "{\"format\":4,\"last_moment\":null,\"last_write\":\"done\",\"sales\":0}",
     )?;
     writes(
         &rt,
+        alloc,
         &NAMES,
         &[
             Text(b"12345678903"),
