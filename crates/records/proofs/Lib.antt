@@ -7,3 +7,4 @@ pub mod MemberLemmas
 pub mod NumberLemmas
 pub mod ObjectLemmas
 pub mod ReadLemmas
+pub mod WitnessLemmas

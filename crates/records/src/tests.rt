@@ -39,15 +39,15 @@ fn json_of(alloc: Global, shift: u32) -> Option<u64>
 {
     record_law();
     let mut text = Vec::new(alloc);
-    if put_values(&mut text, &SHIFT, &(shift, ())).is_err() {
+    let Ok(()) = put_values(&mut text, &SHIFT, &(shift, ())) else {
         return None;
-    }
-    match Value::from_slice(alloc, &text) {
-        Ok(value) => match value.get("shift") {
-            Some(member) => member.as_u64(),
-            None => None,
-        },
-        Err(_) => None,
+    };
+    let Ok(value) = Value::from_slice(alloc, &text) else {
+        return None;
+    };
+    match value.get("shift") {
+        Some(member) => member.as_u64(),
+        None => None,
     }
 }
 
