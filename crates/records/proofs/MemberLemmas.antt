@@ -1,8 +1,8 @@
 -- The members of a record, one by one.
-use Rattle.std.proofs.Common.{◌≡◌, ◌≢◌, ◌∙◌, ℕ, suc, ◌-◌, ◌≤◌, ◌<◌, Bool, true, false, List, [], ◌∷◌, ◌++◌, length, map, take, drop, get_or, refl, ap, sym, append_assoc, append-nil, arith}
+use Rattle.std.proofs.Common.{◌≡◌, ◌≢◌, ◌∙◌, ℕ, suc, ◌-◌, ◌≤◌, Bool, true, false, List, [], ◌∷◌, ◌++◌, length, map, take, drop, get_or, refl, ap, sym, append_assoc, append-nil, arith}
 use Rattle.std.specs.Borrow.{Bor}
 use Rattle.std.specs.List.{AllByRecursion}
-use Rattle.std.proofs.lemmas.List.{append_cancel_left, length-map, take_all}
+use Rattle.std.proofs.lemmas.List.{append_cancel_left, take_all}
 use Rattle.records.specs.Cell.{Held, IsTellable, cell_text, in_quotes}
 use Rattle.records.specs.Column.{AreColumns, IsNamed}
 use Rattle.records.specs.Front.{BeginsWithStop}

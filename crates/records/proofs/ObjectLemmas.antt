@@ -1,5 +1,5 @@
 -- The members of an object of JSON, by their names.
-use Rattle.std.proofs.Common.{◌≡◌, ◌∙◌, ℕ, suc, ◌≤◌, List, [], ◌∷◌, Some, String, Global, nat_eq, length, map, get_or, ap, sym, subst, arith}
+use Rattle.std.proofs.Common.{◌≡◌, ◌∙◌, ℕ, ◌≤◌, List, [], ◌∷◌, Some, String, Global, nat_eq, length, map, get_or, ap, sym, subst, arith}
 use Rattle.std.specs.Prelude.{◌↔◌, IsTrue, option_map}
 use Rattle.std.specs.Borrow.{Bor}
 use Rattle.std.proofs.lemmas.Bool.Decides.{nat_tests}

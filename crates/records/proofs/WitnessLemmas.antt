@@ -32,7 +32,7 @@ fits n small = record { named = refl; tellable = (small, tt) }
 -- what was read of the text of a number is that number
 pub told : One → (bytes : List ℕ) (n : ℕ) (r : Option (ℕ × Unit {0})) → n < 2 ^ 32 → bytes ≡ shift_text n
     → IsFound {A = ℕ × Unit {0}} (λ v. IsNamed {A = ℕ × Unit {0}} (λ w. (w.0 < 2 ^ 32) × Unit {0}) (λ w. number w.0 ∷ []) shift_names v
-        × (bytes ≡ shift_text v.0)) r
+    × (bytes ≡ shift_text v.0)) r
     → r ≡ Some (n, tt)
 told one bytes n None small e none = absurd (none (n, tt) (record { kept = (small, tt); named = refl }, e))
 told one bytes n (Some v) small e found =

@@ -81,7 +81,13 @@ fn writes_replies(rt: HostRuntime) -> Result<(), Fail> {
     let alloc = rt.alloc();
     writes(&rt, alloc, &[], &[], "{}")?;
     writes(&rt, alloc, &SHIFT, &[Number(1)], "{\"shift\":1}")?;
-    writes(&rt, alloc, &["error"], &[Text(b"Clock")], "{\"error\":\"Clock\"}")?;
+    writes(
+        &rt,
+        alloc,
+        &["error"],
+        &[Text(b"Clock")],
+        "{\"error\":\"Clock\"}",
+    )?;
     writes(
         &rt,
         alloc,

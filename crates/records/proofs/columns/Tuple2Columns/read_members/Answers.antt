@@ -1,4 +1,4 @@
-use Rattle.std.proofs.Common.{◌∙◌, [], ◌++◌, map, sym}
+use Rattle.std.proofs.Common.{◌∙◌, ◌++◌, map, sym}
 use Rattle.records.specs.Record.{members_text, now}
 use Rattle.records.proofs.MemberLemmas.{begins, fewer, first_member, others, same_member}
 use Rattle.records.proofs.columns.Tuple2Columns.read_members.Goals as goal
