@@ -1,5 +1,5 @@
-//! The texts of records, and their reading: objects of JSON with no blanks, whose members are numbers,
-//! plain texts or null, in the order of the names.
+//! The texts of records, and their reading: objects of JSON with no blanks, whose members are
+//! numbers, plain texts or null, in the order of the names.
 #![tactic(auto)]
 
 mod cell;
