@@ -49,7 +49,7 @@ module _ {D R W B : Type 0} (way : Way D R W) (gives : ℤ → Type 0) (see : B 
         (old.books, old.answers) (new.books, new.answers) (way.remaining reader)
         (way.remaining read) (way.contents writer) (way.contents written) end
     pub paced : (uses : List Use) × IsPaced (clocked gives (answers_by (books_serve see)))
-        (old.books, old.answers) (way.remaining reader) (way.remaining read)
+        message_refusal_of (old.books, old.answers) (way.remaining reader) (way.remaining read)
         (way.contents writer) (way.contents written) uses
     pub clean : HasCleanDisk (see new.books).state → HasCleanDisk (see old.books).state
     pub lives : GoOn (see old.books) (see new.books) (λ life after.
