@@ -16,5 +16,5 @@ pub use port::ended::{Back, Ended};
 pub use port::machine::{MachineFile, machine_file_law};
 pub use port::openings::EachTry;
 pub use port::ports::{Machine, OfficeFile, Ports, SaltSource};
-pub use port::progress::{Progress, TerminalProgress};
+pub use port::progress::{Onlooker, Progress, TerminalProgress};
 pub use print::opening::put_opening;
