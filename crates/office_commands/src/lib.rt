@@ -14,6 +14,7 @@ pub use office::opening::{close_office, open_office};
 pub use office::reopening::{lost_law, open_again, reopen};
 pub use port::ended::{Back, Ended};
 pub use port::machine::{MachineFile, machine_file_law};
+pub use port::new_log::LogName;
 pub use port::openings::EachTry;
 pub use port::ports::{Machine, OfficeFile, Ports, SaltSource};
 pub use port::progress::{Onlooker, Progress, TerminalProgress};
