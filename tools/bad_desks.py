@@ -386,6 +386,27 @@ def check_endless():
     return len(rows)
 
 
+def waiting_behind(front):
+    """A program that sends so much, and then waits until its client has gone."""
+    def answer(_, client):
+        message_from(client)
+        client.sendall(front)
+        client.recv(1)
+    return answer
+
+
+def check_strangers():
+    """Other servers that send some bytes and then wait for more of the client: it does not wait for them."""
+    whole = reply(200, in_json(SALE))
+    tells = lambda length: reply(200, b"").replace(b"Length: 0", b"Length: %d" % length)
+    fronts = (b"SSH-2.0-OpenSSH_9.2p1\r\n", b"220 mail ESMTP\r\n", b"\0", b"\r\n", b"http", b"HTTP/1.0 200 OK\r\n",
+              b"HTTP/1.1 400 Bad Request\r\n", b"HTTP/1.1 200 OK\r\nServer: x\r\n", whole + b"\0", tells(MOST_BODY + 1),
+              tells(2**64 - 1))
+    for front in fronts:
+        same(asked_of(waiting_behind(front), *SELL), NET, f"a program that waits behind {front[:300]}")
+    return len(fronts)
+
+
 def meters_page(first, count=100):
     """A page of meters, and the lines that are printed of it."""
     names = [meter_of(f"{number:010}") for number in range(first, first + count)]
@@ -428,7 +449,8 @@ def check_bad_desks():
         same(run([words[0], "--desk", nobody, *words[1:]]), NET, "nobody listens")
     kinds, refusals, _ = check_told()
     others, rubbish, ends, pages = check_other_answers(), check_rubbish(), check_endless(), check_pages_of_rubbish()
-    papers = check_papers()
+    papers, strangers = check_papers(), check_strangers()
     print(f"replies: of {kinds} kinds each is printed, {refusals} refusals too, each under its status alone and of a command "
           f"that has it; {others} to other commands, {rubbish} of another form, {papers} reports and receipts that no desk "
-          f"writes, {ends} without an end and {pages} lists that break end with `net`")
+          f"writes, {ends} without an end and {pages} lists that break end with `net`, and so do {strangers} programs that "
+          "send no beginning of a reply and wait, before their time is over")

@@ -76,7 +76,7 @@ impl<'a, B: Start, T: TimeSource> Machine for Computer<'a, B, T> {
 
     type Loopback = MachineLoopback<'a, HostRuntime, HostRuntime>;
 
-    type Progress = TerminalProgress<'a>;
+    type Progress = TerminalProgress<'a, HostRuntime>;
 }
 
 impl<'a, B: Start, T: TimeSource> Computer<'a, B, T> {
