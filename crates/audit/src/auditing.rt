@@ -105,9 +105,10 @@ fn audit_format<S: Alter, T: BlockTransform, F: Follows>(
 /// row of a shift lacks a column, which nothing that reads by SQL can see.
 ///
 /// # Errors
-/// The first row that is no office's, or that no requests lead to, or else the first sale whose
-/// token the transform did not write; tables of no format; what the database refuses, and want of
-/// memory. In each case the database is as it was.
+/// `AuditFault::Found` with the first row that is no office's, or that no requests lead to, or else
+/// the first sale whose token the transform did not write. `AuditFault::NoOffice` for tables of no
+/// format. `AuditFault::Failed` if the database refuses or fails, or memory runs out. In each case
+/// the database is as it was.
 pub fn audit<S: KeepsOrder, T: BlockTransform, F: Follows>(
     alloc: Global,
     conn: &mut Connection<S>,

@@ -140,8 +140,8 @@ pub(crate) fn followed_rows<S: Alter, F: Follows>(
 /// office.
 ///
 /// # Errors
-/// The first row that is no office's, another format that is told, what the database refuses, and
-/// want of memory.
+/// `AuditFault::Found` with the first row that is no office's. `AuditFault::NoOffice` if `about`
+/// has another format. `AuditFault::Failed` if the database refuses or fails, or memory runs out.
 pub fn office_rows<S: Alter>(
     alloc: Global,
     conn: &mut Connection<S>,

@@ -23,7 +23,8 @@ use sts_fields::{Base, Day, day_law};
 /// The sale of a number.
 ///
 /// # Errors
-/// What the database refuses, and a row that is no office's.
+/// `TableError::Database` if the database refuses or fails, or memory runs out.
+/// `TableError::RowOfNoOffice` if a row is outside its bounds (`docs/OFFICE.md`, "Bounds").
 pub fn sale_numbered<S: Alter>(
     conn: &mut Connection<S>,
     number: u32,
@@ -39,7 +40,8 @@ pub fn sale_numbered<S: Alter>(
 /// The sale that an operator made under a ref.
 ///
 /// # Errors
-/// What the database refuses, and a row that is no office's.
+/// `TableError::Database` if the database refuses or fails, or memory runs out.
+/// `TableError::RowOfNoOffice` if a row is outside its bounds (`docs/OFFICE.md`, "Bounds").
 pub fn sale_of_ref<S: Alter>(
     conn: &mut Connection<S>,
     operator: &Operator,
@@ -58,7 +60,8 @@ pub fn sale_of_ref<S: Alter>(
 /// The sale of an identifier of a meter under a base.
 ///
 /// # Errors
-/// What the database refuses, and a row that is no office's.
+/// `TableError::Database` if the database refuses or fails, or memory runs out.
+/// `TableError::RowOfNoOffice` if a row is outside its bounds (`docs/OFFICE.md`, "Bounds").
 pub fn sale_of_tid<S: Alter>(
     conn: &mut Connection<S>,
     meter: &MeterNo,
@@ -79,7 +82,8 @@ pub fn sale_of_tid<S: Alter>(
 /// numbered from 1 without a gap.
 ///
 /// # Errors
-/// What the database refuses, and a row that is no office's.
+/// `TableError::Database` if the database refuses or fails, or memory runs out.
+/// `TableError::RowOfNoOffice` if a row is outside its bounds (`docs/OFFICE.md`, "Bounds").
 pub fn last_sale_number<S: Alter>(conn: &mut Connection<S>) -> Result<Option<u32>, TableError>
     ensures given { Over S.Store conn (λ old new. SaysOfTable sales_kept (λ rows found. found ≡
         option_map (λ s. s.number) (last_or None rows.sales)) old new result) }

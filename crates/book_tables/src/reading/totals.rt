@@ -28,7 +28,8 @@ use sts_fields::{Base, amount_law};
 /// The greatest identifier sold to a meter under a base.
 ///
 /// # Errors
-/// What the database refuses, and a row that is no office's.
+/// `TableError::Database` if the database refuses or fails, or memory runs out.
+/// `TableError::RowOfNoOffice` if a row is outside its bounds (`docs/OFFICE.md`, "Bounds").
 pub fn greatest_tid<S: Alter>(
     conn: &mut Connection<S>,
     meter: &MeterNo,
@@ -73,7 +74,8 @@ pub fn has_sales<S: Alter>(conn: &mut Connection<S>, meter: &MeterNo) -> Result<
 /// The tenths of a kWh sold to a meter in a month, under any base.
 ///
 /// # Errors
-/// What the database refuses, and a row that is no office's.
+/// `TableError::Database` if the database refuses or fails, or memory runs out.
+/// `TableError::RowOfNoOffice` if a row is outside its bounds (`docs/OFFICE.md`, "Bounds").
 pub fn tenths_in_month<S: Alter>(
     conn: &mut Connection<S>,
     meter: &MeterNo,
@@ -103,7 +105,8 @@ fn sum_of(found: Option<Tenths>) -> u64
 /// How many sales there are in a shift, and the sums of their tenths and of their prices.
 ///
 /// # Errors
-/// What the database refuses, and a row that is no office's.
+/// `TableError::Database` if the database refuses or fails, or memory runs out.
+/// `TableError::RowOfNoOffice` if a row is outside its bounds (`docs/OFFICE.md`, "Bounds").
 pub fn totals_of_shift<S: Alter>(conn: &mut Connection<S>, shift: u32) -> Result<Totals, TableError>
     ensures given { Over S.Store conn (λ old new. SaysOfTable shift_totals_kept (λ rows totals.
         totals ≡ record {

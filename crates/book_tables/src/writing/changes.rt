@@ -17,7 +17,7 @@ use sts_token::key_text;
 /// Closes the shift of a number at a moment.
 ///
 /// # Errors
-/// Want of memory, and the disk.
+/// `TableError::Database` if there is no memory, or the disk fails.
 pub fn close_shift<S: Alter>(
     tx: &mut Transaction<'_, S>,
     number: u32,
@@ -32,7 +32,7 @@ pub fn close_shift<S: Alter>(
 /// Sets the tariff of the meter of a number.
 ///
 /// # Errors
-/// What the database refuses: a tariff that is not there; want of memory, and the disk.
+/// `TableError::Database`: a tariff that is not there; or there is no memory, or the disk fails.
 pub fn set_tariff<S: Alter>(
     tx: &mut Transaction<'_, S>,
     number: &MeterNo,

@@ -21,8 +21,8 @@ use tariff::Step;
 /// Adds a step of those that a tariff has from a day on, at a place, from 0.
 ///
 /// # Errors
-/// What the database refuses: a place that is taken, a tariff that is not there; want of memory,
-/// and the disk.
+/// `TableError::Database`: a place that is taken, a tariff that is not there; or there is no
+/// memory, or the disk fails.
 pub fn add_dated_step<S: Alter>(
     tx: &mut Transaction<'_, S>,
     name: &TariffName,
@@ -47,8 +47,8 @@ pub fn add_dated_step<S: Alter>(
 /// error.
 ///
 /// # Errors
-/// What the database refuses: steps of that day, a tariff that is not there; want of memory, and
-/// the disk.
+/// `TableError::Database`: steps of that day, a tariff that is not there; or there is no memory, or
+/// the disk fails.
 pub fn add_steps<S: Alter>(
     tx: &mut Transaction<'_, S>,
     name: &TariffName,

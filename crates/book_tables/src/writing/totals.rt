@@ -30,7 +30,7 @@ use sts_fields::{Base, amount_law};
 /// Sets the last identifier of a meter under a base.
 ///
 /// # Errors
-/// Want of memory, and the disk.
+/// `TableError::Database` if there is no memory, or the disk fails.
 pub fn set_last_id<S: Alter>(
     tx: &mut Transaction<'_, S>,
     meter: &MeterNo,
@@ -53,7 +53,8 @@ pub fn set_last_id<S: Alter>(
 /// Adds tenths of a kWh to those of a meter in a month, and answers their sum.
 ///
 /// # Errors
-/// Want of memory, and the disk; and a sum that is no office's.
+/// `TableError::Database` if there is no memory, or the disk fails. `TableError::RowOfNoOffice` for
+/// a sum that no office has.
 pub fn add_tenths<S: Alter>(
     tx: &mut Transaction<'_, S>,
     meter: &MeterNo,
@@ -75,7 +76,8 @@ pub fn add_tenths<S: Alter>(
 /// Adds a sale of these tenths at this price to the totals of a shift, and answers these.
 ///
 /// # Errors
-/// Want of memory, and the disk; and totals that are no office's.
+/// `TableError::Database` if there is no memory, or the disk fails. `TableError::RowOfNoOffice` for
+/// totals that no office has.
 pub fn add_to_shift<S: Alter>(
     tx: &mut Transaction<'_, S>,
     shift: u32,
@@ -97,7 +99,8 @@ pub fn add_to_shift<S: Alter>(
 /// What was added before an error goes with the transaction, which the caller drops.
 ///
 /// # Errors
-/// Want of memory, and the disk; and totals that are no office's.
+/// `TableError::Database` if there is no memory, or the disk fails. `TableError::RowOfNoOffice` for
+/// totals that no office has.
 pub fn add_totals<S: Alter>(
     tx: &mut Transaction<'_, S>,
     sale: &Sale,

@@ -121,7 +121,7 @@ fn found_body(alloc: Global, form: Form, found: &Found) -> Result<Vec<u8>, Alloc
 /// What was found as JSON, a sale too: the body of the reply that tells it so.
 ///
 /// # Errors
-/// Want of memory.
+/// `AllocError` if there is no memory.
 pub fn found_json(alloc: Global, found: &Found) -> Result<Vec<u8>, AllocError>
     ensures { IfOk result (λ body. body.items ≡ found_body Form.Json found.now) }
 {

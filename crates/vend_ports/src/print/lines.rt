@@ -160,6 +160,9 @@ pub fn put_shift<W: Write>(shift: u32, out: &mut Watched<'_, W>)
 }
 
 /// The text of an address, at this port.
+///
+/// # Errors
+/// `AllocError` if there is no memory.
 pub fn address_text(alloc: Global, address: Address, port: u16) -> Result<String, AllocError>
     ensures { IfOk result (λ text. string_bytes text ≡ address_text address port) }
 {
