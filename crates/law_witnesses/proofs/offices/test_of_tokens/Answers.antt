@@ -12,8 +12,8 @@ use Rattle.law_witnesses.specs.Offices.{life_of}
 use Rattle.law_witnesses.proofs.OfficeLemmas.{found_nothing, leads, one_forward}
 use Rattle.law_witnesses.proofs.offices.test_of_tokens.Goals as goal
 
-pub returns-in-Ok-Ok : goal.returns-in-Ok-Ok
-returns-in-Ok-Ok c =
+pub returns-in-Ok-meter_places : goal.returns-in-Ok-meter_places
+returns-in-Ok-meter_places c =
     let it = c.in-Some.ensures {u = tt} in
     let life = life_of it.forward c.args.ats.now c.in-Some._replies.items in
     let o = present life in
