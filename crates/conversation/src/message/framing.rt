@@ -64,6 +64,7 @@ fn method_of(name: &[u8]) -> Result<Method, MessageFault>
         b"GET" => Ok(Method::Get),
         b"POST" => Ok(Method::Post),
         b"HEAD" => Ok(Method::Head),
+        b"DELETE" => Ok(Method::Delete),
         _ => Err(MessageFault::Method),
     }
 }
