@@ -15,7 +15,7 @@ use Rattle.desk_messages.specs.declared.body_fault.BodyFault.{BodyFault}
 use Rattle.desk_messages.specs.declared.body_fault.BodyFault.TheVariants.{OutsideRule, Row, Memory}
 use Rattle.desk_messages.specs.declared.json_body.kind.JsonKind.{JsonKind}
 use Rattle.desk_messages.specs.declared.json_body.kind.JsonKind.TheVariants.{AddTariff, AddSteps}
-use Rattle.desk_messages.specs.json_body.Body.{HasMemberCount, IsKeyAt, BodySays, BodySaysMeter, BodySaysTariff, BodySaysDatedSteps}
+use Rattle.desk_messages.specs.json_body.Body.{HasMemberCount, IsKeyAt, BodySays, BodySaysMeter, BodySaysTariff, BodySaysDatedSteps, BodySaysKey}
 use Rattle.desk_messages.specs.Reads.{IsFoundInBody}
 
 -- a map has as many entries as its object has members
@@ -33,6 +33,11 @@ count_is json entries len count found is =
 pub no_key : (json : Data) → ((key : ℕ) → ¬ IsKeyAt (get (codes "key") json) key)
     → (meter : List ℕ) (m : Meter) → ¬ BodySaysMeter json meter m
 no_key json none meter m says = none m.key (says.key_text, says.members.each.1.0, says.keyed)
+
+-- nor a key alone
+pub no_key_alone : (json : Data) → ((key : ℕ) → ¬ IsKeyAt (get (codes "key") json) key)
+    → (key : ℕ) → ¬ BodySaysKey json key
+no_key_alone json none key says = none key (says.key_text, says.members.each.0, says.keyed)
 
 -- what is found in a value needs what is found in a part of it
 pub not_found_in : {A B : Type 0} (Part : A → Type 0) (Whole : B → Type 0) (fault : BodyFault)
