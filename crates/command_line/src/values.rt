@@ -2,8 +2,8 @@
 ghost use Rattle.std.specs.Prelude.{map};
 ghost use Rattle.command_line.specs.Said.{ReadsOrFull};
 ghost use Rattle.command_line.specs.Values.{ReadsBy, SayEach, SaysAfter, SaysAmount, SaysBase};
-ghost use Rattle.command_line.specs.Values.{SaysConnections, SaysCount, SaysDay, SaysFlag, SaysItem};
-ghost use Rattle.command_line.specs.Values.{SaysMoment, SaysOctet, SaysPort};
+ghost use Rattle.command_line.specs.Values.{SaysConnections, SaysCount, SaysDay, SaysFlag};
+ghost use Rattle.command_line.specs.Values.{SaysItem, SaysMoment, SaysOctet, SaysPort};
 ghost use Rattle.command_line.specs.Values.{SaysPrior, SaysTender, SaysWait};
 
 use crate::words::BadWords;

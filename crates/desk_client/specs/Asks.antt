@@ -1,6 +1,6 @@
 -- What the message of a question asks of a desk.
-use Rattle.std.specs.Prelude.{◌≢◌, ℕ, ℤ, pos, ◌<◌, ◌≤◌, ◌^◌, false, List, length, Some, None, Result, Ok, Err}
-use Rattle.std.specs.Prelude.{⊤}
+use Rattle.std.specs.Prelude.{◌≢◌, ℕ, ℤ, pos, ◌<◌, ◌≤◌, ◌^◌, false, List, length, Some, None}
+use Rattle.std.specs.Prelude.{Result, Ok, Err, ⊤}
 use Rattle.std.specs.List.{concat}
 use Rattle.book_states.specs.declared.lookup.Lookup.{Lookup}
 use Rattle.book_states.specs.declared.lookup.Lookup.TheVariants as lookups
@@ -53,8 +53,9 @@ pub record IsAskableOrder (order : Order) : Type 0 where
   pub order_ref : IsName order.order_ref
   pub tender : IsTender order.tender
 
--- A question that can be asked: its names, its day, its key and its tender keep their rules, numbers
--- of shifts and sales are those that a target may have, and the file of an import fits into a body.
+-- A question that can be asked: its names, its day, its key and its tender keep their rules,
+-- numbers of shifts and sales are those that a target may have, and the file of an import fits into
+-- a body.
 abbrev pub IsAskable : Question → Type 0
 IsAskable (Import kind csv) = length csv.now ≤ longest_body
 IsAskable (SetTariff meter tariff) = IsMeterNo meter × IsName tariff

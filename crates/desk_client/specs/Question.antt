@@ -21,8 +21,8 @@ use Rattle.desk_client.specs.declared.question.Question.TheVariants.{Receipt, Sh
 use Rattle.desk_client.specs.declared.question.Question.TheVariants.{LastSale, SaleOfRef, Quote}
 use Rattle.desk_client.specs.declared.question.Question.TheVariants.{Tariffs, Meters, Shifts, Sales}
 
--- what changes an office is asked by POST, what takes something back by DELETE, and what is looked up
--- by GET
+-- what changes an office is asked by POST, what takes steps back by DELETE, and what is looked up by
+-- GET
 abbrev pub question_method : Question → Method
 question_method (Import kind csv) = Post
 question_method (SetTariff meter tariff) = Post

@@ -18,7 +18,8 @@ use Rattle.desk_client.specs.declared.start.Start.{Start}
 use Rattle.desk_client.specs.declared.start.Start.TheVariants as starts
 use Rattle.desk_client.specs.declared.told.Granted.{Granted}
 use Rattle.desk_client.specs.declared.told.Granted.TheVariants.{Done, Imported, Shift, Sale, Meter}
-use Rattle.desk_client.specs.declared.told.Granted.TheVariants.{Quote, Totals, Paper, Page, Withdrawn}
+use Rattle.desk_client.specs.declared.told.Granted.TheVariants.{Quote, Totals, Paper, Page}
+use Rattle.desk_client.specs.declared.told.Granted.TheVariants.{Withdrawn}
 use Rattle.desk_client.specs.declared.told.Told.{Told}
 use Rattle.desk_client.specs.declared.told.Told.TheVariants as told
 use Rattle.desk_client.specs.declared.told.Wanted.{Wanted}

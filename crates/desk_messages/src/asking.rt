@@ -16,8 +16,8 @@ use sts_fields::day_law;
 use tariff::steps_text_law;
 
 /// The request that a body asks of a route, or why it asks none. A route that is asked by GET or
-/// DELETE doesn't look at the body, and takes no memory. One that looks something up asks no request: for
-/// it no body keeps the rule.
+/// DELETE doesn't look at the body, and takes no memory. One that looks something up asks no
+/// request: for it no body keeps the rule.
 pub fn request_of(alloc: Global, route: Route, body: &[u8]) -> Result<Request, BodyFault>
     ensures { BodyAsks route body.now result }
 {
