@@ -136,6 +136,7 @@ fn base(value: &Value) -> Option<Base>
 }
 
 // The key that a value says.
+#[tactic(auto, using(crate::proofs::BodyLemmas::says_key))]
 fn key(value: &Value) -> Option<u64>
     ensures { IsFound (BodySaysKey (view value.now)) result }
 {
