@@ -72,7 +72,7 @@ fn method_of(name: &[u8]) -> Result<Method, MessageFault>
 fn is_delete(name: &[u8]) -> bool
     ensures { result ≡ bytes_eq name.now (codes "DELETE") }
 {
-    matches!(name, b"DELETE")
+    name == b"DELETE".as_slice()
 }
 
 // Whether a message of HTTP/1.1 has exactly one `Host` field.
