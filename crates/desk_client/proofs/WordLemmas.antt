@@ -108,6 +108,10 @@ two_word n text small all = (
   (of_digit (48 + n % 10) (is_digit (48 + n % 10) (omega arith) (omega arith)), all),
 )
 
+date_length : (year month date : ℕ) → length (iso_date year month date) ≡ 10
+unfolding iso_date
+date_length year month date = refl
+
 date_word : (year month date : ℕ) → year < 10000 → month < 100 → date < 100 → IsWord (iso_date year month date)
 unfolding iso_date
 date_word year month date y m d =
@@ -115,8 +119,8 @@ date_word year month date y m d =
     let last = two_word date [] d tt in
     let months = two_word month (45 ∷ two_digits date) m (dash, last) in
     let years = two_word (year % 100) (45 ∷ (two_digits month ++ 45 ∷ two_digits date)) (omega arith) (dash, months) in record {
-      some = omega arith;
-      short = omega arith;
+      some = omega (arith, date_length year month date);
+      short = omega (arith, date_length year month date);
       bytes = two_word (year / 100) (two_digits (year % 100) ++ 45 ∷ (two_digits month ++ 45 ∷ two_digits date)) (omega (arith, y)) years;
     }
 
