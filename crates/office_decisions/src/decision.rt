@@ -1,5 +1,5 @@
 //! How the office decides a request: the tests in their order, over facts.
-ghost use Rattle.std.specs.Prelude.{◌≡◌, ◌≢◌, IsSome, Ok, Err, Some, None, true, nat_lt};
+ghost use Rattle.std.specs.Prelude.{◌≡◌, ◌≢◌, ◌&&◌, IsSome, Ok, Err, Some, None, true, nat_lt, not};
 ghost use Rattle.std.specs.Option.{option_copied};
 ghost use Rattle.sts_fields.specs.Base.{base_date};
 ghost use Rattle.sts_fields.specs.Day.{day_at};
@@ -182,14 +182,21 @@ fn withdraw_steps(
     if !has_tariff {
         return Err(Refusal::NoTariff);
     }
-    if there.is_none() {
-        return unchanged(Answer::Withdrawn(0));
+    match there {
+        None => unchanged(Answer::Withdrawn(0)),
+        Some(_) if may_withdraw(day, day_of(moment), sold_since) => changed(
+            Edit::WithdrawSteps(name, day),
+            Answer::Withdrawn(1),
+        ),
+        Some(_) => Err(Refusal::DayPast),
     }
-    if day_of(moment).days() < day.days() && !sold_since {
-        changed(Edit::WithdrawSteps(name, day), Answer::Withdrawn(1))
-    } else {
-        Err(Refusal::DayPast)
-    }
+}
+
+// Whether steps from a day on may be taken back, where it is today.
+fn may_withdraw(day: Day, today: Day, sold_since: bool) -> bool
+    ensures { result ≡ (nat_lt today day && not sold_since) }
+{
+    today.days() < day.days() && !sold_since
 }
 
 fn add_meter(

@@ -85,9 +85,14 @@ pub(crate) fn has_sales(sales: &[Sale], meter: &MeterNo) -> bool
 pub(crate) fn sold_since(sales: &[Sale], day: Day) -> bool
     ensures { result ≡ list_any (λ s. nat_le day (day_at s.moment)) sales.now }
 {
-    sales
-        .iter()
-        .any(|sale| day.days() <= day_of(sale.moment).days())
+    sales.iter().any(|sale| is_since(sale, day))
+}
+
+// Whether a sale was made on a day or later.
+fn is_since(sale: &Sale, day: Day) -> bool
+    ensures { result ≡ nat_le day (day_at sale.now.moment) }
+{
+    day.days() <= day_of(sale.moment).days()
 }
 
 /// The meter of a number.
