@@ -129,9 +129,7 @@ impl Advice {
             Advice::Store => { "The office's disk failed, or a row is damaged." }
             Advice::Stopped => "The office has stopped after its disk failed.",
             Advice::NotLater => "This meter has a later base date already, and sells under it.",
-            Advice::DayPast => {
-                "That day has begun (UTC), or something was sold on it or later."
-            }
+            Advice::DayPast => { "That day has begun (UTC), or something was sold on it or later." }
             Advice::HasSales => "Tokens were sold to this meter with the key that it has.",
             Advice::Amount => "No token carries this amount, or it is 0.",
             Advice::Clock => "The computer's clock is outside the years 1993 to 2099.",
