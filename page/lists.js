@@ -21,7 +21,7 @@ function laterSteps(name, { from, steps }) {
     button.closest("tr").remove();
     return `The steps of ${name} from ${from} on are withdrawn.`;
   }));
-  const cell = document.createDocumentFragment();
+  const cell = document.createElement("span"); // on narrow screens the cell is a grid
   cell.append(`${stepsOf(steps)} `, button);
   return cell;
 }
