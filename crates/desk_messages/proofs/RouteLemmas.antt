@@ -186,7 +186,7 @@ not_both : IsOneDay → (target : List ℕ) (method : Method) (a b : Route) (all
     → endpoint_method (endpoint_of a) ≡ route_method method → LeadsTo target b → endpoint_method (endpoint_of b) ≡ allowed
     → allowed ≢ route_method method → ⊥
 not_both days target method a b allowed one own other others apart =
-    apart (sym others ∙ ap (λ route. endpoint_method (endpoint_of route)) (one_route target b a other one) ∙ own)
+    apart (sym others ∙ ap (λ route. endpoint_method (endpoint_of route)) (one_route days target b a other one) ∙ own)
 
 -- a target and a method ask for one route, or have one fault
 pub one_routing : IsOneDay → (target : List ℕ) (method : Method) (a b : Result Route DeskFault)
