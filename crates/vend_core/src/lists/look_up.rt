@@ -85,14 +85,14 @@ pub(crate) fn has_sales(sales: &[Sale], meter: &MeterNo) -> bool
 pub(crate) fn sold_since(sales: &[Sale], day: Day) -> bool
     ensures { result ≡ list_any (λ s. nat_le day (day_at s.moment)) sales.now }
 {
-    sales.iter().any(|sale| is_since(sale, day))
+    sales.iter().any(|sale| is_since(day, day_of(sale.moment)))
 }
 
-// Whether a sale was made on a day or later.
-fn is_since(sale: &Sale, day: Day) -> bool
-    ensures { result ≡ nat_le day (day_at sale.now.moment) }
+// Whether the other day is this one or later.
+fn is_since(day: Day, other: Day) -> bool
+    ensures { result ≡ nat_le day other }
 {
-    day.days() <= day_of(sale.moment).days()
+    day.days() <= other.days()
 }
 
 /// The meter of a number.
