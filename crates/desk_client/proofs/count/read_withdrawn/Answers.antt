@@ -5,4 +5,4 @@ use Rattle.desk_client.proofs.count.read_withdrawn.Goals as goal
 pub returns-in_default : goal.returns-in_default
 returns-in_default c = λ n is.
     let same = same_count (codes "{\"withdrawn\":") c.in-Some.count n c.in-Some.ensures.0 (omega (arith, is.0)) (sym c.in-Some.ensures.1 ∙ is.1) in
-    omega (arith, same, is.0, c.if-count.false)
+    omega (arith, same, is.0, c.if-count-le1.false)
