@@ -113,6 +113,7 @@ reply_now asked s n d r more t small dated all reply =
 granted_is : (asked : Wanted) → IsStart asked (granted_start asked)
 granted_is wanted.Done = refl
 granted_is wanted.Imported = refl
+granted_is wanted.Withdrawn = refl
 granted_is wanted.Shift = refl
 granted_is wanted.Sale = refl
 granted_is wanted.Meter = refl

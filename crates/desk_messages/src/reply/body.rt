@@ -93,6 +93,9 @@ fn answer_body(alloc: Global, form: Form, answer: &Answer) -> Result<Vec<u8>, Al
         Answer::Imported(count) => {
             object_text(alloc, &[("added", Member::Number(u64::from(*count)))])
         }
+        Answer::Withdrawn(count) => {
+            object_text(alloc, &[("withdrawn", Member::Number(u64::from(*count)))])
+        }
         Answer::Opened(shift) | Answer::Closed(shift) => {
             object_text(alloc, &[("shift", Member::Number(u64::from(*shift)))])
         }

@@ -8,6 +8,7 @@ ghost use Rattle.vend_ports.specs.print.Printed.{opened_line, pair_text, progres
 ghost use Rattle.vend_ports.specs.print.Printed.{read_fault_line, refusal_line, table_row_of};
 ghost use Rattle.vend_ports.specs.print.Printed.{shift_line};
 ghost use Rattle.vend_ports.specs.print.Printed.{stopped_line, token_line, waiting_line};
+ghost use Rattle.vend_ports.specs.print.Printed.{withdrawn_line};
 ghost use Rattle.vend_ports.specs.print.Told.{IsPutOn, Takes};
 
 use crate::port::file_fault::FileFault;
@@ -124,6 +125,14 @@ pub fn put_added<W: Write>(count: u32, out: &mut Watched<'_, W>)
 {
     let mut number = Buffer::new();
     put_line(&[b"added", number.format(count).as_bytes()], out);
+}
+
+/// Prints how many lists of steps were withdrawn.
+pub fn put_withdrawn<W: Write>(count: u32, out: &mut Watched<'_, W>)
+    ensures { Takes out.old out.new (withdrawn_line count) }
+{
+    let mut number = Buffer::new();
+    put_line(&[b"withdrawn", number.format(count).as_bytes()], out);
 }
 
 /// Prints how far an export is.
