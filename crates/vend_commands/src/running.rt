@@ -29,8 +29,8 @@ use std::io::Write;
 use std::marker::PhantomData;
 use vend_ports::commands::{meter, quote, trial};
 use vend_ports::{
-    CommandEnd, Door, Loopback, MachineDoor, MachineLoopback, MachineTexts, TextFiles,
-    Watched, put_line, put_refusal,
+    CommandEnd, Door, Loopback, MachineDoor, MachineLoopback, MachineTexts, TextFiles, Watched,
+    put_line, put_refusal,
 };
 
 /// The computer that the program runs on. `B` stands for what the office's file holds, and `T`

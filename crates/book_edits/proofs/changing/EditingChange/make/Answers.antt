@@ -175,11 +175,14 @@ returns-in-AddSale-clause-made g c = record {
       let sale = c.in-AddSale.sale in
       made_by c.add_counted.result c.args.self.now.edit.now (edits.AddSale sale) c.args.self.now.prior old new c.in-AddSale.is
       (c.add_counted.ensures.added.says clean way) (c.add_counted.ensures.carried clean way)
-      (λ has adds carried. (makes_sale c.members_law.ensures.edited old new sale carried adds.tells.adds, (
-        adds.shown,
-        record { limit = old.step_limit; told = adds.told; of_office = adds.tells.tells },
-        adds.month,
-      )));
+      (λ has adds carried. (
+        makes_sale c.members_law.ensures.edited old new sale carried adds.tells.adds,
+        (
+          adds.shown,
+          record { limit = old.step_limit; told = adds.told; of_office = adds.tells.tells },
+          adds.month,
+        ),
+      ));
 }
 
 pub returns-in-AddTariff-clause-refused : goal.returns-in-AddTariff-clause-refused

@@ -30,7 +30,8 @@ returns-then-totals-tenths-clause-refused g c clean way has =
     inr (inr (
       c.in_ok-totals.totals,
       record { limit = (state g.S.Store c.args.tx.now.conn.now).step_limit; told = c.in_ok-totals.ensures.told clean way has; of_office = told.tells },
-      λ same. omega (arith, c.if-totals-tenths.true, same, c.tenths.ensures.value, c.from-tenths.ensures)))
+      λ same. omega (arith, c.if-totals-tenths.true, same, c.tenths.ensures.value, c.from-tenths.ensures),
+    ))
 
 -- they are not those before it and the sale's
 pub returns-then-totals-tenths-2-clause-refused : goal.returns-then-totals-tenths-2-clause-refused
