@@ -180,6 +180,8 @@ MayRefuseSo request refusal = ⊤
 abbrev pub IsOfDesk : Request → Type 0
 IsOfDesk (requests.AddTariff name steps) = ⊥
 IsOfDesk (requests.AddSteps name day steps) = ⊥
+IsOfDesk (requests.WithdrawSteps name day) = ⊥
+IsOfDesk (requests.SetKey number key) = ⊥
 IsOfDesk (requests.AddMeter number m) = ⊥
 IsOfDesk request = ⊤
 
@@ -382,6 +384,8 @@ may_import o today rows = by_new (new_rows o today 1 rows) (new_rows_of o today 
 unable : (why : Refusal) → ((q : Question) → MayRefuse why q) → ((most : ℕ) → RefusesRows most why) → (q : Request) → MayRefuseSo q why
 unable why any rows_any (requests.AddTariff name steps) = tt
 unable why any rows_any (requests.AddSteps name day steps) = tt
+unable why any rows_any (requests.WithdrawSteps name day) = tt
+unable why any rows_any (requests.SetKey number key) = tt
 unable why any rows_any (requests.AddMeter number m) = tt
 unable why any rows_any (requests.SetTariff number name) = any (questions.SetTariff number name)
 unable why any rows_any (requests.Import rows) = rows_any (length rows)
@@ -396,6 +400,8 @@ may_decide : (forward : BlockFunction) (o : Office) → IsOffice o → (moment n
     → MayDecide q (decision_of forward o moment nibble q)
 may_decide forward o office moment nibble (requests.AddTariff name steps) of_desk = absurd of_desk
 may_decide forward o office moment nibble (requests.AddSteps name day steps) of_desk = absurd of_desk
+may_decide forward o office moment nibble (requests.WithdrawSteps name day) of_desk = absurd of_desk
+may_decide forward o office moment nibble (requests.SetKey number key) of_desk = absurd of_desk
 may_decide forward o office moment nibble (requests.AddMeter number m) of_desk = absurd of_desk
 may_decide forward o office moment nibble (requests.SetTariff number name) of_desk = may_tariff number name (o.meters number) (is_some (o.tariffs name))
 may_decide forward o office moment nibble (requests.Import rows) of_desk = may_import o (day_at moment) rows

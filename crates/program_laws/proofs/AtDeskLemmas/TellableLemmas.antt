@@ -264,6 +264,8 @@ wanted_for request = wanted.Done
 abbrev pub MayAsk : Request → Type 0
 MayAsk (requests.AddTariff name steps) = ⊥
 MayAsk (requests.AddSteps name day steps) = ⊥
+MayAsk (requests.WithdrawSteps name day) = ⊥
+MayAsk (requests.SetKey number key) = ⊥
 MayAsk (requests.AddMeter number m) = ⊥
 MayAsk (requests.Import rows) = length rows ≤ 10000
 MayAsk request = ⊤
@@ -273,6 +275,8 @@ pub tellable_reply : (q : Request) (r : Result Answer Refusal) → MayAsk q → 
     → IsTellable (wanted_for q) (told_reply forms.Json r)
 tellable_reply (requests.AddTariff name steps) r ask sales h = absurd ask
 tellable_reply (requests.AddSteps name day steps) r ask sales h = absurd ask
+tellable_reply (requests.WithdrawSteps name day) r ask sales h = absurd ask
+tellable_reply (requests.SetKey number key) r ask sales h = absurd ask
 tellable_reply (requests.AddMeter number m) r ask sales h = absurd ask
 tellable_reply (requests.SetTariff number name) r ask sales h = tellable_tariff number name r (h tt)
 tellable_reply (requests.Import rows) r ask sales h = tellable_import rows r ask (h tt)
