@@ -1,4 +1,3 @@
-pub mod PassedLemmas
 pub mod ShownLemmas
 pub mod SoundLemmas
 pub mod ToldLemmas

@@ -1,4 +1,3 @@
 pub mod Audited
 pub mod Fails
-pub mod Passed
 pub mod Shown

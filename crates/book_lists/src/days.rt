@@ -23,8 +23,7 @@ use sts_fields::Day;
 /// later.
 ///
 /// # Errors
-/// `TableError::Database` if the database refuses or fails, or memory runs out.
-/// `TableError::RowOfNoOffice` if a row is outside its bounds (`docs/OFFICE.md`, "Bounds").
+/// What the database refuses, and a row that is no office's.
 pub fn first_day_after<S: Alter>(
     conn: &mut Connection<S>,
     name: &TariffName,

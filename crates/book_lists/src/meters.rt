@@ -24,8 +24,7 @@ use std::alloc::Global;
 /// last one.
 ///
 /// # Errors
-/// `TableError::Database` if the database refuses or fails, or memory runs out.
-/// `TableError::RowOfNoOffice` if a row is outside its bounds (`docs/OFFICE.md`, "Bounds").
+/// What the database refuses, want of memory, and a row that is no office's.
 pub fn meters_after<S: Alter>(
     alloc: Global,
     conn: &mut Connection<S>,

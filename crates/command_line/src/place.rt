@@ -33,13 +33,7 @@ fn asks_office(name: &str) -> bool
 fn is_asked_to_do(name: &str) -> bool
     ensures { result ≡ is_asked_to_do name.now }
 {
-    name == "import"
-        || name == "shift"
-        || name == "sell"
-        || name == "tariff"
-        || name == "withdraw"
-        || name == "base"
-        || name == "key"
+    name == "import" || name == "shift" || name == "sell" || name == "tariff" || name == "base"
 }
 
 // A command that prints what an office has.

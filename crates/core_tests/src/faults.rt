@@ -48,7 +48,6 @@ fn named() -> &'static str {
 17 Stopped the office has stopped
 18 NotLater the meter has a later base date
 19 DayPast the day of the steps has begun
-20 HasSales the meter has sales
 0 - out of memory
 0 - Header
 0 - Columns
@@ -91,7 +90,7 @@ static STEPS: [StepsFault; 7] = [
     StepsFault::BadText,
 ];
 
-static REFUSALS: [Refusal; 20] = [
+static REFUSALS: [Refusal; 19] = [
     Refusal::RefReused,
     Refusal::NoShift,
     Refusal::ShiftOpen,
@@ -111,7 +110,6 @@ static REFUSALS: [Refusal; 20] = [
     Refusal::Stopped,
     Refusal::NotLater,
     Refusal::DayPast,
-    Refusal::HasSales,
 ];
 
 static CAUSES: [RowCause; 7] = [

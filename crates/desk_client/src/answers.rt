@@ -94,15 +94,12 @@ impl Question<'_> {
                 self,
                 Question::SetTariff(..)
                     | Question::MoveBase(..)
-                    | Question::SetKey(..)
                     | Question::Sell(_)
                     | Question::Meter(_)
                     | Question::LastSale(_)
                     | Question::Quote(..)
             ),
-            Refusal::NoTariff => {
-                matches!(self, Question::SetTariff(..) | Question::WithdrawSteps(..))
-            }
+            Refusal::NoTariff => matches!(self, Question::SetTariff(..)),
             Refusal::BeforeBase => {
                 matches!(
                     self,
@@ -130,9 +127,7 @@ impl Question<'_> {
             }
             Refusal::NotLater => matches!(self, Question::MoveBase(..)),
             Refusal::Memory | Refusal::Store | Refusal::Stopped => true,
-            Refusal::DayPast => matches!(self, Question::WithdrawSteps(..)),
-            Refusal::HasSales => matches!(self, Question::SetKey(..)),
-            Refusal::Differs => false,
+            Refusal::Differs | Refusal::DayPast => false,
         }
     }
 }

@@ -8,7 +8,6 @@ pub mod SelectLemmas
 pub mod UnderstandLemmas
 mod Example
 pub mod UpdateTextLemmas
-pub mod DeleteTextLemmas
 pub mod InsertTextLemmas
 pub mod ChangeLemmas
 pub mod CastLemmas
@@ -16,7 +15,7 @@ pub mod InsertLemmas
 mod InsertExample
 pub mod GivenLemmas
 pub mod UpsertTextLemmas
-pub mod OneRowLemmas
+mod OneRowLemmas
 pub mod UpsertLemmas
 pub mod TouchLemmas
 pub mod MergeLemmas
@@ -27,7 +26,6 @@ pub mod SameKeyLemmas
 mod UpsertExample
 pub mod AppendLemmas
 pub mod UpdateLemmas
-pub mod DeleteLemmas
 pub mod ListedLemmas
 pub mod LookUpLemmas
 pub mod TestsLemmas
@@ -35,7 +33,6 @@ pub mod FaultLemmas
 pub mod RefusalLemmas
 pub mod HiddenLemmas
 pub mod HiddenSetLemmas
-pub mod HiddenDeleteLemmas
 pub mod CreationLemmas
 pub mod GrowthLemmas
 pub mod NewTableLemmas

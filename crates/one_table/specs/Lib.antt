@@ -11,7 +11,6 @@ pub mod InTransaction
 pub mod Upserting
 pub mod Merges
 pub mod Updating
-pub mod Deleting
 pub mod Committing
 pub mod Listed
 pub mod Numbered

@@ -23,10 +23,9 @@ pub(crate) struct Place {
 }
 
 // The beginnings of replies. An office of a few sales gives each of them and no others.
-static REPLIES: [&str; 24] = [
+static REPLIES: [&str; 22] = [
     "done",
     "imported",
-    "withdrawn",
     "opened",
     "closed",
     "sold",
@@ -47,7 +46,6 @@ static REPLIES: [&str; 24] = [
     "refused 14",
     "refused 18",
     "refused 19",
-    "refused 20",
 ];
 
 // It has no clause, so that no proof reads them.

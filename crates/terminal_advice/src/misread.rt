@@ -19,7 +19,7 @@ pub(crate) fn misread(alloc: Global, name: &str, said: &ArgMatches) -> Option<Ad
 
 // An option that means the same with each command.
 fn misread_option(said: &ArgMatches) -> Option<Advice> {
-    let options: [&str; 19] = [
+    let options: [&str; 18] = [
         "transform",
         "at",
         "wait",
@@ -31,7 +31,6 @@ fn misread_option(said: &ArgMatches) -> Option<Advice> {
         "base",
         "key",
         "tariff",
-        "from",
         "tender",
         "number",
         "act",

@@ -17,8 +17,7 @@ use sqlite::{Alter, Connection};
 /// The meter of a number.
 ///
 /// # Errors
-/// `TableError::Database` if the database refuses or fails, or memory runs out.
-/// `TableError::RowOfNoOffice` if a row is outside its bounds (`docs/OFFICE.md`, "Bounds").
+/// What the database refuses, and a row that is no office's.
 pub fn meter_numbered<S: Alter>(
     conn: &mut Connection<S>,
     number: &MeterNo,

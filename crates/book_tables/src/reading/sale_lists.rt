@@ -18,8 +18,7 @@ use std::alloc::Global;
 /// A page: the first sales after a number, at most so many.
 ///
 /// # Errors
-/// `TableError::Database` if the database refuses or fails, or memory runs out.
-/// `TableError::RowOfNoOffice` if a row is outside its bounds (`docs/OFFICE.md`, "Bounds").
+/// What the database refuses, and a row that is no office's.
 pub fn sales_after<S: Alter>(
     alloc: Global,
     conn: &mut Connection<S>,
@@ -39,8 +38,7 @@ pub fn sales_after<S: Alter>(
 /// The sales of a shift. This walks all sales: no index has their shifts.
 ///
 /// # Errors
-/// `TableError::Database` if the database refuses or fails, or memory runs out.
-/// `TableError::RowOfNoOffice` if a row is outside its bounds (`docs/OFFICE.md`, "Bounds").
+/// What the database refuses, and a row that is no office's.
 pub fn sales_of_shift<S: Alter>(
     alloc: Global,
     conn: &mut Connection<S>,

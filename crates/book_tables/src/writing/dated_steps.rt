@@ -5,14 +5,13 @@ ghost use Rattle.one_table.specs.InTransaction.{IsUnderWay, WorksInside};
 ghost use Rattle.book_tables.specs.writing.Failing.{End, FailsToWriteAll};
 ghost use Rattle.book_tables.specs.writing.Edited.{dated_row};
 ghost use Rattle.book_tables.specs.reading.Reading.{HasAllTables};
-ghost use Rattle.book_tables.specs.writing.Writes.{new_dated, steps_withdrawn, steps_writes};
-ghost use Rattle.book_tables.specs.writing.Writing.{AddsDatedStep, AddsSteps, WithdrawsSteps};
-ghost use Rattle.book_tables.specs.writing.Writing.{WritesTables};
+ghost use Rattle.book_tables.specs.writing.Writes.{new_dated, steps_writes};
+ghost use Rattle.book_tables.specs.writing.Writing.{AddsDatedStep, AddsSteps, WritesTables};
 
 use crate::error::TableError;
-use crate::row::values::{dated_step_values, dated_values};
-use crate::texts::{NEW_DATED_STEP, STEPS_WITHDRAWN};
-use crate::writing::store::{put, remove};
+use crate::row::values::dated_step_values;
+use crate::texts::NEW_DATED_STEP;
+use crate::writing::store::put;
 use office_rules::TariffName;
 use sqlite::{Alter, Error, ErrorCode, Transaction};
 use sts_fields::Day;
@@ -21,8 +20,8 @@ use tariff::Step;
 /// Adds a step of those that a tariff has from a day on, at a place, from 0.
 ///
 /// # Errors
-/// `TableError::Database`: a place that is taken, a tariff that is not there; or there is no
-/// memory, or the disk fails.
+/// What the database refuses: a place that is taken, a tariff that is not there; want of memory,
+/// and the disk.
 pub fn add_dated_step<S: Alter>(
     tx: &mut Transaction<'_, S>,
     name: &TariffName,
@@ -47,8 +46,8 @@ pub fn add_dated_step<S: Alter>(
 /// error.
 ///
 /// # Errors
-/// `TableError::Database`: steps of that day, a tariff that is not there; or there is no memory, or
-/// the disk fails.
+/// What the database refuses: steps of that day, a tariff that is not there; want of memory, and
+/// the disk.
 pub fn add_steps<S: Alter>(
     tx: &mut Transaction<'_, S>,
     name: &TariffName,
@@ -72,19 +71,4 @@ pub fn add_steps<S: Alter>(
         place += 1;
     }
     Ok(())
-}
-
-/// Deletes the steps that a tariff has from a day on, if there are any.
-///
-/// # Errors
-/// Want of memory, and the disk.
-pub fn withdraw_steps<S: Alter>(
-    tx: &mut Transaction<'_, S>,
-    name: &TariffName,
-    day: Day,
-) -> Result<(), TableError>
-    ensures writes { WorksInside S.Store tx result (λ old new. WritesTables
-        (steps_withdrawn name.now day) (WithdrawsSteps name.now day) old new result) }
-{
-    remove(tx, STEPS_WITHDRAWN, &dated_values(name, day))
 }

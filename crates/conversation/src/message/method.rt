@@ -3,7 +3,6 @@
 pub enum Method {
     Get,
     Post,
-    Delete,
     /// As `Get`, but the reply is to have no body.
     Head,
 }

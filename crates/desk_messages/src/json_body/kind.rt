@@ -14,8 +14,6 @@ pub enum JsonKind {
     SetTariff(MeterNo),
     /// The base date that this meter is moved to.
     MoveBase(MeterNo),
-    /// The key that this meter is to have.
-    SetKey(MeterNo),
     /// Who opens a shift.
     OpenShift,
     /// Who closes a shift.

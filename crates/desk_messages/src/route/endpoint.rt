@@ -8,11 +8,9 @@ use conversation::Method;
 pub enum Endpoint {
     Tariffs,
     TariffSteps,
-    DatedSteps,
     Meters,
     MeterTariff,
     MeterBase,
-    MeterKey,
     Shifts,
     ShiftClosing,
     Shift,
@@ -59,13 +57,11 @@ impl Endpoint {
             | Endpoint::Meters
             | Endpoint::MeterTariff
             | Endpoint::MeterBase
-            | Endpoint::MeterKey
             | Endpoint::Shifts
             | Endpoint::ShiftClosing
             | Endpoint::Sales
             | Endpoint::MeterImports
             | Endpoint::TariffImports => Method::Post,
-            Endpoint::DatedSteps => Method::Delete,
         }
     }
 
@@ -76,11 +72,9 @@ impl Endpoint {
         match self {
             Endpoint::Tariffs => "/tariffs",
             Endpoint::TariffSteps => "/tariffs/{tariff}/steps",
-            Endpoint::DatedSteps => "/tariffs/{tariff}/steps/{day}",
             Endpoint::Meters => "/meters",
             Endpoint::MeterTariff => "/meters/{meter}/tariff",
             Endpoint::MeterBase => "/meters/{meter}/base",
-            Endpoint::MeterKey => "/meters/{meter}/key",
             Endpoint::Shifts => "/shifts",
             Endpoint::ShiftClosing => "/shifts/close",
             Endpoint::Shift => "/shifts/{number}",

@@ -49,8 +49,6 @@ pub enum Refusal {
     NotLater,
     #[error("the day of the steps has begun")]
     DayPast,
-    #[error("the meter has sales")]
-    HasSales,
 }
 
 impl Refusal {
@@ -78,7 +76,6 @@ impl Refusal {
             Refusal::Stopped => 17,
             Refusal::NotLater => 18,
             Refusal::DayPast => 19,
-            Refusal::HasSales => 20,
         }
     }
 
@@ -106,7 +103,6 @@ impl Refusal {
             Refusal::Stopped => "Stopped",
             Refusal::NotLater => "NotLater",
             Refusal::DayPast => "DayPast",
-            Refusal::HasSales => "HasSales",
         }
     }
 
@@ -127,8 +123,7 @@ impl Refusal {
             | Refusal::IdentifierAhead
             | Refusal::OfficeFull
             | Refusal::NotLater
-            | Refusal::DayPast
-            | Refusal::HasSales => Category::Forbidden,
+            | Refusal::DayPast => Category::Forbidden,
             Refusal::TooLittle => Category::Unfit,
             Refusal::ImportRow(row, cause) => Category::UnfitRow(row, cause),
             Refusal::Memory | Refusal::Store | Refusal::Stopped => Category::Unable,
