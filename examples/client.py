@@ -46,7 +46,8 @@ def ask_until_known(desk, method, target, body=None):
     """The body of the good reply, by as many tries as it takes.
 
     A message may come twice where the same one again changes nothing: a sale with its ref, a
-    tariff or its dated steps, a meter or its base date, an import, and all that is asked by GET.
+    tariff or its dated steps, a meter, its base date or its key, an import, steps that are taken
+    back, and all that is asked by GET.
     """
     for pause in [*PAUSES, None]:
         try:
@@ -68,6 +69,17 @@ def add_steps(desk, tariff, day, steps):
     """Gives a tariff further steps, such as "500:110;:220", from a later day such as 2099-01-01 on."""
     body = json.dumps({"from": day, "steps": steps})
     ask_until_known(desk, "POST", f"/tariffs/{tariff}/steps", body)
+
+
+def withdraw_steps(desk, tariff, day):
+    """Takes back the steps that a tariff was to have from a later day on. Whether there were any: False
+    also after a first message whose reply was lost."""
+    return json.loads(ask_until_known(desk, "DELETE", f"/tariffs/{tariff}/steps/{day}"))["withdrawn"] == 1
+
+
+def set_key(desk, meter, key):
+    """Gives a meter to which nothing was sold another key, of sixteen hexadecimal digits."""
+    ask_until_known(desk, "POST", f"/meters/{meter}/key", json.dumps({"key": key}))
 
 
 def move_base(desk, meter, year):

@@ -21,7 +21,8 @@ export const WORDS = {
   Store: "The office's disk failed, or a row is damaged. Make room and try the same again, or audit the file.",
   Stopped: "The office has stopped after its disk failed. Have somebody look whether it is full, and try again.",
   NotLater: "This meter has a later base date already, and sells under it. There is nothing to do.",
-  DayPast: "That day has begun (UTC). Take a later day.",
+  DayPast: "That day has begun (UTC), or something was sold on it or later. Take a later day. Steps that have begun stay.",
+  HasSales: "Tokens were sold to this meter with the key that it has. Correct the number. The key of a meter with sales stays.",
   Body: "The desk cannot take what was entered. Correct it.",
   Clock: "The clock of the office's computer is wrong. Have it set right.",
 };

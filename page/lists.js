@@ -1,5 +1,5 @@
 // The manager's lists, each page after the last member of the one before; of shifts the newest come first.
-import { onSubmit, replyTo } from "./forms.js";
+import { act, onSubmit, replyTo } from "./forms.js";
 import { energy, line, money, table, timeOf } from "./paper.js";
 
 const PAGE = 100; // members of an answer; a shorter one is the last
@@ -12,11 +12,26 @@ function stepsOf(text) {
   return words.length ? `${words.join(", ")}, then ${last}` : last;
 }
 
+/** Steps of a later day, with a button that takes them back. */
+function laterSteps(name, { from, steps }) {
+  const button = Object.assign(document.createElement("button"), { type: "button", textContent: "Withdraw" });
+  button.setAttribute("aria-label", `Withdraw the steps of ${name} from ${from} on`);
+  button.addEventListener("click", () => act("tariffs-form", async () => {
+    await replyTo("DELETE", `/tariffs/${name}/steps/${from}`);
+    button.closest("tr").remove();
+    return `The steps of ${name} from ${from} on are withdrawn.`;
+  }));
+  const cell = document.createElement("span"); // on narrow screens the cell is a grid
+  cell.append(`${stepsOf(steps)} `, button);
+  return cell;
+}
+
 /** Of each list the names of its columns, and the lines of a member. */
 const LISTS = {
   tariffs: {
     names: ["Tariff", "From", "Price of a kWh"],
-    lines: ({ name, steps, later }) => [{ from: "today", steps }, ...later].map((it) => [name, it.from, stepsOf(it.steps)]),
+    lines: ({ name, steps, later }) => [[name, "today", stepsOf(steps)],
+      ...later.map((it) => [name, it.from, laterSteps(name, it)])],
   },
   meters: {
     names: ["Meter", "Tariff", "Base date"],
@@ -83,7 +98,7 @@ for (const [kind, { names, lines }] of Object.entries(LISTS)) {
     const isFirst = next === null;
     const pages = next ?? PAGES[kind]();
     const [page, isWhole] = await pages();
-    const [place, button] = [form.querySelector("div"), form.querySelector("button")];
+    const [place, button] = [form.querySelector("div"), form.querySelector(":scope > button")];
     if (isFirst) {
       count = 0;
       place.replaceChildren(table(names, []));

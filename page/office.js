@@ -11,6 +11,12 @@ function nameIn(field) {
   throw new Wrong("A tariff's name has 1 to 32 letters, digits or hyphens.", field);
 }
 
+function keyIn(field) {
+  const secret = digits(field.value).toLowerCase();
+  if (/^[0-9a-f]{16}$/.test(secret)) return secret;
+  throw new Wrong("A key has sixteen digits of 0 to 9 and a to f.", field);
+}
+
 /** One step: up to how many kWh it holds, which the last one leaves empty, and its price. */
 function addStep() {
   const place = find("steps").children.length + 1;
@@ -63,9 +69,7 @@ onSubmit("tariff-form", async ({ name, from }, form) => {
 onSubmit("meter-form", async ({ meter, tariff, base, key }, form) => {
   const number = meterIn(meter);
   const name = nameIn(tariff);
-  const secret = digits(key.value).toLowerCase();
-  if (!/^[0-9a-f]{16}$/.test(secret)) throw new Wrong("A key has sixteen digits of 0 to 9 and a to f.", key);
-  await change("/meters", { base: Number(base.value), key: secret, meter: number, tariff: name });
+  await change("/meters", { base: Number(base.value), key: keyIn(key), meter: number, tariff: name });
   form.reset();
   return `The meter ${number} is stored.`;
 });
@@ -84,6 +88,13 @@ onSubmit("base-form", async ({ meter, base }, form) => {
   await change(`/meters/${number}/base`, { base: Number(year) });
   form.reset();
   return `The meter ${number} has the base date ${year}. Clear the meter itself.`;
+});
+
+onSubmit("key-form", async ({ meter, key }, form) => {
+  const number = meterIn(meter);
+  await change(`/meters/${number}/key`, { key: keyIn(key) });
+  form.reset();
+  return `The meter ${number} has this key.`;
 });
 
 onSubmit("import-form", async ({ kind, file }) => {

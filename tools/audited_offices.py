@@ -358,7 +358,8 @@ def check_pairs(whole, folder):
 
 
 def drawn(generator, refs, moves):
-    """A request of a till: its path and its body. Where bases are not moved, the tariff of a meter is set."""
+    """A request of a till: its path and its body, or none, where something is withdrawn. Where bases are not moved,
+    the tariff of a meter is set."""
     operator = generator.choice("abc")
     kind = generator.random()
     if kind < 0.04:
@@ -370,6 +371,8 @@ def drawn(generator, refs, moves):
         return "/tariffs", {"name": name, "steps": generator.choice((":9", "5:90;:120", "9:3;4:5;:6"))}
     if kind < 0.10:
         day = f"{generator.randrange(2090, 2099)}-0{generator.randrange(1, 10)}-01"
+        if generator.random() < 0.3:
+            return f"/tariffs/t{generator.randrange(9)}/steps/{day}", None
         return f"/tariffs/t{generator.randrange(9)}/steps", {"from": day, "steps": ":7"}
     meter = generator.choice(METERS_DRAWN)
     if kind < 0.13:
@@ -377,6 +380,8 @@ def drawn(generator, refs, moves):
                            "tariff": f"t{generator.randrange(9)}"}
     if moves and kind < 0.15:
         return f"/meters/{meter}/base", {"base": generator.choice((1993, 2014, 2035))}
+    if kind < 0.155:
+        return f"/meters/{meter}/key", {"key": generator.choice("0f") * 16}
     if kind < 0.17:
         return f"/meters/{meter}/tariff", {"tariff": f"t{generator.randrange(9)}"}
     ref = f"R-{generator.choice(refs) if refs and generator.random() < 0.1 else len(refs)}"
@@ -400,7 +405,7 @@ def check_drawn(folder, count):
             talk = http.client.HTTPConnection("127.0.0.1", port, timeout=30)
             for _ in range(count // 6):
                 path, body = drawn(generator, refs, life >= 3)
-                talk.request("POST", path, json.dumps(body))
+                talk.request("POST" if body else "DELETE", path, json.dumps(body) if body else None)
                 reply = talk.getresponse()
                 said = json.loads(reply.read())
                 if reply.status == 200 and path.strip("/") in made:

@@ -37,13 +37,13 @@ MOST_BODY = 2**26  # bytes of a body, at most
 MOST_MEMORY = 2**28  # bytes of memory that a command takes for it, at most
 LAST_NUMBER = 10**9  # of a shift or a sale
 # The refusals that an office has for each kind of command, by their numbers, and those that it may have for any.
-REFUSED = {"import": {14}, "tariff": {4, 5}, "base": {4, 7, 18}, "shift": {3, 11},
+REFUSED = {"import": {14}, "tariff": {4, 5}, "withdraw": {5, 19}, "base": {4, 7, 18}, "key": {4, 20}, "shift": {3, 11},
            "sell": {1, 2, 4, 7, 8, 9, 10, 11}, "show sale": {12}, "receipt": {12}, "totals": {13}, "report": {13},
            "show last": {4, 12}, "show meter": {4}, "quote": {4, 7, 8, 9, 10, 11}, "list": set()}
 UNABLE = {15, 16, 17}
 OF_A_SALE = {"sell", "show sale", "receipt"}
 # Their replies say no more than that it is done.
-DONE = {"tariff", "base"}
+DONE = {"tariff", "base", "key"}
 
 
 class Pretender:
@@ -96,7 +96,9 @@ def granted():
     return {
         "import": (("import", "tariffs", TARIFFS), b'{"added":1}', json_type, b"added 1\n"),
         "tariff": (("tariff", "--meter", METER, "--tariff", "flat"), b'{"done":true}', json_type, b"done\n"),
+        "withdraw": (("withdraw", "--tariff", "flat", "--from", "2030-01-01"), b'{"withdrawn":1}', json_type, b"withdrawn 1\n"),
         "base": (("base", "--meter", METER, "--base", "2014"), b'{"done":true}', json_type, b"done\n"),
+        "key": (("key", "--meter", METER, "--key", "0" * 16), b'{"done":true}', json_type, b"done\n"),
         "shift": (("shift", "--operator", "ann", "open"), b'{"shift":1}', json_type, b"shift 1\n"),
         "sell": (SELL, in_json(SALE), json_type, RECEIPT),
         "show sale": (("show", "sale", "--operator", "ann", "--ref", "A-1"), in_json(SALE), json_type, ROW),
@@ -129,7 +131,7 @@ def statuses_of():
 
 def check_told():
     """What a desk grants and refuses is printed, each refusal under its status alone, and only of a command that it is had
-    for; and one command's reply is no other's, but that all that tell a sale tell the same one, and that two are done."""
+    for; and one command's reply is no other's, but that all that tell a sale tell the same one, and that three are done."""
     kinds, count = granted(), 0
     for name, (words, _, _, printed) in kinds.items():
         for other, (_, body, media, _) in kinds.items():
@@ -189,6 +191,7 @@ def other_answers():
     yield words("receipt"), in_json({**SALE, "number": 2})
     yield from ((words("shift"), b'{"shift":%d}' % number) for number in (0, LAST_NUMBER + 1, 2**32 - 1))
     yield from ((words("import"), b'{"added":%d}' % count) for count in (10001, 2**32 - 1))
+    yield from ((words("withdraw"), b'{"withdrawn":%d}' % count) for count in (2, 2**32 - 1))
     totals = {"cash": 10, "sales": 1, "shift": 1, "tenths": 1}
     for spoilt in ({"shift": 2}, {"shift": 0}, {"sales": 0}, {"sales": LAST_NUMBER + 1}, {"cash": 100000001},
                    {"tenths": 18201625}):
@@ -386,6 +389,27 @@ def check_endless():
     return len(rows)
 
 
+def waiting_behind(front):
+    """A program that sends so much, and then waits until its client has gone."""
+    def answer(_, client):
+        message_from(client)
+        client.sendall(front)
+        client.recv(1)
+    return answer
+
+
+def check_strangers():
+    """Other servers that send some bytes and then wait for more of the client: it does not wait for them."""
+    whole = reply(200, in_json(SALE))
+    tells = lambda length: reply(200, b"").replace(b"Length: 0", b"Length: %d" % length)
+    fronts = (b"SSH-2.0-OpenSSH_9.2p1\r\n", b"220 mail ESMTP\r\n", b"\0", b"\r\n", b"http", b"HTTP/1.0 200 OK\r\n",
+              b"HTTP/1.1 400 Bad Request\r\n", b"HTTP/1.1 200 OK\r\nServer: x\r\n", whole + b"\0", tells(MOST_BODY + 1),
+              tells(2**64 - 1))
+    for front in fronts:
+        same(asked_of(waiting_behind(front), *SELL), NET, f"a program that waits behind {front[:300]}")
+    return len(fronts)
+
+
 def meters_page(first, count=100):
     """A page of meters, and the lines that are printed of it."""
     names = [meter_of(f"{number:010}") for number in range(first, first + count)]
@@ -428,7 +452,8 @@ def check_bad_desks():
         same(run([words[0], "--desk", nobody, *words[1:]]), NET, "nobody listens")
     kinds, refusals, _ = check_told()
     others, rubbish, ends, pages = check_other_answers(), check_rubbish(), check_endless(), check_pages_of_rubbish()
-    papers = check_papers()
+    papers, strangers = check_papers(), check_strangers()
     print(f"replies: of {kinds} kinds each is printed, {refusals} refusals too, each under its status alone and of a command "
           f"that has it; {others} to other commands, {rubbish} of another form, {papers} reports and receipts that no desk "
-          f"writes, {ends} without an end and {pages} lists that break end with `net`")
+          f"writes, {ends} without an end and {pages} lists that break end with `net`, and so do {strangers} programs that "
+          "send no beginning of a reply and wait, before their time is over")

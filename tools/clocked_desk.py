@@ -18,7 +18,7 @@ from shared import same, wrong
 # How a command ended, and what it left on its output and its error output.
 Ran = namedtuple("Ran", "status out err")
 # What a command on a file is told of the moment and of the tokens, and a desk is not asked.
-AT_MOMENT = ("import", "shift", "sell", "show", "list", "quote", "base")
+AT_MOMENT = ("import", "shift", "sell", "show", "list", "quote", "withdraw", "base")
 WITH_TRANSFORM = ("import", "shift", "sell", "base")
 COPIES = 8  # of a file, in turn
 # Where the output and the error output go.

@@ -91,7 +91,7 @@ def check_examples(document, part):
 def operations(document):
     """Each operation of the description, behind its method and its path."""
     for path, there in document["paths"].items():
-        for name in ("get", "post"):
+        for name in ("get", "post", "delete"):
             if name in there:
                 yield name.upper(), path, there[name]
 

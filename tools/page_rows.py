@@ -70,7 +70,9 @@ WORDS = {
     "list": ["list", "--at", AT, "tariffs"],
     "offer": ["offer", "--at", AT, "--meter", METER, "15"],
     "tariff": ["tariff", "--at", AT, "--meter", METER, "--tariff", "flat"],
+    "withdraw": ["withdraw", "--at", AT, "--tariff", "flat", "--from", "2030-01-01"],
     "base": ["base", "--at", AT, "--meter", METER, "--base", "2014"],
+    "key": ["key", "--at", AT, "--meter", METER, "--key", KEY],
     "audit": ["audit"],
     "serve": ["serve", "--listen", "127.0.0.1:0", "--connections", "1"],
     "quote": ["quote", ":100", "0", "15"],
@@ -254,6 +256,8 @@ def check_refusals(offices):
         "refused 16 Store": lambda file: [
             sell(offices.copy(f"UPDATE meters SET secret = 'x' WHERE meter = '{METER}';"), "A-2")],
         "refused 18 NotLater": lambda file: [base(file, "2035"), base(file, "2014")],
+        "refused 20 HasSales": lambda file: [
+            ["key", "--file", file, "--meter", METER, "--key", "0123456789abcdef", "--at", AT]],
         "refused amount": lambda file: [["trial", "--base", "2014", "--key", KEY, "--at", AT, "16385"]],
         "file": lambda file: [["import", "--file", file, "tariffs", "none.csv"]],
         "net": lambda file: [["list", "--desk", "127.0.0.1:1", "tariffs"]],

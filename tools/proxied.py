@@ -102,9 +102,10 @@ def check_proxy(counter):
             (421, ("GET", "/"), {"Host": "other.example"}),
             # Tariffs and meters are for managers, however the target is written.
             *((401, ("POST", f"/api/{target}", "{}"), {}) for target in (
-                "tariffs", "tariffs/flat/steps", "meters", f"meters/{METER}/base", "imports/tariffs",
+                "tariffs", "tariffs/flat/steps", "meters", f"meters/{METER}/base", f"meters/{METER}/key", "imports/tariffs",
                 "/tariffs", "%74ariffs", "./tariffs", "sales/../tariffs", f"meters/{METER}",
                 f"meters/{METER}/last")),
+            (401, ("DELETE", "/api/tariffs/flat/steps/2099-01-01"), {}),
             *((401, ("GET", f"/api/{target}"), {}) for target in (
                 "meters", f"meters/{METER}/base", f"meters/{METER}/last/more", f"meters/../tariffs/{METER}",
                 "tariffs?after=", "meters?after=", "shifts?after=0", "shifts/?after=0", "/shifts?after=0",
@@ -139,6 +140,8 @@ def check_proxy(counter):
     same(sorted(relay.heads[-1].split(b"\r\n")), [b"Connection: close", b"GET /sales/1 HTTP/1.0", b"Host: desk"],
          "what the desk gets")
     same(proxy.status("POST", "/api/tariffs", "{}", user=MANAGER), 422, "a manager")
+    same(proxy.status("DELETE", "/api/tariffs/none/steps/2099-01-01", user=MANAGER), 404, "a manager who withdraws steps")
+    same(relay.heads[-1].split(b"\r\n")[0], b"DELETE /tariffs/none/steps/2099-01-01 HTTP/1.0", "what the desk gets")
     for target in (f"/meters/{METER}", f"/meters/{METER}/last", f"/meters/{METER}/quote?tender=10",
                    "/operators/ann/sales/A-1", "/shifts/1/totals"):
         same(proxy.status("GET", f"/api{target}"), 404, f"a cashier at {target}")

@@ -131,6 +131,9 @@ def look_at_office(counter):
     answers("meter-form", "is stored", meter=OTHER_METER, tariff="block", key=KEY)
     answers("change-form", "no meter with this number", changed=NO_METER, new_tariff="flat")
     answers("change-form", "has the tariff flat", changed=METER, new_tariff="flat")
+    answers("key-form", "sixteen digits", keyed=METER, new_key="1")
+    answers("key-form", "no meter with this number", keyed=NO_METER, new_key=KEY)
+    answers("key-form", "has this key", keyed=METER, new_key=KEY)
     answers("base-form", "later base date already", moved=METER, new_base="1993")
     answers("base-form", "has the base date 2014", moved=METER, new_base="2014")
     file = counter.folder / "sizes.csv"

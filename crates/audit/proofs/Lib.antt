@@ -1,3 +1,4 @@
+pub mod PassedLemmas
 pub mod ShownLemmas
 pub mod SoundLemmas
 pub mod ToldLemmas

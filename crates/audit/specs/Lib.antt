@@ -1,3 +1,4 @@
 pub mod Audited
 pub mod Fails
+pub mod Passed
 pub mod Shown

@@ -1,6 +1,6 @@
 //! The audit of a database.
 
-ghost use Rattle.std.specs.Prelude.{◌≡◌, ◌≤◌, IfErr, IfOk, OnOk};
+ghost use Rattle.std.specs.Prelude.{◌≡◌, ◌≤◌, IfErr, IfOk, OnOk, IsTrue};
 ghost use Rattle.sqlite.specs.State.{HasCleanDisk, IsUnchanged};
 ghost use Rattle.one_table.specs.Over.{Over};
 ghost use Rattle.one_table.specs.ReadsOnly.{ReadsOnly};
@@ -13,6 +13,7 @@ ghost use Rattle.audit_lists.specs.Tokens.{TellsUnwritten};
 ghost use Rattle.audit_lists.specs.reached.Finds.{AreRowsOfOffice};
 ghost use Rattle.audit.specs.Audited.{IsAuditOf, IsSound};
 ghost use Rattle.audit.specs.Fails.{AreWritten, Denies, StopsBy, TellsForged, given_by};
+ghost use Rattle.audit.specs.Passed.{TellsPassed, TellsReached};
 
 use crate::audited::{Audited, counted, no_tables};
 use crate::following::{Follows, Part};
@@ -52,6 +53,7 @@ fn test_forged<T: BlockTransform, F: Follows>(
         → IsPlausible o × AreWritten (given_by T.forwards transform.entry) o) }
     ensures found { IfErr result
         (TellsForged (given_by T.forwards transform.entry) rows.now) }
+    ensures told { TellsReached F.told follower.old follower.new rows.now }
 {
     test_reached(alloc, rows)?;
     follower.passed(Part::Requests);
@@ -77,6 +79,8 @@ fn audit_format<S: Alter, T: BlockTransform, F: Follows>(
     ensures reads { Over S.Store conn (λ old new. ReadsOnly (IsSoundOfFormat format)
         IsUnchanged (StopsBy (Denies (given_by T.forwards transform.entry)))
         old new result) }
+    ensures told { Over S.Store conn (λ old new. HasCleanDisk new → IsSoundOfFormat format old
+        → TellsPassed F.told follower.old follower.new old.now) }
 {
     honest_law();
     tokens_law();
@@ -95,22 +99,26 @@ fn audit_format<S: Alter, T: BlockTransform, F: Follows>(
 /// which parts have passed.
 ///
 /// It passes a database exactly if its rows are those of an office that requests may lead to, whose
-/// tokens the transform wrote (`IsAuditOf`). Over a store that keeps the rows of each table in the
+/// tokens the transform wrote (`IsAuditOf`), and tells the follower of a part only where it has passed
+/// (`TellsPassed`). Over a store that keeps the rows of each table in the
 /// order of their numbers the database stands for that office, outside a transaction, as long as no
 /// row of a shift lacks a column, which nothing that reads by SQL can see.
 ///
 /// # Errors
-/// The first row that is no office's, or that no requests lead to, or else the first sale whose
-/// token the transform did not write; tables of no format; what the database refuses, and want of
-/// memory. In each case the database is as it was.
+/// `AuditFault::Found` with the first row that is no office's, or that no requests lead to, or else
+/// the first sale whose token the transform did not write. `AuditFault::NoOffice` for tables of no
+/// format. `AuditFault::Failed` if the database refuses or fails, or memory runs out. In each case
+/// the database is as it was.
 pub fn audit<S: KeepsOrder, T: BlockTransform, F: Follows>(
     alloc: Global,
     conn: &mut Connection<S>,
     transform: Option<&T>,
     follower: &mut F,
 ) -> Result<Audited, AuditFault>
-    ensures { Over S.Store conn (λ old new.
+    ensures answers { Over S.Store conn (λ old new.
         IsAuditOf (given_by T.forwards transform.entry) old new result) }
+    ensures told { Over S.Store conn (λ old new. HasCleanDisk new → IsTrue old.is_open
+        → TellsPassed F.told follower.old follower.new old.now) }
 {
     reached_law();
     connection_order_law(conn);

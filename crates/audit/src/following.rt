@@ -11,10 +11,17 @@ pub enum Part {
     Requests,
 }
 
-/// Who is told how far an audit is. No contract says what becomes of it.
+/// Who is told how far an audit is: only what is true (`TellsPassed`). What becomes of it, the
+/// follower says.
 pub trait Follows {
+    ghost use Rattle.audit.specs.declared.following.Part.{Part};
+
+    // What a follower becomes that is told of a part.
+    ghost told: { Self → Part → Self → Type 0 };
+
     /// This part has passed.
-    fn passed(&mut self, part: Part);
+    fn passed(&mut self, part: Part)
+        ensures { told self.old part self.new };
 }
 
 /// Nobody is told.
@@ -22,5 +29,9 @@ pub trait Follows {
 pub(crate) struct Unfollowed;
 
 impl Follows for Unfollowed {
+    ghost use Rattle.std.specs.Prelude.{⊤};
+
+    ghost told = { λ _ _ _. ⊤ };
+
     fn passed(&mut self, _part: Part) {}
 }

@@ -9,6 +9,7 @@ ghost use Rattle.book_tables.specs.format.Format.{HasFormat};
 ghost use Rattle.book_tables.specs.format.Making.{IsSoundOfFormat};
 ghost use Rattle.book_tables.specs.row.Rows.{present_format};
 ghost use Rattle.audit.specs.Fails.{FailsToKnow, IsNoOffices, StopsBy, cause_of, fault_of};
+ghost use Rattle.audit.specs.Passed.{TellsRead};
 ghost use Rattle.audit.specs.Shown.{AreOfficeRows, IsToldAs};
 
 use crate::following::{Follows, Part, Unfollowed};
@@ -114,6 +115,8 @@ pub(crate) fn followed_rows<S: Alter, F: Follows>(
         → IsSoundOfFormat format old → IfOk result (AreOfficeRows format old.now)) }
     ensures reads { Over S.Store conn (λ old new. ReadsOnly (IsSoundOfFormat format)
         IsUnchanged (StopsBy IsNoOffices) old new result) }
+    ensures told { Over S.Store conn (λ old new. HasCleanDisk new → IsSoundOfFormat format old
+        → TellsRead F.told follower.old follower.new old.now result) }
 {
     stored_law();
     office_law();
@@ -137,8 +140,8 @@ pub(crate) fn followed_rows<S: Alter, F: Follows>(
 /// office.
 ///
 /// # Errors
-/// The first row that is no office's, another format that is told, what the database refuses, and
-/// want of memory.
+/// `AuditFault::Found` with the first row that is no office's. `AuditFault::NoOffice` if `about`
+/// has another format. `AuditFault::Failed` if the database refuses or fails, or memory runs out.
 pub fn office_rows<S: Alter>(
     alloc: Global,
     conn: &mut Connection<S>,

@@ -1,8 +1,9 @@
 -- The rules of a format's tables, from those between rows and those of the totals.
-use Rattle.std.proofs.Common.{◌≡◌, ◌≤◌, ℕ, zero, suc, arith}
+use Rattle.std.proofs.Common.{◌≡◌, ◌≤◌, ℕ, zero, suc, refl, arith}
+use Rattle.sqlite.specs.Effect.{Database}
 use Rattle.book_tables.specs.Stands.{AreTotalsOf}
 use Rattle.book_tables.specs.row.Rows.{Rows}
-use Rattle.audit_rows.specs.AllRows.{KeepRules}
+use Rattle.audit_rows.specs.AllRows.{IsReadAs, KeepRules}
 use Rattle.audit_rows.specs.Entries.{rows_of}
 use Rattle.audit_rows.specs.declared.office_rows.OfficeRows.{OfficeRows}
 use Rattle.audit_lists.specs.Rules.{tie_rules}
@@ -10,8 +11,10 @@ use Rattle.audit_lists.specs.Ties.{AreKept, FindsFirst, Says}
 use Rattle.audit_lists.specs.Told.{ShowOffice, rules_of}
 use Rattle.audit_lists.specs.declared.fault.OfficeFault.{OfficeFault}
 use Rattle.audit_lists.specs.totals.Rules.{total_rules}
+use Rattle.audit_lists.proofs.MadeLemmas.{totals_made}
 use Rattle.audit_lists.proofs.OfficeLemmas.{shown}
-use Rattle.audit_lists.proofs.TieLemmas.{kept_both, says_left, says_right}
+use Rattle.audit_lists.proofs.TieLemmas.{kept_both, kept_parts, says_left, says_right}
+use Rattle.audit_lists.proofs.TotalLemmas.{totals_are}
 
 -- what is told of the rules between rows, and of those of the totals where the first are kept
 pub told_ties : (n : ℕ) (r : OfficeRows) (f : OfficeFault) → Says (FindsFirst (tie_rules r)) f → Says (FindsFirst (rules_of n r)) f
@@ -43,3 +46,14 @@ shows n r totals own kept keep are =
       by_shift = are.by_shift;
     }) in
     record { totals = totals; own = own; office = all.0; is = all.1; members = all.2 }
+
+-- they are so where all rules are kept: the first format has no tables of totals
+pub shows_kept : (n : ℕ) (db : Database) (r : OfficeRows) → IsReadAs n db (rows_of r) → AreKept (rules_of n r) → ShowOffice n (rows_of r)
+shows_kept zero db r read kept =
+    let made = totals_made r.sales.items in shows zero r made.0 (λ two. absurd (omega (arith, two))) kept read.keep made.1
+shows_kept (suc zero) db r read kept =
+    let made = totals_made r.sales.items in shows (suc zero) r made.0 (λ two. absurd (omega (arith, two))) kept read.keep made.1
+shows_kept (suc (suc n)) db r read kept =
+    let two : 2 ≤ suc (suc n) = omega arith in
+    let parts = kept_parts (tie_rules r) (total_rules r) kept in
+    shows (suc (suc n)) r (rows_of r) (λ _. refl) parts.0 read.keep (totals_are r parts.1 ((read.has.shift_totals two).rises refl))

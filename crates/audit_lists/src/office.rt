@@ -1,11 +1,8 @@
 //! The test of all rows.
 
 ghost use Rattle.std.specs.Prelude.{IfErr, OnOk};
-ghost use Rattle.sqlite.specs.Effect.{Database};
-ghost use Rattle.audit_rows.specs.AllRows.{IsReadAs};
-ghost use Rattle.audit_rows.specs.Entries.{rows_of};
-ghost use Rattle.audit_lists.specs.Ties.{Says};
-ghost use Rattle.audit_lists.specs.Told.{BreaksOffice, ShowOffice};
+ghost use Rattle.audit_lists.specs.Ties.{AreKept, Says};
+ghost use Rattle.audit_lists.specs.Told.{BreaksOffice, rules_of};
 
 use crate::fault::OfficeFault;
 use crate::rules::test_rules;
@@ -13,14 +10,13 @@ use crate::totals::test_totals;
 use audit_rows::OfficeRows;
 use std::alloc::Global;
 
-/// Nothing where the rows of the tables of a format are the members of an office and its totals, of
-/// which the first format has no tables; or the first row that is none of an office's.
+/// Nothing where the rows of the tables of a format keep the rules of an office's members and of its
+/// totals, of which the first format has no tables (`office_law`); or the first row that breaks one.
 ///
 /// # Errors
 /// A finding, and want of memory.
 pub fn test_office(alloc: Global, format: u32, rows: &OfficeRows) -> Result<(), OfficeFault>
-    ensures passes { OnOk result ((db : Database) → IsReadAs format db (rows_of rows.now)
-        → ShowOffice format (rows_of rows.now)) }
+    ensures passes { OnOk result (AreKept (rules_of format rows.now)) }
     ensures found { IfErr result (Says (BreaksOffice format rows.now)) }
 {
     test_rules(alloc, rows)?;

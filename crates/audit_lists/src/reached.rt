@@ -27,7 +27,8 @@ use walk::test_sales;
 /// Nothing where the office of these rows is one that requests may have led to.
 ///
 /// # Errors
-/// The first row that no requests lead to; and want of memory for the sales, of some alone.
+/// `OfficeFault::Found` with the first row that no requests lead to. `OfficeFault::Memory`, only if
+/// there are sales.
 pub fn test_reached(alloc: Global, rows: &OfficeRows) -> Result<(), OfficeFault>
     ensures passes { OnOk result ((o : Office) → AreRowsOfOffice rows.now o → IsPlausible o) }
     ensures found { IfErr result (TellsUnreached rows.now) }

@@ -67,7 +67,7 @@ pub struct MeterPlaces<'a> {
 /// The places of the meters of these rows.
 ///
 /// # Errors
-/// Want of memory.
+/// `AllocError` if there is no memory.
 pub fn meter_places<'a>(alloc: Global, rows: &'a OfficeRows) -> Result<MeterPlaces<'a>, AllocError>
     ensures { IfOk result (λ meters. ArePlaces meter_key meters.places rows.now.meters.items
         (length rows.now.meters.items)) }
@@ -80,7 +80,7 @@ pub fn meter_places<'a>(alloc: Global, rows: &'a OfficeRows) -> Result<MeterPlac
 /// these places.
 ///
 /// # Errors
-/// The first sale whose token it did not write.
+/// The `Finding` is of the first sale whose token the transform did not write.
 pub fn test_tokens<'a, T: BlockTransform>(
     transform: &T,
     rows: &'a OfficeRows,

@@ -6,7 +6,7 @@ use Rattle.book_tables.specs.Tables.{dated_steps_table, last_ids_table, meter_ba
 use Rattle.audit_rows.specs.Listing.{FailsToList, ListsAll, cause_of}
 use Rattle.audit_rows.specs.Tables.{kept_of, list_of}
 use Rattle.audit_rows.specs.declared.table_name.TableName.{TableName}
-use Rattle.std.specs.Prelude.{All, ⊤, ◌↔◌}
+use Rattle.std.specs.Prelude.{All, Any, ⊤, ◌↔◌}
 use Rattle.std.specs.List.{AllZip}
 use Rattle.std.proofs.lemmas.List.Elements.{All-cons, All-head, All-map, All-nil, All-weaker}
 use Rattle.std.proofs.lemmas.List.Sorted.{All-permutation}
@@ -174,10 +174,13 @@ module _ (t : TableName) (sql : List ℕ) (is : sql ≡ list_of t) (old new : St
   pub asks_by : IsKnown (HaveTables (t ∷ [])) old → OnlyAsks sql old
   asks_by known = subst (λ (text : List ℕ). OnlyAsks text old) (sym is) (read.only_asks (lists t).asks (kept_of t) (lists t).stands old (there known))
 
+  none_refused : (rows : List Row) → Any (λ row. ¬ ((λ (r : Row). ⊤) row)) rows → ⊥
+  none_refused rows (k, row, within, there, bad) = bad tt
+
   list_fails : IsKnown (HaveTables (t ∷ [])) old → (why : ReadFault) → FailsToAnswer (λ _. ⊤) (list_of t) [] old new why → FailsToList old new (cause_of why)
   list_fails known (fault.Database e) (inl why) = inl (λ runs. read.fails_plain (lists t).asks (kept_of t) (lists t).stands old new (there known runs) e why)
   list_fails known (fault.Database e) (inr none) = inr (cc, none.1)
-  list_fails known fault.Row (bad, same) = inr (refl, same)
+  list_fails known fault.Row (bad, same) = absurd (none_refused bad.rows bad.bad)
 
   -- one that fails
   pub list_stops : {T U : Type 0} (why : ReadFault) (e : Error) → e ≡ cause_of why

@@ -3,7 +3,7 @@ use Rattle.std.specs.Prelude.{◌≡◌, ◌⊎◌, ℕ, List, [], IsTrue, if◌
 use Rattle.sqlite.specs.State.{IsUnchanged, State}
 use Rattle.sqlite.specs.declared.error.Error.{Error}
 use Rattle.sqlite.specs.declared.error.Error.TheVariants.{SqliteFailure}
-use Rattle.sqlite.specs.declared.error.ErrorCode.TheVariants.{OutOfMemory}
+use Rattle.sqlite.specs.declared.error.ErrorCode.TheVariants.{DatabaseCorrupt, OutOfMemory}
 use Rattle.sqlite_resolve.specs.Scope.{Name}
 use Rattle.sqlite_schema.specs.declared.schema.Schema.{Schema}
 use Rattle.sqlite_schema.specs.declared.schema.Table.{Table}
@@ -47,7 +47,7 @@ FailsToList old new e =
     (IsTrue old.is_open → FailsPlainly old new e)
     ⊎ ((e ≡ SqliteFailure OutOfMemory) × IsUnchanged old new)
 
--- what is told of a reader's fault
+-- what is told of a reader's fault: where the disk is clean, no row of a list is refused
 abbrev pub cause_of : ReadFault → Error
 cause_of (fault.Database e) = e
-cause_of fault.Row = SqliteFailure OutOfMemory
+cause_of fault.Row = SqliteFailure DatabaseCorrupt

@@ -38,13 +38,13 @@ pub(crate) trait Source<S: Alter>: Sized {
             IsUnchanged (FailsToReadTables tables) old new result) };
 }
 
-// What is told of a reader's fault.
+// What is told of a reader's fault. A list takes each row, so none is refused.
 fn cause_of(fault: ReadFault) -> Error
     ensures { result ≡ cause_of fault }
 {
     match fault {
         ReadFault::Database(error) => error,
-        ReadFault::Row => Error::SqliteFailure(ErrorCode::OutOfMemory),
+        ReadFault::Row => Error::SqliteFailure(ErrorCode::DatabaseCorrupt),
     }
 }
 

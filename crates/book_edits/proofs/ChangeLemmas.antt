@@ -24,19 +24,19 @@ use Rattle.office_rules.specs.declared.office.row.Row.TheVariants as kinds
 use Rattle.office_rules.specs.declared.office.sale.Sale.{Sale}
 use Rattle.office_rules.specs.declared.office.shift.Shift.{Shift}
 use Rattle.book_tables.specs.writing.Edited.{edited, is_sale}
-use Rattle.book_tables.specs.writing.Failing.{End, FailsToMergeAll, FailsToWriteAll}
-use Rattle.book_tables.specs.writing.Writes.{AreCarriedOut, row_writes, sale_writes, writes_of}
+use Rattle.book_tables.specs.writing.Failing.{End, FailsToTotal, FailsToWriteAll}
+use Rattle.book_tables.specs.writing.Writes.{AreCarriedOut, new_sale, row_writes, sale_writes, writes_of}
 use Rattle.book_tables.specs.Holds.{HasOffice, HoldsMembers, table_names}
 use Rattle.book_tables.specs.reading.Reading.{HasAllTables}
 use Rattle.book_tables.specs.row.Rows.{Rows, present_format}
 use Rattle.book_tables.specs.Stands.{AreMembersOf}
-use Rattle.book_tables.specs.writing.Writing.{AddsMeter, AddsShift, AddsSold, AddsSteps, AddsTariff, ClosesShift, FindsNoFalseRow, IsNextNumber, IsOfNone, MayAddSold, MovesBase, SetsTariff, WritesOnly, totals_names}
+use Rattle.book_tables.specs.writing.Writing.{AddsMeter, AddsShift, AddsSold, AddsSteps, AddsTariff, ClosesShift, FindsNoFalseRow, IsNextNumber, IsOfNone, MayAddSold, MovesBase, SetsKey, SetsTariff, WithdrawsSteps, WritesOnly, totals_names}
 use Rattle.book_tables.specs.declared.error.TableError.{TableError}
 use Rattle.book_tables.specs.declared.row.totals.SaleTotals.{SaleTotals}
 use Rattle.book_tables.specs.writing.Keeping.{AreInOrder, KeepsRows, Keys}
 use Rattle.book_tables.proofs.WritingLemmas.KeepingLemmas.{keeps_then}
 use Rattle.book_states.specs.Changing.{IsCarriedOut, IsCounted, MakesAsComputed, MakesEdit, MakesRows, StoresEdit, StoresImport, edit_keys, row_keys}
-use Rattle.book_states.specs.Failing.{FailsToMakeEdit}
+use Rattle.book_states.specs.Failing.{FailsToMakeEdit, IsOfNoOffice}
 use Rattle.book_states.specs.Others.{SameOthers}
 use Rattle.book_edits.proofs.StoredLemmas.{stores_meter, stores_more, stores_steps, stores_tariff}
 
@@ -138,6 +138,21 @@ module _ (law : KeepsMembers) (old new : State) where
       (λ order. sets.kept (order.1.1.1.0, tt)) (λ o office meets held.
       let are = held.2 in
       (edited (edits.SetTariff number name) held.0, sets.rows held.0 held.1 are.meters_once, law held.0 o (edits.SetTariff number name) are meets refl))
+
+  -- a key that is set for a meter makes the edit that sets it
+  pub makes_key : (number : List ℕ) (key : ℕ) → IsCarriedOut (writes_of (edits.SetKey number key)) old.now new.now → SetsKey number key old new → MakesEdit (edits.SetKey number key) old.now new.now
+  makes_key number key carried sets =
+      makes (edits.SetKey number key) (codes "meters" ∷ []) old new (λ t tree none. (none.1.1.1.0, tt)) sets.only carried tt
+      (λ order. sets.kept (order.1.1.1.0, tt)) (λ o office meets held.
+      let are = held.2 in
+      (edited (edits.SetKey number key) held.0, sets.rows held.0 held.1 are.meters_once, law held.0 o (edits.SetKey number key) are meets refl))
+
+  -- steps that are withdrawn make the edit that withdraws them
+  pub makes_withdrawal : (name : List ℕ) (day : ℕ) → IsCarriedOut (writes_of (edits.WithdrawSteps name day)) old.now new.now → WithdrawsSteps name day old new → MakesEdit (edits.WithdrawSteps name day) old.now new.now
+  makes_withdrawal name day carried withdraws =
+      makes (edits.WithdrawSteps name day) (codes "dated_steps" ∷ []) old new (λ t tree none. (none.1.1.1.1.1.1.1.1.1.1.0, tt)) withdraws.only carried
+      withdraws.gone (λ order. withdraws.kept (order.1.1.1.1.1.1.1.1.1.1.0, tt)) (λ o office meets held.
+      (edited (edits.WithdrawSteps name day) held.0, withdraws.rows held.0 held.1, law held.0 o (edits.WithdrawSteps name day) held.2 meets refl))
 
   -- a base that a meter is moved to makes the edit that moves it
   pub makes_moving : (number : List ℕ) (base : Base) → IsCarriedOut (writes_of (edits.MoveBase number base)) old.now new.now → MovesBase number base old new → MakesEdit (edits.MoveBase number base) old.now new.now
@@ -314,19 +329,29 @@ pub edit_refused : {A : Type 0} (r : Result A TableError) (found edit : Edit) (p
 edit_refused r found edit prior old new is why =
     told_where found prior old new r (λ has. if_err r (λ e fails. inl (subst (λ (x : Edit). FailsToWriteAll (writes_of x) old new e) (sym is) fails)) (why has))
 
+-- there is no office where no rows are to be added
+no_rows : (rows : List Row) (e : TableError) (db : Database) → length rows ≡ 0 → IsOfNoOffice (edits.AddRows rows) e db
+no_rows [] e db none = tt
+no_rows (row ∷ rows) e db none = absurd (omega (arith, none))
+
 -- no office has an import of no rows to add
 pub rows_refused : {A : Type 0} (r : Result A TableError) (rows listed : List Row) (prior : ℕ) (old new : State) → listed ≡ rows
     → (1 ≤ length listed → IfErr r (FailsToWriteAll (flat_map row_writes listed) old new)) → IfErr r (FailsToMakeEdit (edits.AddRows rows) prior old new)
 rows_refused r rows listed prior old new same why = elim (cases_order 0 (length listed)) [
-  | inl none ↦ all_err r (λ e. inr (inl (λ is_open o office meets held. omega (arith, meets.0, none, ap length same))))
+  | inl none ↦ all_err r (λ e. inr (inl (
+    λ is_open o office meets held. omega (arith, meets.0, none, ap length same),
+    no_rows rows e old.now (sym (ap length same) ∙ sym none),
+  )))
   | inr (inl some) ↦ if_err r (λ e fails. inl (subst (λ (l : List Row). FailsToWriteAll (flat_map row_writes l) old new e) same fails)) (why (omega arith))
   | inr (inr below) ↦ absurd (omega (arith, below))
 ]
 
 -- totals that are told to be no office's show that there is none that the sale meets
 pub sold_refused : (s : Sale) (prior : ℕ) (old new : State) (e : TableError) → IsUnderWay old → HasCleanDisk new
-    → FailsToMergeAll (sale_writes s) old new e → FindsNoFalseRow {T = SaleTotals} (MayAddSold s) old new (Err e)
+    → FailsToTotal (new_sale s ∷ []) s s.tid (sale_writes s) old new e → FindsNoFalseRow {T = SaleTotals} (MayAddSold s) old new (Err e)
     → FailsToMakeEdit (edits.AddSale s) prior old new e
 sold_refused s prior old new e way clean (inl fails) never = inl fails
-sold_refused s prior old new e way clean (inr is) never =
-    inr (inl (λ is_open o office meets held. never clean way present_format held.0 (λ _. held.1) (refl, (o, office, meets, held.2)) (ap (λ e. Err e) is)))
+sold_refused s prior old new e way clean (inr (is, told)) never = inr (inl (
+  λ is_open o office meets held. never clean way present_format held.0 (λ _. held.1) (refl, (o, office, meets, held.2)) (ap (λ e. Err e) is),
+  (is, old.step_limit, told),
+))

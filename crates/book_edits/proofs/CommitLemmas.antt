@@ -25,7 +25,7 @@ use Rattle.book_tables.specs.declared.error.TableError.{TableError}
 use Rattle.book_tables.specs.declared.error.TableError.TheVariants as table
 use Rattle.book_tables.specs.reading.Reading.{HasAllTables}
 use Rattle.book_states.specs.Changing.{IsCounted, IsMiscounted, MakesAsComputed, MakesEdit}
-use Rattle.book_states.specs.Failing.{EditHasFailed}
+use Rattle.book_states.specs.Failing.{EditHasFailed, IsOfNoOffice}
 use Rattle.book_states.specs.Stores.{Stores, RecoversTo}
 use Rattle.book_states.specs.Others.{LeavesOthers, SameOthers}
 use Rattle.book_states.specs.Same.{ChangesNothing, IsSame}
@@ -204,8 +204,10 @@ module _ (edit : Edit) (old mid new : State) (clean : HasCleanDisk new) (before 
     cause_after error (inr (inl shut)) = shut_told error (was_shut shut)
     cause_after error (inr (inr (inl (e, is, refused)))) = by_state error (refused_before error e is refused)
     cause_after error (inr (inr (inr (inl none)))) =
-        by_state error (λ runs. inr (inr (inr (inl (λ _. subst
-        (λ (db : Database). (o : Office) → IsOffice o → Meets edit o → ¬ HoldsMembers db o) (before.same.now_is runs) (none runs))))))
+        by_state error (λ runs. inr (inr (inr (inl (
+          λ _. subst (λ (db : Database). (o : Office) → IsOffice o → Meets edit o → ¬ HoldsMembers db o) (before.same.now_is runs) (none.0 runs),
+          subst (IsOfNoOffice edit error) (before.same.now_is runs) none.1,
+        )))))
     cause_after error (inr (inr (inr (inr told)))) = by_state error
         (λ runs. inr (inr (inr (inr (subst (IsMiscounted edit prior) (before.same.now_is runs) told)))))
 

@@ -7,8 +7,8 @@ ghost use Rattle.book_states.specs.Failing.{FailsToMakeEdit};
 
 use book_tables::writing::additions::{add_meter, add_shift, add_tariff};
 use book_tables::writing::bases::move_base;
-use book_tables::writing::changes::{close_shift, set_tariff};
-use book_tables::writing::dated_steps::add_steps;
+use book_tables::writing::changes::{close_shift, set_key, set_tariff};
+use book_tables::writing::dated_steps::{add_steps, withdraw_steps};
 use book_tables::{TableError, members_law};
 use office_rules::Edit;
 use one_table::Change;
@@ -42,10 +42,12 @@ impl<S: Alter> Change<S> for Editing<'_> {
         match self.edit {
             Edit::AddTariff(name, steps) => add_tariff(tx, name, steps.as_slice()),
             Edit::AddSteps(name, day, steps) => add_steps(tx, name, *day, steps.as_slice()),
+            Edit::WithdrawSteps(name, day) => withdraw_steps(tx, name, *day),
             Edit::AddMeter(number, meter) => add_meter(tx, number, meter),
             Edit::AddRows(rows) => add_rows(tx, rows.as_slice()),
             Edit::SetTariff(number, name) => set_tariff(tx, number, name),
             Edit::MoveBase(number, base) => move_base(tx, number, *base),
+            Edit::SetKey(number, key) => set_key(tx, number, *key),
             Edit::OpenShift(shift) => add_shift(tx, shift),
             Edit::CloseShift(number, moment) => close_shift(tx, *number, *moment),
             Edit::AddSale(sale) => add_counted(tx, sale, self.prior),

@@ -1,10 +1,10 @@
 -- What is told of the tables by a call that reads them outside a transaction.
-use Rattle.std.proofs.Common.{◌≡◌, ◌≢◌, ◌⊎◌, false, IsTrue, ℕ, Result, Ok, Err, inl, inr, subst, sym}
+use Rattle.std.proofs.Common.{◌≡◌, ◌⊎◌, false, IsTrue, ℕ, Result, Ok, Err, inl, inr, subst, sym}
 use Rattle.std.specs.Prelude.{IfErr}
 use Rattle.sqlite.specs.Effect.{Database}
 use Rattle.sqlite.specs.State.{HasCleanDisk, State}
 use Rattle.office_rules.specs.declared.decision.refusal.Refusal.{Refusal}
-use Rattle.office_rules.specs.declared.decision.refusal.Refusal.TheVariants.{Memory, Store, Stopped}
+use Rattle.office_rules.specs.declared.decision.refusal.Refusal.TheVariants.{Memory, Store}
 use Rattle.book_tables.specs.reading.Reading.{HasAllTables, OnlyReads}
 use Rattle.book_tables.specs.declared.error.TableError.{TableError}
 use Rattle.book_states.proofs.FailingLemmas.{told_of_read}
@@ -20,28 +20,19 @@ own_or : {A : Type 0} (Own Tells : Refusal → Type 0) (given : Result A Refusal
 own_or Own Tells (Ok value) own = tt
 own_or Own Tells (Err why) own = inl own
 
--- no such call answers as stopped
-never_as_stopped : {A : Type 0} (Own : Refusal → Type 0) (given : Result A Refusal) → ¬ Own Stopped
-    → IfErr given (λ why. Own why ⊎ ((why ≡ Memory) ⊎ (why ≡ Store))) → given ≢ Err Stopped
-never_as_stopped {A} Own given never told is =
-    let stopped : Own Stopped ⊎ ((Stopped ≡ Memory) ⊎ (Stopped ≡ Store)) =
-    subst (λ (r : Result A Refusal). IfErr r (λ why. Own why ⊎ ((why ≡ Memory) ⊎ (why ≡ Store)))) is told in
-    elim stopped [ inl own ↦ never own | inr (inl memory) ↦ absurd cc | inr (inr store) ↦ absurd cc ]
-
 -- what is told where the tables were read: what was seen in them, or a refusal of the call's own
 pub tells_read : {A T : Type 0} {Own : Refusal → Type 0} {IsSeen : Database → Result A Refusal → Type 0} {IsSpoilt : Database → Type 0}
     {Same : State → State → Type 0}
     {x : T} (given : Result A Refusal) (old new : State) → OnlyReads Same old new (Ok x) → (Same old new → IsSame old new)
     → (old.is_clean ≡ false → old.is_open ≡ false) → old.in_transaction ≡ false
-    → (HasCleanDisk new → HasAllTables old → IsSeen old.now given) → IfErr given Own → ¬ Own Stopped → TellsTables Own IsSeen IsSpoilt old new given
-tells_read {Own = Own} given old new reads same shut outside seen own never =
+    → (HasCleanDisk new → HasAllTables old → IsSeen old.now given) → IfErr given Own → TellsTables Own IsSeen IsSpoilt old new given
+tells_read {Own = Own} given old new reads same shut outside seen own =
     record {
       seen = seen;
       nothing = λ clean tables. record { same = same (reads.same clean tables); survives = reads.survives tables };
       clean = clean_before old new _ shut reads.survives;
       failures = λ clean tables. own_or Own _ given own;
       refusals = own_or Own _ given own;
-      never_stopped = never_as_stopped Own given never (own_or Own _ given own);
       outside = reads.mode outside;
     }
 
@@ -53,14 +44,12 @@ pub tells_failed : {A T : Type 0} {Own : Refusal → Type 0} {IsSeen : Database 
     → (old.is_clean ≡ false → old.is_open ≡ false) → old.in_transaction ≡ false → IsSeen old.now (Err why)
     → TellsTables Own IsSeen IsSpoilt old new (Err why)
 tells_failed {A = A} old new e why answered either reads spoilt settled shut outside seen =
-    let failed : Result A Refusal = Err why in
     record {
       seen = λ clean tables. seen;
       nothing = λ clean tables. record { same = left_same old new settled (reads.kept clean tables); survives = reads.survives tables };
       clean = clean_before old new _ shut reads.survives;
       failures = λ clean tables. inr (told_of_read old new e why answered (reads.faults clean tables) (spoilt clean tables) clean (reads.survives tables));
       refusals = inr either;
-      never_stopped = never_as_stopped (λ why. ⊥) failed (λ none. none) (inr either);
       outside = reads.mode outside;
     }
 

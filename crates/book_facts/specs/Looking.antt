@@ -1,10 +1,10 @@
 -- What is looked up in the tables by reads alone.
-use Rattle.std.specs.Prelude.{◌≡◌, ◌≢◌, ◌⊎◌, false, Result, Err, IfErr, IfOk}
+use Rattle.std.specs.Prelude.{◌≡◌, ◌⊎◌, false, Result, IfErr, IfOk}
 use Rattle.sqlite.specs.Effect.{Database}
 use Rattle.sqlite.specs.State.{HasCleanDisk, State}
 use Rattle.office_rules.specs.Office.{Office}
 use Rattle.office_rules.specs.declared.decision.refusal.Refusal.{Refusal}
-use Rattle.office_rules.specs.declared.decision.refusal.Refusal.TheVariants.{Memory, Store, Stopped}
+use Rattle.office_rules.specs.declared.decision.refusal.Refusal.TheVariants.{Memory, Store}
 use Rattle.book_tables.specs.reading.Reading.{HasAllTables, OnlyReads}
 use Rattle.book_tables.specs.declared.error.TableError.{TableError}
 use Rattle.book_tables.specs.declared.error.TableError.TheVariants as table
@@ -45,5 +45,4 @@ pub record TellsTables {A : Type 0} (Own : Refusal → Type 0)
   pub failures : HasCleanDisk new → HasAllTables old
       → IfErr given (λ why. Own why ⊎ IsToldOfRead IsSpoilt why old new)
   pub refusals : IfErr given (λ why. Own why ⊎ ((why ≡ Memory) ⊎ (why ≡ Store)))
-  pub never_stopped : given ≢ Err Stopped
   pub outside : new.in_transaction ≡ false

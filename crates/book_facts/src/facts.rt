@@ -40,10 +40,12 @@ pub(crate) fn facts_of<S: Alter>(
     match &at.request {
         Request::AddTariff(name, _) => meters::tariff_facts(alloc, conn, name),
         Request::AddSteps(name, day, _) => steps::dated_facts(alloc, conn, name, *day),
+        Request::WithdrawSteps(name, day) => steps::withdrawal_facts(alloc, conn, name, *day),
         Request::AddMeter(number, meter) => meters::meter_facts(conn, number, meter),
         Request::Import(rows) => imports::import_facts(alloc, conn, rows),
         Request::SetTariff(number, name) => meters::setting_facts(conn, number, name),
         Request::MoveBase(number, _) => meters::moving_facts(conn, number),
+        Request::SetKey(number, _) => meters::key_facts(conn, number),
         Request::OpenShift(operator) => shifts::opening_facts(conn, operator),
         Request::CloseShift(operator) => shifts::closing_facts(conn, operator),
         Request::Sell(order) => { sales::sale_facts(alloc, conn, at.moment, order, sale_count) },

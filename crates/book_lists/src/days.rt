@@ -23,7 +23,8 @@ use sts_fields::Day;
 /// later.
 ///
 /// # Errors
-/// What the database refuses, and a row that is no office's.
+/// `TableError::Database` if the database refuses or fails, or memory runs out.
+/// `TableError::RowOfNoOffice` if a row is outside its bounds (`docs/OFFICE.md`, "Bounds").
 pub fn first_day_after<S: Alter>(
     conn: &mut Connection<S>,
     name: &TariffName,

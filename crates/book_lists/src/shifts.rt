@@ -18,7 +18,8 @@ use std::alloc::Global;
 /// A page: the first shifts after a number, at most [`PAGE`](crate::PAGE).
 ///
 /// # Errors
-/// What the database refuses, want of memory, and a row that is no office's.
+/// `TableError::Database` if the database refuses or fails, or memory runs out.
+/// `TableError::RowOfNoOffice` if a row is outside its bounds (`docs/OFFICE.md`, "Bounds").
 pub fn shifts_after<S: Alter>(
     alloc: Global,
     conn: &mut Connection<S>,

@@ -24,7 +24,8 @@ use std::alloc::Global;
 /// last one.
 ///
 /// # Errors
-/// What the database refuses, want of memory, and a row that is no office's.
+/// `TableError::Database` if the database refuses or fails, or memory runs out.
+/// `TableError::RowOfNoOffice` if a row is outside its bounds (`docs/OFFICE.md`, "Bounds").
 pub fn tariffs_after<S: Alter>(
     alloc: Global,
     conn: &mut Connection<S>,

@@ -18,7 +18,8 @@ use Rattle.office_rules.specs.declared.decision.request.Request.TheVariants.{Add
 use Rattle.office_rules.specs.declared.decision.request.Request.TheVariants.{SetTariff, MoveBase}
 use Rattle.office_rules.specs.declared.decision.request.Request.TheVariants.{OpenShift, CloseShift}
 use Rattle.office_rules.specs.declared.decision.request.Request.TheVariants.{Sell, Reprint}
-use Rattle.office_rules.specs.declared.decision.request.Request.TheVariants.{ShiftReport}
+use Rattle.office_rules.specs.declared.decision.request.Request.TheVariants.{ShiftReport, SetKey}
+use Rattle.office_rules.specs.declared.decision.request.Request.TheVariants.{WithdrawSteps}
 use Rattle.office_rules.specs.declared.decision.request.Stamped.{Stamped}
 use Rattle.office_rules.specs.declared.decision.row_facts.RowFacts.{RowFacts}
 use Rattle.office_rules.specs.declared.decision.row_facts.RowFacts.TheVariants as found
@@ -27,9 +28,10 @@ use Rattle.office_rules.specs.declared.office.row.Row.{Row}
 use Rattle.office_rules.specs.declared.office.row.Row.TheVariants as kinds
 use Rattle.office_rules.specs.declared.office.sale.Sale.{Sale}
 use Rattle.office_rules.specs.declared.office.shift.Shift.{Shift}
-use Rattle.book_tables.specs.reading.Questions.{the_last_id, the_last_shift, the_meter}
-use Rattle.book_tables.specs.reading.Questions.{the_month_tenths, the_open_shift, the_sale}
-use Rattle.book_tables.specs.reading.Questions.{the_sale_of_ref, the_sales_of_shift, the_shift}
+use Rattle.book_tables.specs.reading.Questions.{the_last_id, the_last_id_of, the_last_shift}
+use Rattle.book_tables.specs.reading.Questions.{the_meter, the_month_tenths, the_open_shift}
+use Rattle.book_tables.specs.reading.Questions.{the_sale, the_sale_of_ref, the_sale_since}
+use Rattle.book_tables.specs.reading.Questions.{the_sales_of_shift, the_shift}
 use Rattle.book_tables.specs.reading.Questions.{the_steps, the_steps_from, the_tariff}
 use Rattle.book_tables.specs.reading.Seen.{AreLatestSeen, AreStepsSeen, ShowsAll, ShowsFirst}
 use Rattle.book_tables.specs.reading.Seen.{ShowsMade}
@@ -65,6 +67,21 @@ pub record AreSettingFactsSeen (number name : List ℕ) (db : Database) (f : Fac
 pub record AreDatedFactsSeen (name : List ℕ) (day : ℕ) (db : Database) (f : Facts) : Type 0 where
   pub has_tariff : IsTariffSeen name db f.has_tariff
   pub dated_steps : f.has_tariff ≡ true → AreStepsSeen (the_steps_from name day) db f.dated_steps
+
+-- WithdrawSteps looks at the steps of the day only where the tariff stands, and at the sales since
+-- that day only where there are such steps
+pub record AreWithdrawalFactsSeen (name : List ℕ) (day : ℕ) (db : Database) (f : Facts) : Type 0
+  where
+    pub has_tariff : IsTariffSeen name db f.has_tariff
+    pub dated_steps : f.has_tariff ≡ true
+        → AreStepsSeen (the_steps_from name day) db f.dated_steps
+    pub sold_since : f.has_tariff ≡ true → IsSome f.dated_steps
+        → ShowsMade (the_sale_since day) is_some db f.sold_since
+
+-- SetKey looks at the sales to the meter only where it stands
+pub record AreKeyFactsSeen (number : List ℕ) (db : Database) (f : Facts) : Type 0 where
+  pub meter : ShowsFirst (the_meter number) db f.meter
+  pub has_sales : IsSome f.meter → ShowsMade (the_last_id_of number) is_some db f.has_sales
 
 -- OpenShift counts the shifts only where the operator has no open one: the last number counts them
 pub record AreOpeningFactsSeen (operator : List ℕ) (db : Database) (f : Facts) : Type 0 where
@@ -143,11 +160,13 @@ AreRowsSeen (row ∷ rest) db (f ∷ fs) =
 abbrev pub AreFactsSeenOf : ℕ → ℕ → Request → Database → Facts → Type 0
 AreFactsSeenOf count moment (AddTariff name steps) db f = AreStepsSeen (the_steps name) db f.tariff
 AreFactsSeenOf count moment (AddSteps name day steps) db f = AreDatedFactsSeen name day db f
+AreFactsSeenOf count moment (WithdrawSteps name day) db f = AreWithdrawalFactsSeen name day db f
 AreFactsSeenOf count moment (AddMeter number m) db f = AreMeterFactsSeen number m db f
 AreFactsSeenOf count moment (Import rows) db f =
     (fs : List RowFacts) × (f.rows ≡ Some fs) × AreRowsSeen rows db fs
 AreFactsSeenOf count moment (SetTariff number name) db f = AreSettingFactsSeen number name db f
 AreFactsSeenOf count moment (MoveBase number base) db f = ShowsFirst (the_meter number) db f.meter
+AreFactsSeenOf count moment (SetKey number key) db f = AreKeyFactsSeen number db f
 AreFactsSeenOf count moment (OpenShift operator) db f = AreOpeningFactsSeen operator db f
 AreFactsSeenOf count moment (CloseShift operator) db f =
     ShowsFirst (the_open_shift operator) db f.open_shift

@@ -1,5 +1,5 @@
 -- Why a request, or a page, is answered that there was no memory or that the store failed.
-use Rattle.std.specs.Prelude.{◌≡◌, ◌≢◌, ◌⊎◌, ℕ, ◌+◌, false, length, Option, None, Some, Result, Ok}
+use Rattle.std.specs.Prelude.{◌≡◌, ◌≢◌, ◌⊎◌, ℕ, ◌+◌, false, [], ◌∷◌, length, Option, None, Some, Result, Ok}
 use Rattle.std.specs.Prelude.{Err, IsSome, IsTrue}
 use Rattle.sqlite_disk.specs.Disk.{MoreFaults}
 use Rattle.sqlite.specs.Effect.{Database}
@@ -14,13 +14,15 @@ use Rattle.office_rules.specs.Office.{IsOffice, Office}
 use Rattle.office_rules.specs.Law.Store.{Meets}
 use Rattle.office_rules.specs.declared.decision.change.Change.{Change}
 use Rattle.office_rules.specs.declared.decision.change.Edit.{Edit}
+use Rattle.office_rules.specs.declared.decision.change.Edit.TheVariants.{AddRows, AddSale}
 use Rattle.office_rules.specs.declared.decision.facts.Facts.{Facts}
 use Rattle.office_rules.specs.declared.decision.refusal.Refusal.{Refusal}
 use Rattle.office_rules.specs.declared.decision.refusal.Refusal.TheVariants.{Memory, Store}
 use Rattle.office_rules.specs.declared.decision.request.Stamped.{Stamped}
 use Rattle.office_decisions.specs.OverFacts.{decision_on}
 use Rattle.book_tables.specs.writing.Failing.{FailsToWriteAll, IsRefused}
-use Rattle.book_tables.specs.writing.Writes.{writes_of}
+use Rattle.book_tables.specs.writing.Telling.{IsToldFalse}
+use Rattle.book_tables.specs.writing.Writes.{new_sale, writes_of}
 use Rattle.book_tables.specs.Holds.{HoldsMembers}
 use Rattle.book_tables.specs.reading.Reading.{FailsToRead, HasAllTables}
 use Rattle.book_tables.specs.declared.error.TableError.{TableError}
@@ -92,22 +94,38 @@ RefusesUnchanged forward at next old new refusal =
     IsToldOfRead (IsSpoiltFor at) refusal old new
     ⊎ ((refusal ≢ Store) × IsDecidedByFacts forward at next old (Err refusal))
 
--- Why an edit fails inside its transaction: one of its writes does, for a cause; or while the
--- connection was open its rows were those of no office that the edit meets; or the tables told
--- other tenths of a sale's month than those that were read and its own.
+-- The error tells that a row is no office's, and one of the totals of a sale was told false by its
+-- own writes. And an import of no rows is no edit of an office, whatever the rows are.
+abbrev pub IsOfNoOffice : Edit → TableError → Database → Type 0
+IsOfNoOffice (AddSale s) error old =
+    (error ≡ table.RowOfNoOffice)
+    × (limit : Option ℕ) × IsToldFalse (new_sale s ∷ []) s s.tid limit old
+IsOfNoOffice (AddRows []) error old = Unit {0}
+IsOfNoOffice edit error old = ⊥
+
+-- The rows, while the connection was open, were those of no office that the edit meets: its own
+-- writes show that.
+abbrev pub MeetsNoOffice : Edit → TableError → State → Type 0
+MeetsNoOffice edit error old =
+    (IsTrue old.is_open → (o : Office) → IsOffice o → Meets edit o → ¬ HoldsMembers old.now o)
+    × IsOfNoOffice edit error old.now
+
+-- Why an edit fails inside its transaction: one of its writes does, for a cause; or what they tell
+-- is no office's that the edit meets; or they told other tenths of a sale's month than those that
+-- were read and its own.
 abbrev pub FailsToMakeEdit : Edit → ℕ → State → State → TableError → Type 0
 FailsToMakeEdit edit prior old new e =
     FailsToWriteAll (writes_of edit) old new e
-    ⊎ ((IsTrue old.is_open → (o : Office) → IsOffice o → Meets edit o → ¬ HoldsMembers old.now o)
+    ⊎ (MeetsNoOffice edit e old
     ⊎ IsMiscounted edit prior old.now)
 
 -- The disk failed more often than before; or the connection was shut; or the rules of the tables
--- refused one of the edit's writes, and this is their error; or the rows are no office's that the
--- edit meets; or the tables told other tenths.
+-- refused one of the edit's writes, and this is their error; or what the writes tell is no office's
+-- that the edit meets; or they told other tenths.
 abbrev pub EditHasFailed : Edit → ℕ → TableError → State → State → Type 0
 EditHasFailed edit prior error old new =
     MoreFaults old.faults new.faults
     ⊎ ((old.is_open ≡ false)
     ⊎ (((e : Error) × (error ≡ table.Database e) × IsRefused (writes_of edit) old e)
-    ⊎ ((IsTrue old.is_open → (o : Office) → IsOffice o → Meets edit o → ¬ HoldsMembers old.now o)
+    ⊎ (MeetsNoOffice edit error old
     ⊎ IsMiscounted edit prior old.now)))

@@ -17,18 +17,20 @@ use Rattle.office_rules.specs.declared.decision.request.Request.TheVariants.{Add
 use Rattle.office_rules.specs.declared.decision.request.Request.TheVariants.{SetTariff, MoveBase}
 use Rattle.office_rules.specs.declared.decision.request.Request.TheVariants.{OpenShift, CloseShift}
 use Rattle.office_rules.specs.declared.decision.request.Request.TheVariants.{Sell, Reprint}
-use Rattle.office_rules.specs.declared.decision.request.Request.TheVariants.{ShiftReport}
+use Rattle.office_rules.specs.declared.decision.request.Request.TheVariants.{ShiftReport, SetKey}
+use Rattle.office_rules.specs.declared.decision.request.Request.TheVariants.{WithdrawSteps}
 use Rattle.office_rules.specs.declared.decision.request.Stamped.{Stamped}
 use Rattle.office_rules.specs.declared.decision.row_facts.RowFacts.{RowFacts}
 use Rattle.office_rules.specs.declared.office.meter.Meter.{Meter}
 use Rattle.office_rules.specs.declared.office.row.Row.{Row}
 use Rattle.office_rules.specs.declared.office.row.Row.TheVariants as kinds
-use Rattle.book_tables.specs.reading.Questions.{Question, the_last_id, the_last_shift, the_meter}
-use Rattle.book_tables.specs.reading.Questions.{the_month_tenths, the_open_shift, the_sale}
-use Rattle.book_tables.specs.reading.Questions.{the_sale_of_ref, the_sales_of_shift, the_shift}
+use Rattle.book_tables.specs.reading.Questions.{Question, the_last_id, the_last_id_of}
+use Rattle.book_tables.specs.reading.Questions.{the_last_shift, the_meter, the_month_tenths}
+use Rattle.book_tables.specs.reading.Questions.{the_open_shift, the_sale, the_sale_of_ref}
+use Rattle.book_tables.specs.reading.Questions.{the_sale_since, the_sales_of_shift, the_shift}
 use Rattle.book_tables.specs.reading.Questions.{the_steps, the_steps_from, the_tariff}
-use Rattle.book_tables.specs.reading.Seen.{AreLatestSeen, HasSpoilt, HasSpoiltLatest}
-use Rattle.book_tables.specs.reading.Seen.{HasSpoiltSteps, ShowsFirst, ShowsMade}
+use Rattle.book_tables.specs.reading.Seen.{AreLatestSeen, AreStepsSeen, HasSpoilt}
+use Rattle.book_tables.specs.reading.Seen.{HasSpoiltLatest, HasSpoiltSteps, ShowsFirst, ShowsMade}
 use Rattle.book_states.specs.FactsSeen.{AreStepsSeenOn, IsPassedBy, IsRowSeen, IsTariffSeen}
 
 -- the question's answer is spoilt; or it shows no record, and so this is asked, and is spoilt
@@ -59,6 +61,19 @@ abbrev pub AreDatedSpoilt : List ℕ → ℕ → Database → Type 0
 AreDatedSpoilt name day db =
     HasSpoilt (the_tariff name) db
     ⊎ (IsTariffSeen name db true × HasSpoiltSteps (the_steps_from name day) db)
+
+-- WithdrawSteps asks for the steps of the day only where the tariff stands, and for the sales since
+-- that day only where there are such steps
+abbrev pub IsWithdrawalSpoilt : List ℕ → ℕ → Database → Type 0
+IsWithdrawalSpoilt name day db =
+    AreDatedSpoilt name day db
+    ⊎ (IsTariffSeen name db true
+    × ((steps : List Step) × AreStepsSeen (the_steps_from name day) db (Some steps))
+    × HasSpoilt (the_sale_since day) db)
+
+-- SetKey asks for the sales to the meter only where it stands
+abbrev pub IsKeySpoilt : List ℕ → Database → Type 0
+IsKeySpoilt number = SpoiltThen (the_meter number) (λ m. HasSpoilt (the_last_id_of number))
 
 -- OpenShift asks for the last number only where the operator has no open shift
 abbrev pub IsOpeningSpoilt : List ℕ → Database → Type 0
@@ -133,10 +148,12 @@ AreRowsSpoilt (row ∷ rest) db =
 abbrev pub IsRequestSpoilt : ℕ → Request → Database → Type 0
 IsRequestSpoilt moment (AddTariff name steps) = HasSpoiltSteps (the_steps name)
 IsRequestSpoilt moment (AddSteps name day steps) = AreDatedSpoilt name day
+IsRequestSpoilt moment (WithdrawSteps name day) = IsWithdrawalSpoilt name day
 IsRequestSpoilt moment (AddMeter number m) = IsMeterSpoilt number m
 IsRequestSpoilt moment (Import rows) = AreRowsSpoilt rows
 IsRequestSpoilt moment (SetTariff number name) = IsSettingSpoilt number name
 IsRequestSpoilt moment (MoveBase number base) = HasSpoilt (the_meter number)
+IsRequestSpoilt moment (SetKey number key) = IsKeySpoilt number
 IsRequestSpoilt moment (OpenShift operator) = IsOpeningSpoilt operator
 IsRequestSpoilt moment (CloseShift operator) = HasSpoilt (the_open_shift operator)
 IsRequestSpoilt moment (Sell order) = IsSaleSpoilt moment order

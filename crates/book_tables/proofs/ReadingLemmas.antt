@@ -18,6 +18,7 @@ pub mod SaleTexts
 pub mod SeenLemmas
 pub mod ShiftLemmas
 pub mod ShiftTexts
+pub mod SoldLemmas
 pub mod StepLemmas
 pub mod StepListLemmas
 pub mod StepTexts

@@ -5,6 +5,7 @@ pub mod CauseLemmas
 pub mod DatedWriteLemmas
 pub mod EditLemmas
 pub mod HiddenWriteLemmas
+pub mod KeyWriteLemmas
 pub mod KeepingLemmas
 pub mod MeterEditLemmas
 pub mod OnlyLemmas
@@ -18,5 +19,7 @@ pub mod TariffWriteLemmas
 pub mod TotallingLemmas
 pub mod TotalsTexts
 pub mod TurnLemmas
+pub mod WithdrawEditLemmas
+pub mod WithdrawLemmas
 pub mod WriteLemmas
 pub mod WriteTexts

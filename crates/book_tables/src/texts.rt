@@ -77,6 +77,10 @@ pub(crate) const SALE_OF_TID: &str = select_sale!(
 
 pub(crate) const LAST_SALE_NUMBER: &str = "SELECT number FROM sales ORDER BY number DESC LIMIT 1";
 
+// No index serves it: it walks the sales back from the last one to the first that passes.
+pub(crate) const SOLD_SINCE: &str =
+    "SELECT number FROM sales WHERE moment >= ?1 ORDER BY number DESC LIMIT 1";
+
 pub(crate) const SHIFT_NUMBERED: &str = select_shift!(" WHERE number = ?1");
 
 // At most one row passes; while a shift is open, it is found from the end.
@@ -113,6 +117,8 @@ pub(crate) const NEW_STEP: &str =
 
 pub(crate) const TARIFF_SET: &str = "UPDATE meters SET tariff = ?2 WHERE meter = ?1";
 
+pub(crate) const KEY_SET: &str = "UPDATE meters SET secret = ?2 WHERE meter = ?1";
+
 pub(crate) const SALES_AFTER: &str = select_sale!(
     " FROM sales WHERE number > ?1 ORDER BY number LIMIT ?2"
 );
@@ -124,6 +130,10 @@ pub(crate) const SALES_OF_SHIFT: &str = select_sale!(
 
 pub(crate) const LAST_ID: &str = "SELECT tid FROM last_ids WHERE meter = ?1 AND base = ?2";
 
+// The index of meter and base gives the few rows of a meter.
+pub(crate) const LAST_ID_OF_METER: &str =
+    "SELECT tid FROM last_ids WHERE meter = ?1 ORDER BY tid DESC LIMIT 1";
+
 pub(crate) const STEPS_FROM: &str =
     "SELECT ends, price FROM dated_steps WHERE tariff = ?1 AND day = ?2 ORDER BY place";
 
@@ -134,6 +144,8 @@ pub(crate) const FIRST_DAY_UNTIL: &str =
 
 pub(crate) const NEW_DATED_STEP: &str =
     "INSERT INTO dated_steps (tariff, day, place, ends, price) VALUES (?1, ?2, ?3, ?4, ?5)";
+
+pub(crate) const STEPS_WITHDRAWN: &str = "DELETE FROM dated_steps WHERE tariff = ?1 AND day = ?2";
 
 pub(crate) const NEW_BASE: &str = "INSERT INTO meter_bases (meter, base) VALUES (?1, ?2)";
 

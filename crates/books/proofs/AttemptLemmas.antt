@@ -13,7 +13,7 @@ use Rattle.office_rules.specs.Office.{IsOffice, Office}
 use Rattle.office_rules.specs.Law.Store.{Meets}
 use Rattle.office_rules.specs.declared.decision.change.Change.{Change}
 use Rattle.office_rules.specs.declared.decision.change.Edit.{Edit}
-use Rattle.office_rules.specs.declared.decision.change.Edit.TheVariants.{AddTariff, AddSteps, AddMeter, AddRows, SetTariff, MoveBase, OpenShift, CloseShift, AddSale}
+use Rattle.office_rules.specs.declared.decision.change.Edit.TheVariants.{AddTariff, AddSteps, WithdrawSteps, AddMeter, AddRows, SetTariff, MoveBase, SetKey, OpenShift, CloseShift, AddSale}
 use Rattle.office_rules.specs.declared.decision.refusal.Refusal.{Refusal}
 use Rattle.office_rules.specs.declared.decision.request.Stamped.{Stamped}
 use Rattle.office_rules.specs.declared.office.row.Row.{Row}
@@ -45,10 +45,12 @@ rows_add_no_sale (kinds.Meter number m ∷ rows) o = rows_add_no_sale rows (with
 pub adds_none : (edit : Edit) → ((s : Sale) → edit ≡ AddSale s → ⊥) → sales_added (Some edit) ≡ 0
 adds_none (AddTariff name steps) none = refl
 adds_none (AddSteps name day steps) none = refl
+adds_none (WithdrawSteps name day) none = refl
 adds_none (AddMeter number m) none = refl
 adds_none (AddRows rows) none = refl
 adds_none (SetTariff number name) none = refl
 adds_none (MoveBase number base) none = refl
+adds_none (SetKey number key) none = refl
 adds_none (OpenShift s) none = refl
 adds_none (CloseShift number moment) none = refl
 adds_none (AddSale s) none = absurd (none s refl)
@@ -57,10 +59,12 @@ adds_none (AddSale s) none = absurd (none s refl)
 pub moment_stays : (edit : Edit) (last : Option ℕ) → ((s : Sale) → edit ≡ AddSale s → ⊥) → moment_after (Some edit) last ≡ last
 moment_stays (AddTariff name steps) last none = refl
 moment_stays (AddSteps name day steps) last none = refl
+moment_stays (WithdrawSteps name day) last none = refl
 moment_stays (AddMeter number m) last none = refl
 moment_stays (AddRows rows) last none = refl
 moment_stays (SetTariff number name) last none = refl
 moment_stays (MoveBase number base) last none = refl
+moment_stays (SetKey number key) last none = refl
 moment_stays (OpenShift s) last none = refl
 moment_stays (CloseShift number moment) last none = refl
 moment_stays (AddSale s) last none = absurd (none s refl)
@@ -69,10 +73,12 @@ moment_stays (AddSale s) last none = absurd (none s refl)
 pub sales_grow : (edit : Edit) (o : Office) → length (applied edit o).sales ≡ length o.sales + sales_added (Some edit)
 sales_grow (AddTariff name steps) o = omega arith
 sales_grow (AddSteps name day steps) o = omega arith
+sales_grow (WithdrawSteps name day) o = omega arith
 sales_grow (AddMeter number m) o = omega arith
 sales_grow (AddRows rows) o = omega (arith, ap length (rows_add_no_sale rows o))
 sales_grow (SetTariff number name) o = omega arith
 sales_grow (MoveBase number base) o = omega arith
+sales_grow (SetKey number key) o = omega arith
 sales_grow (OpenShift s) o = omega arith
 sales_grow (CloseShift number moment) o = omega arith
 sales_grow (AddSale s) o = length-append o.sales (s ∷ [])
@@ -88,11 +94,13 @@ last_pushed sales s =
 pub moment_goes : (edit : Edit) (o : Office) → last_moment (applied edit o) ≡ moment_after (Some edit) (last_moment o)
 moment_goes (AddTariff name steps) o = refl
 moment_goes (AddSteps name day steps) o = refl
+moment_goes (WithdrawSteps name day) o = refl
 moment_goes (AddMeter number m) o = refl
 moment_goes (AddRows rows) o =
     ap (λ (sales : List Sale). option_map (λ (s : Sale). s.moment) (slice_get sales (length sales - 1))) (rows_add_no_sale rows o)
 moment_goes (SetTariff number name) o = refl
 moment_goes (MoveBase number base) o = refl
+moment_goes (SetKey number key) o = refl
 moment_goes (OpenShift s) o = refl
 moment_goes (CloseShift number moment) o = refl
 moment_goes (AddSale s) o = ap (option_map (λ (s : Sale). s.moment)) (last_pushed o.sales s)
@@ -101,10 +109,12 @@ moment_goes (AddSale s) o = ap (option_map (λ (s : Sale). s.moment)) (last_push
 sales_after : (edit : Edit) (o : Office) → (length (applied edit o).sales ≡ length o.sales) ⊎ (length (applied edit o).sales ≡ length o.sales + 1)
 sales_after (AddTariff name steps) o = inl refl
 sales_after (AddSteps name day steps) o = inl refl
+sales_after (WithdrawSteps name day) o = inl refl
 sales_after (AddMeter number m) o = inl refl
 sales_after (AddRows rows) o = inl (ap length (rows_add_no_sale rows o))
 sales_after (SetTariff number name) o = inl refl
 sales_after (MoveBase number base) o = inl refl
+sales_after (SetKey number key) o = inl refl
 sales_after (OpenShift s) o = inl refl
 sales_after (CloseShift number moment) o = inl refl
 sales_after (AddSale s) o = inr (length-append o.sales (s ∷ []))

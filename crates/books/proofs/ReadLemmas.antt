@@ -1,5 +1,5 @@
 -- What a call that only reads makes of books.
-use Rattle.std.proofs.Common.{◌≡◌, ◌⊎◌, ◌↔◌, ◌+◌, ℕ, length, false, true, IsTrue, Result, Ok, Err, refl, sym, subst, ◌∙◌, inl, inr, arith}
+use Rattle.std.proofs.Common.{◌≡◌, ◌≢◌, ◌⊎◌, ◌↔◌, ◌+◌, ℕ, length, false, true, IsTrue, Result, Ok, Err, refl, sym, subst, ◌∙◌, inl, inr, arith}
 use Rattle.std.proofs.lemmas.Bool.{false≢true}
 use Rattle.std.specs.Prelude.{IfErr}
 use Rattle.sqlite.specs.Effect.{Database}
@@ -48,12 +48,20 @@ or_stopped Own (Err why) (inl own) = inl own
 or_stopped Own (Err why) (inr (inl memory)) = inr (inl memory)
 or_stopped Own (Err why) (inr (inr store)) = inr (inr (inl store))
 
+-- a call is not answered as stopped by reads, where it does not answer so itself
+never_as_stopped : {A : Type 0} (Own : Refusal → Type 0) (given : Result A Refusal) → ¬ Own Stopped
+    → IfErr given (λ why. Own why ⊎ ((why ≡ Memory) ⊎ (why ≡ Store))) → given ≢ Err Stopped
+never_as_stopped {A} Own given never told is =
+    let stopped : Own Stopped ⊎ ((Stopped ≡ Memory) ⊎ (Stopped ≡ Store)) =
+    subst (λ (r : Result A Refusal). IfErr r (λ why. Own why ⊎ ((why ≡ Memory) ⊎ (why ≡ Store)))) is told in
+    elim stopped [ inl own ↦ never own | inr (inl memory) ↦ absurd cc | inr (inr store) ↦ absurd cc ]
+
 -- books that were not stopped were read, by what the read makes of their tables
 pub was_read : {A : Type 0} {Own : Refusal → Type 0} {IsSeen : Database → Result A Refusal → Type 0} {IsSpoilt : Database → Type 0}
     (given : Result A Refusal) (old new : Seen) → old.stopped ≡ false → new.forward ≡ old.forward → KnowTheSame old new
-    → TellsTables Own IsSeen IsSpoilt old.state new.state given → (IsTrue new.stopped ↔ (given ≡ Err Store))
+    → ¬ Own Stopped → TellsTables Own IsSeen IsSpoilt old.state new.state given → (IsTrue new.stopped ↔ (given ≡ Err Store))
     → ReadsBooks Own IsSeen IsSpoilt given old new
-was_read {Own = Own} given old new runs forward known told failed = record {
+was_read {Own = Own} given old new runs forward known never told failed = record {
   keeps = λ life keeps clean.
       let kept = keeps (told.clean clean) in
       let here = kept.running runs in
@@ -66,8 +74,8 @@ was_read {Own = Own} given old new runs forward known told failed = record {
   nothing = λ clean has. told.nothing clean (has (told.clean clean) runs);
   clean = told.clean;
   health = known;
-  stopped = (λ is. absurd (told.never_stopped is), λ was. absurd (false≢true (sym runs ∙ was)));
-  stops = stops_on new.stopped given failed told.never_stopped;
+  stopped = (λ is. absurd (never_as_stopped Own given never told.refusals is), λ was. absurd (false≢true (sym runs ∙ was)));
+  stops = stops_on new.stopped given failed (never_as_stopped Own given never told.refusals);
   refusals = or_stopped Own given told.refusals;
   failures = λ clean has running. told.failures clean (has (told.clean clean) running);
   seen = λ clean has running. told.seen clean (has (told.clean clean) running);

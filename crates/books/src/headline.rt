@@ -7,7 +7,7 @@ ghost use Rattle.sts_fields.specs.Text.{Text};
 ghost use Rattle.sts_token.specs.Fields.{TokenFields};
 ghost use Rattle.sts_token.specs.Meter.{Accepts, Entry, credit_of, entered};
 ghost use Rattle.office_rules.specs.Law.Cash.{AskForReports, cash_of, cash_of_reports};
-ghost use Rattle.vend_core.specs.Law.Imports.{AsksNoMeterChange, ImportsNothing};
+ghost use Rattle.vend_core.specs.Law.Imports.{AsksNoChange, ImportsNothing};
 ghost use Rattle.vend_core.specs.Law.Life.{Answered, AreLives, Exchange, IsHanded, Life};
 ghost use Rattle.office_rules.specs.Law.NewSale.{fields_of};
 ghost use Rattle.office_rules.specs.Office.{Office};
@@ -111,14 +111,15 @@ pub fn headline_law<S: Alter, R: Alter, T: BlockTransform>()
     ensures cash { OverLives S.Store T.BlockTransform (λ _ office books. (ats : ℕ → Stamped)
         → AskForReports ats → cash_of_reports books.forward office ats ≡ cash_of office.sales) }
 
-    // An import that was granted in one of the lives, and comes again with no SetTariff and no
-    // MoveBase in between, changes nothing.
+    // An import that was granted in one of the lives and comes again changes nothing, if there was
+    // in between no SetTariff, MoveBase or SetKey of one of its meters and no WithdrawSteps of its
+    // steps.
     ensures imported_again { OverLives S.Store T.BlockTransform (λ lives office books.
         (earlier later : List Life) (life : Life) (before between : List Exchange) (e : Exchange)
         (rows : List Row) (new : ℕ) (again : Stamped)
         → (earlier ++ life ∷ later) ≡ lives → life.exchanges ≡ before ++ e ∷ between
         → e.request.request ≡ Request.Import rows → e.reply ≡ Ok (Answer.Imported new)
-        → All AsksNoMeterChange between → All (λ l. All AsksNoMeterChange l.exchanges) later
+        → All (AsksNoChange rows) between → All (λ l. All (AsksNoChange rows) l.exchanges) later
         → again.request ≡ Request.Import rows → ImportsNothing books.forward office again) }
 {
     life_law();

@@ -1,6 +1,6 @@
 //! More shifts than any list opens, and dated steps as many as a day may have.
 
-use office_rules::Request;
+use office_rules::{Answer, Request};
 use office_testing::both::{Both, agree, ask, in_memory, office, sold};
 use office_testing::values::{FIRST_DAY, METER, flat, moment, operator, order, tariff_name};
 use sqlite::MemStore;
@@ -49,5 +49,21 @@ fn eight_dated_steps(rt: HostRuntime) -> Result<(), Fail> {
     // 1 + 2 + ... + 7 cents for the first seven tenths, and 8 for the eighth.
     let sale = sold(&mut both, TOMORROW, order(b"A-1", METER, 36)?)?;
     assert_eq!(rt; (sale.tenths.tenths(), sale.price), (8, 36));
+    agree(&mut both)
+}
+
+// They are withdrawn as one list, and others of that day are stored then.
+#[test]
+fn eight_dated_steps_withdrawn(rt: HostRuntime) -> Result<(), Fail> {
+    let alloc = rt.alloc();
+    let mut both = office(alloc, Base::Y2014, flat(alloc, 100)?)?;
+    let eight = from_tomorrow(alloc, b"1:10;2:20;3:30;4:40;5:50;6:60;7:70;:80")?;
+    let _ = ask(&mut both, FIRST_DAY, eight)??;
+    let withdrawal = Request::WithdrawSteps(tariff_name(b"block")?, day_of(moment(TOMORROW)?));
+    let withdrawn = ask(&mut both, FIRST_DAY, withdrawal)??;
+    assert!(rt; matches!(withdrawn, Answer::Withdrawn(1)));
+    let _ = ask(&mut both, FIRST_DAY, from_tomorrow(alloc, b":50")?)??;
+    let sale = sold(&mut both, TOMORROW, order(b"A-1", METER, 40)?)?;
+    assert_eq!(rt; (sale.tenths.tenths(), sale.price), (8, 40));
     agree(&mut both)
 }

@@ -19,7 +19,9 @@ pub no_paper : (rows : List Row) → ReadsWhat None (SaysPaper (parsed_argument 
     → (q : DeskQuestion) → SaysDeskQuestion (codes "report") rows q → ⊥
 no_paper rows none (desk.Import kind csv) says = subst IsReport says.0 tt
 no_paper rows none (desk.SetTariff meter tariff) says = subst IsReport says.0 tt
+no_paper rows none (desk.WithdrawSteps tariff from) says = subst IsReport says.0 tt
 no_paper rows none (desk.MoveBase meter base) says = subst IsReport says.0 tt
+no_paper rows none (desk.SetKey meter key) says = subst IsReport says.0 tt
 no_paper rows none (desk.OpenShift operator) says = subst IsReport says.0 tt
 no_paper rows none (desk.CloseShift operator) says = subst IsReport says.0 tt
 no_paper rows none (desk.Sell order) says = subst IsReport says.0 tt

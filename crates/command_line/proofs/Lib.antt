@@ -3,3 +3,4 @@ pub mod DescriptionLemmas
 pub mod DeskLemmas
 pub mod LineLemmas
 pub mod SayLemmas
+pub mod SyncsLemmas

@@ -14,19 +14,19 @@ use Rattle.clap.specs.Walk.{Row, rows_of}
 use Rattle.clap.specs.declared.error.Error.{Error}
 use Rattle.clap.specs.declared.parser.matches.ArgMatches.{ArgMatches}
 use Rattle.sts_fields.specs.Text.{Text}
-use Rattle.command_line.specs.Line.{trial_command, import_command, tariff_command, base_command, shift_command, sell_command, report_command, show_command, list_command, offer_command, meter_command, quote_command, serve_command, selfcheck_command, audit_command}
+use Rattle.command_line.specs.Line.{trial_command, import_command, tariff_command, withdraw_command, base_command, key_command, shift_command, sell_command, report_command, show_command, list_command, offer_command, meter_command, quote_command, serve_command, selfcheck_command, audit_command}
 use Rattle.command_line.specs.Line.{command_in, faults_in, meant_by, vend_line}
 use Rattle.command_line.specs.Said.{argument_rows}
 
 -- the line of `vend` is simple: `clap` states what a parse of it matches
 pub is_simple_line : is_simple vend_line ≡ true
-unfolding clap_on_literals trial_command import_command tariff_command base_command shift_command sell_command report_command show_command list_command
+unfolding clap_on_literals trial_command import_command tariff_command withdraw_command base_command key_command shift_command sell_command report_command show_command list_command
     offer_command meter_command quote_command serve_command selfcheck_command audit_command
 is_simple_line = refl
 
 -- and no argument of it has a rule on another: `clap` states the faults of words
 pub is_free_line : is_simple_and_free vend_line ≡ true
-unfolding clap_on_literals trial_command import_command tariff_command base_command shift_command sell_command report_command show_command list_command
+unfolding clap_on_literals trial_command import_command tariff_command withdraw_command base_command key_command shift_command sell_command report_command show_command list_command
     offer_command meter_command quote_command serve_command selfcheck_command audit_command
 is_free_line = refl
 

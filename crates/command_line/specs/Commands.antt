@@ -8,6 +8,7 @@ use Rattle.command_line.specs.Address.{SaysAddress}
 use Rattle.command_line.specs.Said.{IsArgument, IsArgumentOr, IsOptionalArgument, parsed_argument}
 use Rattle.command_line.specs.Said.{parsed_arguments}
 use Rattle.command_line.specs.Values.{SayEach, SaysAfter, SaysAmount, SaysBase, SaysConnections}
+use Rattle.command_line.specs.Values.{SaysDay}
 use Rattle.command_line.specs.Values.{SaysFlag, SaysItem, SaysKey, SaysMeterNo, SaysMoment}
 use Rattle.command_line.specs.Values.{SaysOperator, SaysPrior, SaysRef, SaysSteps, SaysTariff}
 use Rattle.command_line.specs.Values.{SaysSyncs, SaysTender, SaysText, SaysTransform}
@@ -37,6 +38,7 @@ use Rattle.command_line.specs.declared.request_words.RequestWords.{RequestWords}
 use Rattle.office_rules.specs.declared.decision.request.Order.{Order}
 use Rattle.office_rules.specs.declared.decision.request.Request.{Request}
 use Rattle.office_rules.specs.declared.decision.request.Request.TheVariants.{SetTariff, MoveBase}
+use Rattle.office_rules.specs.declared.decision.request.Request.TheVariants.{WithdrawSteps, SetKey}
 use Rattle.office_rules.specs.declared.decision.request.Request.TheVariants.{OpenShift, CloseShift}
 use Rattle.office_rules.specs.declared.decision.request.Request.TheVariants.{Sell}
 
@@ -97,15 +99,21 @@ pub record SaysOrder (rows : List Row) (order : Order) : Type 0 where
   pub meter : IsArgument SaysMeterNo (parsed_argument (codes "meter") rows) order.meter
   pub tender : IsArgument SaysTender (parsed_argument (codes "tender") rows) order.tender
 
--- `tariff` gives a meter another tariff, `base` moves one, `shift` opens or closes an operator's
--- shift, `sell` sells an order
+-- `tariff` gives a meter another tariff, `withdraw` takes back steps of one, `base` moves a meter,
+-- `key` gives it another key, `shift` opens or closes an operator's shift, `sell` sells an order
 abbrev pub SaysRequest : (name : Text) → List Row → Request → Type 0
 SaysRequest name rows (SetTariff meter tariff) = (name ≡ codes "tariff")
     × IsArgument SaysMeterNo (parsed_argument (codes "meter") rows) meter
     × IsArgument SaysTariff (parsed_argument (codes "tariff") rows) tariff
+SaysRequest name rows (WithdrawSteps tariff from) = (name ≡ codes "withdraw")
+    × IsArgument SaysTariff (parsed_argument (codes "tariff") rows) tariff
+    × IsArgument SaysDay (parsed_argument (codes "from") rows) from
 SaysRequest name rows (MoveBase meter base) = (name ≡ codes "base")
     × IsArgument SaysMeterNo (parsed_argument (codes "meter") rows) meter
     × IsArgument SaysBase (parsed_argument (codes "base") rows) base
+SaysRequest name rows (SetKey meter key) = (name ≡ codes "key")
+    × IsArgument SaysMeterNo (parsed_argument (codes "meter") rows) meter
+    × IsArgument SaysKey (parsed_argument (codes "key") rows) key
 SaysRequest name rows (OpenShift operator) = (name ≡ codes "shift")
     × (parsed_argument (codes "act") rows ≡ Some (codes "open"))
     × IsArgument SaysOperator (parsed_argument (codes "operator") rows) operator
@@ -211,9 +219,15 @@ SaysDeskQuestion name rows (desk.Import kind csv) = (name ≡ codes "import")
 SaysDeskQuestion name rows (desk.SetTariff meter tariff) = (name ≡ codes "tariff")
     × IsArgument SaysMeterNo (parsed_argument (codes "meter") rows) meter
     × IsArgument SaysTariff (parsed_argument (codes "tariff") rows) tariff
+SaysDeskQuestion name rows (desk.WithdrawSteps tariff from) = (name ≡ codes "withdraw")
+    × IsArgument SaysTariff (parsed_argument (codes "tariff") rows) tariff
+    × IsArgument SaysDay (parsed_argument (codes "from") rows) from
 SaysDeskQuestion name rows (desk.MoveBase meter base) = (name ≡ codes "base")
     × IsArgument SaysMeterNo (parsed_argument (codes "meter") rows) meter
     × IsArgument SaysBase (parsed_argument (codes "base") rows) base
+SaysDeskQuestion name rows (desk.SetKey meter key) = (name ≡ codes "key")
+    × IsArgument SaysMeterNo (parsed_argument (codes "meter") rows) meter
+    × IsArgument SaysKey (parsed_argument (codes "key") rows) key
 SaysDeskQuestion name rows (desk.OpenShift operator) = (name ≡ codes "shift")
     × (parsed_argument (codes "act") rows ≡ Some (codes "open"))
     × IsArgument SaysOperator (parsed_argument (codes "operator") rows) operator

@@ -85,6 +85,14 @@ unfoldable pub base_command : Shape
 base_command = command_named (codes "base") (transform_option ∷ file_option ∷ desk_option
     ∷ wait_option ∷ needed (codes "meter") ∷ needed (codes "base") ∷ at_option ∷ [])
 
+unfoldable pub withdraw_command : Shape
+withdraw_command = command_named (codes "withdraw") (transform_option ∷ file_option ∷ desk_option
+    ∷ wait_option ∷ needed (codes "tariff") ∷ needed (codes "from") ∷ at_option ∷ [])
+
+unfoldable pub key_command : Shape
+key_command = command_named (codes "key") (transform_option ∷ file_option ∷ desk_option
+    ∷ wait_option ∷ needed (codes "meter") ∷ needed (codes "key") ∷ at_option ∷ [])
+
 unfoldable pub shift_command : Shape
 shift_command = command_named (codes "shift") (transform_option ∷ file_option ∷ desk_option
     ∷ wait_option ∷ needed (codes "operator") ∷ at_option ∷ word_named (codes "act") ∷ [])
@@ -140,9 +148,10 @@ shop_commands = import_command ∷ shift_command ∷ sell_command ∷ []
 abbrev pub reading_commands : List Shape
 reading_commands = report_command ∷ show_command ∷ list_command ∷ offer_command ∷ []
 
--- those that change a meter, check a file and serve it
+-- those that change a tariff or a meter, check a file and serve it
 abbrev pub care_commands : List Shape
-care_commands = tariff_command ∷ base_command ∷ audit_command ∷ serve_command ∷ []
+care_commands = tariff_command ∷ withdraw_command ∷ base_command ∷ key_command ∷ audit_command
+    ∷ serve_command ∷ []
 
 -- those that need no office
 abbrev pub officeless_commands : List Shape

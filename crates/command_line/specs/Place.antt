@@ -21,7 +21,8 @@ is_of_file rows = is_given (codes "file") rows || (is_given (codes "wait") rows
 abbrev pub is_asked_to_do : (name : Text) → Bool
 is_asked_to_do name = pointwise eqb name (codes "import") || (pointwise eqb name (codes "shift")
     || (pointwise eqb name (codes "sell") || (pointwise eqb name (codes "tariff")
-    || pointwise eqb name (codes "base"))))
+    || (pointwise eqb name (codes "withdraw") || (pointwise eqb name (codes "base")
+    || pointwise eqb name (codes "key"))))))
 
 -- those that print what it has
 abbrev pub is_asked_to_tell : (name : Text) → Bool

@@ -4,6 +4,7 @@ use Rattle.std.specs.Prelude.{Some, None, codes}
 use Rattle.std.specs.Borrow.{Bor}
 use Rattle.std.specs.Str.Parse.{IsNumeral, digits_value}
 use Rattle.sts_fields.specs.Base.{year_of}
+use Rattle.sts_fields.specs.Day.{IsDayText}
 use Rattle.sts_fields.specs.Moment.{IsMoment}
 use Rattle.sts_fields.specs.Text.{Text}
 use Rattle.sts_fields.specs.declared.base.Base.{Base}
@@ -34,6 +35,10 @@ SaysAmount text tenths = SaysNumber text tenths × (tenths < 2 ^ 32)
 -- a moment, in Unix seconds
 abbrev pub SaysMoment : Text → ℕ → Type 0
 SaysMoment text seconds = SaysNumber text seconds × IsMoment seconds
+
+-- a day of UTC, by its date as YYYY-MM-DD
+abbrev pub SaysDay : Text → ℕ → Type 0
+SaysDay text day = IsDayText text day
 
 -- how many connections are served
 abbrev pub SaysConnections : Text → ℕ → Type 0

@@ -18,10 +18,12 @@ pub mod report;
 pub mod selfcheck;
 pub mod sell;
 pub mod serve;
+pub mod set_key;
 pub mod set_tariff;
 pub mod shift;
 pub mod show;
 pub mod trial;
+pub mod withdraw;
 
 // The commands in the order in which a shop needs them. They stand in groups, since a proof reads a
 // static whole, at the cost of its texts times its references.
@@ -34,9 +36,11 @@ static READING: [Description; 4] = [
     offer::COMMAND,
 ];
 
-static CARE: [Description; 4] = [
+static CARE: [Description; 6] = [
     set_tariff::COMMAND,
+    withdraw::COMMAND,
     base::COMMAND,
+    set_key::COMMAND,
     audit::COMMAND,
     serve::COMMAND,
 ];
@@ -62,7 +66,7 @@ pub(crate) fn reading() -> &'static [Description]
     &READING
 }
 
-/// Those that change a meter, check a file and serve it.
+/// Those that change a tariff or a meter, check a file and serve it.
 pub(crate) fn care() -> &'static [Description]
     ensures { map shape_of_description result.now ≡ care_commands }
 {

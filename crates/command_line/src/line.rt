@@ -23,6 +23,9 @@ const STATUSES: &str = "Exit status: 0 done; 1 refused or failed (standard error
 
 /// The words of a line as they are meant, the program's own name left out: `sell` right before
 /// `--base` means `trial`, and `quote` with `--file` or `--desk` among its options means `offer`.
+///
+/// # Errors
+/// `AllocError` if there is no memory.
 pub fn meant<'a>(alloc: Global, words: &[&'a str]) -> Result<Vec<&'a str>, AllocError>
     ensures { IfOk result (λ meant. map (λ w. w.now) meant.items
         ≡ meant_by (map (λ w. w.now) words.now)) }

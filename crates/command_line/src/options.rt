@@ -4,7 +4,7 @@ ghost use Rattle.command_line.specs.Address.{SaysAddress};
 ghost use Rattle.command_line.specs.Said.{IsArgument, IsArgumentOr, IsOptionalArgument, ReadsWhat};
 ghost use Rattle.command_line.specs.Said.{argument_rows, parsed_argument};
 ghost use Rattle.command_line.specs.Values.{SaysBase, SaysFlag, SaysKey, SaysMeterNo, SaysMoment};
-ghost use Rattle.command_line.specs.Values.{SaysOperator, SaysRef};
+ghost use Rattle.command_line.specs.Values.{SaysDay, SaysOperator, SaysRef, SaysTariff};
 ghost use Rattle.command_line.specs.Values.{SaysTender, SaysText, SaysTransform, SaysWait};
 ghost use Rattle.command_line.specs.Values.{default_transform, default_wait};
 
@@ -13,8 +13,8 @@ use crate::argument::{Argument, ArgumentKind};
 use crate::transform::Shipped;
 use crate::{said, values};
 use clap::ArgMatches;
-use office_rules::{MeterNo, Operator, Ref};
-use sts_fields::{Base, Moment};
+use office_rules::{MeterNo, Operator, Ref, TariffName};
+use sts_fields::{Base, Day, Moment};
 use sts_token::read_key;
 use tariff::Tender;
 
@@ -181,6 +181,34 @@ pub(crate) fn read_meter(matches: &ArgMatches) -> Option<MeterNo>
         (parsed_argument (codes "meter") (argument_rows matches.now))) }
 {
     MeterNo::read(said::text(matches, "meter")?.as_bytes())
+}
+
+/// `--tariff`.
+pub(crate) const TARIFF: Argument = Argument {
+    name: "tariff",
+    kind: ArgumentKind::Needed("NAME"),
+    help: "The name of a tariff that the office has, 1 to 32 ASCII letters, digits or hyphens",
+};
+
+pub(crate) fn read_tariff(matches: &ArgMatches) -> Option<TariffName>
+    ensures { ReadsWhat result (IsArgument SaysTariff
+        (parsed_argument (codes "tariff") (argument_rows matches.now))) }
+{
+    TariffName::read(said::text(matches, "tariff")?.as_bytes())
+}
+
+/// `--from`.
+pub(crate) const FROM: Argument = Argument {
+    name: "from",
+    kind: ArgumentKind::Needed("DAY"),
+    help: "The day from which the steps hold, as YYYY-MM-DD (UTC)",
+};
+
+pub(crate) fn read_from(matches: &ArgMatches) -> Option<Day>
+    ensures { ReadsWhat result (IsArgument SaysDay
+        (parsed_argument (codes "from") (argument_rows matches.now))) }
+{
+    values::day(said::text(matches, "from")?)
 }
 
 /// `--base`.

@@ -33,7 +33,13 @@ fn asks_office(name: &str) -> bool
 fn is_asked_to_do(name: &str) -> bool
     ensures { result ≡ is_asked_to_do name.now }
 {
-    name == "import" || name == "shift" || name == "sell" || name == "tariff" || name == "base"
+    name == "import"
+        || name == "shift"
+        || name == "sell"
+        || name == "tariff"
+        || name == "withdraw"
+        || name == "base"
+        || name == "key"
 }
 
 // A command that prints what an office has.

@@ -1,14 +1,15 @@
 ghost use Rattle.command_line.specs.Commands.{SaysRequest, SaysRequestWords};
 ghost use Rattle.command_line.specs.Said.{ReadsWhat, argument_rows};
 
-use crate::commands::{base, sell, set_tariff, shift};
+use crate::commands::{base, sell, set_key, set_tariff, shift, withdraw};
 use crate::options;
 use crate::transform::Shipped;
 use clap::ArgMatches;
 use office_rules::Request;
 use sts_fields::Moment;
 
-/// What `tariff`, `base`, `shift` and `sell` are asked to do: a request, made to an office.
+/// What `tariff`, `withdraw`, `base`, `key`, `shift` and `sell` are asked to do: a request, made to
+/// an office.
 #[derive(Drop)]
 pub struct RequestWords<'a> {
     pub transform: Shipped,
@@ -41,7 +42,9 @@ fn read_request(name: &str, matches: &ArgMatches) -> Option<Request>
 {
     match name {
         "tariff" => set_tariff::read(matches),
+        "withdraw" => withdraw::read(matches),
         "base" => base::read(matches),
+        "key" => set_key::read(matches),
         "shift" => shift::read(matches),
         "sell" => sell::read(matches),
         _ => None,

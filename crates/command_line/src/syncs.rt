@@ -1,4 +1,4 @@
-ghost use Rattle.std.specs.Prelude.{◌≡◌, map};
+ghost use Rattle.std.specs.Prelude.{◌≡◌, IfSome, map};
 ghost use Rattle.command_line.specs.Asked.{AskFor, syncs_of};
 ghost use Rattle.command_line.specs.Values.{ReadsBy, SaysSyncs};
 ghost use Rattle.command_line.specs.declared.asked.Asked.{Asked};
@@ -29,20 +29,23 @@ impl Syncs {
     }
 }
 
-/// How often a change is to be synced: once for `serve --sync full`, and twice otherwise, also if
-/// the arguments cannot be read. Once needs a disk that finishes each sector it begins to write.
-pub fn syncs_asked(alloc: Global, words: &[&str]) -> Syncs
-    ensures { result ≡ Syncs.Once → (asked : Asked)
-        × AskFor (map (λ w. w.now) words.now) asked × (syncs_of asked ≡ Syncs.Once) }
+/// How often a change is to be synced: once for `serve --sync full`, and twice for what else the
+/// arguments ask for. None where they ask for nothing, or cannot be read for want of memory. Once
+/// needs a disk that finishes each sector it begins to write.
+pub fn syncs_asked(alloc: Global, words: &[&str]) -> Option<Syncs>
+    ensures asked { IfSome result (λ syncs. (asked : Asked)
+        × AskFor (map (λ w. w.now) words.now) asked × (syncs_of asked ≡ syncs)) }
+    ensures only { IfSome result (λ syncs. (asked : Asked)
+        → AskFor (map (λ w. w.now) words.now) asked → syncs_of asked ≡ syncs) }
 {
     let Ok(line) = meant(alloc, words) else {
-        return Syncs::Twice;
+        return None;
     };
     let Ok(matches) = parse(alloc, &line) else {
-        return Syncs::Twice;
+        return None;
     };
     match Asked::read(alloc, &matches) {
-        Ok(asked) => asked.syncs(),
-        Err(_) => Syncs::Twice,
+        Ok(asked) => Some(asked.syncs()),
+        Err(_) => None,
     }
 }

@@ -2,14 +2,14 @@
 ghost use Rattle.std.specs.Prelude.{map};
 ghost use Rattle.command_line.specs.Said.{ReadsOrFull};
 ghost use Rattle.command_line.specs.Values.{ReadsBy, SayEach, SaysAfter, SaysAmount, SaysBase};
-ghost use Rattle.command_line.specs.Values.{SaysConnections, SaysCount, SaysFlag, SaysItem};
-ghost use Rattle.command_line.specs.Values.{SaysMoment, SaysOctet, SaysPort};
+ghost use Rattle.command_line.specs.Values.{SaysConnections, SaysCount, SaysDay, SaysFlag};
+ghost use Rattle.command_line.specs.Values.{SaysItem, SaysMoment, SaysOctet, SaysPort};
 ghost use Rattle.command_line.specs.Values.{SaysPrior, SaysTender, SaysWait};
 
 use crate::words::BadWords;
 use office_rules::GREATEST_COUNT;
 use std::alloc::Global;
-use sts_fields::{Base, Moment};
+use sts_fields::{Base, Day, Moment};
 use tariff::{MAX_PRIOR, Tender};
 
 /// A number of 64 bits in ASCII digits; zeros may stand in front.
@@ -36,6 +36,13 @@ pub(crate) fn moment(word: &str) -> Option<Moment>
 {
     let seconds = i64::try_from(number(word)?).ok()?;
     Moment::of_secs(seconds)
+}
+
+/// The day of UTC that a date is.
+pub(crate) fn day(word: &str) -> Option<Day>
+    ensures { ReadsBy SaysDay word.now result }
+{
+    Day::of_text(word.as_bytes()).ok()
 }
 
 /// An amount in tenths of a kWh, whether a token can carry it or not.

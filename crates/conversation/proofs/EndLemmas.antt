@@ -1,5 +1,5 @@
 -- How a run ends, from how the last message of it did.
-use Rattle.std.proofs.Common.{◌≡◌, ℕ, ◌+◌, ◌<◌, inl, inr, Bool, true, false, List, [], ◌∷◌, ◌++◌, length, take, Option, Some, None, Err, refl, ap, sym, subst, ◌∙◌, append_assoc, append-nil, arith}
+use Rattle.std.proofs.Common.{◌≡◌, ℕ, ◌+◌, ◌<◌, inl, inr, Bool, true, false, List, [], ◌∷◌, ◌++◌, length, take, Option, Some, None, Err, refl, ap, sym, subst, ◌∙◌, append-nil, arith}
 use Rattle.std.proofs.lemmas.List.{length-append}
 use Rattle.std.specs.Prelude.{MatchBool}
 use Rattle.std.specs.Io.KnownBytes.{Appends, Consumes, IsAtEnd}
@@ -11,20 +11,30 @@ use Rattle.conversation.specs.Conversation.{interim, interim_for, messages_of, t
 use Rattle.conversation.specs.Exchanges.{MessageExchange, Timed, timed, GaveUp}
 use Rattle.conversation.specs.message.Messages.{Stop, ended, Message, BeginsMessage, IsMessageRefused, IsTold, LacksBody, finished, closing, refused}
 use Rattle.conversation.specs.message.Next.{IsRefusedEver}
-use Rattle.conversation.specs.Parts.{EndsEarly, EndsHere, ReplyIsWritten, RefusalIsWritten, is_due}
+use Rattle.conversation.specs.Parts.{EndsEarly, EndsHere, MayOfferBehind, ReplyIsWritten, RefusalIsWritten, is_due}
 use Rattle.conversation.specs.Run.{IsAll, IsRun}
-use Rattle.conversation.specs.Ends.{IsOutputSent, Output, WritesLast, WritesWhole}
+use Rattle.conversation.specs.Ends.{IsNothing, IsOutputSent, Offer, Output, SendsEnd, WritesLast, WritesWhole}
+use Rattle.conversation.specs.Uses.{IsLeftOf}
+use Rattle.conversation.proofs.OfferLemmas.{joined, offers_interim, offers_nothing, offers_on, offers_refusal, offers_reply}
 use Rattle.conversation.proofs.InterimLemmas.{IsTold-append, lack_told, told_message, told_text}
-use Rattle.conversation.proofs.UsesLemmas.{last_after, take_behind}
+use Rattle.conversation.proofs.UsesLemmas.{Behind, last_after, last_wider, take_behind}
 use Rattle.conversation.proofs.ProgressLemmas.{Step, BeginsMessage-append, progress_none, progress-append, conversation_after, cut_off_after, given_up_after}
 
--- a text that a writer took, and the end of which it is
-abbrev pub Written : End → Output → Output → (List ℕ → Type 0) → Type 0
-Written end held holds Ends = (text : List ℕ) × WritesLast end held holds text × Ends text
+-- a text that a writer took, by writes that offered what they may, and the end of which it is
+abbrev pub Written : End → Offer → Output → Output → (List ℕ → Type 0) → Type 0
+Written end May held holds Ends = (text : List ℕ) × WritesLast end May held holds text × Ends text
 
 -- the same, of the bytes alone
 abbrev pub WrittenBytes : Option (List ℕ) → Option (List ℕ) → (List ℕ → Type 0) → Type 0
 WrittenBytes held holds Ends = (text : List ℕ) × Appends held holds text × Ends text
+
+-- where nothing was written, a run ends so
+pub nothing_ends : {O : Type 0} (end : End) (step : Step O) (refusal : MessageFault → List ℕ) (front : List ℕ) (old : Timed O) (rest : List ℕ)
+    (held holds : Output) → (k : WritesWhole IsNothing held holds []) → SendsEnd end k.writes.uses
+    → WritesLast end (MayOfferBehind step refusal front old rest) held holds []
+nothing_ends end step refusal front old rest held holds k ends =
+    last_wider end IsNothing (MayOfferBehind step refusal front old rest) held holds [] (offers_nothing step refusal front old rest)
+    (record { writes = k.writes; ends = ends })
 
 -- ---- one message
 
@@ -50,7 +60,8 @@ closed_end step refusal told old new rest m after x was begins closes same answe
 pub answered_end : {O : Type 0} (A : Type 0) (step : Step O) (refusal : MessageFault → List ℕ) (told : Bool) (old new : Timed O) (held holds : Output)
     (rest : List ℕ) (m : Message) (after : List ℕ) (end : End) → IsTold rest told → BeginsMessage rest m after
     → ReplyIsWritten {A = A} step told old new held holds m (Err end)
-    → Written end held holds (λ text. EndsEarly step refusal old (interim_for told ++ text) new rest end)
+    → Written end (MayOfferBehind step refusal (interim_for told) old rest) held holds
+    (λ text. EndsEarly step refusal old (interim_for told ++ text) new rest end)
 answered_end A step refusal told old new held holds rest m after Closed was begins x = absurd x
 answered_end A step refusal told old new held holds rest m after BadMessage was begins x = absurd x
 answered_end A step refusal told old new held holds rest m after ReadFault was begins x = absurd x
@@ -59,7 +70,8 @@ answered_end A step refusal told old new held holds rest m after WriteFault was 
     let last = interim_for (is_due m.expects told) ++ x.reply in
     let whole : front ++ last ≡ text_of x = told_text x m told same (told_message rest m after told was begins) in (
       take part last,
-      written,
+      last_wider WriteFault _ _ held holds (take part last)
+          (offers_reply step refusal told old new rest m after x was begins same answered) written,
       λ more. record {
         rest = rest ++ more;
         whole = [];
@@ -80,7 +92,7 @@ answered_end A step refusal told old new held holds rest m after WriteFault was 
     )
 answered_end A step refusal told old new held holds rest m after Memory was begins (gave_up, k) = (
   [],
-  record { writes = k.writes; ends = k.open_still },
+  nothing_ends Memory step refusal (interim_for told) old rest held holds k k.open_still,
   λ more. record {
     rest = rest ++ more;
     mid = old;
@@ -95,8 +107,9 @@ answered_end A step refusal told old new held holds rest m after Memory was begi
 
 due_end : {O : Type 0} (A : Type 0) (step : Step O) (refusal : MessageFault → List ℕ) (old : Timed O) (held holds : Output)
     (rest : List ℕ) (missing : ℕ) (expects told : Bool) (end : End) → LacksBody rest missing expects
-    → IsOutputSent {A = A} held holds (interim_for (is_due expects told)) (Err end)
-    → Written end held holds (λ text. EndsEarly step refusal old (interim_for told ++ text) old rest end)
+    → IsOutputSent {A = A} (IsLeftOf [] (interim_for (is_due expects told))) held holds (interim_for (is_due expects told)) (Err end)
+    → Written end (MayOfferBehind step refusal (interim_for told) old rest) held holds
+    (λ text. EndsEarly step refusal old (interim_for told ++ text) old rest end)
 due_end A step refusal old held holds rest missing expects told Closed lacks x = absurd x
 due_end A step refusal old held holds rest missing expects told BadMessage lacks x = absurd x
 due_end A step refusal old held holds rest missing expects told ReadFault lacks x = absurd x
@@ -105,7 +118,8 @@ due_end A step refusal old held holds rest missing false told WriteFault lacks (
 due_end A step refusal old held holds rest missing true true WriteFault lacks (part, short, written) = absurd (omega (arith, short))
 due_end A step refusal old held holds rest missing true false WriteFault lacks (part, short, written) = (
   take part interim,
-  written,
+  last_wider WriteFault _ _ held holds (take part interim)
+      (offers_interim step refusal old rest true false (λ is. lack_told rest missing true lacks)) written,
   λ more. record {
     rest = rest ++ more;
     whole = [];
@@ -122,11 +136,12 @@ due_end A step refusal old held holds rest missing true false WriteFault lacks (
 -- an interim reply that was due, and not written whole
 pub interim_end : {O : Type 0} (A : Type 0) (step : Step O) (refusal : MessageFault → List ℕ) (old : Timed O) (held holds : Output)
     (rest : List ℕ) (missing : ℕ) (expects told due : Bool) (end : End) → due ≡ is_due expects told → LacksBody rest missing expects
-    → IsOutputSent {A = A} held holds (interim_for due) (Err end)
-    → Written end held holds (λ text. EndsEarly step refusal old (interim_for told ++ text) old rest end)
+    → IsOutputSent {A = A} (IsLeftOf [] (interim_for due)) held holds (interim_for due) (Err end)
+    → Written end (MayOfferBehind step refusal (interim_for told) old rest) held holds
+    (λ text. EndsEarly step refusal old (interim_for told ++ text) old rest end)
 interim_end A step refusal old held holds rest missing expects told due end same lacks x =
     due_end A step refusal old held holds rest missing expects told end lacks
-    (subst (λ b. IsOutputSent {A = A} held holds (interim_for b) (Err end)) same x)
+    (subst (λ b. IsOutputSent {A = A} (IsLeftOf [] (interim_for b)) held holds (interim_for b) (Err end)) same x)
 
 -- memory was short, and nothing was written
 pub memory_end : {O : Type 0} (step : Step O) (old : Timed O) (rest : List ℕ)
@@ -164,37 +179,49 @@ refused_cut_off step refusal old rest fault part is short = record {
   written_is = refl;
 }
 
+-- what is left of the refusal of a message that is refused whatever follows
+refused_early : {O : Type 0} (step : Step O) (refusal : MessageFault → List ℕ) (old : Timed O) (rest : List ℕ) (fault : MessageFault)
+    → IsRefusedEver rest fault → Behind [] (IsLeftOf [] (refusal fault)) (MayOfferBehind step refusal [] old rest)
+refused_early step refusal old rest fault ever =
+    offers_refusal step refusal old rest fault (subst (λ bytes. IsMessageRefused ended bytes fault) (append-nil rest) (ever ended []))
+
 -- a message that is refused whatever follows
 pub told_end : {O : Type 0} (step : Step O) (refusal : MessageFault → List ℕ) (old : Timed O) (held holds : Output)
     (rest : List ℕ) (fault : MessageFault) (end : End) → IsRefusedEver rest fault → RefusalIsWritten held holds (refusal fault) end
-    → Written end held holds (λ text. EndsEarly step refusal old text old rest end)
+    → Written end (MayOfferBehind step refusal [] old rest) held holds (λ text. EndsEarly step refusal old text old rest end)
 told_end step refusal old held holds rest fault Closed ever x = absurd x
 told_end step refusal old held holds rest fault ReadFault ever x = absurd x
 told_end step refusal old held holds rest fault BadMessage ever x = (
   refusal fault,
-  record { writes = x.writes; ends = x.open_still },
+  last_wider BadMessage _ _ held holds (refusal fault) (refused_early step refusal old rest fault ever)
+      (record { writes = x.writes; ends = x.open_still }),
   (fault, λ stop more. refused_conversation step refusal old stop (rest ++ more) fault (ever stop more)),
 )
 told_end step refusal old held holds rest fault WriteFault ever (part, short, written) = (
   take part (refusal fault),
-  written,
+  last_wider WriteFault _ _ held holds (take part (refusal fault)) (refused_early step refusal old rest fault ever) written,
   λ more. refused_cut_off step refusal old (rest ++ more) fault part (ever ended more) short,
 )
 told_end step refusal old held holds rest fault Memory ever k =
-    ([], record { writes = k.writes; ends = k.open_still }, λ more. memory_end step old (rest ++ more))
+    ([], nothing_ends Memory step refusal [] old rest held holds k k.open_still, λ more. memory_end step old (rest ++ more))
 
 -- a message that is refused where the input ended
 pub told_here : {O : Type 0} (step : Step O) (refusal : MessageFault → List ℕ) (old : Timed O) (held holds : Output)
     (rest : List ℕ) (fault : MessageFault) (end : End) → IsMessageRefused ended rest fault → RefusalIsWritten held holds (refusal fault) end
-    → Written end held holds (λ text. EndsHere step refusal old text old rest end)
+    → Written end (MayOfferBehind step refusal [] old rest) held holds (λ text. EndsHere step refusal old text old rest end)
 told_here step refusal old held holds rest fault Closed is x = absurd x
 told_here step refusal old held holds rest fault ReadFault is x = absurd x
 told_here step refusal old held holds rest fault BadMessage is x =
-    (refusal fault, record { writes = x.writes; ends = x.open_still }, (fault, refused_conversation step refusal old ended rest fault is))
+    let last : WritesLast BadMessage (IsLeftOf [] (refusal fault)) held holds (refusal fault) = record { writes = x.writes; ends = x.open_still } in (
+      refusal fault,
+      last_wider BadMessage _ _ held holds (refusal fault) (offers_refusal step refusal old rest fault is) last,
+      (fault, refused_conversation step refusal old ended rest fault is),
+    )
 told_here step refusal old held holds rest fault WriteFault is (part, short, written) =
-    (take part (refusal fault), written, refused_cut_off step refusal old rest fault part is short)
+    let last = last_wider WriteFault _ _ held holds (take part (refusal fault)) (offers_refusal step refusal old rest fault is) written in
+    (take part (refusal fault), last, refused_cut_off step refusal old rest fault part is short)
 told_here step refusal old held holds rest fault Memory is k =
-    ([], record { writes = k.writes; ends = k.open_still }, memory_end step old rest)
+    ([], nothing_ends Memory step refusal [] old rest held holds k k.open_still, memory_end step old rest)
 
 -- ---- after other messages
 
@@ -231,20 +258,17 @@ here_after step refusal old mid new input rest first second WriteFault p x =
 here_after step refusal old mid new input rest first second Memory p x =
     given_up_after (timed step) (GaveUp step) input rest old mid new first second p x
 
-joined : (front first whole behind second : List ℕ) → front ++ first ≡ whole ++ behind → whole ++ (behind ++ second) ≡ front ++ (first ++ second)
-joined front first whole behind second said =
-    sym (append_assoc whole behind second) ∙ ap (λ bytes. bytes ++ second) (sym said) ∙ append_assoc front first second
-
 -- an end after messages that were answered: what was written before is the whole text for these and
 -- what stands behind it, the interim reply to the next one
 pub end_after : {O : Type 0} (step : Step O) (refusal : MessageFault → List ℕ) (old mid new : Timed O) (a b c : Output)
-    (input rest : List ℕ) (front first whole behind : List ℕ) (end : End) → WritesWhole a b first → Progress (timed step) input rest old whole mid
+    (input rest : List ℕ) (front first whole behind : List ℕ) (end : End)
+    → WritesWhole (MayOfferBehind step refusal front old input) a b first → Progress (timed step) input rest old whole mid
     → front ++ first ≡ whole ++ behind
-    → Written end b c (λ text. EndsEarly step refusal mid (behind ++ text) new rest end)
-    → Written end a c (λ text. EndsEarly step refusal old (front ++ text) new input end)
+    → Written end (MayOfferBehind step refusal behind mid rest) b c (λ text. EndsEarly step refusal mid (behind ++ text) new rest end)
+    → Written end (MayOfferBehind step refusal front old input) a c (λ text. EndsEarly step refusal old (front ++ text) new input end)
 end_after step refusal old mid new a b c input rest front first whole behind end before p said (second, written, ends) = (
   first ++ second,
-  last_after end a b c first second before written,
+  last_after end _ _ a b c first second (offers_on step refusal old mid input rest front first whole behind p said) before written,
   subst (λ text. EndsEarly step refusal old text new input end) (joined front first whole behind second said)
       (early_after step refusal old mid new input rest whole (behind ++ second) end p ends),
 )

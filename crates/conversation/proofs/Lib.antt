@@ -6,6 +6,7 @@ pub mod FramingLemmas
 pub mod HeadLemmas
 pub mod InterimLemmas
 pub mod MessageLemmas
+pub mod OfferLemmas
 pub mod ProgressLemmas
 pub mod ReadingLemmas
 pub mod RunLemmas

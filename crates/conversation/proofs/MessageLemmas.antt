@@ -57,13 +57,16 @@ parts method host coded body last expects =
     Ok (record { method = name; body = len; closes = last; expects = expects len })
 
 of_method : (name : List ℕ) → IsOfHead (method_of name)
-of_method name = by_tests (bytes_eq name (codes "GET")) (bytes_eq name (codes "POST")) (bytes_eq name (codes "HEAD"))
+of_method name =
+    by_tests (bytes_eq name (codes "GET")) (bytes_eq name (codes "POST")) (bytes_eq name (codes "HEAD")) (bytes_eq name (codes "DELETE"))
   where
-    by_tests : (a b c : Bool) → IsOfHead (cond a (Ok Get) (cond b (Ok Post) (cond c (Ok methods.Head) (Err faults.Method))))
-    by_tests true b c e = absurd (cc)
-    by_tests false true c e = absurd (cc)
-    by_tests false false true e = absurd (cc)
-    by_tests false false false e = absurd (cc)
+    by_tests : (a b c d : Bool)
+        → IsOfHead (cond a (Ok Get) (cond b (Ok Post) (cond c (Ok methods.Head) (cond d (Ok methods.Delete) (Err faults.Method)))))
+    by_tests true b c d e = absurd (cc)
+    by_tests false true c d e = absurd (cc)
+    by_tests false false true d e = absurd (cc)
+    by_tests false false false true e = absurd (cc)
+    by_tests false false false false e = absurd (cc)
 
 of_length : (value : List ℕ) → IsOfHead (length_of value)
 of_length value = by_tests (is_number value) (nat_le (digits_value 10 value) longest_body)

@@ -11,18 +11,19 @@ use Rattle.conversation.specs.declared.message.message_fault.MessageFault.TheVar
 use Rattle.conversation.specs.declared.wants.Wants.{Wants}
 use Rattle.conversation.specs.declared.wants.Wants.TheVariants.{Head, Body}
 use Rattle.conversation.specs.Conversation.{Conversation, Progress, interim_for}
-use Rattle.conversation.specs.Ends.{AsksOnce, IsInputRead, Output, Writes, WritesLast, WritesWhole}
+use Rattle.conversation.specs.Ends.{AreOffers, AsksOnce, IsInputRead, Offer, Output, Writes, WritesLast, WritesWhole}
 use Rattle.conversation.specs.Exchanges.{Timed, timed}
 use Rattle.conversation.specs.message.Heads.{longest_head}
 use Rattle.conversation.specs.message.Messages.{ended, failed as failing, EndsAs, broken, finished}
-use Rattle.conversation.specs.Parts.{EndsHere, IsOver}
+use Rattle.conversation.specs.Parts.{EndsHere, IsOver, MayOfferBehind}
 use Rattle.conversation.specs.Run.{IsRun}
-use Rattle.conversation.specs.Uses.{AreOpen, AreSound, EndsBy, Grows, IsOpen, IsPaced, MayAsk, Passed, Use, asked, bytes_in, failed, interrupted, least_read, longest_message, moved, reads_in, received, window_behind, window_for, written}
+use Rattle.conversation.specs.Uses.{AreOpen, AreSound, EndsBy, Grows, IsOpen, IsPaced, MayAsk, MayOffer, Passed, Use, asked, bytes_in, failed, interrupted, least_read, longest_message, moved, reads_in, received, window_behind, window_for, written}
 use Rattle.conversation.specs.Wants.{count_of, told_of, IsAwaited}
 use Rattle.conversation.proofs.InterimLemmas.{IsTold-append, awaited_told}
-use Rattle.conversation.proofs.EndLemmas.{Written, WrittenBytes, all_left, left_of, told_here}
+use Rattle.conversation.proofs.EndLemmas.{Written, WrittenBytes, all_left, left_of, nothing_ends, told_here}
 use Rattle.conversation.proofs.MessageLemmas.{framed_fits, some_head, some_head_is}
-use Rattle.conversation.proofs.UsesLemmas.{AreInTurn-append, AreOpen-append, AreSound-append, are_sound, ends_by, Grows-nil, Grows-trans, reads_in-append, received-append, sends_in_turn, sends_keep_window, sends_read_none, sends_receive, window_behind-append, written-append}
+use Rattle.conversation.proofs.OfferLemmas.{offers_after}
+use Rattle.conversation.proofs.UsesLemmas.{AreInTurn-append, AreOpen-append, AreSound-append, Behind, are_sound, ends_by, Grows-nil, Grows-trans, offers_behind, reads_in-append, received-append, sends_in_turn, sends_keep_window, sends_read_none, sends_receive, window_behind-append, written-append}
 use Rattle.conversation.proofs.ProgressLemmas.{Step, progress-append, progress_trans, conversation_after}
 use Rattle.conversation.proofs.ReadingLemmas.{no_empty_head}
 
@@ -118,26 +119,30 @@ read_run step refusal old new told tells a b c held holds wanted taken rest afte
 -- the end of the input, where this was left of it, behind the interim reply where that was written
 pub over_end : {O : Type 0} (step : Step O) (refusal : MessageFault → List ℕ) (told : Bool) (old : Timed O) (held holds : Output)
     (rest : List ℕ) (end : End) → IsOver refusal told rest held holds end
-    → Written end held holds (λ text. EndsHere step refusal old (interim_for told ++ text) old rest end)
+    → Written end (MayOfferBehind step refusal (interim_for told) old rest) held holds
+    (λ text. EndsHere step refusal old (interim_for told ++ text) old rest end)
 over_end step refusal told old held holds rest Closed (is, none) = (
   [],
-  record { writes = none.writes; ends = none.open_still },
+  nothing_ends Closed step refusal (interim_for told) old rest held holds none none.open_still,
   (told, record { exchanges = []; messages = is; served = refl; text_is = append-nil (interim_for told) }),
 )
 over_end step refusal told old held holds rest BadMessage (untold, is, refuses) =
-    subst (λ b. Written BadMessage held holds (λ text. EndsHere step refusal old (interim_for b ++ text) old rest BadMessage)) (sym untold)
+    subst (λ b. Written BadMessage (MayOfferBehind step refusal (interim_for b) old rest) held holds
+    (λ text. EndsHere step refusal old (interim_for b ++ text) old rest BadMessage)) (sym untold)
     (told_here step refusal old held holds rest faults.Head BadMessage is refuses)
 over_end step refusal told old held holds rest WriteFault (untold, is, refuses) =
-    subst (λ b. Written WriteFault held holds (λ text. EndsHere step refusal old (interim_for b ++ text) old rest WriteFault)) (sym untold)
+    subst (λ b. Written WriteFault (MayOfferBehind step refusal (interim_for b) old rest) held holds
+    (λ text. EndsHere step refusal old (interim_for b ++ text) old rest WriteFault)) (sym untold)
     (told_here step refusal old held holds rest faults.Head WriteFault is refuses)
 over_end step refusal told old held holds rest Memory (untold, is, refuses) =
-    subst (λ b. Written Memory held holds (λ text. EndsHere step refusal old (interim_for b ++ text) old rest Memory)) (sym untold)
+    subst (λ b. Written Memory (MayOfferBehind step refusal (interim_for b) old rest) held holds
+    (λ text. EndsHere step refusal old (interim_for b ++ text) old rest Memory)) (sym untold)
     (told_here step refusal old held holds rest faults.Head Memory is refuses)
 over_end step refusal told old held holds rest ReadFault (untold, is, refuses) = absurd refuses
 
 -- a text that was written, by its bytes alone
-pub bytes_of : (end : End) (a b : Output) (Ends : List ℕ → Type 0) → Written end a b Ends → WrittenBytes a.0 b.0 Ends
-bytes_of end a b Ends (text, last, ends) = (text, last.writes.holds, ends)
+pub bytes_of : (end : End) (May : Offer) (a b : Output) (Ends : List ℕ → Type 0) → Written end May a b Ends → WrittenBytes a.0 b.0 Ends
+bytes_of end May a b Ends (text, last, ends) = (text, last.writes.holds, ends)
 
 -- what was answered before a read is answered of all that was read after it
 pub after_read : {O : Type 0} (step : Step O) (old new : Timed O) (a b c : Option (List ℕ)) (taken rest after bytes text : List ℕ)
@@ -152,14 +157,14 @@ after_read step old new a b c taken rest after bytes text before p read is = (
 
 -- By these uses all was read and written so far, each in turn.
 pub record Used
-    {O : Type 0} (step : Step O) (old : Timed O) (told tells : Option (List Use)) (unread left held holds : Option (List ℕ)) (uses : List Use) : Type 0 where
+    {O : Type 0} (step : Step O) (refusal : MessageFault → List ℕ) (old : Timed O) (told tells : Option (List Use)) (unread left held holds : Option (List ℕ)) (uses : List Use) : Type 0 where
   pub told_are : Grows told tells uses
-  pub paced : IsPaced step old unread left held holds uses
+  pub paced : IsPaced step refusal old unread left held holds uses
 
 -- before any use nothing was read, written or told
-pub used_none : {O : Type 0} (step : Step O) (old : Timed O) (told : Option (List Use)) (unread held : Option (List ℕ))
-    → Used step old told told unread unread held held []
-used_none step old told unread held =
+pub used_none : {O : Type 0} (step : Step O) (refusal : MessageFault → List ℕ) (old : Timed O) (told : Option (List Use)) (unread held : Option (List ℕ))
+    → Used step refusal old told told unread unread held held []
+used_none step refusal old told unread held =
     record { told_are = Grows-nil told; paced = record { in_turn = tt; reads = Consumes-nil unread; writes = Appends-nil held } }
 
 -- so many bytes may be asked for where this is awaited, behind these uses
@@ -172,12 +177,12 @@ pub may_want : (count window : ℕ) (w : Wants) (uses : List Use) → count ≡ 
 may_want count window w uses all is = (omega (arith, all), omega (arith, is))
 
 -- a read that was made where this was left and awaited
-pub used_read : {O : Type 0} (step : Step O) (old new : Timed O) (told mid tells : Option (List Use))
+pub used_read : {O : Type 0} (step : Step O) (refusal : MessageFault → List ℕ) (old new : Timed O) (told mid tells : Option (List Use))
     (unread left now held holds : Option (List ℕ)) (uses : List Use)
-    (rest : List ℕ) (w : Wants) (wanted : ℕ) (passed : Passed) → MayWant wanted w uses → Used step old told mid unread left held holds uses → AreOpen uses
+    (rest : List ℕ) (w : Wants) (wanted : ℕ) (passed : Passed) → MayWant wanted w uses → Used step refusal old told mid unread left held holds uses → AreOpen uses
     → Answered step old (received uses) (written uses) rest w new → (asks : AsksOnce mid tells wanted passed)
-    → Consumes left now (bytes_in passed) → Used step old told tells unread now held holds (uses ++ asked asks.0 passed ∷ [])
-used_read step old new told mid tells unread left now held holds uses rest w wanted passed all used opened answered
+    → Consumes left now (bytes_in passed) → Used step refusal old told tells unread now held holds (uses ++ asked asks.0 passed ∷ [])
+used_read step refusal old new told mid tells unread left now held holds uses rest w wanted passed all used opened answered
     (count, least, fits_in, grows) reads =
     let within : count ≤ count_of w = omega (arith, least, all.0) in
     let windowed : count ≤ window_behind least_read uses = omega (arith, least, all.1) in
@@ -199,22 +204,26 @@ used_read step old new told mid tells unread left now held holds uses rest w wan
     record {
       told_are = Grows-trans told mid tells uses more used.told_are grows;
       paced = record {
-        in_turn = AreInTurn-append step old [] uses more used.paced.in_turn ((opened, may, windowed, fits_in), tt);
+        in_turn = AreInTurn-append step refusal old [] uses more used.paced.in_turn ((opened, may, windowed, fits_in), tt);
         reads = subst (λ bytes. Consumes unread now bytes) (ap (λ bytes. received uses ++ bytes) (sym one) ∙ sym (received-append uses more))
             (Consumes-trans unread left now (received uses) (bytes_in passed) used.paced.reads reads);
         writes = subst (λ bytes. Appends held holds bytes) (sym (append-nil (written uses)) ∙ sym (written-append uses more)) used.paced.writes;
       };
     }
 
--- texts that were handed over where nothing had failed
-pub used_sends : {O : Type 0} (step : Step O) (old : Timed O) (told mid tells : Option (List Use))
+-- texts that were handed over where nothing had failed, and of which all was offered that was left
+pub used_sends : {O : Type 0} (step : Step O) (refusal : MessageFault → List ℕ) (old : Timed O) (told mid tells : Option (List Use))
     (unread left held holds now : Option (List ℕ)) (uses : List Use)
-    (text : List ℕ) → Used step old told mid unread left held holds uses → AreSound uses → (w : Writes (holds, mid) (now, tells) text)
-    → Used step old told tells unread left held now (uses ++ w.uses)
-used_sends step old told mid tells unread left held holds now uses text used sound w = record {
+    (text : List ℕ) (May : Offer) → Behind (written uses) May (MayOffer step refusal old (received uses))
+    → Used step refusal old told mid unread left held holds uses → AreSound uses → (w : Writes May (holds, mid) (now, tells) text)
+    → Used step refusal old told tells unread left held now (uses ++ w.uses)
+used_sends step refusal old told mid tells unread left held holds now uses text May can used sound w = record {
   told_are = Grows-trans told mid tells uses w.uses used.told_are w.told;
   paced = record {
-    in_turn = AreInTurn-append step old [] uses w.uses used.paced.in_turn (sends_in_turn step old uses w.uses sound w.sends);
+    in_turn =
+        let may = offers_behind (written uses) May (MayOffer step refusal old (received uses)) can [] w.uses w.offers in
+        AreInTurn-append step refusal old [] uses w.uses used.paced.in_turn (sends_in_turn step refusal old uses w.uses sound w.sends
+        (subst (λ l. AreOffers (MayOffer step refusal old (received uses)) l w.uses) (append-nil (written uses)) may));
     reads = subst (λ bytes. Consumes unread left bytes)
         (sym (append-nil (received uses)) ∙ ap (λ bytes. received uses ++ bytes) (sym (sends_receive w.uses w.sends)) ∙ sym (received-append uses w.uses))
         used.paced.reads;
@@ -230,27 +239,27 @@ came_open asks count [] long some = absurd (some (sym long))
 came_open asks count (byte ∷ bytes) long some = tt
 
 -- what `run` says of its uses
-abbrev pub Paced : {O : Type 0} → Step O → Timed O → (told tells : Option (List Use)) → (unread left held holds : Option (List ℕ)) → End → Type 0
-Paced step old told tells unread left held holds end =
-    (uses : List Use) × Grows told tells uses × IsPaced step old unread left held holds uses × EndsBy end uses
+abbrev pub Paced : {O : Type 0} → Step O → (MessageFault → List ℕ) → Timed O → (told tells : Option (List Use)) → (unread left held holds : Option (List ℕ)) → End → Type 0
+Paced step refusal old told tells unread left held holds end =
+    (uses : List Use) × Grows told tells uses × IsPaced step refusal old unread left held holds uses × EndsBy end uses
 
 -- the uses of a run and how they end are what `run` says of them
-pub paced : {O : Type 0} (step : Step O) (old : Timed O) (told tells : Option (List Use)) (unread left held holds : Option (List ℕ))
+pub paced : {O : Type 0} (step : Step O) (refusal : MessageFault → List ℕ) (old : Timed O) (told tells : Option (List Use)) (unread left held holds : Option (List ℕ))
     (end : End) (uses : List Use)
-    → Used step old told tells unread left held holds uses → EndsBy end uses → Paced step old told tells unread left held holds end
-paced step old told tells unread left held holds end uses used ends = (uses, used.told_are, used.paced, ends)
+    → Used step refusal old told tells unread left held holds uses → EndsBy end uses → Paced step refusal old told tells unread left held holds end
+paced step refusal old told tells unread left held holds end uses used ends = (uses, used.told_are, used.paced, ends)
 
-module _ {O : Type 0} (step : Step O) (old new : Timed O) (told mid tells : Option (List Use))
+module _ {O : Type 0} (step : Step O) (refusal : MessageFault → List ℕ) (old new : Timed O) (told mid tells : Option (List Use))
     (unread left now held holds : Option (List ℕ)) (uses : List Use) (rest : List ℕ) where
   -- a read that failed, or had no room
   pub paced_read : (after : List ℕ) (w : Wants) (wanted : ℕ) (end : End) → MayWant wanted w uses
-      → Used step old told mid unread left held holds uses → AreOpen uses
+      → Used step refusal old told mid unread left held holds uses → AreOpen uses
       → Answered step old (received uses) (written uses) rest w new → IsInputRead mid tells left now wanted rest after (Err end)
-      → Paced step old told tells unread now held holds end
+      → Paced step refusal old told tells unread now held holds end
   paced_read after w wanted ReadFault all used opened answered (kept, same, asks) =
-      let read = used_read step old new told mid tells unread left now held holds uses rest w wanted failed all used opened answered asks
+      let read = used_read step refusal old new told mid tells unread left now held holds uses rest w wanted failed all used opened answered asks
       (Consumes-kept left left now [] (Consumes-nil left) kept) in
-      paced step old told tells unread now held holds ReadFault _ read (inl (asks.0, (uses, refl)))
+      paced step refusal old told tells unread now held holds ReadFault _ read (inl (asks.0, (uses, refl)))
   paced_read after w wanted Memory all used opened answered (kept, same, none) = (
     uses,
     subst (λ l. Grows told tells l) (append-nil uses) (Grows-trans told mid tells uses [] used.told_are none),
@@ -266,9 +275,9 @@ module _ {O : Type 0} (step : Step O) (old new : Timed O) (told mid tells : Opti
   paced_read after w wanted WriteFault all used opened answered is = absurd is
 
   -- a read that was interrupted
-  pub interrupted_read : (after : List ℕ) (w : Wants) (wanted : ℕ) → MayWant wanted w uses → Used step old told mid unread left held holds uses → AreOpen uses
+  pub interrupted_read : (after : List ℕ) (w : Wants) (wanted : ℕ) → MayWant wanted w uses → Used step refusal old told mid unread left held holds uses → AreOpen uses
       → Answered step old (received uses) (written uses) rest w new → IsInputRead mid tells left now wanted rest after (Ok None)
-      → (all : List Use) × Used step old told tells unread now held holds all × AreOpen all
+      → (all : List Use) × Used step refusal old told tells unread now held holds all × AreOpen all
       × Answered step old (received all) (written all) after w new × (reads_in all ≡ suc (reads_in uses))
       × (window_behind least_read all ≡ window_behind least_read uses)
   interrupted_read after w wanted all used opened answered (kept, same, asks) =
@@ -276,7 +285,7 @@ module _ {O : Type 0} (step : Step O) (old new : Timed O) (told mid tells : Opti
       let none_came : received (uses ++ more) ≡ received uses = received-append uses more ∙ append-nil (received uses) in
       let none_left : written (uses ++ more) ≡ written uses = written-append uses more ∙ append-nil (written uses) in (
         uses ++ more,
-        used_read step old new told mid tells unread left now held holds uses rest w wanted interrupted all used opened answered asks
+        used_read step refusal old new told mid tells unread left now held holds uses rest w wanted interrupted all used opened answered asks
             (Consumes-kept left left now [] (Consumes-nil left) kept),
         AreOpen-append uses more opened (tt, tt),
         subst₂ (λ (a b : List ℕ). Answered step old a b after w new) (sym none_came) (sym none_left)
@@ -287,31 +296,60 @@ module _ {O : Type 0} (step : Step O) (old new : Timed O) (told mid tells : Opti
 
   -- a read that was not interrupted
   module _ (after : List ℕ) (w : Wants) (wanted count : ℕ) (all_wanted : MayWant wanted w uses)
-      (used : Used step old told mid unread left held holds uses) (opened : AreOpen uses)
+      (used : Used step refusal old told mid unread left held holds uses) (opened : AreOpen uses)
       (answered : Answered step old (received uses) (written uses) rest w new)
       (read : IsInputRead mid tells left now wanted rest after (Ok (Some count))) where
     abbrev made : List Use
     made = uses ++ asked read.5.0 (moved read.0) ∷ []
 
-    was_read : Used step old told tells unread now held holds made
-    was_read = used_read step old new told mid tells unread left now held holds uses rest w wanted (moved read.0) all_wanted used opened
+    was_read : Used step refusal old told tells unread now held holds made
+    was_read = used_read step refusal old new told mid tells unread left now held holds uses rest w wanted (moved read.0) all_wanted used opened
         answered read.5 read.3
 
     sound : AreSound made
     sound = AreSound-append uses (asked read.5.0 (moved read.0) ∷ []) (are_sound uses opened) (tt, tt)
 
+    one : Progress (timed step) (received uses ++ read.0) after old answered.whole new
+    one =
+        subst (λ l. Progress (timed step) (received uses ++ read.0) l old answered.whole new) (sym read.2)
+        (progress-append (timed step) (received uses) rest read.0 old new answered.whole answered.progress)
+
+    all_came : received uses ++ read.0 ≡ received made
+    all_came =
+        let more : List Use = asked read.5.0 (moved read.0) ∷ [] in
+        sym (received-append uses more ∙ ap (λ l. received uses ++ l) (append-nil read.0))
+
+    none_written : written uses ≡ written made
+    none_written =
+        let more : List Use = asked read.5.0 (moved read.0) ∷ [] in
+        sym (written-append uses more ∙ append-nil (written uses))
+
+    -- what may be offered for what is left with what came, behind the interim reply where that was
+    -- written
+    abbrev Offered : Offer
+    Offered = MayOfferBehind step refusal (interim_for (told_of w)) new after
+
+    offers_all : Behind (written made) Offered (MayOffer step refusal old (received made))
+    offers_all wrote offered may =
+        let front = interim_for (told_of w) in
+        let here = offers_after step refusal old new (received uses ++ read.0) after answered.whole (front ++ wrote) offered one may in
+        let said : answered.whole ++ (front ++ wrote) ≡ written made ++ wrote =
+        sym (append_assoc answered.whole front wrote) ∙ ap (λ l. l ++ wrote) (sym answered.said ∙ none_written) in
+        subst₂ (λ (a b : List ℕ). MayOffer step refusal old a b offered) all_came said here
+
     -- then texts were handed over
-    pub paced_after : (end : End) (last : Option (List Use)) (wrote : Option (List ℕ)) (text : List ℕ) → WritesLast end (holds, tells) (wrote, last) text
-        → Paced step old told last unread now held wrote end
+    pub paced_after : (end : End) (last : Option (List Use)) (wrote : Option (List ℕ)) (text : List ℕ)
+        → WritesLast end Offered (holds, tells) (wrote, last) text
+        → Paced step refusal old told last unread now held wrote end
     paced_after end last wrote text sends =
-        let used = used_sends step old told tells last unread now held holds wrote made text was_read sound sends.writes in
-        paced step old told last unread now held wrote end _ used (ends_by end made sends.writes.uses sound sends.ends)
+        let used = used_sends step refusal old told tells last unread now held holds wrote made text Offered offers_all was_read sound sends.writes in
+        paced step refusal old told last unread now held wrote end _ used (ends_by end made sends.writes.uses sound sends.ends)
 
     -- and all were taken, where bytes had come
     pub went_on : (last : Option (List Use)) (wrote : Option (List ℕ)) (text more_whole : List ℕ) (later : Timed O) (left_over kept : List ℕ) (wants : Wants)
-        → kept ≡ left_over → ¬ (count ≡ 0) → WritesWhole (holds, tells) (wrote, last) text → Progress (timed step) after left_over new more_whole later
+        → kept ≡ left_over → ¬ (count ≡ 0) → WritesWhole Offered (holds, tells) (wrote, last) text → Progress (timed step) after left_over new more_whole later
         → IsAwaited left_over wants → interim_for (told_of w) ++ text ≡ more_whole ++ interim_for (told_of wants)
-        → (all : List Use) × Used step old told last unread now held wrote all × AreOpen all
+        → (all : List Use) × Used step refusal old told last unread now held wrote all × AreOpen all
         × Answered step old (received all) (written all) kept wants later × (reads_in all ≡ suc (reads_in uses))
         × (window_behind least_read all ≡ window_for count)
     went_on last wrote text more_whole later left_over kept wants same some whole progress awaits said =
@@ -320,9 +358,6 @@ module _ {O : Type 0} (step : Step O) (old new : Timed O) (told mid tells : Opti
         let all = made ++ writes.uses in
         let before = interim_for (told_of w) in
         let behind = interim_for (told_of wants) in
-        let one : Progress (timed step) (received uses ++ read.0) after old answered.whole new =
-        subst (λ l. Progress (timed step) (received uses ++ read.0) l old answered.whole new) (sym read.2)
-        (progress-append (timed step) (received uses) rest read.0 old new answered.whole answered.progress) in
         let both = progress_trans (timed step) (received uses ++ read.0) after left_over old new later answered.whole more_whole one progress in
         let came : received uses ++ read.0 ≡ received all =
         sym (received-append made writes.uses ∙ ap (λ l. received made ++ l) (sends_receive writes.uses writes.sends) ∙ append-nil (received made)
@@ -331,7 +366,7 @@ module _ {O : Type 0} (step : Step O) (old new : Timed O) (told mid tells : Opti
         sym (written-append made writes.uses ∙ ap (λ l. l ++ written writes.uses) (written-append uses more ∙ append-nil (written uses))
         ∙ ap (λ l. written uses ++ l) (sym writes.text_is)) in (
           all,
-          used_sends step old told tells last unread now held holds wrote made text was_read sound writes,
+          used_sends step refusal old told tells last unread now held holds wrote made text Offered offers_all was_read sound writes,
           AreOpen-append made writes.uses (AreOpen-append uses more opened (came_open read.5.0 count read.0 read.1 some, tt)) whole.open_still,
           record {
             whole = answered.whole ++ more_whole;

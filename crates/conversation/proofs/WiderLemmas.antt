@@ -5,14 +5,15 @@ use Rattle.conversation.specs.declared.conversation.Awaiting.{Awaiting}
 use Rattle.conversation.specs.declared.end.End.{End}
 use Rattle.conversation.specs.declared.end.End.TheVariants.{Closed, BadMessage, ReadFault, WriteFault, Memory}
 use Rattle.conversation.specs.declared.message.message_fault.MessageFault.{MessageFault}
-use Rattle.conversation.specs.Conversation.{Conversation, IsCutOff, IsGivenUp, Progress}
+use Rattle.conversation.specs.Conversation.{Conversation, IsCutOff, IsGivenUp, IsNextText, Progress, interim_for}
 use Rattle.conversation.specs.Ends.{Output}
 use Rattle.conversation.specs.Exchanges.{MessageExchange, Exchanged, GaveUp, Timed, clocked, timed}
 use Rattle.conversation.specs.message.Messages.{Ending, Message, Stop}
-use Rattle.conversation.specs.Parts.{EndsEarly, RepliesAreWritten, ReplyIsWritten}
+use Rattle.conversation.specs.Parts.{EndsEarly, MayOfferBehind, RepliesAreWritten, ReplyIsWritten}
 use Rattle.conversation.specs.Run.{IsRun, IsSaid}
-use Rattle.conversation.specs.Uses.{AreInTurn, IsPaced, MayAsk, Use, asked, received, sent, written}
+use Rattle.conversation.specs.Uses.{AreInTurn, IsPaced, MayAsk, MayOffer, Use, asked, received, sent, written}
 use Rattle.conversation.proofs.ProgressLemmas.{Step}
+use Rattle.conversation.proofs.UsesLemmas.{Behind, last_wider, whole_wider}
 
 -- each step of one kind is a step of the other
 abbrev pub Wider : {O : Type 0} → Step O → Step O → Type 0
@@ -48,6 +49,17 @@ module _ {O : Type 0} (step wide : Step O) (wider : Wider step wide) where
   conversation_wider refusal stop input old text ending new c =
       record { exchanges = c.exchanges; messages = c.messages; served = exchanged_wider old c.exchanges new c.served; text_is = c.text_is }
 
+  next_wider : (refusal : MessageFault → List ℕ) (rest : List ℕ) (mid : Timed O) (text : List ℕ) (new : Timed O)
+      → IsNextText (timed step) refusal rest mid text new → IsNextText (timed wide) refusal rest mid text new
+  next_wider refusal rest mid text new (inl reply) = inl (record {
+    exchange = reply.exchange;
+    rest = reply.rest;
+    begins = reply.begins;
+    answered = (wider mid.0 reply.exchange new.0 reply.answered.0, reply.answered.1);
+    text_is = reply.text_is;
+  })
+  next_wider refusal rest mid text new (inr refused) = inr refused
+
   cut_off_wider : (refusal : MessageFault → List ℕ) (input : List ℕ) (old : Timed O) (text : List ℕ) (new : Timed O)
       → IsCutOff (timed step) refusal input old text new → IsCutOff (timed wide) refusal input old text new
   cut_off_wider refusal input old text new c = record {
@@ -56,16 +68,7 @@ module _ {O : Type 0} (step wide : Step O) (wider : Wider step wide) where
     mid = c.mid;
     before = progress_wider input c.rest old c.whole c.mid c.before;
     last = c.last;
-    is_last = elim c.is_last [
-      | inl reply ↦ inl (record {
-        exchange = reply.exchange;
-        rest = reply.rest;
-        begins = reply.begins;
-        answered = (wider c.mid.0 reply.exchange new.0 reply.answered.0, reply.answered.1);
-        text_is = reply.text_is;
-      })
-      | inr refused ↦ inr refused
-    ];
+    is_last = next_wider refusal c.rest c.mid c.last new c.is_last;
     part = c.part;
     short = c.short;
     written_is = c.written_is;
@@ -109,12 +112,40 @@ module _ {O : Type 0} (step wide : Step O) (wider : Wider step wide) where
   reply_wider told old new held holds m (Err BadMessage) x = absurd x
   reply_wider told old new held holds m (Err ReadFault) x = absurd x
 
+  may_offer_wider : (refusal : MessageFault → List ℕ) (old : Timed O) (read wrote offered : List ℕ) → MayOffer step refusal old read wrote offered
+      → MayOffer wide refusal old read wrote offered
+  may_offer_wider refusal old read wrote offered may = record {
+    rest = may.rest;
+    whole = may.whole;
+    mid = may.mid;
+    answered = progress_wider read may.rest old may.whole may.mid may.answered;
+    next = may.next;
+    new = may.new;
+    is_next = next_wider refusal may.rest may.mid may.next may.new may.is_next;
+    left = may.left;
+  }
+
+  offers_wider : (refusal : MessageFault → List ℕ) (front : List ℕ) (old : Timed O) (input : List ℕ)
+      → Behind [] (MayOfferBehind step refusal front old input) (MayOfferBehind wide refusal front old input)
+  offers_wider refusal front old input wrote offered may = may_offer_wider refusal old input (front ++ wrote) offered may
+
   -- the replies to all whole messages of an input
   pub replies_wider : (refusal : MessageFault → List ℕ) (told : Bool) (old new : Timed O) (held holds : Output) (input : List ℕ) (r : Result Awaiting End)
       → RepliesAreWritten step refusal told old new held holds input r → RepliesAreWritten wide refusal told old new held holds input r
-  replies_wider refusal told old new held holds input (Ok awaiting) (text, whole, wrote, within, p, awaited, said) =
-      (text, whole, wrote, within, progress_wider input _ old whole new p, awaited, said)
-  replies_wider refusal told old new held holds input (Err end) (text, last, ends) = (text, last, early_wider refusal old _ new input end ends)
+  replies_wider refusal told old new held holds input (Ok awaiting) (text, whole, wrote, within, p, awaited, said) = (
+    text,
+    whole,
+    whole_wider _ _ held holds text (offers_wider refusal (interim_for told) old input) wrote,
+    within,
+    progress_wider input _ old whole new p,
+    awaited,
+    said,
+  )
+  replies_wider refusal told old new held holds input (Err end) (text, last, ends) = (
+    text,
+    last_wider end _ _ held holds text (offers_wider refusal (interim_for told) old input) last,
+    early_wider refusal old _ new input end ends,
+  )
 
   -- ---- uses in turn
 
@@ -131,18 +162,22 @@ module _ {O : Type 0} (step wide : Step O) (wider : Wider step wide) where
     held = may.held;
   }
 
-  in_turn_wider : (old : Timed O) (before uses : List Use) → AreInTurn step old before uses → AreInTurn wide old before uses
-  in_turn_wider old before [] turns = turns
-  in_turn_wider old before (asked count passed ∷ others) ((opened, may, least, fits), later) =
-      let more = in_turn_wider old (before ++ asked count passed ∷ []) others later in
+  in_turn_wider : (refusal : MessageFault → List ℕ) (old : Timed O) (before uses : List Use) → AreInTurn step refusal old before uses
+      → AreInTurn wide refusal old before uses
+  in_turn_wider refusal old before [] turns = turns
+  in_turn_wider refusal old before (asked count passed ∷ others) ((opened, may, least, fits), later) =
+      let more = in_turn_wider refusal old (before ++ asked count passed ∷ []) others later in
       ((opened, may_ask_wider old (received before) (written before) count may, least, fits), more)
-  in_turn_wider old before (sent passed ∷ others) (sound, later) = (sound, in_turn_wider old (before ++ sent passed ∷ []) others later)
+  in_turn_wider refusal old before (sent offered passed ∷ others) ((sound, may), later) = (
+    (sound, may_offer_wider refusal old (received before) (written before) offered may),
+    in_turn_wider refusal old (before ++ sent offered passed ∷ []) others later,
+  )
 
   -- the uses of a whole run
-  pub paced_wider : (old : Timed O) (unread left held holds : Option (List ℕ)) (uses : List Use)
-      → IsPaced step old unread left held holds uses → IsPaced wide old unread left held holds uses
-  paced_wider old unread left held holds uses paced =
-      record { in_turn = in_turn_wider old [] uses paced.in_turn; reads = paced.reads; writes = paced.writes }
+  pub paced_wider : (refusal : MessageFault → List ℕ) (old : Timed O) (unread left held holds : Option (List ℕ)) (uses : List Use)
+      → IsPaced step refusal old unread left held holds uses → IsPaced wide refusal old unread left held holds uses
+  paced_wider refusal old unread left held holds uses paced =
+      record { in_turn = in_turn_wider refusal old [] uses paced.in_turn; reads = paced.reads; writes = paced.writes }
 
   -- ---- a whole run
 

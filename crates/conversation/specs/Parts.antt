@@ -9,10 +9,12 @@ use Rattle.conversation.specs.declared.conversation.Awaiting.{Awaiting}
 use Rattle.conversation.specs.declared.message.message_fault.MessageFault.{MessageFault}
 use Rattle.conversation.specs.declared.message.message_fault.MessageFault.TheVariants.{Head}
 use Rattle.conversation.specs.Conversation.{Conversation, Progress, IsCutOff, IsGivenUp, interim_for}
-use Rattle.conversation.specs.Ends.{IsBeginning, Output, WritesLast, WritesWhole}
+use Rattle.conversation.specs.Ends.{IsBeginning, IsLeftOfEither, IsNothing, Offer, Output}
+use Rattle.conversation.specs.Ends.{WritesLast, WritesWhole}
 use Rattle.conversation.specs.Exchanges.{MessageExchange, Timed, timed, GaveUp}
 use Rattle.conversation.specs.message.Messages.{Stop, ended, Message, EndsAs, IsMessageRefused}
 use Rattle.conversation.specs.message.Messages.{finished, closing, refused}
+use Rattle.conversation.specs.Uses.{IsLeftOf, MayOffer}
 use Rattle.conversation.specs.Wants.{IsAwaited, told_of}
 
 -- an end that was written as this text, whatever follows the input and however that stops
@@ -40,19 +42,21 @@ abbrev pub ReplyIsWritten : {O A : Type 0} → (O → MessageExchange → O → 
     → Timed O → Timed O → Output → Output → Message → Result A End → Type 0
 ReplyIsWritten step told old new held holds m (Ok _) =
     (x : MessageExchange) × (x.message ≡ m) × timed step old x new
-    × WritesWhole held holds (interim_for (is_due m.expects told) ++ x.reply)
+    × WritesWhole (IsLeftOfEither (interim_for (is_due m.expects told)) x.reply) held holds
+    (interim_for (is_due m.expects told) ++ x.reply)
 ReplyIsWritten step told old new held holds m (Err WriteFault) =
     (x : MessageExchange) × (x.message ≡ m) × timed step old x new
-    × IsBeginning held holds (interim_for (is_due m.expects told) ++ x.reply)
+    × IsBeginning (IsLeftOfEither (interim_for (is_due m.expects told)) x.reply) held holds
+    (interim_for (is_due m.expects told) ++ x.reply)
 ReplyIsWritten step told old new held holds m (Err Memory) =
-    GaveUp step old m new × WritesWhole held holds []
+    GaveUp step old m new × WritesWhole IsNothing held holds []
 ReplyIsWritten step told old new held holds m (Err end) = ⊥
 
 -- the refusal of a message was written, or not
 abbrev pub RefusalIsWritten : Output → Output → List ℕ → End → Type 0
-RefusalIsWritten held holds text BadMessage = WritesWhole held holds text
-RefusalIsWritten held holds text WriteFault = IsBeginning held holds text
-RefusalIsWritten held holds text Memory = WritesWhole held holds []
+RefusalIsWritten held holds text BadMessage = WritesWhole (IsLeftOf [] text) held holds text
+RefusalIsWritten held holds text WriteFault = IsBeginning (IsLeftOf [] text) held holds text
+RefusalIsWritten held holds text Memory = WritesWhole IsNothing held holds []
 RefusalIsWritten held holds text end = ⊥
 
 -- the input ended where this was left: it is cut or nothing, or is refused for want of a head; an
@@ -60,10 +64,16 @@ RefusalIsWritten held holds text end = ⊥
 abbrev pub IsOver : (MessageFault → List ℕ) → (told : Bool) → List ℕ → Output → Output → End
     → Type 0
 IsOver refusal told rest held holds Closed =
-    EndsAs ended rest (finished told) × WritesWhole held holds []
+    EndsAs ended rest (finished told) × WritesWhole IsNothing held holds []
 IsOver refusal told rest held holds end =
     (told ≡ false) × IsMessageRefused ended rest Head
     × RefusalIsWritten held holds (refusal Head) end
+
+-- behind this, which was written before, all that is left of a text for the input is offered
+abbrev pub MayOfferBehind : {O : Type 0} → (O → MessageExchange → O → Type 0)
+    → (MessageFault → List ℕ) → (front : List ℕ) → Timed O → (input : List ℕ) → Offer
+MayOfferBehind step refusal front old input wrote offered =
+    MayOffer step refusal old input (front ++ wrote) offered
 
 -- Behind the interim reply, where that was written before, all whole messages of the input were
 -- answered, and this is left and awaited; or the end came.
@@ -71,12 +81,15 @@ abbrev pub RepliesAreWritten : {O : Type 0} → (O → MessageExchange → O →
     → (MessageFault → List ℕ) → (told : Bool)
     → Timed O → Timed O → Output → Output → List ℕ → Result Awaiting End → Type 0
 RepliesAreWritten step refusal told old new held holds input (Ok awaiting) =
-    (text : List ℕ) × (whole : List ℕ) × WritesWhole held holds text × (awaiting.len ≤ length input)
+    (text : List ℕ) × (whole : List ℕ)
+    × WritesWhole (MayOfferBehind step refusal (interim_for told) old input) held holds text
+    × (awaiting.len ≤ length input)
     × Progress (timed step) input (drop awaiting.len input) old whole new
     × IsAwaited (drop awaiting.len input) awaiting.wants
     × (interim_for told ++ text ≡ whole ++ interim_for (told_of awaiting.wants))
 RepliesAreWritten step refusal told old new held holds input (Err end) =
-    (text : List ℕ) × WritesLast end held holds text
+    (text : List ℕ)
+    × WritesLast end (MayOfferBehind step refusal (interim_for told) old input) held holds text
     × EndsEarly step refusal old (interim_for told ++ text) new input end
 
 -- an end that was written as this text where the input ended

@@ -45,8 +45,8 @@ pub fn run<O, S: Service<O>, L: Line<R, W>, R: Read, W: Write, C: Clock>(
         (R.remaining reader.old) (R.remaining reader.new)
         (W.contents writer.old) (W.contents writer.new) result }
     ensures paced { (uses : List Use) × Grows (L.uses line.old) (L.uses line.new) uses
-        × IsPaced (clocked (C.reads clock.old) S.step) (office.old, C.answers clock.old)
-        (R.remaining reader.old) (R.remaining reader.new)
+        × IsPaced (clocked (C.reads clock.old) S.step) S.refusal
+        (office.old, C.answers clock.old) (R.remaining reader.old) (R.remaining reader.new)
         (W.contents writer.old) (W.contents writer.new) uses
         × EndsBy result uses }
     ensures stays { (given : ℤ) → C.reads clock.new given → C.reads clock.old given }

@@ -9,7 +9,7 @@ use std::io::{self, ErrorKind, Read, Write};
 
 /// What each use of a reader and a writer of these types goes through, and of no other ones. It may
 /// tell contracts which uses were made, in order: how many bytes each read asked for and what it
-/// gave, and what each write took.
+/// gave, and which ones each write offered and how many were taken.
 pub trait Line<R: Read, W: Write> {
     /// The uses that were made so far, where they are told.
     ghost uses: { Self → Option (List Use) } = { λ _. None };
@@ -28,7 +28,7 @@ pub trait Line<R: Read, W: Write> {
         ensures bytes { WriteAppends (W.contents writer.old) (W.contents writer.new) result
             text.now }
         ensures told { Grows (uses self.old) (uses self.new)
-            (sent (passed_of text.now result) ∷ []) };
+            (sent text.now (passed_of text.now result) ∷ []) };
 }
 
 /// The line that tells no use.

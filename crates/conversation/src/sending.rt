@@ -1,8 +1,9 @@
 //! A text that is handed to a writer, by as many writes as it takes.
 
-ghost use Rattle.std.specs.Prelude.{◌≡◌, ◌<◌, ◌++◌, length};
+ghost use Rattle.std.specs.Prelude.{◌≡◌, ◌<◌, ◌++◌, [], length};
 ghost use Rattle.conversation.specs.Conversation.{interim_for};
-ghost use Rattle.conversation.specs.Ends.{IsPart, IsOutputSent};
+ghost use Rattle.conversation.specs.Ends.{IsLeftOfEither, IsPart, IsOutputSent};
+ghost use Rattle.conversation.specs.Uses.{IsLeftOf};
 ghost use Rattle.conversation.specs.Parts.{is_due};
 
 use crate::end::End;
@@ -26,8 +27,9 @@ pub(crate) fn send_behind<L: Line<R, W>, R: Read, W: Write>(
     is_due: bool,
     text: &[u8],
 ) -> Result<(), End>
-    ensures { IsOutputSent (W.contents writer.old, L.uses line.old)
-        (W.contents writer.new, L.uses line.new) (interim_for is_due ++ text.now) result }
+    ensures { IsOutputSent (IsLeftOfEither (interim_for is_due) text.now)
+        (W.contents writer.old, L.uses line.old) (W.contents writer.new, L.uses line.new)
+        (interim_for is_due ++ text.now) result }
 {
     match tell(line, writer, is_due) {
         Ok(()) => send(line, writer, text),
@@ -42,8 +44,9 @@ pub(crate) fn tell<L: Line<R, W>, R: Read, W: Write>(
     writer: &mut W,
     is_due: bool,
 ) -> Result<(), End>
-    ensures { IsOutputSent (W.contents writer.old, L.uses line.old)
-        (W.contents writer.new, L.uses line.new) (interim_for is_due) result }
+    ensures { IsOutputSent (IsLeftOf [] (interim_for is_due))
+        (W.contents writer.old, L.uses line.old) (W.contents writer.new, L.uses line.new)
+        (interim_for is_due) result }
 {
     if is_due {
         send(line, writer, INTERIM)
@@ -52,13 +55,13 @@ pub(crate) fn tell<L: Line<R, W>, R: Read, W: Write>(
     }
 }
 
-// Hands over a whole text.
+// Hands over a whole text, of which each write offers all that is left.
 pub(crate) fn send<L: Line<R, W>, R: Read, W: Write>(
     line: &mut L,
     writer: &mut W,
     text: &[u8],
 ) -> Result<(), End>
-    ensures { IsOutputSent (W.contents writer.old, L.uses line.old)
+    ensures { IsOutputSent (IsLeftOf [] text.now) (W.contents writer.old, L.uses line.old)
         (W.contents writer.new, L.uses line.new) text.now result }
 {
     let mut rest = text;

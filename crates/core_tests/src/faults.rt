@@ -48,6 +48,7 @@ fn named() -> &'static str {
 17 Stopped the office has stopped
 18 NotLater the meter has a later base date
 19 DayPast the day of the steps has begun
+20 HasSales the meter has sales
 0 - out of memory
 0 - Header
 0 - Columns
@@ -90,7 +91,7 @@ static STEPS: [StepsFault; 7] = [
     StepsFault::BadText,
 ];
 
-static REFUSALS: [Refusal; 19] = [
+static REFUSALS: [Refusal; 20] = [
     Refusal::RefReused,
     Refusal::NoShift,
     Refusal::ShiftOpen,
@@ -110,6 +111,7 @@ static REFUSALS: [Refusal; 19] = [
     Refusal::Stopped,
     Refusal::NotLater,
     Refusal::DayPast,
+    Refusal::HasSales,
 ];
 
 static CAUSES: [RowCause; 7] = [

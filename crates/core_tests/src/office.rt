@@ -1,7 +1,8 @@
 //! Requests over plain vectors: imports and a report at their greatest size, an office that is
-//! nearly full, and a transform of the caller's own.
+//! nearly full, mistakes that are taken back, and a transform of the caller's own.
 
 mod decisions;
 mod imports;
 mod reports;
+mod taken_back;
 mod transforms;

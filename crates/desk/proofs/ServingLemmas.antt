@@ -189,7 +189,7 @@ module _ {B : Type 0} (see : B → Seen) (gives : ℤ → Type 0) (refusal : Mes
 -- a run over books is a conversation of them, and of the lives that they keep
 pub converses : {B : Type 0} (see : B → Seen) (gives : ℤ → Type 0) (old new : Timed B) (unread left held holds : Option (List ℕ)) (uses : List Use) (end : End)
     → IsRun (clocked gives (answers_by (books_serve see))) message_refusal_of old new unread left held holds end
-    → IsPaced (clocked gives (answers_by (books_serve see))) old unread left held holds uses → EndsBy end uses
+    → IsPaced (clocked gives (answers_by (books_serve see))) message_refusal_of old unread left held holds uses → EndsBy end uses
     → Converses see gives old new unread left held holds uses end
 converses see gives old new unread left held holds uses end ran paced ends = record {
   run = ran;

@@ -18,8 +18,8 @@ pub record Converses {B : Type 0} (see : B → Seen) (gives : ℤ → Type 0) (o
     (unread left held holds : Option (List ℕ)) (uses : List Use) (end : End) : Type 0 where
   pub run : IsRun (clocked gives (answers_by (books_serve see))) message_refusal_of old new
       unread left held holds end
-  pub paced : IsPaced (clocked gives (answers_by (books_serve see))) old unread left held holds
-      uses
+  pub paced : IsPaced (clocked gives (answers_by (books_serve see))) message_refusal_of old unread
+      left held holds uses
   pub ends : EndsBy end uses
   pub clean : HasCleanDisk (see new.0).state → HasCleanDisk (see old.0).state
   pub lives : HasCleanDisk (see new.0).state → (life : Life) → Represents life (see old.0)

@@ -21,6 +21,9 @@ pub struct Desk {
 
 impl Desk {
     /// The desk, or none for want of memory.
+    ///
+    /// # Errors
+    /// `AllocError` if there is no memory.
     pub fn new(alloc: Global) -> Result<Desk, AllocError> {
         match Routes::new(alloc) {
             Ok(routes) => Ok(Desk { routes }),

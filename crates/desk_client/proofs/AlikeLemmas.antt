@@ -178,6 +178,7 @@ same_granted : ((t : ℕ) → IsRepresentable t → t ≤ greatest_amount) → (
     → granted_text g ≡ granted_text h → GrantAlike g h
 same_granted most granted.Done granted.Done is are kind e = tt
 same_granted most (granted.Imported m) (granted.Imported n) is are kind e = same_count (codes "{\"added\":") m n (omega (arith, is)) (omega (arith, are)) e
+same_granted most (granted.Withdrawn m) (granted.Withdrawn n) is are kind e = same_count (codes "{\"withdrawn\":") m n (omega (arith, is)) (omega (arith, are)) e
 same_granted most (granted.Shift m) (granted.Shift n) is are kind e = same_count (codes "{\"shift\":") m n (omega (arith, is.most)) (omega (arith, are.most)) e
 same_granted most (granted.Sale s) (granted.Sale t) is are kind e = same_sale most s t is are e
 same_granted most (granted.Meter m) (granted.Meter n) is are kind e = same_meter m n is are e

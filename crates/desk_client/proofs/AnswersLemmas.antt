@@ -22,6 +22,7 @@ alike_papers q text other same is = tt
 alike_grants : (q : Question) (g h : Granted) → GrantAlike g h → GrantsWhat g q → GrantsWhat h q
 alike_grants q granted.Done granted.Done alike is = tt
 alike_grants q (granted.Imported m) (granted.Imported n) alike is = tt
+alike_grants q (granted.Withdrawn m) (granted.Withdrawn n) alike is = tt
 alike_grants q (granted.Shift m) (granted.Shift n) alike is = tt
 alike_grants q (granted.Sale s) (granted.Sale t) alike is = subst (λ s. GrantsWhat (granted.Sale s) q) alike is
 alike_grants q (granted.Meter m) (granted.Meter n) alike is = subst (λ m. GrantsWhat (granted.Meter m) q) alike is

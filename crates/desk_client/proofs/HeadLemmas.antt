@@ -1,14 +1,14 @@
 -- Heads of replies, and that a text begins with one of them.
-use Rattle.std.proofs.Common.{◌≡◌, ◌≢◌, ◌∙◌, ℕ, ◌+◌, ◌*◌, ◌^◌, ◌<◌, ◌≤◌, List, [], ◌∷◌, ◌++◌, length, get_or, drop, codes, Option, None, Some, refl, ap, sym, subst, append_assoc, length-append, arith}
-use Rattle.std.specs.Prelude.{decimal, if◌then◌else◌, ◌==◌}
+use Rattle.std.proofs.Common.{◌≡◌, ◌≢◌, ◌∙◌, ◌⊎◌, ◌↔◌, inl, inr, ⊎_elim, Bool, false, true≢false, ℕ, ◌+◌, ◌*◌, ◌^◌, ◌<◌, ◌≤◌, List, [], ◌∷◌, ◌++◌, length, get_or, drop, codes, Option, None, Some, refl, ap, sym, subst, append_assoc, length-append, arith}
+use Rattle.std.specs.Prelude.{IsTrue, MatchOption, decimal, if◌then◌else◌, is_some, ◌==◌}
 use Rattle.std.proofs.lemmas.Fmt.{length-decimal-le}
 use Rattle.std.proofs.lemmas.List.{append-nil, append_cancel_left, nil_from_length}
 use Rattle.conversation.proofs.HeadLemmas.{front_within}
 use Rattle.office_rules.specs.Decision.Refusals.{refusal_category}
 use Rattle.office_rules.specs.declared.decision.category.Category.{Category}
 use Rattle.office_rules.specs.declared.decision.category.Category.TheVariants as categories
-use Rattle.desk_client.specs.Reply.{IsRefusing, IsReply, head_bytes, longest_reply_body, longest_reply_head}
-use Rattle.desk_client.specs.Start.{IsDated, category_start, date_end, head_end, start_text}
+use Rattle.desk_client.specs.Reply.{HasNoHead, IsRefusing, IsReply, MayBegin, head_bytes, longest_reply_body, longest_reply_head}
+use Rattle.desk_client.specs.Start.{BeginsAs, IsDated, category_start, date_end, head_end, start_text}
 use Rattle.desk_client.specs.Told.{IsStart, IsTellable, granted_start, told_start, told_text}
 use Rattle.desk_client.specs.declared.start.Start.{Start}
 use Rattle.desk_client.specs.declared.start.Start.TheVariants.{Json, Paper, Missing, Forbidden, Unfit, Unable}
@@ -113,6 +113,7 @@ reply_now asked s n d r more t small dated all reply =
 granted_is : (asked : Wanted) → IsStart asked (granted_start asked)
 granted_is wanted.Done = refl
 granted_is wanted.Imported = refl
+granted_is wanted.Withdrawn = refl
 granted_is wanted.Shift = refl
 granted_is wanted.Sale = refl
 granted_is wanted.Meter = refl
@@ -198,6 +199,64 @@ no_reply asked input long none more t reply =
     let there = front_within input more (front s n d) (told_text t) whole (omega (arith, short, long)) in
     none s n d (drop (length (front s n d)) input) (start_is asked t reply.tellable) (omega (arith, reply.short)) reply.is_dated
     (there ∙ sym (behind_front (start_text s) (decimal n) (head_end d) (drop (length (front s n d)) input)))
+
+-- where no head is found, there is no whole reply yet
+pub needs_head : (asked : Wanted) (input : List ℕ) → HasNoHead asked input → (t : Told) → ¬ IsReply asked input t
+needs_head asked input none t reply =
+    none (told_start t) (length (told_text t)) reply.dated (told_text t) (start_is asked t reply.tellable) (omega (arith, reply.short)) reply.is_dated
+    reply.is_text
+
+-- and what begins as no reply becomes none, whatever follows
+pub begins_no_reply : (asked : Wanted) (input : List ℕ) → ¬ MayBegin asked input → (more : List ℕ) (t : Told) → ¬ IsReply asked (input ++ more) t
+begins_no_reply asked input not more t reply =
+    not (told_start t, start_is asked t reply.tellable, (more, decimal (length (told_text t)) ++ (head_end reply.dated ++ told_text t), reply.is_text))
+
+-- a text begins with another
+abbrev pub HasFront : List ℕ → List ℕ → Type 0
+HasFront text front = (rest : List ℕ) × (text ≡ front ++ rest)
+
+-- which is told by whether anything was found behind it
+pub front_told : {X : Type 0} (now : X → List ℕ) (text front : List ℕ) (found : Option X) (told : Bool)
+    → MatchOption found ((rest : List ℕ) → text ≢ front ++ rest) (λ rest. text ≡ front ++ now rest)
+    → told ≡ is_some found → (IsTrue told ↔ HasFront text front)
+front_told now text front (Some rest) told is same = (λ t. (now rest, is), λ h. same)
+front_told now text front None told not same = (λ t. absurd (cc), λ h. absurd (not h.0 h.1))
+
+-- of two texts that go on to be the same, one begins with the other
+pub goes_on : (a b more rest : List ℕ) → a ++ more ≡ b ++ rest → HasFront a b ⊎ HasFront b a
+goes_on [] b more rest e = inr (b, refl)
+goes_on (x ∷ a) [] more rest e = inl (x ∷ a, refl)
+goes_on (x ∷ a) (y ∷ b) more rest e =
+    let first : x ≡ y = ap (λ (text : List ℕ). get_or text 0 0) e in
+    ⊎_elim
+    (λ found. inl (found.0, ap (λ (n : ℕ). n ∷ a) first ∙ ap (λ (text : List ℕ). y ∷ text) found.1))
+    (λ found. inr (found.0, ap (λ (n : ℕ). n ∷ b) (sym first) ∙ ap (λ (text : List ℕ). x ∷ text) found.1))
+    (goes_on a b more rest (ap (drop 1) e))
+
+-- an input begins as a reply where it begins with the start, or the start with it
+pub begins_there : (start : Start) (input text : List ℕ) → text ≡ start_text start → HasFront input text → BeginsAs input start
+begins_there start input text is (rest, there) = ([], rest, append-nil input ∙ there ∙ ap (λ (t : List ℕ). t ++ rest) is)
+
+pub begins_within : (start : Start) (input text : List ℕ) → text ≡ start_text start → HasFront text input → BeginsAs input start
+begins_within start input text is (rest, there) = (rest, [], sym there ∙ is ∙ sym (append-nil (start_text start)))
+
+-- and only there
+pub begins_either : (start : Start) (input text : List ℕ) → text ≡ start_text start → BeginsAs input start → HasFront input text ⊎ HasFront text input
+begins_either start input text is (more, rest, e) = goes_on input text more rest (e ∙ ap (λ (t : List ℕ). t ++ rest) (sym is))
+
+-- a start of a reply is that of what is granted, or one of the refusals' four: the last, if it is none of the others
+pub begins_last : (asked : Wanted) (input : List ℕ) → ¬ BeginsAs input (granted_start asked) → ¬ BeginsAs input Missing
+    → ¬ BeginsAs input Forbidden → ¬ BeginsAs input Unfit → MayBegin asked input → BeginsAs input Unable
+begins_last asked input granted missing forbidden unfit (Json, is, begins) = absurd (granted (subst (BeginsAs input) (sym is) begins))
+begins_last asked input granted missing forbidden unfit (Paper, is, begins) = absurd (granted (subst (BeginsAs input) (sym is) begins))
+begins_last asked input granted missing forbidden unfit (Missing, is, begins) = absurd (missing begins)
+begins_last asked input granted missing forbidden unfit (Forbidden, is, begins) = absurd (forbidden begins)
+begins_last asked input granted missing forbidden unfit (Unfit, is, begins) = absurd (unfit begins)
+begins_last asked input granted missing forbidden unfit (Unable, is, begins) = begins
+
+-- what is told exactly, and was not told, is not so
+pub untold : {P : Type 0} (told : Bool) → (IsTrue told ↔ P) → told ≡ false → ¬ P
+untold told tells fails is = true≢false (sym (tells.1 is) ∙ fails)
 
 -- a text does not begin with this start and a head behind it, whatever follows
 abbrev pub BeginsNot : List ℕ → Start → Type 0

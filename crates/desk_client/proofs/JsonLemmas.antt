@@ -64,6 +64,21 @@ tariff_read name plain =
     ∙ ap (λ n. read (codes "{\"tariff\":" ++ (in_quotes n ++ codes "}"))) (sym plain)
     ∙ read_back (tariff_json name) (tt, tt) (omega arith) refl
 
+-- ---- a key
+
+-- the body that gives a meter a key, as JSON: its digits
+abbrev pub key_json : List ℕ → Data
+key_json digits = object (member (codes "key") (string digits) no_members)
+
+-- the text that is sent for a key is read as that body
+pub key_read : (digits : List ℕ) → flat_map escape_byte digits ≡ digits
+    → read (codes "{\"key\":\"" ++ (digits ++ codes "\"}")) ≡ Some (key_json digits)
+unfolding serde_json_on_literals escape_byte
+key_read digits plain =
+    ap (λ d. read (codes "{\"key\":\"" ++ d)) (sym (append_assoc digits (34 ∷ []) (125 ∷ [])))
+    ∙ ap (λ d. read (codes "{\"key\":" ++ (in_quotes d ++ codes "}"))) (sym plain)
+    ∙ read_back (key_json digits) (tt, tt) (omega arith) refl
+
 -- ---- a base date
 
 -- the body that moves a base date, as JSON: its year

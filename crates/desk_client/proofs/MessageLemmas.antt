@@ -17,7 +17,7 @@ use Rattle.httparse.proofs.TrimLemmas.{AllPass-reverse, trim_ows_space}
 use Rattle.conversation.specs.declared.message.framing.Framing.{Framing}
 use Rattle.conversation.specs.declared.message.message_fault.MessageFault.{MessageFault}
 use Rattle.conversation.specs.declared.message.method.Method.{Method}
-use Rattle.conversation.specs.declared.message.method.Method.TheVariants.{Get, Head, Post}
+use Rattle.conversation.specs.declared.message.method.Method.TheVariants.{Get, Head, Post, Delete}
 use Rattle.conversation.specs.message.Framing.{◌>>=◌, framing, framing_of, length_of, longest_body}
 use Rattle.conversation.specs.message.Target.{path_of}
 use Rattle.conversation.specs.message.Messages.{BeginsMessage, Message}
@@ -85,6 +85,10 @@ abbrev get_head : List ℕ → RequestHead
 get_head target =
     record { blank = []; method = codes "GET"; target = target; minor = 1; line_end = crlf; fields = host_field ∷ []; last = crlf }
 
+abbrev delete_head : List ℕ → RequestHead
+delete_head target =
+    record { blank = []; method = codes "DELETE"; target = target; minor = 1; line_end = crlf; fields = host_field ∷ []; last = crlf }
+
 abbrev post_head : List ℕ → ℕ → RequestHead
 post_head target n =
     record { blank = []; method = codes "POST"; target = target; minor = 1; line_end = crlf; fields = host_field ∷ length_field n ∷ []; last = crlf }
@@ -120,6 +124,16 @@ get_is target seen = record {
   fields = All-cons IsField host_field [] host_is (All-nil IsField);
 }
 
+delete_is : (target : List ℕ) → Visible target → IsRequestHead (delete_head target)
+unfolding is_token_byte
+delete_is target seen = record {
+  method = (omega arith, All-from_recursion (λ b. IsTrue (is_token_byte b)) (codes "DELETE") (refl, (refl, (refl, (refl, (refl, (refl, tt)))))));
+  target = (seen.0, seen.3);
+  target_text = seen.2;
+  minor = omega arith;
+  fields = All-cons IsField host_field [] host_is (All-nil IsField);
+}
+
 post_is : (target : List ℕ) (n : ℕ) → Visible target → n ≤ longest_body → IsRequestHead (post_head target n)
 unfolding is_token_byte
 post_is target n seen h = record {
@@ -143,6 +157,12 @@ unfolding front_lines host_field
 get_bytes target rest =
     ap (λ (behind : List ℕ). 71 ∷ 69 ∷ 84 ∷ 32 ∷ behind) (two target host_line (13 ∷ 10 ∷ []) rest)
     ∙ sym (print_request-append (get_head target) rest)
+
+delete_bytes : (target rest : List ℕ) → message_bytes Delete target [] ++ rest ≡ print_request (delete_head target) ++ rest
+unfolding front_lines host_field
+delete_bytes target rest =
+    ap (λ (behind : List ℕ). 68 ∷ 69 ∷ 76 ∷ 69 ∷ 84 ∷ 69 ∷ 32 ∷ behind) (two target host_line (13 ∷ 10 ∷ []) rest)
+    ∙ sym (print_request-append (delete_head target) rest)
 
 regroup : (t h c d body rest : List ℕ) → ((t ++ h) ++ ((c ++ (d ++ 13 ∷ 10 ∷ [])) ++ (13 ∷ 10 ∷ body))) ++ rest
     ≡ t ++ (h ++ (c ++ ((((d ++ 13 ∷ 10 ∷ []) ++ []) ++ 13 ∷ 10 ∷ []) ++ (body ++ rest))))
@@ -168,6 +188,19 @@ get_short target h =
       same,
       length-append (message_bytes Get target []) [],
       length-append (print_request (get_head target)) [],
+      three target host_line (13 ∷ 10 ∷ []),
+    )
+
+delete_short : (target : List ℕ) → length target ≤ longest_target → length (print_request (delete_head target)) ≤ 8192
+unfolding front_lines
+delete_short target h =
+    let same = ap length (delete_bytes target []) in
+    omega (
+      arith,
+      h,
+      same,
+      length-append (message_bytes Delete target []) [],
+      length-append (print_request (delete_head target)) [],
       three target host_line (13 ∷ 10 ∷ []),
     )
 
@@ -198,6 +231,10 @@ post_short target body h k =
 get_framed : (target : List ℕ) → framing_of (get_head target) ≡ Ok (record { method = Get; body = 0; closes = false; expects = false })
 unfolding framing trim_ows host_field eq_ignore_case
 get_framed target = refl
+
+delete_framed : (target : List ℕ) → framing_of (delete_head target) ≡ Ok (record { method = Delete; body = 0; closes = false; expects = false })
+unfolding framing trim_ows host_field eq_ignore_case
+delete_framed target = refl
 
 -- what the head of a message with such a body says, where it expects an interim reply or none
 abbrev post_says : ℕ → Bool → Result Framing MessageFault
@@ -239,6 +276,18 @@ begins Get target body rest seen path none =
       framed = get_framed target;
     })
 begins Head target body rest seen path none = absurd none
+begins Delete target body rest seen path none =
+    subst (λ b. BeginsMessage (message_bytes Delete target b ++ rest) (record { method = Delete; target = target; body = b; closes = false; expects = false })
+    rest) (sym none) (record {
+      head = delete_head target;
+      begins = record {
+        reads = (delete_is target seen, delete_bytes target rest);
+        fields = omega arith;
+        bytes = delete_short target seen.1;
+      };
+      target = path;
+      framed = delete_framed target;
+    })
 begins Post target body rest seen path h = record {
   head = post_head target (length body);
   begins = record {

@@ -4,7 +4,7 @@ use Rattle.std.specs.Prelude.{decimal}
 use Rattle.office_rules.specs.Decision.Refusals.{refusal_name, refusal_number}
 use Rattle.office_rules.specs.Decision.RowCauses.{cause_text}
 use Rattle.office_rules.specs.declared.decision.refusal.Refusal.{Refusal}
-use Rattle.office_rules.specs.declared.decision.refusal.Refusal.TheVariants.{RefReused, NoShift, ShiftOpen, NoMeter, NoTariff, BeforeBase, IdentifiersSpent, IdentifierAhead, TooLittle, OfficeFull, NoSale, NoSuchShift, ImportRow, Memory, Store, Stopped, NotLater}
+use Rattle.office_rules.specs.declared.decision.refusal.Refusal.TheVariants.{RefReused, NoShift, ShiftOpen, NoMeter, NoTariff, BeforeBase, IdentifiersSpent, IdentifierAhead, TooLittle, OfficeFull, NoSale, NoSuchShift, ImportRow, Memory, Store, Stopped, NotLater, HasSales}
 use Rattle.office_rules.specs.declared.decision.refusal.Refusal.TheVariants as refusals
 use Rattle.office_rules.specs.declared.decision.row_cause.RowCause.{RowCause}
 use Rattle.office_rules.specs.declared.decision.row_cause.RowCause.TheVariants.{Header, Columns, Field, TooManyRows}
@@ -43,6 +43,7 @@ plain_refusal_name Store = (refl, (refl, (refl, (refl, (refl, tt)))))
 plain_refusal_name Stopped = (refl, (refl, (refl, (refl, (refl, (refl, (refl, tt)))))))
 plain_refusal_name NotLater = (refl, (refl, (refl, (refl, (refl, (refl, (refl, (refl, tt))))))))
 plain_refusal_name refusals.DayPast = (refl, (refl, (refl, (refl, (refl, (refl, (refl, tt)))))))
+plain_refusal_name HasSales = (refl, (refl, (refl, (refl, (refl, (refl, (refl, (refl, tt))))))))
 
 -- nor does a cause
 pub plain_cause : (cause : RowCause) → IsCause cause → LacksStop (cause_text cause)
@@ -76,12 +77,14 @@ few_refusals Store = omega arith
 few_refusals Stopped = omega arith
 few_refusals NotLater = omega arith
 few_refusals refusals.DayPast = omega arith
+few_refusals HasSales = omega arith
 
 -- the refusals by number; none is told by 0, nor by that of a row
 by_number : List Refusal
 by_number =
     RefReused ∷ RefReused ∷ NoShift ∷ ShiftOpen ∷ NoMeter ∷ refusals.NoTariff ∷ refusals.Differs ∷ BeforeBase ∷ IdentifiersSpent
-    ∷ IdentifierAhead ∷ TooLittle ∷ OfficeFull ∷ NoSale ∷ NoSuchShift ∷ RefReused ∷ Memory ∷ Store ∷ Stopped ∷ NotLater ∷ refusals.DayPast ∷ []
+    ∷ IdentifierAhead ∷ TooLittle ∷ OfficeFull ∷ NoSale ∷ NoSuchShift ∷ RefReused ∷ Memory ∷ Store ∷ Stopped ∷ NotLater ∷ refusals.DayPast
+    ∷ HasSales ∷ []
 
 numbered_so : (refusal : Refusal) → IsPlain refusal → get_or by_number (refusal_number refusal) RefReused ≡ refusal
 unfolding by_number
@@ -104,6 +107,7 @@ numbered_so Store plain = refl
 numbered_so Stopped plain = refl
 numbered_so NotLater plain = refl
 numbered_so refusals.DayPast plain = refl
+numbered_so HasSales plain = refl
 
 -- two of one number are one
 pub same_refusal : (a b : Refusal) → IsPlain a → IsPlain b → refusal_number a ≡ refusal_number b → a ≡ b
@@ -145,6 +149,7 @@ told_plainly Store plain = (tt, refl)
 told_plainly Stopped plain = (tt, refl)
 told_plainly NotLater plain = (tt, refl)
 told_plainly refusals.DayPast plain = (tt, refl)
+told_plainly HasSales plain = (tt, refl)
 
 -- what tells the refusal of no row, nor that of one, tells none
 neither_tells : (text : List ℕ) → ((found : ℕ × RowCause) → ¬ (IsRowCause found.0 found.1 × (text ≡ row_text found.0 found.1)))
@@ -169,6 +174,7 @@ neither_tells text rows plain Store h = plain Store ((λ row cause e. cc), h.1)
 neither_tells text rows plain Stopped h = plain Stopped ((λ row cause e. cc), h.1)
 neither_tells text rows plain NotLater h = plain NotLater ((λ row cause e. cc), h.1)
 neither_tells text rows plain refusals.DayPast h = plain refusals.DayPast ((λ row cause e. cc), h.1)
+neither_tells text rows plain HasSales h = plain HasSales ((λ row cause e. cc), h.1)
 
 -- where a text tells no row, what was read of it as another refusal is all that it tells
 pub read_of_either : (text : List ℕ) (r : Option Refusal) → ((found : ℕ × RowCause) → ¬ (IsRowCause found.0 found.1 × (text ≡ row_text found.0 found.1)))

@@ -6,7 +6,7 @@ use Rattle.matchit.specs.Rows.{param_token}
 use Rattle.matchit.specs.Seek.{cuts, first, longest_suffix, own, step, with_suffix}
 use Rattle.matchit.proofs.OnLiterals.{matchit_on_literals}
 use Rattle.desk_messages.specs.declared.route.endpoint.Endpoint.{Endpoint}
-use Rattle.desk_messages.specs.declared.route.endpoint.Endpoint.TheVariants.{MeterTariff, MeterBase, Shifts, ShiftClosing, Shift, Sales, Sale, MeterImports, TariffImports, Meter, LastSale, Quote, SaleOfRef, ShiftTotals, FirstTariffs, TariffsAfter, FirstMeters, MetersAfter, ShiftsAfter, SalesAfter}
+use Rattle.desk_messages.specs.declared.route.endpoint.Endpoint.TheVariants.{DatedSteps, MeterTariff, MeterBase, MeterKey, Shifts, ShiftClosing, Shift, Sales, Sale, MeterImports, TariffImports, Meter, LastSale, Quote, SaleOfRef, ShiftTotals, FirstTariffs, TariffsAfter, FirstMeters, MetersAfter, ShiftsAfter, SalesAfter}
 use Rattle.desk_messages.specs.route.Endpoint.{table, Table}
 use Rattle.desk_client.proofs.WordLemmas.{IsNumberText, IsValue}
 use Rattle.desk_client.proofs.WalkLemmas.{IsInside, Leads, at_end, before_slash, behind, through}
@@ -84,6 +84,12 @@ pub found_base : (meter : List ℕ) → IsValue meter → IsFoundFor (codes "/me
 unfolding matchit_on_literals table
 found_base (b ∷ text) is = at_meter b text (codes "base") MeterBase is.0 is.1 refl
 found_base [] is = absurd is
+
+-- the target of a meter's key finds its endpoint
+pub found_key : (meter : List ℕ) → IsValue meter → IsFoundFor (codes "/meters/" ++ (meter ++ codes "/key")) MeterKey
+unfolding matchit_on_literals table
+found_key (b ∷ text) is = at_meter b text (codes "key") MeterKey is.0 is.1 refl
+found_key [] is = absurd is
 
 -- the target of a meter's last sale finds its endpoint
 pub found_last : (meter : List ℕ) → IsValue meter → IsFoundFor (codes "/meters/" ++ (meter ++ codes "/last")) LastSale
@@ -175,6 +181,32 @@ found_ref (b ∷ text) order_ref is also =
     (before_slash value_of operator_rows b text (codes "sales/" ++ (order_ref ++ [])) SaleOfRef is.1
     (rw (apart 256 b (omega (arith, is.0))) refl) (λ seg e. rw e refl) (at_ref order_ref also))
 found_ref [] order_ref is also = absurd is
+
+-- ---- the steps of a tariff from a day on
+
+abbrev tariff_rows : Table
+tariff_rows = behind value_of (codes "/tariffs/") table
+
+abbrev day_rows : Table
+day_rows = behind value_of (codes "/steps/") (with_suffix (47 ∷ []) (step param_token tariff_rows))
+
+at_day : (date : List ℕ) → IsValue date
+    → Leads value_of (with_suffix (47 ∷ []) (step param_token tariff_rows)) (codes "/steps/" ++ (date ++ [])) DatedSteps
+unfolding matchit_on_literals table
+at_day (b ∷ text) is =
+    through value_of (codes "/steps/") (with_suffix (47 ∷ []) (step param_token tariff_rows)) ((b ∷ text) ++ []) DatedSteps
+    (at_end value_of day_rows b text DatedSteps is.1 (rw (apart 256 b (omega (arith, is.0))) refl) (λ seg e. refl) refl)
+at_day [] is = absurd is
+
+-- the target of a tariff's steps by their day finds its endpoint
+pub found_steps : (name date : List ℕ) → IsValue name → IsValue date
+    → IsFoundFor (codes "/tariffs/" ++ (name ++ (codes "/steps/" ++ (date ++ [])))) DatedSteps
+unfolding matchit_on_literals table
+found_steps (b ∷ text) date is also =
+    through value_of (codes "/tariffs/") table ((b ∷ text) ++ (codes "/steps/" ++ (date ++ []))) DatedSteps
+    (before_slash value_of tariff_rows b text (codes "steps/" ++ (date ++ [])) DatedSteps is.1
+    (rw (apart 256 b (omega (arith, is.0))) refl) (λ seg e. rw e refl) (at_day date also))
+found_steps [] date is also = absurd is
 
 -- ---- pages
 

@@ -41,7 +41,7 @@ use Rattle.desk_client.specs.declared.told.Granted.TheVariants as granted
 use Rattle.desk_client.specs.declared.told.Told.{Told}
 use Rattle.desk_client.specs.declared.told.Told.TheVariants as told
 use Rattle.desk_client.specs.declared.told.Wanted.{Wanted}
-use Rattle.desk_client.proofs.TextLemmas.{added-text, clock-text, done-text, meter-text, quote-text, refusal-text, shift-text, totals-text}
+use Rattle.desk_client.proofs.TextLemmas.{added-text, clock-text, done-text, meter-text, quote-text, refusal-text, shift-text, totals-text, withdrawn-text}
 
 -- ---- heads
 
@@ -134,6 +134,7 @@ module _ (dated : Option ℕ) where
   paper_says text (told.Granted (granted.Paper paper)) h = rw h (paper-reply text)
   paper_says text (told.Granted granted.Done) h = absurd h
   paper_says text (told.Granted (granted.Imported n)) h = absurd h
+  paper_says text (told.Granted (granted.Withdrawn n)) h = absurd h
   paper_says text (told.Granted (granted.Shift n)) h = absurd h
   paper_says text (told.Granted (granted.Sale s)) h = absurd h
   paper_says text (told.Granted (granted.Meter m)) h = absurd h
@@ -149,6 +150,7 @@ module _ (dated : Option ℕ) where
   page_says page (told.Granted (granted.Page text)) h = rw h (json-reply (page_as_read page))
   page_says page (told.Granted granted.Done) h = absurd h
   page_says page (told.Granted (granted.Imported n)) h = absurd h
+  page_says page (told.Granted (granted.Withdrawn n)) h = absurd h
   page_says page (told.Granted (granted.Shift n)) h = absurd h
   page_says page (told.Granted (granted.Sale s)) h = absurd h
   page_says page (told.Granted (granted.Meter m)) h = absurd h
@@ -175,6 +177,7 @@ module _ (dated : Option ℕ) where
       → reply_bytes_of dated (outcomes.Replied form (Ok answer)) false ≡ replies.reply_text date t
   answer_says texts form answers.Done asked t tellable h = json_says _ granted.Done refl done-text ∙ ap (replies.reply_text date) (sym h)
   answer_says texts form (answers.Imported n) asked t tellable h = json_says _ (granted.Imported n) refl (added-text n) ∙ ap (replies.reply_text date) (sym h)
+  answer_says texts form (answers.Withdrawn n) asked t tellable h = json_says _ (granted.Withdrawn n) refl (withdrawn-text n) ∙ ap (replies.reply_text date) (sym h)
   answer_says texts form (answers.Opened n) asked t tellable h = json_says _ (granted.Shift n) refl (shift-text n) ∙ ap (replies.reply_text date) (sym h)
   answer_says texts form (answers.Closed n) asked t tellable h = json_says _ (granted.Shift n) refl (shift-text n) ∙ ap (replies.reply_text date) (sym h)
   answer_says texts form (answers.Sold sale) asked t tellable h = sale_says texts form sale asked t tellable h

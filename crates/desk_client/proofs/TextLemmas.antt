@@ -74,6 +74,11 @@ pub added-text : (n : ℕ) → json_text ((codes "added", whole_number n) ∷ []
 unfolding json_text serde_json_on_literals
 added-text n = refl
 
+-- the body that tells how many lists of steps were withdrawn
+pub withdrawn-text : (n : ℕ) → json_text ((codes "withdrawn", whole_number n) ∷ []) ≡ codes "{\"withdrawn\":" ++ (decimal n ++ codes "}")
+unfolding json_text serde_json_on_literals
+withdrawn-text n = refl
+
 -- the body that tells the number of a shift
 pub shift-text : (n : ℕ) → json_text ((codes "shift", whole_number n) ∷ []) ≡ codes "{\"shift\":" ++ (decimal n ++ codes "}")
 unfolding json_text serde_json_on_literals
@@ -196,6 +201,7 @@ refusal-text refusals.Store h = refl
 refusal-text refusals.Stopped h = refl
 refusal-text refusals.NotLater h = refl
 refusal-text refusals.DayPast h = refl
+refusal-text refusals.HasSales h = refl
 
 -- the body that tells that the clock gave no moment
 pub clock-text : json_text (fault_members (codes "Clock")) ≡ codes "{\"error\":\"Clock\"}"

@@ -1,5 +1,5 @@
 -- Names and numbers, as they stand in targets and in bodies.
-use Rattle.std.proofs.Common.{◌≡◌, ℕ, ◌*◌, ◌<◌, ◌≤◌, ◌&&◌, ◌==◌, Bool, true, false, List, [], ◌∷◌, ◌++◌, length, get_or, refl, arith}
+use Rattle.std.proofs.Common.{◌≡◌, ℕ, ◌+◌, ◌*◌, ◌/◌, ◌%◌, ◌^◌, ◌<◌, ◌≤◌, ◌&&◌, ◌==◌, Bool, true, false, List, [], ◌∷◌, ◌++◌, length, get_or, refl, arith}
 use Rattle.std.specs.Prelude.{IsUtf8, decimal, nat_lt}
 use Rattle.std.specs.Char.{is_ascii_alphanumeric, is_ascii_digit}
 use Rattle.std.specs.List.{AllByRecursion, AllPass, concat, flat_map, list_all}
@@ -15,6 +15,14 @@ use Rattle.std.proofs.lemmas.Str.Ascii.{IsAscii-from_all}
 use Rattle.std.proofs.lemmas.Str.Parse.{digit_at}
 use Rattle.httparse.specs.Grammar.{is_uri_byte}
 use Rattle.json.specs.Print.{escape_byte}
+use Rattle.desk_messages.specs.reply.Lists.{beginning, day_text}
+use Rattle.sts_fields.specs.Calendar.{IsCivil, IsWithinRanges, civil_at}
+use Rattle.sts_fields.specs.Day.{IsDay, iso_date, two_digits}
+use Rattle.sts_fields.specs.Moment.{IsMoment}
+use Rattle.sts_fields.specs.declared.calendar.date_time.Civil.{Civil}
+use Rattle.sts_token.specs.Digits.{digits_text}
+use Rattle.sts_token.specs.Key.{is_lower_hexdigit}
+use Rattle.sts_token.proofs.KeyLemmas.{written_key}
 use Rattle.office_rules.specs.Name.{IsMeterNo, IsName, IsOperator, is_name_byte}
 use Rattle.desk_client.proofs.WalkLemmas.{IsInside}
 
@@ -35,6 +43,10 @@ of_letter b e = record { seen = grind (arith, nat_tests); inside = grind (arith,
 of_name : (b : ℕ) → is_name_byte b ≡ true → IsWordByte b
 unfolding escape_byte
 of_name b e = record { seen = grind (arith, nat_tests); inside = grind (arith, nat_tests); plain = grind (arith, nat_tests) }
+
+of_hexdigit : (b : ℕ) → is_lower_hexdigit b ≡ true → IsWordByte b
+unfolding escape_byte
+of_hexdigit b e = record { seen = grind (arith, nat_tests); inside = grind (arith, nat_tests); plain = grind (arith, nat_tests) }
 
 -- a short text of such bytes
 pub record IsWord (text : List ℕ) : Type 0 where
@@ -81,6 +93,46 @@ number_word n h = record {
   short = let len = length-decimal-le 10 n (omega arith) (omega (arith, h)) (omega (arith, h)) in omega (arith, len);
   bytes = each_digit IsWordByte (λ b low high. of_digit b (is_digit b low high)) n h;
 }
+
+-- the digits of a key are a word
+pub key_word : (key : ℕ) → key < 2 ^ 64 → IsWord (digits_text 16 16 key)
+key_word key small =
+    let digits = (written_key key small).digits in
+    word_by is_lower_hexdigit of_hexdigit (digits_text 16 16 key) (omega (arith, digits.sixteen)) (omega (arith, digits.sixteen)) digits.digits
+
+-- ---- days
+
+two_word : (n : ℕ) (text : List ℕ) → n < 100 → AllByRecursion IsWordByte text → AllByRecursion IsWordByte (two_digits n ++ text)
+two_word n text small all = (
+  of_digit (48 + n / 10) (is_digit (48 + n / 10) (omega arith) (omega (arith, small))),
+  (of_digit (48 + n % 10) (is_digit (48 + n % 10) (omega arith) (omega arith)), all),
+)
+
+date_length : (year month date : ℕ) → length (iso_date year month date) ≡ 10
+unfolding iso_date
+date_length year month date = refl
+
+date_word : (year month date : ℕ) → year < 10000 → month < 100 → date < 100 → IsWord (iso_date year month date)
+unfolding iso_date
+date_word year month date y m d =
+    let dash : IsWordByte 45 = of_name 45 refl in
+    let last = two_word date [] d tt in
+    let months = two_word month (45 ∷ two_digits date) m (dash, last) in
+    let years = two_word (year % 100) (45 ∷ (two_digits month ++ 45 ∷ two_digits date)) (omega arith) (dash, months) in record {
+      some = omega (arith, date_length year month date);
+      short = omega (arith, date_length year month date);
+      bytes = two_word (year / 100) (two_digits (year % 100) ++ 45 ∷ (two_digits month ++ 45 ∷ two_digits date)) (omega (arith, y)) years;
+    }
+
+-- the date of a day is a word
+pub day_word : ((secs : ℕ) → IsMoment secs → IsCivil secs (civil_at secs))
+    → ((secs : ℕ) (c : Civil) → IsMoment secs → IsCivil secs c → IsWithinRanges c)
+    → (day : ℕ) → IsDay day → IsWord (day_text day)
+day_word civil ranges day is =
+    let secs = beginning day in
+    let moment : IsMoment secs = (omega arith, omega (arith, is)) in
+    let shown = ranges secs (civil_at secs) moment (civil secs moment) in
+    date_word _ _ _ (omega (arith, shown.year.1)) (omega (arith, shown.month.1)) (omega (arith, shown.day.1))
 
 -- ---- what a word has
 

@@ -9,6 +9,7 @@ use Rattle.desk_client.specs.declared.told.Told.TheVariants as told
 abbrev pub GrantAlike : Granted → Granted → Type 0
 GrantAlike granted.Done granted.Done = ⊤
 GrantAlike (granted.Imported count) (granted.Imported other) = count ≡ other
+GrantAlike (granted.Withdrawn count) (granted.Withdrawn other) = count ≡ other
 GrantAlike (granted.Shift number) (granted.Shift other) = number ≡ other
 GrantAlike (granted.Sale sale) (granted.Sale other) = sale ≡ other
 GrantAlike (granted.Meter meter) (granted.Meter other) = meter ≡ other

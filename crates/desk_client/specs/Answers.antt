@@ -75,11 +75,13 @@ MayRefuse refusals.NoShift (questions.Sell order) = ⊤
 MayRefuse refusals.ShiftOpen (questions.OpenShift operator) = ⊤
 MayRefuse refusals.NoMeter (questions.SetTariff meter tariff) = ⊤
 MayRefuse refusals.NoMeter (questions.MoveBase meter base) = ⊤
+MayRefuse refusals.NoMeter (questions.SetKey meter key) = ⊤
 MayRefuse refusals.NoMeter (questions.Sell order) = ⊤
 MayRefuse refusals.NoMeter (questions.Meter meter) = ⊤
 MayRefuse refusals.NoMeter (questions.LastSale meter) = ⊤
 MayRefuse refusals.NoMeter (questions.Quote meter tender) = ⊤
 MayRefuse refusals.NoTariff (questions.SetTariff meter tariff) = ⊤
+MayRefuse refusals.NoTariff (questions.WithdrawSteps tariff day) = ⊤
 MayRefuse refusals.BeforeBase (questions.MoveBase meter base) = ⊤
 MayRefuse refusals.BeforeBase (questions.Sell order) = ⊤
 MayRefuse refusals.BeforeBase (questions.Quote meter tender) = ⊤
@@ -102,6 +104,8 @@ MayRefuse refusals.Memory question = ⊤
 MayRefuse refusals.Store question = ⊤
 MayRefuse refusals.Stopped question = ⊤
 MayRefuse refusals.NotLater (questions.MoveBase meter base) = ⊤
+MayRefuse refusals.DayPast (questions.WithdrawSteps tariff day) = ⊤
+MayRefuse refusals.HasSales (questions.SetKey meter key) = ⊤
 MayRefuse refusal question = ⊥
 
 -- ---- a reply

@@ -1,6 +1,6 @@
 -- What the message of a question asks of a desk.
-use Rattle.std.specs.Prelude.{◌≢◌, ℕ, ℤ, pos, ◌≤◌, false, List, length, Some, None, Result, Ok, Err}
-use Rattle.std.specs.Prelude.{⊤}
+use Rattle.std.specs.Prelude.{◌≢◌, ℕ, ℤ, pos, ◌<◌, ◌≤◌, ◌^◌, false, List, length, Some, None}
+use Rattle.std.specs.Prelude.{Result, Ok, Err, ⊤}
 use Rattle.std.specs.List.{concat}
 use Rattle.book_states.specs.declared.lookup.Lookup.{Lookup}
 use Rattle.book_states.specs.declared.lookup.Lookup.TheVariants as lookups
@@ -16,6 +16,7 @@ use Rattle.papers.specs.Import.{IsReading}
 use Rattle.papers.specs.declared.file_kind.FileKind.{FileKind}
 use Rattle.papers.specs.declared.row_fault.RowFault.{RowFault}
 use Rattle.papers.specs.declared.row_fault.RowFault.TheVariants.{At, Memory}
+use Rattle.sts_fields.specs.Day.{IsDay}
 use Rattle.sts_fields.specs.Moment.{IsMoment}
 use Rattle.tariff.specs.Tender.{IsTender}
 use Rattle.office_rules.specs.Name.{IsMeterNo, IsName, IsOperator}
@@ -27,6 +28,7 @@ use Rattle.office_rules.specs.declared.office.row.Row.{Row}
 use Rattle.desk_client.specs.Question.{body_pieces, question_method, target_pieces}
 use Rattle.desk_client.specs.declared.question.Question.{Question}
 use Rattle.desk_client.specs.declared.question.Question.TheVariants.{Import, SetTariff, MoveBase}
+use Rattle.desk_client.specs.declared.question.Question.TheVariants.{WithdrawSteps, SetKey}
 use Rattle.desk_client.specs.declared.question.Question.TheVariants.{OpenShift, CloseShift, Sell}
 use Rattle.desk_client.specs.declared.question.Question.TheVariants.{ShiftReport}
 use Rattle.desk_client.specs.declared.question.Question.TheVariants.{Receipt, ShiftTotals, Meter}
@@ -51,12 +53,15 @@ pub record IsAskableOrder (order : Order) : Type 0 where
   pub order_ref : IsName order.order_ref
   pub tender : IsTender order.tender
 
--- A question that can be asked: its names and its tender keep their rules, numbers of shifts and
--- sales are those that a target may have, and the file of an import fits into a body.
+-- A question that can be asked: its names, its day, its key and its tender keep their rules,
+-- numbers of shifts and sales are those that a target may have, and the file of an import fits into
+-- a body.
 abbrev pub IsAskable : Question → Type 0
 IsAskable (Import kind csv) = length csv.now ≤ longest_body
 IsAskable (SetTariff meter tariff) = IsMeterNo meter × IsName tariff
+IsAskable (WithdrawSteps tariff day) = IsName tariff × IsDay day
 IsAskable (MoveBase meter base) = IsMeterNo meter
+IsAskable (SetKey meter key) = IsMeterNo meter × (key < 2 ^ 64)
 IsAskable (OpenShift operator) = IsOperator operator
 IsAskable (CloseShift operator) = IsOperator operator
 IsAskable (Sell order) = IsAskableOrder order
@@ -86,7 +91,9 @@ pub data Asked : Type 0 where
 abbrev pub asked_by : Question → Asked
 asked_by (Import kind csv) = imported kind csv.now
 asked_by (SetTariff meter tariff) = requested Json (requests.SetTariff meter tariff)
+asked_by (WithdrawSteps tariff day) = requested Json (requests.WithdrawSteps tariff day)
 asked_by (MoveBase meter base) = requested Json (requests.MoveBase meter base)
+asked_by (SetKey meter key) = requested Json (requests.SetKey meter key)
 asked_by (OpenShift operator) = requested Json (requests.OpenShift operator)
 asked_by (CloseShift operator) = requested Json (requests.CloseShift operator)
 asked_by (Sell order) = requested Json (requests.Sell order)

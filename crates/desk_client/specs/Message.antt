@@ -4,6 +4,7 @@ use Rattle.std.specs.Prelude.{IsUtf8}
 use Rattle.httparse.specs.Grammar.{AllPass, is_uri_byte}
 use Rattle.conversation.specs.declared.message.method.Method.{Method}
 use Rattle.conversation.specs.declared.message.method.Method.TheVariants.{Get, Head, Post}
+use Rattle.conversation.specs.declared.message.method.Method.TheVariants.{Delete}
 use Rattle.conversation.specs.message.Framing.{longest_body}
 use Rattle.conversation.specs.message.Messages.{Message}
 use Rattle.conversation.specs.message.Target.{path_of}
@@ -15,6 +16,7 @@ abbrev pub method_word : Method → List ℕ
 method_word Get = codes "GET"
 method_word Head = codes "HEAD"
 method_word Post = codes "POST"
+method_word Delete = codes "DELETE"
 
 -- a start line, and the name of a host
 unfoldable pub front_lines : Method → List ℕ → List ℕ
@@ -25,20 +27,22 @@ front_lines method target =
 unfoldable pub length_line : ℕ → List ℕ
 length_line len = codes "Content-Length: " ++ (decimal len ++ line_end)
 
--- what stands behind those: a message of GET or HEAD has no body, and tells no length
+-- what stands behind those: a message of GET, HEAD or DELETE has no body, and tells no length
 abbrev pub body_part : Method → List ℕ → List ℕ
 body_part Get body = line_end
 body_part Head body = line_end
+body_part Delete body = line_end
 body_part Post body = length_line (length body) ++ (line_end ++ body)
 
 -- the bytes of a whole message
 abbrev pub message_bytes : Method → List ℕ → List ℕ → List ℕ
 message_bytes method target body = front_lines method target ++ body_part method body
 
--- a message of GET has no body, and none of HEAD is sent
+-- a message of GET or DELETE has no body, and none of HEAD is sent
 abbrev pub HasBodyOf : Method → List ℕ → Type 0
 HasBodyOf Get body = body ≡ []
 HasBodyOf Head body = ⊥
+HasBodyOf Delete body = body ≡ []
 HasBodyOf Post body = length body ≤ longest_body
 
 -- the longest target of a message that is sent, in bytes

@@ -21,6 +21,10 @@ start_text Unfit =
 start_text Unable =
     codes "HTTP/1.1 503 Service Unavailable\r\nContent-Type: application/json\r\nContent-Length: "
 
+-- the input begins with this start, or is the front of it
+abbrev pub BeginsAs : List ℕ → Start → Type 0
+BeginsAs input start = (more rest : List ℕ) × (input ++ more ≡ start_text start ++ rest)
+
 -- what stands behind the line with the length: a date, if there is one, and an empty line
 abbrev pub date_end : Option (List ℕ) → List ℕ
 date_end None = 13 ∷ 10 ∷ []

@@ -51,6 +51,7 @@ TellsReplySale forms.Paper sale t = TellsPaper (receipt_of sale) t
 abbrev pub TellsReplyAnswer : Form → Answer → Told → Type 0
 TellsReplyAnswer form answers.Done t = t ≡ told.Granted granted.Done
 TellsReplyAnswer form (answers.Imported count) t = t ≡ told.Granted (granted.Imported count)
+TellsReplyAnswer form (answers.Withdrawn count) t = t ≡ told.Granted (granted.Withdrawn count)
 TellsReplyAnswer form (answers.Opened shift) t = t ≡ told.Granted (granted.Shift shift)
 TellsReplyAnswer form (answers.Closed shift) t = t ≡ told.Granted (granted.Shift shift)
 TellsReplyAnswer form (answers.Sold sale) t = TellsReplySale form sale t

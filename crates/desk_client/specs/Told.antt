@@ -19,6 +19,7 @@ use Rattle.desk_client.specs.declared.start.Start.TheVariants as starts
 use Rattle.desk_client.specs.declared.told.Granted.{Granted}
 use Rattle.desk_client.specs.declared.told.Granted.TheVariants.{Done, Imported, Shift, Sale, Meter}
 use Rattle.desk_client.specs.declared.told.Granted.TheVariants.{Quote, Totals, Paper, Page}
+use Rattle.desk_client.specs.declared.told.Granted.TheVariants.{Withdrawn}
 use Rattle.desk_client.specs.declared.told.Told.{Told}
 use Rattle.desk_client.specs.declared.told.Told.TheVariants as told
 use Rattle.desk_client.specs.declared.told.Wanted.{Wanted}
@@ -28,6 +29,7 @@ use Rattle.desk_client.specs.declared.told.Wanted.TheVariants as wanted
 abbrev pub wanted_of : Granted → Wanted
 wanted_of Done = wanted.Done
 wanted_of (Imported count) = wanted.Imported
+wanted_of (Withdrawn count) = wanted.Withdrawn
 wanted_of (Shift number) = wanted.Shift
 wanted_of (Sale sale) = wanted.Sale
 wanted_of (Meter meter) = wanted.Meter
@@ -40,6 +42,7 @@ wanted_of (Page text) = wanted.Page
 abbrev pub IsAnswer : Granted → Type 0
 IsAnswer Done = ⊤
 IsAnswer (Imported count) = count ≤ greatest_rows
+IsAnswer (Withdrawn count) = count ≤ 1
 IsAnswer (Shift number) = IsTargetNumber number
 IsAnswer (Sale sale) = IsSaleTold sale
 IsAnswer (Meter meter) = IsToldMeter meter
@@ -52,6 +55,7 @@ IsAnswer (Page text) = ⊤
 abbrev pub granted_text : Granted → List ℕ
 granted_text Done = codes "{\"done\":true}"
 granted_text (Imported count) = codes "{\"added\":" ++ (decimal count ++ codes "}")
+granted_text (Withdrawn count) = codes "{\"withdrawn\":" ++ (decimal count ++ codes "}")
 granted_text (Shift number) = codes "{\"shift\":" ++ (decimal number ++ codes "}")
 granted_text (Sale sale) = sale_as_read sale
 granted_text (Meter meter) = meter_text meter
@@ -64,6 +68,7 @@ granted_text (Page text) = text.now
 abbrev pub granted_start : Wanted → Start
 granted_start wanted.Done = starts.Json
 granted_start wanted.Imported = starts.Json
+granted_start wanted.Withdrawn = starts.Json
 granted_start wanted.Shift = starts.Json
 granted_start wanted.Sale = starts.Json
 granted_start wanted.Meter = starts.Json

@@ -94,12 +94,15 @@ impl Question<'_> {
                 self,
                 Question::SetTariff(..)
                     | Question::MoveBase(..)
+                    | Question::SetKey(..)
                     | Question::Sell(_)
                     | Question::Meter(_)
                     | Question::LastSale(_)
                     | Question::Quote(..)
             ),
-            Refusal::NoTariff => matches!(self, Question::SetTariff(..)),
+            Refusal::NoTariff => {
+                matches!(self, Question::SetTariff(..) | Question::WithdrawSteps(..))
+            }
             Refusal::BeforeBase => {
                 matches!(
                     self,
@@ -127,7 +130,9 @@ impl Question<'_> {
             }
             Refusal::NotLater => matches!(self, Question::MoveBase(..)),
             Refusal::Memory | Refusal::Store | Refusal::Stopped => true,
-            Refusal::Differs | Refusal::DayPast => false,
+            Refusal::DayPast => matches!(self, Question::WithdrawSteps(..)),
+            Refusal::HasSales => matches!(self, Question::SetKey(..)),
+            Refusal::Differs => false,
         }
     }
 }

@@ -9,6 +9,9 @@ ghost use Rattle.desk_client.specs.Question.{question_text};
 ghost use Rattle.desk_client.specs.declared.question.Question.{Question};
 ghost use Rattle.sts_fields.specs.Moment.{IsMoment};
 
+use desk_messages::list_law;
+use sts_fields::calendar_law;
+
 /// A desk reads what is sent for a question as one whole message, and this message means what the
 /// question asks: the request, the look-up, or the import of the file's rows. Where the desk's
 /// clock is outside the moments of an office, the message asks nothing.
@@ -20,4 +23,7 @@ pub fn question_law()
     ensures outside { (question : Question) (second : ℤ) → IsAskable question
         → IsNoMoment second
         → IsIdle (question_message question) (Some second) (Faulty Clock) }
-{}
+{
+    calendar_law();
+    list_law();
+}

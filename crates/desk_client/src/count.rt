@@ -17,6 +17,17 @@ pub(crate) fn read_added(text: &[u8]) -> Option<u32>
     }
 }
 
+// How many lists of steps were withdrawn, as a text tells it.
+pub(crate) fn read_withdrawn(text: &[u8]) -> Option<u32>
+    ensures { IsFound (λ count. (count ≤ 1)
+        × (text.now ≡ codes "{\"withdrawn\":" ++ (decimal count ++ codes "}"))) result }
+{
+    match read_count(text, "{\"withdrawn\":") {
+        Some(count) if count <= 1 => Some(count),
+        _ => None,
+    }
+}
+
 // The number of a shift that a text tells.
 pub(crate) fn read_shift(text: &[u8]) -> Option<u32>
     ensures { IsFound (λ number. IsTargetNumber number

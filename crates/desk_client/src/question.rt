@@ -2,20 +2,22 @@
 
 ghost use Rattle.std.specs.Prelude.{◌≡◌, ◌∷◌, ◌++◌, [], IfOk, decimal, map};
 ghost use Rattle.std.specs.List.{concat};
-ghost use Rattle.desk_client.specs.Question.{body_pieces, import_target, order_pieces};
+ghost use Rattle.desk_client.specs.Question.{body_pieces, import_target, key_pieces, order_pieces};
 ghost use Rattle.desk_client.specs.Question.{question_method, question_text, quote_pieces};
-ghost use Rattle.desk_client.specs.Question.{target_pieces};
+ghost use Rattle.desk_client.specs.Question.{steps_pieces, target_pieces};
 ghost use Rattle.desk_client.specs.Question.{wanted_by};
 ghost use Rattle.desk_client.specs.Text.{now};
 
 use crate::sending::message;
 use crate::told::Wanted;
 use conversation::Method;
+use desk_messages::put_day;
 use itoa::Buffer;
 use office_rules::{MeterNo, Operator, Order, Ref, TariffName};
 use papers::FileKind;
 use std::alloc::{AllocError, Global};
-use sts_fields::Base;
+use sts_fields::{Base, Day};
+use sts_token::key_text;
 use tariff::Tender;
 
 /// What a desk is asked (`docs/DESK.md`). Numbers of shifts and sales are 1 to 10^9.
@@ -24,7 +26,11 @@ pub enum Question<'a> {
     /// To add the rows of a file that has these bytes, at most 2^20.
     Import(FileKind, &'a [u8]),
     SetTariff(MeterNo, TariffName),
+    /// To take back the steps that a tariff has from this day on.
+    WithdrawSteps(TariffName, Day),
     MoveBase(MeterNo, Base),
+    /// To give a meter that has no sale this key.
+    SetKey(MeterNo, u64),
     OpenShift(Operator),
     CloseShift(Operator),
     Sell(Order),
@@ -64,7 +70,8 @@ impl Question<'_> {
     {
         match self {
             Question::Import(..) => Wanted::Imported,
-            Question::SetTariff(..) | Question::MoveBase(..) => Wanted::Done,
+            Question::WithdrawSteps(..) => Wanted::Withdrawn,
+            Question::SetTariff(..) | Question::MoveBase(..) | Question::SetKey(..) => Wanted::Done,
             Question::OpenShift(_) | Question::CloseShift(_) => Wanted::Shift,
             Question::Sell(_) | Question::Receipt(_) | Question::SaleOfRef(..) => Wanted::Sale,
             Question::ShiftReport(_) | Question::LastSale(_) => Wanted::Paper,
@@ -83,9 +90,11 @@ impl Question<'_> {
             Question::Import(..)
             | Question::SetTariff(..)
             | Question::MoveBase(..)
+            | Question::SetKey(..)
             | Question::OpenShift(_)
             | Question::CloseShift(_)
             | Question::Sell(_) => Method::Post,
+            Question::WithdrawSteps(..) => Method::Delete,
             Question::ShiftReport(_)
             | Question::Receipt(_)
             | Question::ShiftTotals(_)
@@ -109,8 +118,12 @@ impl Question<'_> {
             Question::SetTariff(meter, _) => {
                 joined(alloc, &[b"/meters/", meter.as_bytes(), b"/tariff"])
             }
+            Question::WithdrawSteps(name, day) => steps_target(alloc, *name, *day),
             Question::MoveBase(meter, _) => {
                 joined(alloc, &[b"/meters/", meter.as_bytes(), b"/base"])
+            }
+            Question::SetKey(meter, _) => {
+                joined(alloc, &[b"/meters/", meter.as_bytes(), b"/key"])
             }
             Question::OpenShift(_) => joined(alloc, &[b"/shifts"]),
             Question::CloseShift(_) => joined(alloc, &[b"/shifts/close"]),
@@ -154,12 +167,14 @@ impl Question<'_> {
                 let year = digits.format(base.year()).as_bytes();
                 joined(alloc, &[b"{\"base\":", year, b"}"])
             }
+            Question::SetKey(_, key) => key_body(alloc, *key),
             Question::OpenShift(operator) | Question::CloseShift(operator) => joined(
                 alloc,
                 &[b"{\"operator\":\"", operator.as_bytes(), b"\"}"],
             ),
             Question::Sell(order) => order_body(alloc, order),
-            Question::ShiftReport(_)
+            Question::WithdrawSteps(..)
+            | Question::ShiftReport(_)
             | Question::Receipt(_)
             | Question::ShiftTotals(_)
             | Question::Meter(_)
@@ -183,6 +198,15 @@ fn numbered(alloc: Global, front: &[u8], number: u32, end: &[u8]) -> Result<Vec<
     joined(alloc, &[front, digits.format(number).as_bytes(), end])
 }
 
+// The target of the steps of a tariff from a day on.
+fn steps_target(alloc: Global, name: TariffName, day: Day) -> Result<Vec<u8>, AllocError>
+    ensures { IfOk result (λ text. text.items ≡ concat (steps_pieces name day)) }
+{
+    let mut date = Vec::new(alloc);
+    put_day(&mut date, day)?;
+    joined(alloc, &[b"/tariffs/", name.as_bytes(), b"/steps/", &date])
+}
+
 // The target of a quote.
 fn quote_target(alloc: Global, meter: MeterNo, tender: Tender) -> Result<Vec<u8>, AllocError>
     ensures { IfOk result (λ text. text.items ≡ concat (quote_pieces meter tender)) }
@@ -193,6 +217,14 @@ fn quote_target(alloc: Global, meter: MeterNo, tender: Tender) -> Result<Vec<u8>
         alloc,
         &[b"/meters/", meter.as_bytes(), b"/quote?tender=", tender],
     )
+}
+
+// The body that gives a meter this key.
+fn key_body(alloc: Global, key: u64) -> Result<Vec<u8>, AllocError>
+    ensures { IfOk result (λ text. text.items ≡ concat (key_pieces key)) }
+{
+    let digits = key_text(key);
+    joined(alloc, &[b"{\"key\":\"", &digits, b"\"}"])
 }
 
 // The body of an order.

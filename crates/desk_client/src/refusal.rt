@@ -50,6 +50,7 @@ fn numbered(number: u32) -> Option<Refusal>
         17 => Some(Refusal::Stopped),
         18 => Some(Refusal::NotLater),
         19 => Some(Refusal::DayPast),
+        20 => Some(Refusal::HasSales),
         _ => None,
     }
 }

@@ -1,12 +1,13 @@
 //! The replies of a desk, as they come.
 
-ghost use Rattle.std.specs.Prelude.{◌≡◌, ◌≢◌, ◌^◌, ◌<◌, ℕ, List, MatchOption, Option};
-ghost use Rattle.desk_client.specs.Reply.{IsReplyReading, IsRefusing, head_bytes};
+ghost use Rattle.std.specs.Prelude.{◌≡◌, ◌≢◌, ◌^◌, ◌<◌, ◌↔◌, ℕ, IsTrue, List, MatchOption, Option};
+ghost use Rattle.desk_client.specs.Reply.{HasNoHead, IsReplyReading, IsRefusing, MayBegin};
+ghost use Rattle.desk_client.specs.Reply.{head_bytes};
 ghost use Rattle.desk_client.specs.Start.{IsDated};
 ghost use Rattle.desk_client.specs.Told.{IsStart};
 ghost use Rattle.desk_client.specs.declared.start.Start.{Start};
 
-use crate::start::{Start, head_at};
+use crate::start::{Start, begins_as, head_at};
 use crate::told::{Told, Wanted, read_told};
 
 /// The bytes of a head, at most: the longest that a desk writes has fewer.
@@ -21,9 +22,9 @@ pub const MAX_BODY: u64 = 67_108_864;
 pub enum Reading<'b> {
     /// The whole reply.
     Whole(Told<'b>),
-    /// Fewer than `MAX_HEAD` bytes, and no head yet.
+    /// Fewer than `MAX_HEAD` bytes, and no head yet: they begin as one, as far as its start goes.
     NeedHead,
-    /// A head, and a body that lacks so many bytes: at least one.
+    /// A head, and a body that lacks so many bytes of those that the head tells: at least one.
     NeedBody(u64),
     /// No reply to what was asked, whatever bytes follow.
     OutOfForm,
@@ -44,17 +45,30 @@ pub fn reply_in(input: &[u8], wanted: Wanted) -> Reading<'_>
 {
     match find_head(input, wanted) {
         Some(head) => body_in(&head, wanted),
-        None if input.len() < MAX_HEAD => Reading::NeedHead,
+        None if input.len() >= MAX_HEAD => Reading::OutOfForm,
+        None if may_begin(input, wanted) => Reading::NeedHead,
         None => Reading::OutOfForm,
     }
+}
+
+// Whether a reply may begin with these bytes, as far as the start of its head tells: nothing that
+// begins otherwise is waited for.
+fn may_begin(input: &[u8], wanted: Wanted) -> bool
+    ensures { IsTrue result ↔ MayBegin wanted input.now }
+{
+    if begins_as(input, wanted.start()) || begins_as(input, Start::Missing) {
+        return true;
+    }
+    if begins_as(input, Start::Forbidden) || begins_as(input, Start::Unfit) {
+        return true;
+    }
+    begins_as(input, Start::Unable)
 }
 
 // The head that stands at the front of an input.
 fn find_head(input: &[u8], wanted: Wanted) -> Option<Head<'_>>
     ensures { MatchOption result
-        ((start : Start) (len : ℕ) (dated : Option (List ℕ)) (rest : List ℕ)
-        → IsStart wanted start → len < 2 ^ 64 → IsDated dated
-        → input.now ≢ head_bytes start len dated rest)
+        (HasNoHead wanted input.now)
         (λ head. IsStart wanted head.start × (head.len < 2 ^ 64)
         × (dated : Option (List ℕ)) × IsDated dated
         × (input.now ≡ head_bytes head.start head.len dated head.rest.now)) }

@@ -7,8 +7,8 @@ use conversation::Method;
 use itoa::Buffer;
 use std::alloc::{AllocError, Global};
 
-/// The bytes of a whole message to a desk, with this method, target and body. One of GET or HEAD is
-/// sent without its body. An error is want of memory.
+/// The bytes of a whole message to a desk, with this method, target and body. One of GET, HEAD or
+/// DELETE is sent without its body. An error is want of memory.
 pub fn message(
     alloc: Global,
     method: Method,
@@ -40,7 +40,7 @@ fn put_body(text: &mut Vec<u8>, method: Method, body: &[u8]) -> Result<(), Alloc
     ensures { OnOk result (text.new.items ≡ text.old.items ++ body_part method body.now) }
 {
     match method {
-        Method::Get | Method::Head => text.extend_from_slice(b"\r\n"),
+        Method::Get | Method::Head | Method::Delete => text.extend_from_slice(b"\r\n"),
         Method::Post => put_sized(text, body),
     }
 }
@@ -66,5 +66,6 @@ fn word_of(method: Method) -> &'static str
         Method::Get => "GET",
         Method::Head => "HEAD",
         Method::Post => "POST",
+        Method::Delete => "DELETE",
     }
 }

@@ -1,7 +1,7 @@
 ghost use Rattle.std.specs.Prelude.{◌≡◌, ◌≢◌, ◌++◌, ◌∷◌, ◌^◌, ◌<◌, ◌↔◌, ℕ, List, MatchOption};
 ghost use Rattle.std.specs.Prelude.{IsTrue, Option, decimal};
 ghost use Rattle.office_rules.specs.Decision.Refusals.{refusal_category};
-ghost use Rattle.desk_client.specs.Start.{IsDated, IsHttpDate, category_start, date_end};
+ghost use Rattle.desk_client.specs.Start.{BeginsAs, IsDated, IsHttpDate, category_start, date_end};
 ghost use Rattle.desk_client.specs.Start.{head_end, start_text};
 
 use crate::text::{behind, number, value_at};
@@ -107,6 +107,14 @@ fn is_date(text: &[u8]) -> bool
     };
     let shown = date.to_bytes();
     shown.as_slice() == text
+}
+
+// The input begins with this start, or is the front of it.
+pub(crate) fn begins_as(input: &[u8], start: Start) -> bool
+    ensures { IsTrue result ↔ BeginsAs input.now start }
+{
+    let text = start.text().as_bytes();
+    behind(input, text).is_some() || behind(text, input).is_some()
 }
 
 // The length of the body that a head of this start tells, and what follows the head.

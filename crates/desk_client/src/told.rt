@@ -4,7 +4,7 @@ ghost use Rattle.desk_client.specs.Told.{granted_start, granted_text, refusal_st
 ghost use Rattle.desk_client.specs.Told.{told_start, told_text, wanted_of};
 ghost use Rattle.desk_client.specs.Text.{IsFound};
 
-use crate::count::{read_added, read_shift};
+use crate::count::{read_added, read_shift, read_withdrawn};
 use crate::meter::read_meter;
 use crate::quote::read_quote;
 use crate::refusal::{plain_refusal, row_refusal};
@@ -22,6 +22,8 @@ pub enum Wanted {
     Done,
     /// How many rows of an import were new.
     Imported,
+    /// How many lists of steps were withdrawn.
+    Withdrawn,
     /// The number of the shift that was opened or closed.
     Shift,
     /// A sale.
@@ -43,6 +45,7 @@ pub enum Wanted {
 pub enum Granted<'b> {
     Done,
     Imported(u32),
+    Withdrawn(u32),
     Shift(u32),
     /// The reply does not tell the nibble of the sale's token: here it is 0.
     Sale(Sale),
@@ -64,6 +67,7 @@ impl Wanted {
             Wanted::Paper => Start::Paper,
             Wanted::Done
             | Wanted::Imported
+            | Wanted::Withdrawn
             | Wanted::Shift
             | Wanted::Sale
             | Wanted::Meter
@@ -84,6 +88,10 @@ pub(crate) fn read_granted(wanted: Wanted, text: &[u8]) -> Option<Granted<'_>>
         Wanted::Done => None,
         Wanted::Imported => match read_added(text) {
             Some(count) => Some(Granted::Imported(count)),
+            None => None,
+        },
+        Wanted::Withdrawn => match read_withdrawn(text) {
+            Some(count) => Some(Granted::Withdrawn(count)),
             None => None,
         },
         Wanted::Shift => match read_shift(text) {

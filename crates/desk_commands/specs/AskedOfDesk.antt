@@ -26,6 +26,7 @@ use Rattle.command_line.specs.declared.commands.show.Shown.{Shown}
 use Rattle.command_line.specs.declared.commands.show.Shown.TheVariants as shown
 use Rattle.vend_ports.specs.print.Printed.{added_line, clock_line, done_line, file_line, net_line}
 use Rattle.vend_ports.specs.print.Printed.{read_fault_line, refusal_line, shift_line}
+use Rattle.vend_ports.specs.print.Printed.{withdrawn_line}
 use Rattle.desk_commands.specs.ListedAtDesk.{IsListedAtDesk, page_question}
 use Rattle.desk_commands.specs.Exchanged.{Calls, IsUnsent, one_round}
 use Rattle.vend_ports.specs.port.Texts.{Texts}
@@ -48,7 +49,9 @@ shown_question (shown.Sale operator order_ref) = questions.SaleOfRef operator or
 abbrev pub question_of : DeskQuestion → (rows : Bor Text) → Question
 question_of (asks.Import kind csv) rows = questions.Import kind rows
 question_of (asks.SetTariff meter tariff) rows = questions.SetTariff meter tariff
+question_of (asks.WithdrawSteps tariff from) rows = questions.WithdrawSteps tariff from
 question_of (asks.MoveBase meter base) rows = questions.MoveBase meter base
+question_of (asks.SetKey meter key) rows = questions.SetKey meter key
 question_of (asks.OpenShift operator) rows = questions.OpenShift operator
 question_of (asks.CloseShift operator) rows = questions.CloseShift operator
 question_of (asks.Sell order) rows = questions.Sell order
@@ -91,6 +94,7 @@ told_sale_text json question s = receipt_of s
 abbrev pub granted_output : (json : Bool) → Question → Granted → Text
 granted_output json question grants.Done = done_line
 granted_output json question (grants.Imported count) = added_line count
+granted_output json question (grants.Withdrawn count) = withdrawn_line count
 granted_output json question (grants.Shift number) = shift_line number
 granted_output json question (grants.Sale sale) = told_sale_text json question sale
 granted_output json question (grants.Paper text) = text.now
@@ -110,6 +114,7 @@ SaleNeedsRoom json question s = ⊥
 abbrev pub NeedsRoom : (json : Bool) → Question → Granted → Type 0
 NeedsRoom json question grants.Done = ⊥
 NeedsRoom json question (grants.Imported count) = ⊥
+NeedsRoom json question (grants.Withdrawn count) = ⊥
 NeedsRoom json question (grants.Shift number) = ⊥
 NeedsRoom json question (grants.Sale sale) = SaleNeedsRoom json question sale
 NeedsRoom json question (grants.Paper text) = ⊥

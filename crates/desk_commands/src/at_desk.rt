@@ -26,7 +26,7 @@ use std::alloc::{AllocError, Global};
 use std::io::Write;
 use vend_ports::{
     CommandEnd, FileFault, Loopback, TextFiles, Watched, put_added, put_line, put_no_moment,
-    put_read_fault, put_refusal, put_shift,
+    put_read_fault, put_refusal, put_shift, put_withdrawn,
 };
 
 /// Why a desk is not asked to add the rows of a file.
@@ -117,7 +117,9 @@ fn question_of<'a>(asked: &DeskQuestion, rows: &'a [u8]) -> Question<'a>
     match asked {
         DeskQuestion::Import(kind, _) => Question::Import(*kind, rows),
         DeskQuestion::SetTariff(meter, tariff) => Question::SetTariff(*meter, *tariff),
+        DeskQuestion::WithdrawSteps(tariff, from) => Question::WithdrawSteps(*tariff, *from),
         DeskQuestion::MoveBase(meter, base) => Question::MoveBase(*meter, *base),
+        DeskQuestion::SetKey(meter, key) => Question::SetKey(*meter, *key),
         DeskQuestion::OpenShift(operator) => Question::OpenShift(*operator),
         DeskQuestion::CloseShift(operator) => Question::CloseShift(*operator),
         DeskQuestion::Sell(order) => Question::Sell(*order),
@@ -247,6 +249,7 @@ fn put_granted<O: Write>(
     match granted {
         Granted::Done => put_line(&[b"done"], out),
         Granted::Imported(count) => put_added(*count, out),
+        Granted::Withdrawn(count) => put_withdrawn(*count, out),
         Granted::Shift(number) => put_shift(*number, out),
         Granted::Sale(sale) => return put_told_sale(alloc, question, json, sale, out),
         Granted::Paper(text) | Granted::Page(text) => out.put(text),

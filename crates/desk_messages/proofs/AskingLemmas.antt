@@ -24,11 +24,11 @@ use Rattle.office_rules.specs.declared.decision.row_cause.RowCause.{RowCause}
 use Rattle.desk_messages.specs.declared.body_fault.BodyFault.{BodyFault}
 use Rattle.desk_messages.specs.declared.body_fault.BodyFault.TheVariants as faults
 use Rattle.desk_messages.specs.declared.route.Route.{Route}
-use Rattle.desk_messages.specs.declared.route.Route.TheVariants.{Object, Import, ShiftReport, Reprint, Receipt, LookUp}
+use Rattle.desk_messages.specs.declared.route.Route.TheVariants.{Object, Import, WithdrawSteps, ShiftReport, Reprint, Receipt, LookUp}
 use Rattle.desk_messages.specs.declared.json_body.kind.JsonKind.{JsonKind}
 use Rattle.desk_messages.specs.declared.json_body.kind.JsonKind.TheVariants as kinds
 use Rattle.desk_messages.specs.Asking.{AsksByJson, AsksImport, BodyAsks, SaysJson, import_of}
-use Rattle.desk_messages.specs.json_body.Body.{IsJson, BodySays, BodySaysMeter, BodySaysOperator, BodySaysBase, BodySaysDatedSteps, BodySaysOrder, BodySaysTariff, BodySaysTariffName}
+use Rattle.desk_messages.specs.json_body.Body.{IsJson, BodySays, BodySaysMeter, BodySaysOperator, BodySaysBase, BodySaysDatedSteps, BodySaysKey, BodySaysOrder, BodySaysTariff, BodySaysTariffName}
 use Rattle.desk_messages.specs.Reads.{IsFoundInBody}
 
 -- ---- the value of a body
@@ -131,6 +131,11 @@ one_base : (json : Data) (a b : Base) → BodySaysBase json a → BodySaysBase j
 one_base json a b x y =
     same_base a b (same_number (get (codes "base") json) (year_of a) (year_of b) x.members.each.0 y.members.each.0)
 
+one_key : (json : Data) (a b : ℕ) → BodySaysKey json a → BodySaysKey json b → a ≡ b
+one_key json a b x y =
+    let texts = same_text (get (codes "key") json) x.key_text y.key_text x.members.each.0 y.members.each.0 in
+    sym x.keyed.number ∙ ap (digits_value 16) texts ∙ y.keyed.number
+
 one_said : TextsSayOne → (kind : JsonKind) (json : Data) (x y : Request) → BodySays kind json x
     → BodySays kind json y → x ≡ y
 one_said are kinds.AddTariff json x y a b =
@@ -149,6 +154,8 @@ one_said are (kinds.SetTariff meter) json x y a b =
     a.1 ∙ ap (λ name. requests.SetTariff meter name) (one_tariff_name json a.0 b.0 a.2 b.2) ∙ sym b.1
 one_said are (kinds.MoveBase meter) json x y a b =
     a.1 ∙ ap (λ base. requests.MoveBase meter base) (one_base json a.0 b.0 a.2 b.2) ∙ sym b.1
+one_said are (kinds.SetKey meter) json x y a b =
+    a.1 ∙ ap (λ key. requests.SetKey meter key) (one_key json a.0 b.0 a.2 b.2) ∙ sym b.1
 one_said are kinds.OpenShift json x y a b =
     a.1 ∙ ap requests.OpenShift (one_operator json a.0 b.0 a.2 b.2) ∙ sym b.1
 one_said are kinds.CloseShift json x y a b =
@@ -229,6 +236,7 @@ pub one_asking : TextsSayOne → AreOne → (route : Route) (body : List ℕ) (a
     → b ≢ Err faults.Memory → a ≡ b
 one_asking texts files (Object kind) body = one_by_json texts kind body
 one_asking texts files (Import kind) body = one_import files kind body
+one_asking texts files (WithdrawSteps tariff day) body = λ a b x y u v. x ∙ sym y
 one_asking texts files (ShiftReport shift) body = λ a b x y u v. x ∙ sym y
 one_asking texts files (Reprint sale) body = λ a b x y u v. x ∙ sym y
 one_asking texts files (Receipt sale) body = λ a b x y u v. x ∙ sym y

@@ -1,5 +1,5 @@
 -- What bodies say, from what was read of them.
-use Rattle.std.proofs.Common.{◌≡◌, ℕ, List, Some, Err, String, Global, nat_eq, length, ap, sym, subst, ◌∙◌, arith}
+use Rattle.std.proofs.Common.{◌≡◌, ℕ, List, Option, Some, None, Err, String, Global, nat_eq, length, ap, sym, subst, ◌∙◌, arith}
 use Rattle.std.specs.Prelude.{◌↔◌, IsTrue, codes, option_map}
 use Rattle.std.proofs.lemmas.Bool.Decides.{nat_tests}
 use Rattle.serde_json.specs.Data.{Data}
@@ -15,8 +15,8 @@ use Rattle.desk_messages.specs.declared.body_fault.BodyFault.{BodyFault}
 use Rattle.desk_messages.specs.declared.body_fault.BodyFault.TheVariants.{OutsideRule, Row, Memory}
 use Rattle.desk_messages.specs.declared.json_body.kind.JsonKind.{JsonKind}
 use Rattle.desk_messages.specs.declared.json_body.kind.JsonKind.TheVariants.{AddTariff, AddSteps}
-use Rattle.desk_messages.specs.json_body.Body.{HasMemberCount, IsKeyAt, BodySays, BodySaysMeter, BodySaysTariff, BodySaysDatedSteps}
-use Rattle.desk_messages.specs.Reads.{IsFoundInBody}
+use Rattle.desk_messages.specs.json_body.Body.{HasMemberCount, IsKeyAt, BodySays, BodySaysMeter, BodySaysTariff, BodySaysDatedSteps, BodySaysKey}
+use Rattle.desk_messages.specs.Reads.{IsFound, IsFoundInBody}
 
 -- a map has as many entries as its object has members
 pub count_is : (json : Data) (entries : List (String Global × Value)) (len count : ℕ)
@@ -33,6 +33,13 @@ count_is json entries len count found is =
 pub no_key : (json : Data) → ((key : ℕ) → ¬ IsKeyAt (get (codes "key") json) key)
     → (meter : List ℕ) (m : Meter) → ¬ BodySaysMeter json meter m
 no_key json none meter m says = none m.key (says.key_text, says.members.each.1.0, says.keyed)
+
+-- a value with one member says a key where this is one
+pub says_key : (json : Data) → HasMemberCount json 1 → (r : Option ℕ) → IsFound (IsKeyAt (get (codes "key") json)) r
+    → IsFound (BodySaysKey json) r
+says_key json count (Some key) is =
+    record { key_text = is.0; members = record { count = count; each = (is.1, tt) }; keyed = is.2 }
+says_key json count None none = λ key says. none key (says.key_text, says.members.each.0, says.keyed)
 
 -- what is found in a value needs what is found in a part of it
 pub not_found_in : {A B : Type 0} (Part : A → Type 0) (Whole : B → Type 0) (fault : BodyFault)

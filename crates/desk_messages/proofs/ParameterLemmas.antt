@@ -11,7 +11,9 @@ use Rattle.std.proofs.lemmas.List.{append_cancel_left, append_cancel_right, get_
 use Rattle.std.proofs.lemmas.List.Sums.{position_or_len_is}
 use Rattle.std.proofs.lemmas.Str.{IsUtf8-from_ascii}
 use Rattle.std.proofs.lemmas.Str.Parse.{IsNumeralModel, digit_at, numerals_by_value, parse_plain, tells_digits}
+use Rattle.sts_fields.specs.Day.{IsDayText}
 use Rattle.tariff.specs.Tender.{IsTender}
+use Rattle.office_rules.specs.Name.{IsName, is_name_byte}
 use Rattle.desk_messages.specs.Reads.{ReadsWritten}
 use Rattle.desk_messages.specs.route.Endpoint.{LacksSlash}
 use Rattle.desk_messages.specs.route.Route.{IsPageStart, IsTargetNumber}
@@ -77,12 +79,19 @@ not_cut text a x lacks e =
 not_digit : (b : ℕ) → is_ascii_digit b ≡ true → is_slash b ≡ false
 not_digit b e = grind (arith, nat_tests)
 
+not_of_name : (b : ℕ) → is_name_byte b ≡ true → is_slash b ≡ false
+not_of_name b e = grind (arith, nat_tests)
+
 not_letter : (b : ℕ) → is_ascii_alphanumeric b ≡ true → is_slash b ≡ false
 not_letter b e = grind (arith, nat_tests)
 
 -- neither digits nor letters have one
 pub digits_lack : (text : List ℕ) → AllPass is_ascii_digit text → LacksSlash text
 digits_lack text passes = λ i d inside. not_digit _ (passes i d inside)
+
+-- nor has a name
+pub name_lacks : (text : List ℕ) → IsName text → LacksSlash text
+name_lacks text is = λ i d inside. not_of_name _ (is.bytes i d inside)
 
 -- nor does a text of letters and digits, such as an operator
 pub letters_lack : (text : List ℕ) → AllPass is_ascii_alphanumeric text → LacksSlash text

@@ -1,9 +1,10 @@
 -- The table of a router, endpoint by endpoint, and the one route that a target leads to.
-use Rattle.std.proofs.Common.{◌≡◌, ◌≢◌, ℕ, ◌+◌, ◌<◌, List, [], ◌++◌, get_or, take, inl, inr, false, Result, Ok, Err, Some, None, refl, ap, sym, ◌∙◌, arith}
+use Rattle.std.proofs.Common.{◌≡◌, ◌≢◌, ℕ, ◌+◌, ◌<◌, List, [], ◌++◌, get_or, take, inl, inr, false, Result, Ok, Err, Some, None, refl, ap, sym, subst, ◌∙◌, arith}
 use Rattle.std.specs.List.{after_first, before_first, fold}
 use Rattle.std.specs.Prelude.{codes, decimal, is_err}
 use Rattle.std.proofs.lemmas.List.{append_cancel_left, append_cancel_right}
 use Rattle.std.proofs.lemmas.List.Sums.{fold_more}
+use Rattle.sts_fields.specs.Day.{IsDayText}
 use Rattle.tariff.specs.Tender.{IsTender}
 use Rattle.office_rules.specs.Name.{IsMeterNo, IsName, IsOperator}
 use Rattle.papers.specs.declared.file_kind.FileKind.TheVariants as files
@@ -16,14 +17,14 @@ use Rattle.desk_messages.specs.declared.desk_fault.DeskFault.TheVariants as faul
 use Rattle.desk_messages.specs.declared.json_body.kind.JsonKind.{JsonKind}
 use Rattle.desk_messages.specs.declared.json_body.kind.JsonKind.TheVariants as kinds
 use Rattle.desk_messages.specs.declared.route.endpoint.Endpoint.{Endpoint}
-use Rattle.desk_messages.specs.declared.route.endpoint.Endpoint.TheVariants.{Tariffs, TariffSteps, MeterTariff, MeterBase, Shift, Sale, SaleReceipt, Meter, LastSale, Quote, SaleOfRef, ShiftTotals, TariffsAfter, MetersAfter, ShiftsAfter, SalesAfter}
+use Rattle.desk_messages.specs.declared.route.endpoint.Endpoint.TheVariants.{Tariffs, TariffSteps, DatedSteps, MeterTariff, MeterBase, MeterKey, Shift, Sale, SaleReceipt, Meter, LastSale, Quote, SaleOfRef, ShiftTotals, TariffsAfter, MetersAfter, ShiftsAfter, SalesAfter}
 use Rattle.desk_messages.specs.declared.route.Route.{Route}
-use Rattle.desk_messages.specs.declared.route.Route.TheVariants.{Object, Import, ShiftReport, Reprint, Receipt, LookUp}
+use Rattle.desk_messages.specs.declared.route.Route.TheVariants.{Object, Import, WithdrawSteps, ShiftReport, Reprint, Receipt, LookUp}
 use Rattle.book_states.specs.declared.lookup.Lookup.{Lookup}
 use Rattle.book_states.specs.declared.lookup.Lookup.TheVariants as lookups
 use Rattle.desk_messages.specs.route.Endpoint.{Table, closes, endpoints, endpoint_method, filled, opens, pattern_of, quote_target, sale_target, with_endpoint, with_pattern}
-use Rattle.desk_messages.specs.route.Route.{FindsRoute, IsRouted, LeadsTo, Names, NamesLookup, NamesObject, endpoint_of, lookup_endpoint, object_endpoint, route_method}
-use Rattle.desk_messages.proofs.ParameterLemmas.{digits_lack, letters_lack, same_number, same_start, same_two}
+use Rattle.desk_messages.specs.route.Route.{FindsRoute, IsRouted, LeadsTo, Names, NamesLookup, NamesObject, NamesSteps, endpoint_of, lookup_endpoint, object_endpoint, route_method}
+use Rattle.desk_messages.proofs.ParameterLemmas.{digits_lack, letters_lack, name_lacks, same_number, same_start, same_two}
 
 -- what `insert` leaves where it succeeds
 pub inserted : (read : Result Scan InsertError) (endpoint : Endpoint) (old new : Table)
@@ -35,7 +36,7 @@ inserted (Err error) endpoint old new (Ok u) (same, inr e) clean = absurd (cc)
 inserted read endpoint old new (Err error) is clean = absurd (cc)
 
 -- the table with the endpoint at a place, after those before it
-pub next_rows : (old new : Table) (i : ℕ) (pattern : List ℕ) → i < 25
+pub next_rows : (old new : Table) (i : ℕ) (pattern : List ℕ) → i < 27
     → old ≡ fold with_endpoint [] (take i endpoints)
     → pattern ≡ pattern_of (get_or endpoints i Tariffs)
     → new ≡ with_pattern old (parse_route pattern) (get_or endpoints i Tariffs)
@@ -129,61 +130,87 @@ same_object target (kinds.SetTariff x) (kinds.SetTariff y) e m n =
     ap kinds.SetTariff (same_filled (pattern_of MeterTariff) target x y m.0 n.0)
 same_object target (kinds.MoveBase x) (kinds.MoveBase y) e m n =
     ap kinds.MoveBase (same_filled (pattern_of MeterBase) target x y m.0 n.0)
+same_object target (kinds.SetKey x) (kinds.SetKey y) e m n =
+    ap kinds.SetKey (same_filled (pattern_of MeterKey) target x y m.0 n.0)
 same_object target kinds.OpenShift kinds.OpenShift e m n = refl
 same_object target kinds.CloseShift kinds.CloseShift e m n = refl
 same_object target kinds.Sell kinds.Sell e m n = refl
 same_object target a b e m n = absurd (cc)
 
+-- a date is that of one day
+abbrev pub IsOneDay : Type 0
+IsOneDay = (day other : ℕ) (date : List ℕ) → IsDayText date day → IsDayText date other → day ≡ other
+
+-- a target names the steps of one tariff and one day
+same_steps : IsOneDay → (target x y : List ℕ) (day other : ℕ) → NamesSteps target x day → NamesSteps target y other
+    → WithdrawSteps x day ≡ WithdrawSteps y other
+same_steps one target x y day other m n =
+    let same = same_two (codes "/tariffs/") (codes "steps/") x y m.0 n.0 (name_lacks x m.2) (name_lacks y n.2) (sym m.1 ∙ n.1) in
+    let days = one day other n.0 (subst (λ date. IsDayText date day) same.1 m.3) n.3 in
+    ap (λ name. WithdrawSteps name day) same.0 ∙ ap (λ d. WithdrawSteps y d) days
+
+-- a target that names no steps names nothing at their endpoint
+steps_named : (target : List ℕ) → ((named : List ℕ × ℕ) → ¬ NamesSteps target named.0 named.1) → (route : Route)
+    → endpoint_of route ≡ DatedSteps → ¬ Names target route
+steps_named target none (WithdrawSteps tariff day) e named = none (tariff, day) named
+steps_named target none route e named = absurd (grind (arith, e))
+
+pub no_steps : (target : List ℕ) (endpoint : Endpoint) → endpoint ≡ DatedSteps
+    → ((named : List ℕ × ℕ) → ¬ NamesSteps target named.0 named.1)
+    → (route : Route) → ¬ ((endpoint_of route ≡ endpoint) × Names target route)
+no_steps target endpoint is none route (e, named) = steps_named target none route (e ∙ is) named
+
 -- a target names one route
-same_route : (target : List ℕ) (a b : Route) → endpoint_of a ≡ endpoint_of b → Names target a
+same_route : IsOneDay → (target : List ℕ) (a b : Route) → endpoint_of a ≡ endpoint_of b → Names target a
     → Names target b → a ≡ b
-same_route target (Object x) (Object y) e m n = ap Object (same_object target x y e m n)
-same_route target (Import files.Meters) (Import files.Meters) e m n = refl
-same_route target (Import files.Tariffs) (Import files.Tariffs) e m n = refl
-same_route target (ShiftReport x) (ShiftReport y) e m n =
+same_route one target (Object x) (Object y) e m n = ap Object (same_object target x y e m n)
+same_route one target (Import files.Meters) (Import files.Meters) e m n = refl
+same_route one target (Import files.Tariffs) (Import files.Tariffs) e m n = refl
+same_route one target (WithdrawSteps x day) (WithdrawSteps y other) e m n = same_steps one target x y day other m n
+same_route one target (ShiftReport x) (ShiftReport y) e m n =
     ap ShiftReport (same_number x y (omega (arith, m.1.most)) n.1 (same_filled (pattern_of Shift) target (decimal x) (decimal y) m.0 n.0))
-same_route target (Reprint x) (Reprint y) e m n =
+same_route one target (Reprint x) (Reprint y) e m n =
     ap Reprint (same_number x y (omega (arith, m.1.most)) n.1 (same_filled (pattern_of Sale) target (decimal x) (decimal y) m.0 n.0))
-same_route target (Receipt x) (Receipt y) e m n =
+same_route one target (Receipt x) (Receipt y) e m n =
     ap Receipt (same_number x y (omega (arith, m.1.most)) n.1 (same_filled (pattern_of SaleReceipt) target (decimal x) (decimal y) m.0 n.0))
-same_route target (LookUp x) (LookUp y) e m n = ap LookUp (same_lookup target x y e m n)
-same_route target a b e m n = absurd (grind (arith, e))
+same_route one target (LookUp x) (LookUp y) e m n = ap LookUp (same_lookup target x y e m n)
+same_route one target a b e m n = absurd (grind (arith, e))
 
 -- a target leads to one route
-pub one_route : (target : List ℕ) (a b : Route) → LeadsTo target a → LeadsTo target b → a ≡ b
-one_route target a b one other =
-    same_route target a b (one_endpoint target (endpoint_of a) (endpoint_of b) one.finds other.finds) one.names other.names
+pub one_route : IsOneDay → (target : List ℕ) (a b : Route) → LeadsTo target a → LeadsTo target b → a ≡ b
+one_route days target a b one other =
+    same_route days target a b (one_endpoint target (endpoint_of a) (endpoint_of b) one.finds other.finds) one.names other.names
 
 -- the method of a route that was found is not one that another reading refuses
-not_both : (target : List ℕ) (method : Method) (a b : Route) (allowed : Method) → LeadsTo target a
+not_both : IsOneDay → (target : List ℕ) (method : Method) (a b : Route) (allowed : Method) → LeadsTo target a
     → endpoint_method (endpoint_of a) ≡ route_method method → LeadsTo target b → endpoint_method (endpoint_of b) ≡ allowed
     → allowed ≢ route_method method → ⊥
-not_both target method a b allowed one own other others apart =
-    apart (sym others ∙ ap (λ route. endpoint_method (endpoint_of route)) (one_route target b a other one) ∙ own)
+not_both days target method a b allowed one own other others apart =
+    apart (sym others ∙ ap (λ route. endpoint_method (endpoint_of route)) (one_route days target b a other one) ∙ own)
 
 -- a target and a method ask for one route, or have one fault
-pub one_routing : (target : List ℕ) (method : Method) (a b : Result Route DeskFault)
+pub one_routing : IsOneDay → (target : List ℕ) (method : Method) (a b : Result Route DeskFault)
     → IsRouted target method a → IsRouted target method b → a ≡ b
-one_routing target method (Ok a) (Ok b) x y = ap Ok (one_route target a b x.0 y.0)
-one_routing target method (Ok a) (Err faults.NoRoute) x y = absurd (y a x.0)
-one_routing target method (Ok a) (Err (faults.Method allowed)) x y =
-    absurd (not_both target method a y.0 allowed x.0 x.1 y.1 y.2 y.3)
-one_routing target method (Ok a) (Err faults.Clock) x y = absurd y
-one_routing target method (Ok a) (Err faults.Body) x y = absurd y
-one_routing target method (Err faults.NoRoute) (Ok b) x y = absurd (x b y.0)
-one_routing target method (Err faults.NoRoute) (Err faults.NoRoute) x y = refl
-one_routing target method (Err faults.NoRoute) (Err (faults.Method allowed)) x y = absurd (x y.0 y.1)
-one_routing target method (Err faults.NoRoute) (Err faults.Clock) x y = absurd y
-one_routing target method (Err faults.NoRoute) (Err faults.Body) x y = absurd y
-one_routing target method (Err (faults.Method allowed)) (Ok b) x y =
-    absurd (not_both target method b x.0 allowed y.0 y.1 x.1 x.2 x.3)
-one_routing target method (Err (faults.Method allowed)) (Err faults.NoRoute) x y = absurd (y x.0 x.1)
-one_routing target method (Err (faults.Method allowed)) (Err (faults.Method other)) x y =
-    let same = one_route target x.0 y.0 x.1 y.1 in
+one_routing days target method (Ok a) (Ok b) x y = ap Ok (one_route days target a b x.0 y.0)
+one_routing days target method (Ok a) (Err faults.NoRoute) x y = absurd (y a x.0)
+one_routing days target method (Ok a) (Err (faults.Method allowed)) x y =
+    absurd (not_both days target method a y.0 allowed x.0 x.1 y.1 y.2 y.3)
+one_routing days target method (Ok a) (Err faults.Clock) x y = absurd y
+one_routing days target method (Ok a) (Err faults.Body) x y = absurd y
+one_routing days target method (Err faults.NoRoute) (Ok b) x y = absurd (x b y.0)
+one_routing days target method (Err faults.NoRoute) (Err faults.NoRoute) x y = refl
+one_routing days target method (Err faults.NoRoute) (Err (faults.Method allowed)) x y = absurd (x y.0 y.1)
+one_routing days target method (Err faults.NoRoute) (Err faults.Clock) x y = absurd y
+one_routing days target method (Err faults.NoRoute) (Err faults.Body) x y = absurd y
+one_routing days target method (Err (faults.Method allowed)) (Ok b) x y =
+    absurd (not_both days target method b x.0 allowed y.0 y.1 x.1 x.2 x.3)
+one_routing days target method (Err (faults.Method allowed)) (Err faults.NoRoute) x y = absurd (y x.0 x.1)
+one_routing days target method (Err (faults.Method allowed)) (Err (faults.Method other)) x y =
+    let same = one_route days target x.0 y.0 x.1 y.1 in
     let methods : allowed ≡ other =
     sym x.2 ∙ ap (λ route. endpoint_method (endpoint_of route)) same ∙ y.2 in
     ap (λ m. Err (faults.Method m)) methods
-one_routing target method (Err (faults.Method allowed)) (Err faults.Clock) x y = absurd y
-one_routing target method (Err (faults.Method allowed)) (Err faults.Body) x y = absurd y
-one_routing target method (Err faults.Clock) b x y = absurd x
-one_routing target method (Err faults.Body) b x y = absurd x
+one_routing days target method (Err (faults.Method allowed)) (Err faults.Clock) x y = absurd y
+one_routing days target method (Err (faults.Method allowed)) (Err faults.Body) x y = absurd y
+one_routing days target method (Err faults.Clock) b x y = absurd x
+one_routing days target method (Err faults.Body) b x y = absurd x

@@ -6,7 +6,7 @@ use Rattle.matchit.specs.Router.{RouteOf}
 use Rattle.matchit.specs.Seek.{first}
 use Rattle.matchit.proofs.OnLiterals.{matchit_on_literals}
 use Rattle.desk_messages.specs.declared.route.endpoint.Endpoint.{Endpoint}
-use Rattle.desk_messages.specs.declared.route.endpoint.Endpoint.TheVariants.{Tariffs, TariffSteps, Meters, MeterTariff, MeterBase, Shifts, ShiftClosing, Shift, Sales, Sale, SaleReceipt, MeterImports, TariffImports, Health, Meter, LastSale, Quote, SaleOfRef, ShiftTotals, FirstTariffs, TariffsAfter, FirstMeters, MetersAfter, ShiftsAfter, SalesAfter}
+use Rattle.desk_messages.specs.declared.route.endpoint.Endpoint.TheVariants.{Tariffs, TariffSteps, DatedSteps, Meters, MeterTariff, MeterBase, MeterKey, Shifts, ShiftClosing, Shift, Sales, Sale, SaleReceipt, MeterImports, TariffImports, Health, Meter, LastSale, Quote, SaleOfRef, ShiftTotals, FirstTariffs, TariffsAfter, FirstMeters, MetersAfter, ShiftsAfter, SalesAfter}
 use Rattle.desk_messages.specs.route.Endpoint.{table}
 use Rattle.desk_messages.specs.route.Route.{FindsRoute}
 
@@ -14,9 +14,11 @@ use Rattle.desk_messages.specs.route.Route.{FindsRoute}
 abbrev pub target_of : Endpoint → List ℕ
 target_of Tariffs = codes "/tariffs"
 target_of TariffSteps = codes "/tariffs/a/steps"
+target_of DatedSteps = codes "/tariffs/a/steps/a"
 target_of Meters = codes "/meters"
 target_of MeterTariff = codes "/meters/0/tariff"
 target_of MeterBase = codes "/meters/0/base"
+target_of MeterKey = codes "/meters/0/key"
 target_of Shifts = codes "/shifts"
 target_of ShiftClosing = codes "/shifts/close"
 target_of Shift = codes "/shifts/1"
@@ -42,9 +44,11 @@ found : (e : Endpoint) → option_map (λ (row : RouteOf Endpoint). row.value) (
 unfolding matchit_on_literals table
 found Tariffs = refl
 found TariffSteps = refl
+found DatedSteps = refl
 found Meters = refl
 found MeterTariff = refl
 found MeterBase = refl
+found MeterKey = refl
 found Shifts = refl
 found ShiftClosing = refl
 found Shift = refl
@@ -70,9 +74,11 @@ text : (e : Endpoint) → IsUtf8 (target_of e)
 unfolding encode
 text Tariffs = (target_of Tariffs, (refl, refl))
 text TariffSteps = (target_of TariffSteps, (refl, refl))
+text DatedSteps = (target_of DatedSteps, (refl, refl))
 text Meters = (target_of Meters, (refl, refl))
 text MeterTariff = (target_of MeterTariff, (refl, refl))
 text MeterBase = (target_of MeterBase, (refl, refl))
+text MeterKey = (target_of MeterKey, (refl, refl))
 text Shifts = (target_of Shifts, (refl, refl))
 text ShiftClosing = (target_of ShiftClosing, (refl, refl))
 text Shift = (target_of Shift, (refl, refl))

@@ -15,6 +15,7 @@ use Rattle.desk_messages.specs.declared.route.Route.{Route}
 use Rattle.desk_messages.specs.declared.json_body.kind.JsonKind.{JsonKind}
 use Rattle.desk_messages.specs.declared.route.Route.TheVariants.{Object, Import, ShiftReport}
 use Rattle.desk_messages.specs.declared.route.Route.TheVariants.{Reprint, Receipt, LookUp}
+use Rattle.desk_messages.specs.declared.route.Route.TheVariants.{WithdrawSteps}
 use Rattle.desk_messages.specs.json_body.Body.{IsJson, BodySays}
 use Rattle.desk_messages.specs.Reads.{IsFoundInBody}
 
@@ -39,12 +40,13 @@ AsksImport kind body result =
     × (read : Result (List Row) RowFault) × IsReading kind records read × (result ≡ import_of read)
 
 -- What a body asks of a route: a request, or why there is none. It is an object of JSON or a file
--- of rows; a route that is asked by GET doesn't look at it, and one that looks something up is
--- asked no request by any. Each route has its line, so that one more has no meaning until it has
--- one.
+-- of rows; a route that is asked by GET or DELETE doesn't look at it, and one that looks something
+-- up is asked no request by any. Each route has its line, so that one more has no meaning until it
+-- has one.
 abbrev pub BodyAsks : Route → List ℕ → Result Request BodyFault → Type 0
 BodyAsks (Object kind) body result = AsksByJson kind body result
 BodyAsks (Import kind) body result = AsksImport kind body result
+BodyAsks (WithdrawSteps tariff day) body result = result ≡ Ok (requests.WithdrawSteps tariff day)
 BodyAsks (ShiftReport shift) body result = result ≡ Ok (requests.ShiftReport shift)
 BodyAsks (Reprint sale) body result = result ≡ Ok (requests.Reprint sale)
 BodyAsks (Receipt sale) body result = result ≡ Ok (requests.Reprint sale)

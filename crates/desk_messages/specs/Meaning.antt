@@ -22,6 +22,7 @@ use Rattle.desk_messages.specs.declared.reply.outcome.Outcome.TheVariants.{Fault
 use Rattle.desk_messages.specs.declared.route.Route.{Route}
 use Rattle.desk_messages.specs.declared.route.Route.TheVariants.{Object, Import, ShiftReport}
 use Rattle.desk_messages.specs.declared.route.Route.TheVariants.{Reprint, Receipt, LookUp}
+use Rattle.desk_messages.specs.declared.route.Route.TheVariants.{WithdrawSteps}
 use Rattle.desk_messages.specs.Asking.{BodyAsks}
 use Rattle.desk_messages.specs.route.Route.{IsRouted}
 
@@ -42,6 +43,7 @@ lookup_form (lookups.Sales number) = Json
 abbrev pub sale_form_of : Route → Form
 sale_form_of (Object kind) = Json
 sale_form_of (Import kind) = Json
+sale_form_of (WithdrawSteps tariff day) = Json
 sale_form_of (ShiftReport shift) = Json
 sale_form_of (Reprint sale) = Json
 sale_form_of (Receipt sale) = Paper

@@ -15,9 +15,9 @@ use std::alloc::Global;
 use sts_fields::day_law;
 use tariff::steps_text_law;
 
-/// The request that a body asks of a route, or why it asks none. A route that is asked by GET
-/// doesn't look at the body, and takes no memory. One that looks something up asks no request: for
-/// it no body keeps the rule.
+/// The request that a body asks of a route, or why it asks none. A route that is asked by GET or
+/// DELETE doesn't look at the body, and takes no memory. One that looks something up asks no
+/// request: for it no body keeps the rule.
 pub fn request_of(alloc: Global, route: Route, body: &[u8]) -> Result<Request, BodyFault>
     ensures { BodyAsks route body.now result }
 {
@@ -26,6 +26,7 @@ pub fn request_of(alloc: Global, route: Route, body: &[u8]) -> Result<Request, B
         Route::Object(kind) => said_by(alloc, kind, body),
         Route::Import(FileKind::Meters) => import_of(read_meters(alloc, body)),
         Route::Import(FileKind::Tariffs) => import_of(read_tariffs(alloc, body)),
+        Route::WithdrawSteps(name, day) => Ok(Request::WithdrawSteps(name, day)),
         Route::ShiftReport(number) => Ok(Request::ShiftReport(number)),
         Route::Reprint(number) | Route::Receipt(number) => Ok(Request::Reprint(number)),
         Route::LookUp(_) => Err(BodyFault::OutsideRule),

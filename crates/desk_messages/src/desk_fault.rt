@@ -10,7 +10,7 @@ pub enum DeskFault {
     /// No route has this target.
     #[error("no such target")]
     NoRoute,
-    /// The target's route is asked by this method, and the message has the other one.
+    /// The target's route is asked by this method, and the message has another one.
     #[error("another method than the route's")]
     Method(Method),
     /// The clock gave a moment outside those of the office.

@@ -51,9 +51,11 @@ impl Route {
     {
         match self {
             Route::Receipt(_) => Form::Paper,
-            Route::Object(_) | Route::Import(_) | Route::ShiftReport(_) | Route::Reprint(_) => {
-                Form::Json
-            }
+            Route::Object(_)
+            | Route::Import(_)
+            | Route::WithdrawSteps(..)
+            | Route::ShiftReport(_)
+            | Route::Reprint(_) => Form::Json,
             Route::LookUp(lookup) => lookup_form(lookup),
         }
     }
@@ -67,6 +69,7 @@ impl Route {
             Route::LookUp(lookup) => Some(*lookup),
             Route::Object(_)
             | Route::Import(_)
+            | Route::WithdrawSteps(..)
             | Route::ShiftReport(_)
             | Route::Reprint(_)
             | Route::Receipt(_) => None,

@@ -6,7 +6,9 @@ pub(crate) mod routes;
 
 use crate::json_body::kind::JsonKind;
 use book_states::Lookup;
+use office_rules::TariffName;
 use papers::FileKind;
+use sts_fields::Day;
 
 /// What a target asks for, with what it names: a request, which may change the office, or a
 /// look-up, which changes nothing.
@@ -16,6 +18,8 @@ pub enum Route {
     Object(JsonKind),
     /// The import of a file of rows.
     Import(FileKind),
+    /// The steps that a tariff has from a day on are taken back.
+    WithdrawSteps(TariffName, Day),
     /// A shift by its number, 1 to 1000000000.
     ShiftReport(u32),
     /// A sale by its number, 1 to 1000000000.

@@ -45,6 +45,8 @@ Get,http:/d/a,,true,26 = GET http:/d/a HTTP/1.0~~
 Get,ftp://d/a,,true,26 = GET ftp://d/a HTTP/1.0~~
 Get,/http://d/a,,true,28 = GET /http://d/a HTTP/1.0~~
 Post,/,,false,47 = POST / HTTP/1.1~Host: d~Content-Length: 0~~
+Delete,/,,false,30 = DELETE / HTTP/1.1~Host: d~~
+Refused(Method) = delete / HTTP/1.1~~
 Refused(Head) = \x01
 Refused(Head) = GET  / HTTP/1.1~
 Refused(Head) = GET / HTTP/2.0~
@@ -94,7 +96,7 @@ fn what_each_message_says(rt: HostRuntime) -> Result<(), Fail> {
         let found = named(rt.alloc(), next_of(&text))?;
         assert_eq!(rt; found.as_str(), wanted, "{line}");
     }
-    assert_eq!(rt; messages().lines().count(), 58);
+    assert_eq!(rt; messages().lines().count(), 60);
     Ok(())
 }
 

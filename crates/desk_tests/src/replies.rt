@@ -64,6 +64,7 @@ fn answers(alloc: Global) -> Result<Vec<Answer>, Fail> {
     answers.push(Answer::Done)?;
     answers.push(Answer::Imported(2))?;
     answers.push(Answer::Imported(0))?;
+    answers.push(Answer::Withdrawn(1))?;
     answers.push(Answer::Opened(1))?;
     answers.push(Answer::Closed(1_000_000_000))?;
     answers.push(Answer::Sold(first_sale()?))?;
@@ -136,7 +137,7 @@ fn listed_sales(alloc: Global) -> Result<Vec<Sale>, Fail> {
     Ok(sales)
 }
 
-static REFUSALS: [Refusal; 21] = [
+static REFUSALS: [Refusal; 22] = [
     Refusal::RefReused,
     Refusal::NoShift,
     Refusal::ShiftOpen,
@@ -155,6 +156,7 @@ static REFUSALS: [Refusal; 21] = [
     Refusal::Stopped,
     Refusal::NotLater,
     Refusal::DayPast,
+    Refusal::HasSales,
     Refusal::ImportRow(2, RowCause::Field(1)),
     Refusal::ImportRow(10001, RowCause::TooManyRows),
     Refusal::ImportRow(2, RowCause::DayPast),
@@ -169,9 +171,10 @@ static UNFOUND: [Refusal; 5] = [
 ];
 
 // Each with whether the message closes the conversation.
-static FAULTS: [(DeskFault, bool); 6] = [
+static FAULTS: [(DeskFault, bool); 7] = [
     (DeskFault::Method(Method::Post), false),
     (DeskFault::Method(Method::Get), true),
+    (DeskFault::Method(Method::Delete), false),
     (DeskFault::NoRoute, false),
     (DeskFault::NoRoute, true),
     (DeskFault::Clock, false),
@@ -195,6 +198,7 @@ fn replies() -> &'static str {
 200 OK, 13 = {'done':true}
 200 OK, 11 = {'added':2}
 200 OK, 11 = {'added':0}
+200 OK, 15 = {'withdrawn':1}
 200 OK, 11 = {'shift':1}
 200 OK, 20 = {'shift':1000000000}
 200 OK, 189 = {'base':2014,'change':0,'meter':'12345678903','moment':1388534430,'number':1,\
@@ -227,12 +231,14 @@ fn replies() -> &'static str {
 503 Service Unavailable, 32 = {'error':'Stopped','refusal':17}
 409 Conflict, 33 = {'error':'NotLater','refusal':18}
 409 Conflict, 32 = {'error':'DayPast','refusal':19}
+409 Conflict, 33 = {'error':'HasSales','refusal':20}
 422 Unprocessable Entity, 60 = {'cause':'Field 1','error':'ImportRow','refusal':14,'row':2}
 422 Unprocessable Entity, 68 = {'cause':'TooManyRows','error':'ImportRow','refusal':14,\
     'row':10001}
 422 Unprocessable Entity, 60 = {'cause':'DayPast','error':'ImportRow','refusal':14,'row':2}
 405 Method Not Allowed, 18, Allow: POST~ = {'error':'Method'}
 405 Method Not Allowed, 18, Allow: GET, HEAD~Connection: close~ = {'error':'Method'}
+405 Method Not Allowed, 18, Allow: DELETE~ = {'error':'Method'}
 404 Not Found, 19 = {'error':'NoRoute'}
 404 Not Found, 19, Connection: close~ = {'error':'NoRoute'}
 503 Service Unavailable, 17 = {'error':'Clock'}

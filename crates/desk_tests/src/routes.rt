@@ -5,6 +5,7 @@ use desk::{DeskFault, Endpoint, JsonKind, Lookup, Method, Route, Routes};
 use office_rules::{MeterNo, Operator, Ref, TariffName, Tender};
 use papers::FileKind;
 use std::test::Fail;
+use sts_fields::Day;
 
 // Each a target behind its method, and its route.
 fn targets() -> &'static str {
@@ -13,9 +14,12 @@ POST /tariffs = add-tariff
 POST /tariffs/flat/steps = add-steps flat
 POST /tariffs/steps/steps = add-steps steps
 POST /tariffs/abcdefghijklmnopqrstuvwxyz-01234/steps = add-steps abcdefghijklmnopqrstuvwxyz-01234
+DELETE /tariffs/flat/steps/2014-02-01 = withdraw-steps flat 2014-02-01
+DELETE /tariffs/steps/steps/2099-12-31 = withdraw-steps steps 2099-12-31
 POST /meters = add-meter
 POST /meters/12345678903/tariff = set-tariff 12345678903
 POST /meters/12345678903/base = move-base 12345678903
+POST /meters/12345678903/key = set-key 12345678903
 POST /shifts = open-shift
 POST /shifts/close = close-shift
 GET /shifts/1 = report 1
@@ -56,9 +60,11 @@ fn route(text: &str) -> Result<Route, Fail> {
     Ok(match word {
         "add-tariff" => Route::Object(JsonKind::AddTariff),
         "add-steps" => Route::Object(JsonKind::AddSteps(tariff(value)?)),
+        "withdraw-steps" => dated_steps(value)?,
         "add-meter" => Route::Object(JsonKind::AddMeter),
         "set-tariff" => Route::Object(JsonKind::SetTariff(meter(value)?)),
         "move-base" => Route::Object(JsonKind::MoveBase(meter(value)?)),
+        "set-key" => Route::Object(JsonKind::SetKey(meter(value)?)),
         "open-shift" => Route::Object(JsonKind::OpenShift),
         "close-shift" => Route::Object(JsonKind::CloseShift),
         "report" => Route::ShiftReport(value.parse()?),
@@ -69,6 +75,12 @@ fn route(text: &str) -> Result<Route, Fail> {
         "import-tariffs" => Route::Import(FileKind::Tariffs),
         _ => Route::LookUp(lookup(word, value)?),
     })
+}
+
+fn dated_steps(value: &str) -> Result<Route, Fail> {
+    let (name, date) = value.split_once(' ').ok_or("no day")?;
+    let day = Day::of_text(date.as_bytes()).ok().ok_or("a day")?;
+    Ok(Route::WithdrawSteps(tariff(name)?, day))
 }
 
 fn lookup(word: &str, value: &str) -> Result<Lookup, Fail> {
@@ -109,7 +121,12 @@ fn no_targets() -> &'static str {
     ">>/>*>tariffs>/tariffs/>//tariffs>/Tariffs>/tariffs?>/tariffs^>http://d/tariffs>/tariffs/flat\
     >/tariffs/flat/>/tariffs/flat/step>/tariffs/flat/steps/>/tariffs//steps>/tariffs/flat_1/steps\
     >/tariffs/fl%61t/steps>/tariffs/fl\u{e4}t/steps>/tariffs/a/b/steps\
-    >/tariffs/abcdefghijklmnopqrstuvwxyz-012345/steps>/meters/12345678904/tariff\
+    >/tariffs/abcdefghijklmnopqrstuvwxyz-012345/steps>/tariffs/flat/steps/2014-02-29\
+    >/tariffs/flat/steps/2014-2-1>/tariffs/flat/steps/1992-12-31>/tariffs/flat/steps/2100-01-01\
+    >/tariffs/flat/steps/2014-02-01/>/tariffs//steps/2014-02-01>/tariffs/flat/step/2014-02-01\
+    >/tariffs/a/b/steps/2014-02-01>/tariffs/fl_t/steps/2014-02-01>/tariffs/flat/steps/2014%2D02-01\
+    >/meters/12345678904/key>/meters//key>/meters/12345678903/keys>/meters/12345678903/key/\
+    >/meters/12345678904/tariff\
     >/meters/1234567890/tariff>/meters/012345678903/tariff>/meters/%312345678903/tariff\
     >/meters//tariff>/meters/12345678904>/meters/12345678904/base>/meters//base\
     >/meters/12345678903/bases>/meters/12345678903/base/>/shifts/closed>/shifts/0>/shifts/01\
@@ -150,10 +167,10 @@ fn each_route(rt: HostRuntime) -> Result<(), Fail> {
     for line in targets().lines() {
         let (asked, wanted) = line.split_once(" = ").ok_or("no route")?;
         let (method, target) = asked.split_once(' ').ok_or("no target")?;
-        let (own, other) = if method == "GET" {
-            (Method::Get, Method::Post)
-        } else {
-            (Method::Post, Method::Get)
+        let (own, other) = match method {
+            "GET" => (Method::Get, Method::Delete),
+            "DELETE" => (Method::Delete, Method::Post),
+            _ => (Method::Post, Method::Get),
         };
         let target = target.as_bytes();
         assert_eq!(rt; routes.route_of(target, own), Ok(route(wanted)?), "{line}");
@@ -162,7 +179,7 @@ fn each_route(rt: HostRuntime) -> Result<(), Fail> {
         let of_get = routes.route_of(target, Method::Get);
         assert_eq!(rt; routes.route_of(target, Method::Head), of_get, "{line}");
     }
-    assert_eq!(rt; targets().lines().count(), 38);
+    assert_eq!(rt; targets().lines().count(), 41);
     Ok(())
 }
 
@@ -171,12 +188,12 @@ fn no_route(rt: HostRuntime) -> Result<(), Fail> {
     let routes = Routes::new(rt.alloc())?;
     for text in no_targets().split('>').skip(1) {
         let target = bytes(rt.alloc(), text)?;
-        for method in [Method::Get, Method::Head, Method::Post] {
+        for method in [Method::Get, Method::Head, Method::Post, Method::Delete] {
             let found = routes.route_of(&target, method);
             assert_eq!(rt; found, Err(DeskFault::NoRoute), "{text}");
         }
     }
-    assert_eq!(rt; no_targets().split('>').count(), 134);
+    assert_eq!(rt; no_targets().split('>').count(), 148);
     Ok(())
 }
 
@@ -186,6 +203,12 @@ fn patterns(rt: HostRuntime) {
     assert_eq!(rt; Endpoint::MeterTariff.method(), Method::Post);
     assert_eq!(rt; Endpoint::MeterBase.pattern(), "/meters/{meter}/base");
     assert_eq!(rt; Endpoint::TariffSteps.pattern(), "/tariffs/{tariff}/steps");
+    assert_eq!(rt; Endpoint::MeterKey.pattern(), "/meters/{meter}/key");
+    assert_eq!(rt;
+        Endpoint::DatedSteps.pattern(),
+        "/tariffs/{tariff}/steps/{day}"
+    );
+    assert_eq!(rt; Endpoint::DatedSteps.method(), Method::Delete);
     assert_eq!(rt;
         Endpoint::Quote.pattern(),
         "/meters/{meter}/quote?tender={tender}"

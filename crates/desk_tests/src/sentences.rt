@@ -9,7 +9,7 @@ use std::test::Fail;
 fn told() -> &'static str {
     "\
 no head of a message
-another method than GET, HEAD and POST
+another method than GET, HEAD, POST and DELETE
 not exactly one Host field
 a Transfer-Encoding field
 no length in Content-Length

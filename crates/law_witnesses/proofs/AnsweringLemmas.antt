@@ -68,7 +68,9 @@ IsServe name = T (pointwise eqb name (codes "serve"))
 no_request : (rows : List Row) (r : Request) → ¬ SaysRequest (codes "serve") rows r
 no_request rows (requests.Sell order) says = subst IsServe says.0 tt
 no_request rows (requests.SetTariff meter tariff) says = subst IsServe says.0 tt
+no_request rows (requests.WithdrawSteps tariff from) says = subst IsServe says.0 tt
 no_request rows (requests.MoveBase meter base) says = subst IsServe says.0 tt
+no_request rows (requests.SetKey meter key) says = subst IsServe says.0 tt
 no_request rows (requests.OpenShift operator) says = subst IsServe says.0 tt
 no_request rows (requests.CloseShift operator) says = subst IsServe says.0 tt
 no_request rows request says = says
@@ -76,7 +78,9 @@ no_request rows request says = says
 no_question : (rows : List Row) (q : DeskQuestion) → ¬ SaysDeskQuestion (codes "serve") rows q
 no_question rows (questions.Import kind csv) says = subst IsServe says.0 tt
 no_question rows (questions.SetTariff meter tariff) says = subst IsServe says.0 tt
+no_question rows (questions.WithdrawSteps tariff from) says = subst IsServe says.0 tt
 no_question rows (questions.MoveBase meter base) says = subst IsServe says.0 tt
+no_question rows (questions.SetKey meter key) says = subst IsServe says.0 tt
 no_question rows (questions.OpenShift operator) says = subst IsServe says.0 tt
 no_question rows (questions.CloseShift operator) says = subst IsServe says.0 tt
 no_question rows (questions.Sell order) says = subst IsServe says.0 tt

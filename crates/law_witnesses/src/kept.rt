@@ -10,8 +10,8 @@ use sqlite_disk::Memory;
 use std::io::{self, ErrorKind, Read, Write};
 use std::marker::PhantomData;
 use vend_commands::{
-    Back, Door, FileFault, Follows, Loopback, Machine, OfficeFile, Part, Progress, SaltSource,
-    TextFiles,
+    Back, Door, FileFault, Follows, LogName, Loopback, Machine, OfficeFile, Part, Progress,
+    SaltSource, TextFiles,
 };
 
 /// A machine whose office's file is kept in memory. By its label it is another machine than one of
@@ -76,14 +76,18 @@ impl<L> OfficeFile for KeptFile<L> {
 
     ghost lets_go = { λ _ _ _. ⊤ };
 
+    ghost names = { λ _ _ _. ⊤ };
+
+    ghost ends_look = { λ _ _ _ _. ⊤ };
+
     ghost leaves = { λ _ _. ⊤ };
 
     fn salts(&self) -> Nothing {
         Nothing
     }
 
-    fn new_log(&self, _path: &str) -> Option<String> {
-        None
+    fn new_log(&self, _path: &str) -> LogName {
+        LogName::none()
     }
 
     fn find(self, _path: &str, _wait: u32) -> Result<(Memory, Memory), OpenFault> {
@@ -105,7 +109,7 @@ impl<L> OfficeFile for KeptFile<L> {
         Some((log, db))
     }
 
-    fn let_go_looked<D: Drop>(log: D, db: D, _salts: &Nothing, _new_log: &Option<String>)
+    fn let_go_looked<D: Drop>(log: D, db: D, _salts: &Nothing, _new_log: &LogName)
         ensures { ⊤ }
     {
         drop(log);
@@ -246,6 +250,10 @@ impl Loopback for Nothing {
 }
 
 impl Follows for Nothing {
+    ghost use Rattle.std.specs.Prelude.{⊤};
+
+    ghost told = { λ _ _ _. ⊤ };
+
     fn passed(&mut self, _part: Part) {}
 }
 

@@ -15,7 +15,7 @@ use sqlite::Files;
 use sqlite_disk::{Disk, Memory};
 use std::alloc::Global;
 use std::test::Fail;
-use vend_commands::{Back, CommandEnd, Machine, OfficeFile, Ports};
+use vend_commands::{Back, CommandEnd, LogName, Machine, OfficeFile, Ports};
 use vend_core::office_law;
 
 /// A machine whose office's file is in memory, and refuses a call.
@@ -64,14 +64,18 @@ impl OfficeFile for LapsingFile {
 
     ghost lets_go = { λ _ _ _. ⊤ };
 
+    ghost names = { λ _ _ _. ⊤ };
+
+    ghost ends_look = { λ _ _ _ _. ⊤ };
+
     ghost leaves = { λ _ _. ⊤ };
 
     fn salts(&self) -> Nothing {
         Nothing
     }
 
-    fn new_log(&self, _path: &str) -> Option<String> {
-        None
+    fn new_log(&self, _path: &str) -> LogName {
+        LogName::none()
     }
 
     fn find(self, _path: &str, _wait: u32) -> Result<(Lapse<Memory>, Lapse<Memory>), OpenFault> {
@@ -97,7 +101,7 @@ impl OfficeFile for LapsingFile {
         Some((log, db))
     }
 
-    fn let_go_looked<D: Drop>(log: D, db: D, _salts: &Nothing, _new_log: &Option<String>)
+    fn let_go_looked<D: Drop>(log: D, db: D, _salts: &Nothing, _new_log: &LogName)
         ensures { ⊤ }
     {
         drop(log);

@@ -20,6 +20,7 @@ use office_lines::values::{FIRST_DAY, METER, meter_no, moment, order};
 use office_rules::{Answer, MeterNo, Moment, Order, Refusal, Reply, Request, Sale, Stamped};
 use sqlite::MemStore;
 use std::alloc::Global;
+use std::process::Abort;
 use std::test::Fail;
 use sts_token::Plain;
 
@@ -276,15 +277,34 @@ fn a_quote_is_what_is_sold(rt: HostRuntime) -> Result<(), Fail> {
     Ok(())
 }
 
+// Each part of an audit of the office of these requests finds nothing.
+fn finds_nothing(rt: &(impl Abort + AllocGlobal), ats: &[Stamped]) -> Result<(), Fail> {
+    let now = moment(FIRST_DAY)?;
+    let rows = test_of_rows(rt.alloc(), ats, now);
+    assert!(rt; matches!(rows, Some(Ok(()))));
+    let requests = test_of_requests(rt.alloc(), ats, now);
+    assert!(rt; matches!(requests, Some(Ok(()))));
+    let tokens = test_of_tokens(rt.alloc(), ats, now);
+    assert!(rt; matches!(tokens, Some(Ok(()))));
+    Ok(())
+}
+
 #[test]
 fn an_audit_finds_nothing(rt: HostRuntime) -> Result<(), Fail> {
     let ats = day(rt.alloc(), &[])?;
-    let now = moment(FIRST_DAY)?;
-    let rows = test_of_rows(rt.alloc(), &ats, now);
-    assert!(rt; matches!(rows, Some(Ok(()))));
-    let requests = test_of_requests(rt.alloc(), &ats, now);
-    assert!(rt; matches!(requests, Some(Ok(()))));
-    let tokens = test_of_tokens(rt.alloc(), &ats, now);
-    assert!(rt; matches!(tokens, Some(Ok(()))));
-    Ok(())
+    finds_nothing(&rt, &ats)
+}
+
+// Steps were withdrawn, and a meter had another key before its first sale.
+#[test]
+fn an_audit_finds_nothing_after_mistakes(rt: HostRuntime) -> Result<(), Fail> {
+    let more = [
+        "1388534430 add-steps flat 2014-02-01 :200",
+        "1388534430 withdraw-steps flat 2014-02-01",
+        "1388534430 add-meter 10000000009 2014 flat 0000000000000000",
+        "1388534430 set-key 10000000009 0123456789abcdef",
+        "1388534430 sell ann A-2 10000000009 10",
+    ];
+    let ats = day(rt.alloc(), &more)?;
+    finds_nothing(&rt, &ats)
 }

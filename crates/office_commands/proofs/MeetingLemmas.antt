@@ -31,6 +31,17 @@ use Rattle.command_line.specs.declared.transform.Shipped.{Shipped}
 use Rattle.office_commands.specs.office.Opened.{OpensThere}
 use Rattle.office_commands.specs.office.Visited.{IsOpened}
 use Rattle.office_commands.specs.office.Vacant.{AreMeasured, IsBlank, IsConnection, IsThere, IsTooShort, IsWithout}
+use Rattle.office_commands.specs.port.Places.{IsUnopenedIn}
+use Rattle.office_commands.specs.port.Places.IsUnopenedIn.{refused, unread, unsalted}
+use Rattle.office_commands.specs.declared.port.ports.SaltSource as source
+
+-- files in which no office was opened were let go so where that says more
+pub let_go_wider : {D S : Type 0} {disk : Ghosts D} {salts : source.Ghosts S} (few more : D → D → Type 0)
+    → ((log db : D) → few log db → more log db) → (found : Files D) (fault : OpenFault)
+    → IsUnopenedIn disk salts few found fault → IsUnopenedIn disk salts more found fault
+let_go_wider few more wider found fault (unread before failed is gone) = unread before failed is (wider found.log found.db gone)
+let_go_wider few more wider found fault (unsalted it lacks is gone) = unsalted it lacks is (wider found.log found.db gone)
+let_go_wider few more wider found fault (refused left it refuses taken gone) = refused left it refuses taken (wider left.log left.db gone)
 
 -- what is too short for a database is none yet
 too_short : (image : Image) → IsTooShort image → IsNothing image

@@ -7,12 +7,12 @@ use Rattle.std.proofs.lemmas.Option.{slice_get-get_or}
 use Rattle.sts_fields.specs.Day.{day_at}
 use Rattle.sts_token.specs.Token.{BlockFunction}
 use Rattle.tariff.specs.declared.step.Step.{Step}
-use Rattle.office_rules.specs.Decision.{◌>>=◌, MeterAccount, account_of, add_meter, add_rows, add_steps, add_tariff, at_row, close_shift, decision_of, move_base, new_rows, open_a_shift, report, reprint, row_decision, sell, sell_once, set_tariff}
+use Rattle.office_rules.specs.Decision.{◌>>=◌, MeterAccount, account_of, add_meter, add_rows, add_steps, add_tariff, at_row, close_shift, decision_of, move_base, new_rows, open_a_shift, report, reprint, row_decision, sell, sell_once, set_key, set_tariff, withdraw_steps}
 use Rattle.office_rules.specs.Decision.Edits.{with_row, with_rows}
 use Rattle.office_rules.specs.Decision.Facts.{AreFactsOf, AreNewSaleFacts, AreRowsFacts, meter_found, report_found, row_facts}
 use Rattle.office_rules.specs.Law.Growth.{HaveStayed}
 use Rattle.office_rules.specs.Office.{Office}
-use Rattle.office_rules.specs.Office.Lookup.{open_shift, sale_of_ref, sales_of_shift, shift_numbered}
+use Rattle.office_rules.specs.Office.Lookup.{has_sales, open_shift, sale_of_ref, sales_of_shift, shift_numbered, sold_since}
 use Rattle.office_rules.specs.declared.decision.change.Change.{Change}
 use Rattle.office_rules.specs.declared.decision.facts.Facts.{Facts}
 use Rattle.office_rules.specs.declared.decision.refusal.Refusal.{Refusal}
@@ -197,6 +197,24 @@ module _ (name : List ℕ) (day : ℕ) (steps : List Step) (today : ℕ) where
   dated_decided has true there known is rest =
       ap (λ (b : Bool). add_steps name day steps today b there) (sym is) ∙ ap (add_steps name day steps today true) (sym (rest refl))
 
+withdrawal_decided : (name : List ℕ) (day today : ℕ) (has has_tariff sold told : Bool) (there known : Option (List Step)) → has_tariff ≡ has
+    → (has_tariff ≡ true → known ≡ there) → (has_tariff ≡ true → IsSome known → told ≡ sold)
+    → withdraw_steps name day today has there sold ≡ withdraw_steps name day today has_tariff known told
+withdrawal_decided name day today has false sold told there known is steps sales = ap (λ (b : Bool). withdraw_steps name day today b there sold) (sym is)
+withdrawal_decided name day today has true sold told there None is steps sales =
+    ap (λ (b : Bool). withdraw_steps name day today b there sold) (sym is)
+    ∙ ap (λ (k : Option (List Step)). withdraw_steps name day today true k sold) (sym (steps refl))
+withdrawal_decided name day today has true sold told there (Some k) is steps sales =
+    ap (λ (b : Bool). withdraw_steps name day today b there sold) (sym is)
+    ∙ ap (λ (k : Option (List Step)). withdraw_steps name day today true k sold) (sym (steps refl))
+    ∙ ap (withdraw_steps name day today true (Some k)) (sym (sales refl refl))
+
+key_decided : (number : List ℕ) (key : ℕ) (there known : Option Meter) (sold told : Bool) → known ≡ there → (IsSome known → told ≡ sold)
+    → set_key number key there sold ≡ set_key number key known told
+key_decided number key there None sold told is sales = ap (λ (k : Option Meter). set_key number key k sold) (sym is)
+key_decided number key there (Some k) sold told is sales =
+    ap (λ (k : Option Meter). set_key number key k sold) (sym is) ∙ ap (set_key number key (Some k)) (sym (sales refl))
+
 added_decided : (number : List ℕ) (m : Meter) (there known : Option Meter) (has has_tariff : Bool) → known ≡ there → (IsNone known → has_tariff ≡ has)
     → add_meter number m there has ≡ add_meter number m known has_tariff
 added_decided number m there None has has_tariff is rest =
@@ -250,6 +268,9 @@ module _ (forward : BlockFunction) (o : Office) (moment nibble : ℕ) (f : Facts
   request_decided (requests.AddTariff name steps) is = ap (add_tariff name steps) (sym is)
   request_decided (requests.AddSteps name day steps) is =
       dated_decided name day steps (day_at moment) (is_some (o.tariffs name)) f.has_tariff (o.dated_steps name day) f.dated_steps is.has_tariff is.dated_steps
+  request_decided (requests.WithdrawSteps name day) is =
+      withdrawal_decided name day (day_at moment) (is_some (o.tariffs name)) f.has_tariff (sold_since o day) f.sold_since (o.dated_steps name day)
+      f.dated_steps is.has_tariff is.dated_steps is.sold_since
   request_decided (requests.AddMeter number m) is =
       added_decided number m (o.meters number) f.meter (is_some (o.tariffs m.tariff)) f.has_tariff is.meter is.has_tariff
   request_decided (requests.Import rows) is =
@@ -258,6 +279,8 @@ module _ (forward : BlockFunction) (o : Office) (moment nibble : ℕ) (f : Facts
   request_decided (requests.SetTariff number name) is =
       set_decided number name (o.meters number) f.meter (is_some (o.tariffs name)) f.has_tariff is.meter is.has_tariff
   request_decided (requests.MoveBase number base) is = ap (move_base number base moment) (sym is)
+  request_decided (requests.SetKey number key) is =
+      key_decided number key (o.meters number) f.meter (has_sales o number) f.has_sales is.meter is.has_sales
   request_decided (requests.OpenShift operator) is =
       opened_decided moment operator (open_shift o operator) f.open_shift (length o.shifts) f.shift_count is.open_shift is.shift_count
   request_decided (requests.CloseShift operator) is = ap (close_shift moment) (sym is)

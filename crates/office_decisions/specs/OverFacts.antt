@@ -7,7 +7,8 @@ use Rattle.sts_token.specs.Token.{BlockFunction}
 use Rattle.tariff.specs.declared.step.Step.{Step}
 use Rattle.office_rules.specs.Decision.{◌>>=◌, add_meter, add_rows, add_steps, add_tariff, at_row}
 use Rattle.office_rules.specs.Decision.{close_shift, decision, move_base, open_a_shift, reprint}
-use Rattle.office_rules.specs.Decision.{row_decision, sell_once, set_tariff}
+use Rattle.office_rules.specs.Decision.{row_decision, sell_once, set_key, set_tariff}
+use Rattle.office_rules.specs.Decision.{withdraw_steps}
 use Rattle.office_rules.specs.Decision.Edits.{with_rows}
 use Rattle.office_rules.specs.Decision.Facts.{AreFacts, report_found}
 use Rattle.office_rules.specs.Office.{Office, empty_office}
@@ -99,6 +100,8 @@ decision_on_of forward moment nibble (requests.AddTariff name steps) f =
     add_tariff name steps f.tariff
 decision_on_of forward moment nibble (requests.AddSteps name day steps) f =
     add_steps name day steps (day_at moment) f.has_tariff f.dated_steps
+decision_on_of forward moment nibble (requests.WithdrawSteps name day) f =
+    withdraw_steps name day (day_at moment) f.has_tariff f.dated_steps f.sold_since
 decision_on_of forward moment nibble (requests.AddMeter number m) f =
     add_meter number m f.meter f.has_tariff
 decision_on_of forward moment nibble (requests.Import rows) f =
@@ -107,6 +110,8 @@ decision_on_of forward moment nibble (requests.SetTariff number name) f =
     set_tariff number name f.meter f.has_tariff
 decision_on_of forward moment nibble (requests.MoveBase number base) f =
     move_base number base moment f.meter
+decision_on_of forward moment nibble (requests.SetKey number key) f =
+    set_key number key f.meter f.has_sales
 decision_on_of forward moment nibble (requests.OpenShift operator) f =
     open_a_shift moment operator f.open_shift f.shift_count
 decision_on_of forward moment nibble (requests.CloseShift operator) f =

@@ -1,11 +1,12 @@
 //! How the office decides a request: the tests in their order, over facts.
-ghost use Rattle.std.specs.Prelude.{◌≡◌, ◌≢◌, IsSome, Ok, Err, Some, None, true, nat_lt};
+ghost use Rattle.std.specs.Prelude.{◌≡◌, ◌≢◌, ◌&&◌, IsSome, Ok, Err, Some, None, true, nat_lt, not};
 ghost use Rattle.std.specs.Option.{option_copied};
 ghost use Rattle.sts_fields.specs.Base.{base_date};
 ghost use Rattle.sts_fields.specs.Day.{day_at};
 ghost use Rattle.office_rules.specs.Decision.{add_meter, add_steps, add_tariff, close_shift};
 ghost use Rattle.office_rules.specs.Decision.{decision, is_new, move_base, next_number};
-ghost use Rattle.office_rules.specs.Decision.{open_a_shift, reprint, sell, sell_again, set_tariff};
+ghost use Rattle.office_rules.specs.Decision.{open_a_shift, reprint, sell, sell_again, set_key};
+ghost use Rattle.office_rules.specs.Decision.{set_tariff, withdraw_steps};
 ghost use Rattle.office_rules.specs.Decision.Facts.{AreFacts, IsUnlessMemory, TakesMemory};
 ghost use Rattle.office_rules.specs.Decision.Facts.{report_found};
 ghost use Rattle.office_rules.specs.Office.{Office};
@@ -55,6 +56,14 @@ pub fn decide<T: BlockTransform>(
             facts.has_tariff,
             facts.dated_steps.as_ref(),
         ),
+        Request::WithdrawSteps(name, day) => withdraw_steps(
+            *name,
+            *day,
+            at.moment,
+            facts.has_tariff,
+            facts.dated_steps.as_ref(),
+            facts.sold_since,
+        ),
         Request::AddMeter(number, meter) => add_meter(
             *number,
             *meter,
@@ -69,6 +78,7 @@ pub fn decide<T: BlockTransform>(
             facts.has_tariff,
         ),
         Request::MoveBase(number, base) => move_base(*number, *base, at.moment, facts.meter),
+        Request::SetKey(number, key) => set_key(*number, *key, facts.meter, facts.has_sales),
         Request::OpenShift(operator) => open_shift(
             at.moment,
             *operator,
@@ -157,6 +167,38 @@ fn add_steps(
     }
 }
 
+// Steps are taken back before their day, where no sale was made on it or later.
+fn withdraw_steps(
+    name: TariffName,
+    day: Day,
+    moment: Moment,
+    has_tariff: bool,
+    there: Option<&Steps>,
+    sold_since: bool,
+) -> Result<Change, Refusal>
+    ensures { result ≡ withdraw_steps
+        name day (day_at moment) has_tariff (option_copied there.entry) sold_since }
+{
+    if !has_tariff {
+        return Err(Refusal::NoTariff);
+    }
+    match there {
+        None => unchanged(Answer::Withdrawn(0)),
+        Some(_) if may_withdraw(day, day_of(moment), sold_since) => changed(
+            Edit::WithdrawSteps(name, day),
+            Answer::Withdrawn(1),
+        ),
+        Some(_) => Err(Refusal::DayPast),
+    }
+}
+
+// Whether steps from a day on may be taken back, where it is today.
+fn may_withdraw(day: Day, today: Day, sold_since: bool) -> bool
+    ensures { result ≡ (nat_lt today day && not sold_since) }
+{
+    today.days() < day.days() && !sold_since
+}
+
 fn add_meter(
     number: MeterNo,
     meter: Meter,
@@ -217,6 +259,25 @@ fn is_before(moment: Moment, base: Base) -> bool
     ensures { result ≡ nat_lt moment (base_date base) }
 {
     matches!(minute(base, moment), Err(TidFault::BeforeBase))
+}
+
+// A meter is given a key where it has no sale: tokens of one meter are written with one key.
+fn set_key(
+    number: MeterNo,
+    key: u64,
+    meter: Option<Meter>,
+    has_sales: bool,
+) -> Result<Change, Refusal>
+    ensures { result ≡ set_key number key meter has_sales }
+{
+    let present = meter.ok_or(Refusal::NoMeter)?.key;
+    if present == key {
+        return unchanged(Answer::Done);
+    }
+    if has_sales {
+        return Err(Refusal::HasSales);
+    }
+    changed(Edit::SetKey(number, key), Answer::Done)
 }
 
 fn open_shift(

@@ -28,9 +28,11 @@ fn request(alloc: Global, word: &str, text: &str) -> Result<Request, Fail> {
     match (word, count) {
         ("add-tariff", 2) => Ok(Request::AddTariff(name(one)?, steps(alloc, two)?)),
         ("add-steps", 3) => { Ok(Request::AddSteps(name(one)?, day(two)?, steps(alloc, three)?)) }
+        ("withdraw-steps", 2) => Ok(Request::WithdrawSteps(name(one)?, day(two)?)),
         ("add-meter", 4) => Ok(Request::AddMeter(number(one)?, meter(two, three, four)?)),
         ("set-tariff", 2) => Ok(Request::SetTariff(number(one)?, name(two)?)),
         ("move-base", 2) => Ok(Request::MoveBase(number(one)?, base(two)?)),
+        ("set-key", 2) => Ok(Request::SetKey(number(one)?, key(two)?)),
         ("open-shift", 1) => Ok(Request::OpenShift(operator(one.as_bytes())?)),
         ("close-shift", 1) => Ok(Request::CloseShift(operator(one.as_bytes())?)),
         ("sell", 4) => order_of(
@@ -91,12 +93,16 @@ fn base(year: &str) -> Result<Base, Fail> {
     Ok(Base::of_year(year.parse()?).ok_or("no base date")?)
 }
 
-fn meter(year: &str, tariff: &str, key: &str) -> Result<Meter, Fail> {
+fn meter(year: &str, tariff: &str, secret: &str) -> Result<Meter, Fail> {
     Ok(Meter {
         base: base(year)?,
         tariff: name(tariff)?,
-        key: read_key(key.as_bytes()).ok_or("no key")?,
+        key: key(secret)?,
     })
+}
+
+fn key(digits: &str) -> Result<u64, Fail> {
+    Ok(read_key(digits.as_bytes()).ok_or("no key")?)
 }
 
 /// The reply as a line, without its end.
@@ -121,6 +127,7 @@ fn told_answer(alloc: Global, answer: &Answer) -> Result<String, Fail> {
     match answer {
         Answer::Done => Ok(format!(in alloc; "done")?),
         Answer::Imported(count) => Ok(format!(in alloc; "imported {count}")?),
+        Answer::Withdrawn(count) => Ok(format!(in alloc; "withdrawn {count}")?),
         Answer::Opened(number) => Ok(format!(in alloc; "opened {number}")?),
         Answer::Closed(number) => Ok(format!(in alloc; "closed {number}")?),
         Answer::Sold(sale) => told_sale(alloc, "sold", sale),

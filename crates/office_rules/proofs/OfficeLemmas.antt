@@ -1,8 +1,8 @@
 -- A step of an office leads to an office.
 pub mod MapLemmas
 pub mod RowLemmas
-use Rattle.std.proofs.Common.{◌≡◌, ℕ, ◌<◌, Bool, true, false, List, length, Option, Some, None, Result, Ok, Err, refl, sym, ◌∙◌, ap, subst, arith}
-use Rattle.std.specs.Prelude.{◌&&◌, ◌≤◌, All, Contains, IsSome, bytes_eq, filter, is_some, nat_lt, if◌then◌else◌}
+use Rattle.std.proofs.Common.{◌≡◌, ℕ, ◌^◌, ◌<◌, Bool, true, false, List, length, Option, Some, None, Result, Ok, Err, refl, sym, ◌∙◌, ap, subst, arith}
+use Rattle.std.specs.Prelude.{◌&&◌, ◌==◌, ◌≤◌, All, Contains, IsSome, bytes_eq, filter, is_some, nat_lt, not, if◌then◌else◌}
 use Rattle.std.proofs.lemmas.Bool.Decides.{nat_tests}
 use Rattle.std.proofs.lemmas.Bool.{false≢true}
 use Rattle.std.proofs.lemmas.List.Elements.{All-contains, All-nil}
@@ -14,10 +14,10 @@ use Rattle.sts_token.specs.Token.{KeepsRange}
 use Rattle.tariff.specs.Steps.{IsSteps}
 use Rattle.tariff.specs.Tender.{IsTender}
 use Rattle.tariff.specs.declared.step.Step.{Step}
-use Rattle.office_rules.specs.Decision.{add_meter, add_steps, add_tariff, changed, close_shift, decision_of, import, is_earlier, account_of, meter_eq, move_base, next_number, open_a_shift, report, reprint, row_decision, sell, sell_again, sell_once, set_tariff, steps_eq, unchanged}
+use Rattle.office_rules.specs.Decision.{add_meter, add_steps, add_tariff, changed, close_shift, decision_of, import, is_earlier, account_of, meter_eq, move_base, next_number, open_a_shift, report, reprint, row_decision, sell, sell_again, sell_once, set_key, set_tariff, steps_eq, unchanged, withdraw_steps}
 use Rattle.office_rules.specs.Decision.Fold.{office_after, step}
 use Rattle.sts_fields.specs.Base.{base_date, base_eq, year_of}
-use Rattle.office_rules.specs.Office.Lookup.{open_shift, sale_numbered, sale_of_ref, sales_of_shift, shift_numbered, used}
+use Rattle.office_rules.specs.Office.Lookup.{has_sales, open_shift, sale_numbered, sale_of_ref, sales_of_shift, shift_numbered, sold_since, used}
 use Rattle.office_rules.specs.Name.{IsName, IsOperator}
 use Rattle.office_rules.specs.Law.NewSale.{IsNewSale}
 use Rattle.sts_fields.specs.Moment.{IsMoment}
@@ -39,7 +39,7 @@ use Rattle.office_rules.specs.declared.office.row.Row.TheVariants as kinds
 use Rattle.office_rules.specs.declared.office.sale.Sale.{Sale}
 use Rattle.office_rules.specs.declared.office.shift.Shift.{Shift}
 use Rattle.office_rules.proofs.DecisionLemmas.{after_test, next_number_ok}
-use Rattle.office_rules.proofs.DecisionLemmas.EditLemmas.{base_eq-refl, keeps_add_meter, keeps_add_sale, keeps_add_steps, keeps_add_tariff, keeps_close_shift, keeps_move_base, keeps_open_shift, keeps_set_tariff}
+use Rattle.office_rules.proofs.DecisionLemmas.EditLemmas.{base_eq-refl, keeps_add_meter, keeps_add_sale, keeps_add_steps, keeps_add_tariff, keeps_close_shift, keeps_move_base, keeps_open_shift, keeps_set_key, keeps_set_tariff, keeps_withdraw_steps}
 use Rattle.office_rules.proofs.DecisionLemmas.ImportLemmas.{import_keeps}
 use Rattle.office_rules.proofs.DecisionLemmas.NewSaleLemmas.{LowerLaws, granted_sale}
 use Rattle.office_rules.proofs.OfficeLemmas.RowLemmas.{both_true, contains_map, found, found_none, kept, number_within}
@@ -65,6 +65,17 @@ module _ (o : Office) (office : IsOffice o) where
   by_add_steps name day today steps false there e is priced = office
   by_add_steps name day today steps true (Some there) e is priced = kept_if o (steps_eq there steps) _ _ office
   by_add_steps name day today steps true None e is priced = by_day name day today steps (nat_lt today day) is priced e
+
+  by_withdrawing : (name : List ℕ) (day : ℕ) (b : Bool)
+      → IsOffice (office_after o (if b then changed (edits.WithdrawSteps name day) (answers.Withdrawn 1) else Err refusals.DayPast))
+  by_withdrawing name day true = keeps_withdraw_steps o name day office
+  by_withdrawing name day false = office
+
+  by_withdraw_steps : (name : List ℕ) (day today : ℕ) (has : Bool) (there : Option (List Step)) (sold : Bool)
+      → IsOffice (office_after o (withdraw_steps name day today has there sold))
+  by_withdraw_steps name day today false there sold = office
+  by_withdraw_steps name day today true None sold = office
+  by_withdraw_steps name day today true (Some there) sold = by_withdrawing name day (nat_lt today day && not sold)
 
   by_add_meter : (number : List ℕ) (m : Meter) (there : Option Meter) (has : Bool) → o.meters number ≡ there → is_some (o.tariffs m.tariff)
       ≡ has → IsMeter number m → IsOffice (office_after o (add_meter number m there has))
@@ -103,6 +114,17 @@ module _ (o : Office) (office : IsOffice o) where
       → IsOffice (office_after o (move_base number base moment there))
   by_move_base number base moment None at = office
   by_move_base number base moment (Some m) at = by_later number base moment m (base_eq m.base base) (is_earlier base m.base) at refl
+
+  by_key : (number : List ℕ) (key : ℕ) (same sold : Bool) → key < 2 ^ 64
+      → IsOffice (office_after o (if same then unchanged answers.Done else
+      (if sold then Err refusals.HasSales else changed (edits.SetKey number key) answers.Done)))
+  by_key number key true sold is = office
+  by_key number key false true is = office
+  by_key number key false false is = keeps_set_key o number key office is
+
+  by_set_key : (number : List ℕ) (key : ℕ) (there : Option Meter) (sold : Bool) → key < 2 ^ 64 → IsOffice (office_after o (set_key number key there sold))
+  by_set_key number key None sold is = office
+  by_set_key number key (Some m) sold is = by_key number key (m.key == key) sold is
 
   -- whatever is decided on a row of an import leads to an office
   pub by_row : (today : ℕ) (row : Row) → IsRow row → IsOffice (office_after o (row_decision o today row))
@@ -215,10 +237,13 @@ module _ (o : Office) (office : IsOffice o) where
     by_request (requests.AddTariff name steps) is = by_add_tariff o office name steps (o.tariffs name) is.0 is.1
     by_request (requests.AddSteps name day steps) is =
         by_add_steps o office name day (day_at at.moment) steps (is_some (o.tariffs name)) (o.dated_steps name day) refl is.1 is.2
+    by_request (requests.WithdrawSteps name day) is =
+        by_withdraw_steps o office name day (day_at at.moment) (is_some (o.tariffs name)) (o.dated_steps name day) (sold_since o day)
     by_request (requests.AddMeter number m) is = by_add_meter o office number m (o.meters number) (is_some (o.tariffs m.tariff)) refl refl is
     by_request (requests.Import rows) is = by_import o (day_at at.moment) rows office is
     by_request (requests.SetTariff number name) is = by_set_tariff o office number name (o.meters number) (is_some (o.tariffs name)) refl
     by_request (requests.MoveBase number base) is = by_move_base o office number base at.moment (o.meters number) refl
+    by_request (requests.SetKey number key) is = by_set_key o office number key (o.meters number) (has_sales o number) is.1
     by_request (requests.OpenShift operator) is = by_open_shift at.moment operator (open_shift o operator) refl moment is
     by_request (requests.CloseShift operator) is = by_close_shift at.moment (open_shift o operator) moment
     by_request (requests.Sell order) is = by_sell order (sale_of_ref o order.operator order.order_ref) refl is

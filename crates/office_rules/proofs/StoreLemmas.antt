@@ -3,6 +3,7 @@ pub mod LatestLemmas
 pub mod MeetsLemmas
 pub mod OrderLemmas
 pub mod RowMeetsLemmas
+pub mod SoldLemmas
 pub mod SumLemmas
 use Rattle.std.proofs.Common.{◌≡◌, ◌≢◌, ℕ, ◌-◌, ◌≤◌, ◌↔◌, inl, inr, Bool, true, false, List, [], ◌∷◌, Option, Some, None, refl, sym, ◌∙◌, ap, subst, arith}
 use Rattle.std.specs.Prelude.{◌&&◌, ◌==◌, Contains, IsNone, bytes_eq, filter, find, is_none, slice_get}

@@ -7,7 +7,7 @@ pub mod Requests
 pub mod RowCauses
 use Rattle.std.specs.Prelude.{ℕ, ◌+◌, ◌&&◌, ◌==◌, Bool, true, false, List, [], ◌∷◌, length, nat_lt}
 use Rattle.std.specs.Prelude.{if◌then◌else◌, Option, Some, None, Result, Ok, Err, is_some}
-use Rattle.std.specs.Prelude.{option_map, bytes_eq}
+use Rattle.std.specs.Prelude.{not, option_map, bytes_eq}
 use Rattle.std.specs.Option.{ok_or}
 use Rattle.sts_fields.specs.Calendar.{month_at}
 use Rattle.sts_fields.specs.Day.{day_at}
@@ -22,9 +22,9 @@ use Rattle.tariff.specs.declared.step.Step.{Step}
 use Rattle.office_rules.specs.Decision.Edits.{office_after}
 use Rattle.sts_fields.specs.Base.{base_date, base_eq, year_of}
 use Rattle.sts_fields.specs.declared.base.Base.{Base}
-use Rattle.office_rules.specs.Office.Lookup.{greatest_of, open_shift, prior, sale_numbered}
-use Rattle.office_rules.specs.Office.Lookup.{sale_of_ref, sales_of_shift, shift_numbered, steps_on}
-use Rattle.office_rules.specs.Office.Lookup.{used}
+use Rattle.office_rules.specs.Office.Lookup.{greatest_of, has_sales, open_shift, prior}
+use Rattle.office_rules.specs.Office.Lookup.{sale_numbered, sale_of_ref, sales_of_shift}
+use Rattle.office_rules.specs.Office.Lookup.{shift_numbered, sold_since, steps_on, used}
 use Rattle.office_rules.specs.Office.{Office, greatest_count}
 use Rattle.office_rules.specs.declared.decision.answer.Answer.{Answer}
 use Rattle.office_rules.specs.declared.decision.answer.Answer.TheVariants as answers
@@ -98,6 +98,17 @@ add_steps name day steps today true None =
     if nat_lt today day then changed (edits.AddSteps name day steps) answers.Done
     else Err refusals.DayPast
 
+-- WithdrawSteps from a day on, where it is today, there are a tariff of the name or none and these
+-- steps of the same first day, and a sale was made on that day or later, or none was
+abbrev pub withdraw_steps : List ℕ → ℕ → ℕ → Bool → Option (List Step) → Bool
+    → Result Change Refusal
+withdraw_steps name day today false there sold = Err refusals.NoTariff
+withdraw_steps name day today true None sold = unchanged (answers.Withdrawn 0)
+withdraw_steps name day today true (Some there) sold =
+    if nat_lt today day && not sold
+    then changed (edits.WithdrawSteps name day) (answers.Withdrawn 1)
+    else Err refusals.DayPast
+
 -- AddMeter, where there is this meter under the number, and a tariff of its tariff's name or none
 abbrev pub add_meter : List ℕ → Meter → Option Meter → Bool → Result Change Refusal
 add_meter number m (Some there) has_tariff =
@@ -164,6 +175,14 @@ move_base number base moment (Some m) =
     else (if is_earlier base m.base then Err refusals.NotLater
     else (if nat_lt moment (base_date base) then Err refusals.BeforeBase
     else changed (edits.MoveBase number base) answers.Done))
+
+-- SetKey, where there is this meter, and a sale to it or none; one that has the key is left alone
+abbrev pub set_key : List ℕ → ℕ → Option Meter → Bool → Result Change Refusal
+set_key number key None sold = Err refusals.NoMeter
+set_key number key (Some m) sold =
+    if m.key == key then unchanged answers.Done
+    else (if sold then Err refusals.HasSales
+    else changed (edits.SetKey number key) answers.Done)
 
 -- OpenShift, where the operator has this open shift and there are so many shifts
 abbrev pub open_a_shift : ℕ → List ℕ → Option Shift → ℕ → Result Change Refusal
@@ -261,6 +280,9 @@ decision_of forward o moment nibble (requests.AddTariff name steps) =
     add_tariff name steps (o.tariffs name)
 decision_of forward o moment nibble (requests.AddSteps name day steps) =
     add_steps name day steps (day_at moment) (is_some (o.tariffs name)) (o.dated_steps name day)
+decision_of forward o moment nibble (requests.WithdrawSteps name day) =
+    withdraw_steps name day (day_at moment) (is_some (o.tariffs name)) (o.dated_steps name day)
+    (sold_since o day)
 decision_of forward o moment nibble (requests.AddMeter number m) =
     add_meter number m (o.meters number) (is_some (o.tariffs m.tariff))
 decision_of forward o moment nibble (requests.Import rows) = import o (day_at moment) rows
@@ -268,6 +290,8 @@ decision_of forward o moment nibble (requests.SetTariff number name) =
     set_tariff number name (o.meters number) (is_some (o.tariffs name))
 decision_of forward o moment nibble (requests.MoveBase number base) =
     move_base number base moment (o.meters number)
+decision_of forward o moment nibble (requests.SetKey number key) =
+    set_key number key (o.meters number) (has_sales o number)
 decision_of forward o moment nibble (requests.OpenShift operator) =
     open_a_shift moment operator (open_shift o operator) (length o.shifts)
 decision_of forward o moment nibble (requests.CloseShift operator) =

@@ -216,6 +216,7 @@ fn is_same_answer(one: &Answer, other: &Answer) -> bool {
     match (one, other) {
         (Answer::Done, Answer::Done) => true,
         (Answer::Imported(one), Answer::Imported(other))
+        | (Answer::Withdrawn(one), Answer::Withdrawn(other))
         | (Answer::Opened(one), Answer::Opened(other))
         | (Answer::Closed(one), Answer::Closed(other)) => one == other,
         (Answer::Sold(one), Answer::Sold(other))

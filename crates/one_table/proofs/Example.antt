@@ -1,5 +1,5 @@
 -- How the lemmas are cited, over a small table that may stand anywhere: a page, a look-up, all rows
--- of a kind, the last row, and an UPDATE.
+-- of a kind, the last row, an UPDATE, and a DELETE.
 use Rattle.std.proofs.Common.{◌≡◌, ℕ, true, false, List, [], ◌∷◌, Some, refl, codes, pos, sym, ◌∙◌, ◌==◌, nat_lt, map, filter, find, take, reverse, bytes_eq, option_map, slice_get}
 use Rattle.sqlite_value.specs.declared.value.Value.TheVariants.{Null, Int, Text}
 use Rattle.sqlite_value.specs.declared.keys.Collation.TheVariants.{Binary}
@@ -11,6 +11,7 @@ use Rattle.sqlite_sql.specs.declared.ops.CompareOp.TheVariants.{Gt, Eq}
 use Rattle.sqlite_tied.specs.Compute.{everything}
 use Rattle.one_table.specs.Reading.{FailsPlainly, is_whole, IsSelect, meant, select_meant, text_meant}
 use Rattle.one_table.specs.Changing.{IsUpdate, update_meant, update_in, sets_meant}
+use Rattle.one_table.specs.Deleting.{IsDelete, delete_in, delete_meant, removal_meant, removal_query}
 use Rattle.std.proofs.lemmas.Slice.Eq.{bytes_eq-Decides}
 use Rattle.sqlite_value.specs.Order.{Row}
 use Rattle.sqlite_keyed.specs.Keyed.{IsKeyedBy}
@@ -102,6 +103,14 @@ resize_means : (tree : ℕ) → IsUpdate (notes tree) (query_on tree (op2 (Compa
     (col 1 0 ∷ col 1 0 ∷ lit Null ∷ col 1 2 ∷ col 0 1 ∷ []) [] no_limit) resize_text
 unfolding everything update_meant update_in sets_meant
 resize_means tree = record { means = refl; from = refl }
+
+abbrev untitle_text : List ℕ
+untitle_text = codes "DELETE FROM notes WHERE title = ?1 AND size = ?2"
+
+untitle_means : (tree : ℕ) → IsDelete (notes tree) (removal_query tree (op2 (Compare Eq Binary) (col 1 2) (col 0 0)
+    ∷ op2 (Compare Eq Binary) (col 1 3) (col 0 1) ∷ [])) untitle_text
+unfolding everything delete_meant delete_in removal_meant
+untitle_means tree = record { means = refl; from = refl }
 
 -- ---- what each answers
 

@@ -8,6 +8,7 @@ pub mod SelectLemmas
 pub mod UnderstandLemmas
 mod Example
 pub mod UpdateTextLemmas
+pub mod DeleteTextLemmas
 pub mod InsertTextLemmas
 pub mod ChangeLemmas
 pub mod CastLemmas
@@ -15,7 +16,7 @@ pub mod InsertLemmas
 mod InsertExample
 pub mod GivenLemmas
 pub mod UpsertTextLemmas
-mod OneRowLemmas
+pub mod OneRowLemmas
 pub mod UpsertLemmas
 pub mod TouchLemmas
 pub mod MergeLemmas
@@ -26,6 +27,7 @@ pub mod SameKeyLemmas
 mod UpsertExample
 pub mod AppendLemmas
 pub mod UpdateLemmas
+pub mod DeleteLemmas
 pub mod ListedLemmas
 pub mod LookUpLemmas
 pub mod TestsLemmas
@@ -33,6 +35,7 @@ pub mod FaultLemmas
 pub mod RefusalLemmas
 pub mod HiddenLemmas
 pub mod HiddenSetLemmas
+pub mod HiddenDeleteLemmas
 pub mod CreationLemmas
 pub mod GrowthLemmas
 pub mod NewTableLemmas

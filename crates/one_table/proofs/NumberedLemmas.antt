@@ -1,5 +1,5 @@
 -- Rows whose numbers are whole and rise, as these numbers beside the values that the rows hold.
-use Rattle.std.proofs.Common.{◌≡◌, ℤ, pos, ◌+ℤ◌, ◌<ℤ◌, Bool, true, false, if◌then◌else◌, List, [], ◌∷◌, ◌++◌, map, filter, drop, fold, length, IsTrue, refl, sym, ap, ap₂, ◌∙◌, subst, true≢false}
+use Rattle.std.proofs.Common.{◌≡◌, ℤ, pos, ◌+ℤ◌, ◌<ℤ◌, Bool, true, false, not, if◌then◌else◌, List, [], ◌∷◌, ◌++◌, map, filter, drop, fold, length, IsTrue, refl, sym, ap, ap₂, ◌∙◌, subst, true≢false}
 use Rattle.std.specs.List.{AllByRecursion}
 use Rattle.std.proofs.lemmas.List.{length-map, map-append, map-id}
 use Rattle.sqlite_value.specs.declared.value.Value.TheVariants.{Null, Int, Real, Text, Blob}
@@ -9,8 +9,8 @@ use Rattle.sqlite_trees.specs.Tree.{IsAscending, IsTable, rowid}
 use Rattle.sqlite_trees.specs.View.{is_int}
 use Rattle.sqlite_rules.specs.Edit.{id_in, next_rowid}
 use Rattle.sqlite_keyed.specs.Keyed.{IsKeyedBy, insert_by}
-use Rattle.sqlite_keyed.specs.Lists.{update_where}
-use Rattle.sqlite_keyed.proofs.KeyedLemmas.{lt_from_Less, Less-from_lt, IsKeyedBy-insert_by}
+use Rattle.sqlite_keyed.specs.Lists.{delete_where, update_where}
+use Rattle.sqlite_keyed.proofs.KeyedLemmas.{lt_from_Less, Less-from_lt, IsKeyedBy-delete_where, IsKeyedBy-insert_by}
 use Rattle.sqlite_keyed.proofs.ListLemmas.{map-map, map_same, filter-map, ascending-map, ascending_weaker, ascending_from_map}
 use Rattle.sqlite_keyed.proofs.SliceLemmas.{insert_next}
 use Rattle.one_table.specs.Numbered.{AreHidden, IsInOrder}
@@ -140,6 +140,16 @@ module _ {X : Type 0} (stored : X → Row) where
     changes p f = (
       are_hidden (set_in p f beside) ∙ ap (map stored) (values_change p f beside ∙ ap (update_where p f) values_are),
       in_order (set_in p f beside) (still_rise p f beside rise),
+    )
+
+    -- values taken out with their numbers are taken out of the values, and the rows are still in
+    -- order
+    pub loses : (p : X → Bool) → AreHidden stored (map with_number (delete_where (picks p) beside)) (delete_where p xs)
+        × IsInOrder (map with_number (delete_where (picks p) beside))
+    loses p = (
+      are_hidden (delete_where (picks p) beside)
+          ∙ ap (map stored) (sym (filter-map (λ x. not (p x)) value beside) ∙ ap (delete_where p) values_are),
+      in_order (delete_where (picks p) beside) (IsKeyedBy-delete_where number (picks p) beside rise),
     )
 
 -- ---- rows of any columns

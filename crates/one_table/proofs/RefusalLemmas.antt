@@ -1,4 +1,4 @@
--- Why an INSERT, an UPDATE or an upsert of one table fails.
+-- Why an INSERT, an UPDATE, a DELETE or an upsert of one table fails.
 use Rattle.std.proofs.Common.{◌≡◌, ℕ, true, false, List, [], length, Option, None, Some, IsTrue, Ok, Err, refl, sym, ap, append-nil, subst, ◌∙◌, inl, inr, true≢false}
 use Rattle.std.specs.Prelude.{◌||◌, is_some}
 use Rattle.std.proofs.lemmas.Bool.{cases_Bool}
@@ -6,7 +6,7 @@ use Rattle.sqlite_trees.specs.declared.error.StoreError.{StoreError}
 use Rattle.sqlite_trees.specs.declared.error.StoreError.TheVariants.{OutOfMemory, Io, Corrupt, Full, Broken, Unstorable}
 use Rattle.sqlite_value.specs.Order.{Row}
 use Rattle.sqlite_schema.specs.declared.command.Command.{Command}
-use Rattle.sqlite_schema.specs.declared.command.Command.TheVariants.{Insert, InsertOr, Update}
+use Rattle.sqlite_schema.specs.declared.command.Command.TheVariants.{Delete, Insert, InsertOr, Update}
 use Rattle.sqlite_schema.specs.declared.command.Conflict.{Conflict}
 use Rattle.sqlite_schema.specs.declared.command.Returning.{Returning}
 use Rattle.sqlite_schema.specs.declared.command.Source.{Source}
@@ -57,6 +57,28 @@ insert_changes at from = record {
 -- an UPDATE changes rows
 pub update_changes : (at : ℕ) (q : Program) → ChangesRows None (Update at q)
 update_changes at q = record {
+  silent = refl;
+  stays = λ s escapes. elim escapes [
+    | inl (inl is) ↦ absurd cc
+    | inl (inr is) ↦ absurd cc
+    | inr (name, inl is, held) ↦
+        absurd cc
+    | inr (name, inr is, held) ↦ absurd cc
+  ];
+  placed = λ s e placed.
+      elim placed [
+        | inl (is, inl (here, inside)) ↦ absurd cc
+        | inl (is, inr (inl here, out)) ↦ absurd cc
+        | inl (is, inr (inr here, out)) ↦ absurd cc
+        | inr (is, name, inl here, free) ↦ absurd cc
+        | inr (is, name, inr here, free) ↦ absurd cc
+      ];
+  textless = λ s params text out does. does;
+}
+
+-- a DELETE changes rows
+pub delete_changes : (at : ℕ) (q : Program) → ChangesRows None (Delete at q)
+delete_changes at q = record {
   silent = refl;
   stays = λ s escapes. elim escapes [
     | inl (inl is) ↦ absurd cc

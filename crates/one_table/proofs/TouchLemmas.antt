@@ -1,5 +1,5 @@
 -- What an upsert leaves, whatever the order of the rows of its table: only these may have changed.
-use Rattle.std.proofs.Common.{◌≡◌, ◌+◌, ℕ, true, List, [], ◌∷◌, ◌++◌, length, Some, Ok, IsTrue, refl, sym, ap, ◌∙◌, subst, inl, inr}
+use Rattle.std.proofs.Common.{◌≡◌, ◌<◌, ℕ, true, List, [], ◌∷◌, ◌++◌, length, get_or, slice_get, None, Some, Ok, IsTrue, arith, refl, sym, ap, ◌∙◌, subst, inl, inr}
 use Rattle.sqlite_value.specs.Order.{Row}
 use Rattle.sqlite_trees.specs.Tree.{Trees, rowid}
 use Rattle.sqlite_schema.specs.declared.command.Conflict.TheVariants.{Abort}
@@ -14,7 +14,7 @@ use Rattle.sqlite.specs.Rows.{Edited, Meets, Puts, Task, Tries, Updates, Upserts
 use Rattle.sqlite.specs.State.{Shown, Shows, State, Writes}
 use Rattle.sqlite.specs.declared.error.Error.{Error}
 use Rattle.sqlite.proofs.Callers.{one_step}
-use Rattle.one_table.specs.InTransaction.{CarriesOut, FailsToShow, IsUnderWay}
+use Rattle.one_table.specs.InTransaction.{BeginsWith, FailsToShow, IsUnderWay, ShowsInside}
 use Rattle.one_table.specs.Inserting.{source_of_row}
 use Rattle.one_table.specs.Merges.{FailsToTouch, StandsForUpserts, Touches, given_row}
 use Rattle.one_table.specs.ReadFaults.{OnlyWhere}
@@ -30,6 +30,23 @@ use Rattle.one_table.proofs.RefusalLemmas.{fails_showing, upsert_changes}
 use Rattle.one_table.proofs.UpdateLemmas.{idle_works}
 use Rattle.one_table.proofs.UpsertLemmas.{judged_well, puts_only, tries_one, was_written}
 use Rattle.one_table.proofs.UpsertTextLemmas.{means_upsert}
+
+-- ---- the first of some rows
+
+-- rows begin with the first of them
+pub begins_with : (Is : Row → Type 0) (row : Row) (rows : List Row) → 0 < length rows → row ≡ get_or rows 0 row → Is row → BeginsWith Is rows
+begins_with Is row [] some item so = absurd (omega (arith, some))
+begins_with Is row (x ∷ more) some item so = subst Is item so
+
+-- which is what is known of those that begin so
+pub first_is : (Is : Row → Type 0) (row : Row) (rows : List Row) → row ≡ get_or rows 0 row → BeginsWith Is rows → Is row
+first_is Is row [] item begins = absurd begins
+first_is Is row (x ∷ more) item begins = subst Is (sym item) begins
+
+-- none begin so where there are none
+pub none_first : (Is : Row → Type 0) (rows : List Row) → None ≡ slice_get rows 0 → ¬ BeginsWith Is rows
+none_first Is [] none begins = begins
+none_first Is (x ∷ more) none begins = absurd cc
 
 module _ (sql : List ℕ) (params : Row) (old new : State) (t : Table) (at : ℕ) (m : Merging) (is : IsUpsert t m sql) where
   abbrev HasTouched : Type 0
@@ -92,28 +109,33 @@ module _ (sql : List ℕ) (params : Row) (old new : State) (t : Table) (at : ℕ
         let wrote = was_written sql params old new t at m is k.has k.keys rows h in
         touched_so k (shown_stays sql params old new rows h way) wrote.text wrote.count wrote.writes
 
-    -- an upsert that showed rows was carried out as the command that it means
-    pub carried : (rows : List Row) → Shown sql params old new rows → CarriesOut sql params old new
-    carried rows h =
+    -- an upsert that showed rows was carried out as the command that it means, and showed these
+    pub showed : (rows : List Row) → Shown sql params old new rows → (Showed : List Row → Type 0) → Showed rows → ShowsInside Showed sql params old new
+    showed rows h Showed so =
         let k = stands (shown_open sql params old new rows h) in
-        let wrote = was_written sql params old new t at m is k.has k.keys rows h in
-        record {
-          command = upsert_as at t m;
-          shows = Some (returning_as m);
-          means = (means_upsert old.now.schema at t k.has k.keys m sql is).0;
-          tally = wrote.writes.tally;
-          does = wrote.writes.changed;
-        }
+        let wrote = was_written sql params old new t at m is k.has k.keys rows h in (
+          record {
+            command = upsert_as at t m;
+            shows = Some (returning_as m);
+            means = (means_upsert old.now.schema at t k.has k.keys m sql is).0;
+            tally = wrote.writes.tally;
+            does = wrote.writes.changed;
+          },
+          subst Showed wrote.shows so,
+        )
 
     -- why it fails, from why its value is not read
-    pub touched_unread : {P : Type 0} (why : ReadFault) → HasTouched → OnlyWhere P why → FailsToTouch t m params old new at why
-    touched_unread (Failed e) done (inl none) = inr (none, done)
-    touched_unread Bad done (inl none) = cc
-    touched_unread (Failed e) done (inr bad) = absurd (let no = bad.0 in cc)
-    touched_unread Bad done (inr bad) = done
+    pub touched_unread : (IsReadable : Row → Type 0) (rows : List Row) (row : Row) (why : ReadFault) → Shown sql params old new rows → HasTouched
+        → row ≡ get_or rows 0 row → OnlyWhere (¬ IsReadable row) why → FailsToTouch t m params old new at sql IsReadable why
+    touched_unread IsReadable rows row (Failed e) h done item (inl none) = inr (none, done)
+    touched_unread IsReadable rows row Bad h done item (inl none) = cc
+    touched_unread IsReadable rows row (Failed e) h done item (inr bad) = absurd (let no = bad.0 in cc)
+    touched_unread IsReadable rows row Bad h done item (inr bad) =
+        (done, showed rows h (λ l. ¬ BeginsWith IsReadable l) (λ begins. bad.1 (first_is IsReadable row rows item begins)))
 
     -- why it fails, from why the text does
-    pub fails_to_touch : is_whole sql (length params) ≡ true → (e : Error) → FailsToShow sql params old new e → FailsToTouch t m params old new at (Failed e)
-    fails_to_touch whole e fails =
+    pub fails_to_touch : (IsReadable : Row → Type 0) → is_whole sql (length params) ≡ true → (e : Error) → FailsToShow sql params old new e
+        → FailsToTouch t m params old new at sql IsReadable (Failed e)
+    fails_to_touch IsReadable whole e fails =
         inl (fails_showing sql params old new (returning_as m) (upsert_as at t m) (upsert_changes (Some (returning_as m)) at Abort (source_of_row t m.given) _)
         (λ runs. let k = stands runs in (means_upsert old.now.schema at t k.has k.keys m sql is).0) whole e fails)

@@ -14,6 +14,7 @@ use Rattle.sqlite_schema.specs.declared.schema.Schema.{Schema}
 use Rattle.sqlite_schema.specs.declared.schema.Table.{Table}
 use Rattle.sqlite_schema.specs.declared.command.Command.{Command}
 use Rattle.sqlite_schema.specs.declared.command.Command.TheVariants.{Update}
+use Rattle.sqlite_schema.specs.declared.program.Program.{Program}
 use Rattle.sqlite_draft.specs.declared.query.Draft.{Draft}
 use Rattle.sqlite_draft.specs.Query.{query_of}
 use Rattle.sqlite_resolve.specs.declared.error.CompileError.TheVariants.{Mismatch, Misuse, Unsupported}
@@ -50,7 +51,8 @@ module _ (known : Known) (here there : Context) (alike : AreAlike known here the
   unfolding assigned sets
   assigned_same all h = rw (sets_same ([], []) all h)
 
-  picked_same : (project : List Term) (test : Option Expr) → is_simple_or_absent known test ≡ true → picked here t project test ≡ picked there t project test
+  -- the rows that WHERE finds are the same here and there
+  pub picked_same : (project : List Term) (test : Option Expr) → is_simple_or_absent known test ≡ true → picked here t project test ≡ picked there t project test
   unfolding picked
   picked_same project test h = rw (tests_same known here there alike [] test h)
 
@@ -64,13 +66,15 @@ module _ (known : Known) (here there : Context) (alike : AreAlike known here the
       (assigned_same all h) (fun_ext λ project. picked_same project test k)
 
 module _ (s : Schema) (at : ℕ) (t : Table) (has : Has s at t) where
-  typed_is : (d : Draft) (q : Query) (typed : Bool) → is_typed t (query_of d) [] ≡ typed
-      → (if typed then Ok (query_of d) else Err Mismatch) ≡ Ok q → q.from ≡ inner t.tree end
-      → and_then (program s [] d) (λ p. Ok (Update at p)) ≡ Ok (update_as at q)
-  typed_is d q false typed h from = absurd cc
-  typed_is d q true typed h from =
-      let is : query_of d ≡ q = cc in
-      rw (program_is s at t has d (ap (λ (r : Query). r.from) is ∙ from) typed) (ap (λ r. Ok (update_as at r)) is)
+  module _ (command_of : Program → Command) where
+    -- a draft of a write that goes by the types of the table is the command of its query
+    pub typed_is : (d : Draft) (q : Query) (typed : Bool) → is_typed t (query_of d) [] ≡ typed
+        → (if typed then Ok (query_of d) else Err Mismatch) ≡ Ok q → q.from ≡ inner t.tree end
+        → and_then (program s [] d) (λ p. Ok (command_of p)) ≡ Ok (command_of (record { lets = []; body = q }))
+    typed_is d q false typed h from = absurd cc
+    typed_is d q true typed h from =
+        let is : query_of d ≡ q = cc in
+        rw (program_is s at t has d (ap (λ (r : Query). r.from) is ∙ from) typed) (ap (λ r. Ok (command_of (record { lets = []; body = r }))) is)
 
   updated_alone : (all : List (Name × Expr)) (test : Option Expr) → list_all (λ set. is_simple depth (bare t) set.1) all ≡ true
       → is_simple_or_absent (bare t) test ≡ true
@@ -91,7 +95,7 @@ module _ (s : Schema) (at : ℕ) (t : Table) (has : Has s at t) where
       by_draft name sets test (Err e) drafted h = absurd cc
       by_draft name sets test (Ok d) drafted h =
           rw ((bytes_eq-Decides u.0 t.name).0 name, has.named, has.listed, updated_alone u.1 u.2 sets test, drafted)
-          (typed_is d q (is_typed t (query_of d) []) refl h from)
+          (typed_is (Update at) d q (is_typed t (query_of d) []) refl h from)
 
   -- ---- the text
 

@@ -12,7 +12,6 @@ use Rattle.sqlite_sql.specs.Query.{Query, end, inner}
 use Rattle.sqlite_schema.specs.Names.{same_name}
 use Rattle.sqlite_schema.specs.declared.command.Source.{Source}
 use Rattle.sqlite_schema.specs.declared.command.Source.TheVariants as source
-use Rattle.sqlite_schema.specs.declared.command.Upsert as compiled_upsert
 use Rattle.sqlite_schema.specs.declared.schema.Index.{Index}
 use Rattle.sqlite_schema.specs.declared.schema.Schema.{Schema}
 use Rattle.sqlite_schema.specs.declared.schema.Table.{Table}
@@ -20,10 +19,9 @@ use Rattle.sqlite_draft.specs.declared.query.Draft.{Draft}
 use Rattle.sqlite_draft.specs.Query.{query_of}
 use Rattle.sqlite_resolve.specs.declared.error.CompileError.{CompileError}
 use Rattle.sqlite_resolve.specs.declared.error.CompileError.TheVariants.{Mismatch, Misuse, Unsupported}
-use Rattle.sqlite_resolve.specs.declared.write.NewRows.TheVariants as new
 use Rattle.sqlite_resolve.specs.declared.scope.Output.{Output}
 use Rattle.sqlite_resolve.specs.Body.{outputs}
-use Rattle.sqlite_resolve.specs.Compile.{command, compiled, first, insert_or, insert_or_abort, meaning, planned, returning, shows, small, source_of, timed}
+use Rattle.sqlite_resolve.specs.Compile.{command, first, insert_or, insert_or_abort, meaning, planned, returning, shows, small, source_of, timed}
 use Rattle.sqlite_resolve.specs.Given.{are_among, at_rowid, do_update, given_level, is_all_of, is_key_at, is_subquery, key_at, key_meant, laid_out, returned, update, upsert, upserts}
 use Rattle.sqlite_resolve.specs.Lowering.{Checked, Lowering, and_then, or_else, fresh, max_budget}
 use Rattle.sqlite_resolve.specs.Program.{program}

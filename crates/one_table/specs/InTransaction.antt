@@ -1,7 +1,7 @@
 -- What a statement inside a transaction leaves.
 use denote.Triple.Both.{Both}
-use Rattle.std.specs.Prelude.{◌≡◌, ◌≢◌, ◌⊎◌, ℕ, true, false, List, [], None, Err, Ok, OnOk, Option}
-use Rattle.std.specs.Prelude.{Result, Some, IsTrue}
+use Rattle.std.specs.Prelude.{◌≡◌, ◌≢◌, ◌⊎◌, ℕ, true, false, List, [], ◌∷◌, None, Err, Ok, OnOk}
+use Rattle.std.specs.Prelude.{Option, Result, Some, IsTrue}
 use Rattle.std.specs.Borrow.{MutBor}
 use Rattle.std.specs.List.{AllByRecursion}
 use Rattle.sqlite_value.specs.Order.{Row}
@@ -11,7 +11,7 @@ use Rattle.sqlite_schema.specs.declared.schema.Table.{Table}
 use Rattle.sqlite_sql.specs.Query.{Query, IsAnswer}
 use Rattle.sqlite_rules.specs.declared.error.Rowids.TheVariants.{Given}
 use Rattle.sqlite_rules.specs.Calls.{ids_of}
-use Rattle.sqlite_rules.specs.Edit.{edit_of, edited, is_taken, IsNoIndex}
+use Rattle.sqlite_rules.specs.Edit.{edit_of, edited, is_taken, without_all, IsNoIndex}
 use Rattle.sqlite.specs.Does.{Does, Tally}
 use Rattle.sqlite.specs.Effect.{IsDatabase, SparesFrozen}
 use Rattle.sqlite.specs.Held.{state}
@@ -99,6 +99,16 @@ pub record CarriesOut (sql : List ℕ) (params : Row) (old new : State) : Type 0
   pub does : Does old.step_limit (mode_of old) params old.now [] shows command
       (Ok (tally, new.now))
 
+-- the same, and this is so of the rows that it showed
+abbrev pub ShowsInside : (List Row → Type 0) → List ℕ → Row → State → State → Type 0
+ShowsInside Showed sql params old new =
+    (it : CarriesOut sql params old new) × Showed it.tally.shown
+
+-- there is a first row, and it is such a one
+abbrev pub BeginsWith : (Row → Type 0) → List Row → Type 0
+BeginsWith Is [] = ⊥
+BeginsWith Is (row ∷ more) = Is row
+
 -- The table has these rows. The schema and every other table are as they were, and so is what SQL
 -- here does not understand. It is a database, and nothing is committed.
 pub record HasChanged (t : Table) (rows : List Row) (old new : State) : Type 0 where
@@ -125,3 +135,9 @@ pub record SetsRows (t : Table) (q : Query) (params : Row) (old new : State) : T
   pub answer : IsAnswer q old.now.trees params found
   pub changed : HasChanged t
       (edited old.now.trees (edit_of old.now.trees t (ids_of found) Given 1 found)) old new
+
+-- the rows that the query finds are taken out by their rowids, which it shows
+pub record RemovesRows (t : Table) (q : Query) (params : Row) (old new : State) : Type 0 where
+  pub found : List Row
+  pub answer : IsAnswer q old.now.trees params found
+  pub changed : HasChanged t (without_all (old.now.trees t.tree) (ids_of found)) old new

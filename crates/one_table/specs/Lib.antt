@@ -11,6 +11,7 @@ pub mod InTransaction
 pub mod Upserting
 pub mod Merges
 pub mod Updating
+pub mod Deleting
 pub mod Committing
 pub mod Listed
 pub mod Numbered

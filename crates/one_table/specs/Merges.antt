@@ -15,7 +15,8 @@ use Rattle.sqlite.specs.Rows.{shown}
 use Rattle.sqlite.specs.State.{State}
 use Rattle.one_table.specs.declared.read_fault.ReadFault.{ReadFault}
 use Rattle.one_table.specs.declared.read_fault.ReadFault.TheVariants as fault
-use Rattle.one_table.specs.InTransaction.{FailsToWriteAs, HasChanged, PutsRow}
+use Rattle.one_table.specs.InTransaction.{BeginsWith, FailsToWriteAs, HasChanged, PutsRow}
+use Rattle.one_table.specs.InTransaction.{ShowsInside}
 use Rattle.one_table.specs.Inserting.{new_row}
 use Rattle.one_table.specs.Numbered.{IsInOrder}
 use Rattle.one_table.specs.Place.{Has}
@@ -96,9 +97,11 @@ module _ (t : Table) (m : Merging) (params : Row) where
     abbrev pub Touches : Type 0
     Touches = (rows : List Row) × HasChanged t rows old new
 
-    -- the same of why an upsert fails
-    abbrev pub FailsToTouch : ℕ → ReadFault → Type 0
-    FailsToTouch at (fault.Database e) =
+    -- The same of why an upsert fails. Where a row is the cause, the text was carried out, and does not
+    -- show first a row that stands for something.
+    abbrev pub FailsToTouch : ℕ → List ℕ → (Row → Type 0) → ReadFault → Type 0
+    FailsToTouch at sql IsReadable (fault.Database e) =
         FailsToWriteAs (Some (returning_as m)) (upsert_as at t m) params old new e
         ⊎ ((fault.Database e ≡ no_memory) × Touches)
-    FailsToTouch at fault.Row = Touches
+    FailsToTouch at sql IsReadable fault.Row =
+        Touches × ShowsInside (λ rows. ¬ BeginsWith IsReadable rows) sql params old new

@@ -6,6 +6,7 @@
 #![tactic(auto)]
 
 pub use committing::{Change, CommitFault, change_once};
+pub use deleting::delete;
 pub use from_row::FromRow;
 pub use inserting::insert;
 pub use probing::test_open;
@@ -16,6 +17,7 @@ pub use upserting::upsert;
 
 mod committing;
 mod compare;
+mod deleting;
 mod from_row;
 mod inserting;
 pub mod inspect;

@@ -4,7 +4,8 @@ ghost use Rattle.sqlite.specs.State.{HasCleanDisk};
 ghost use Rattle.one_table.specs.Over.{Inside};
 ghost use Rattle.sqlite_value.specs.Order.{Row as Stored};
 ghost use Rattle.sqlite.specs.Table.{Table};
-ghost use Rattle.one_table.specs.InTransaction.{CarriesOut, IsUnderWay, WorksInside};
+ghost use Rattle.one_table.specs.InTransaction.{BeginsWith, IsUnderWay, ShowsInside};
+ghost use Rattle.one_table.specs.InTransaction.{WorksInside};
 ghost use Rattle.one_table.specs.Merges.{FailsToTouch, FailsToUpsert, StandsForUpserts};
 ghost use Rattle.one_table.specs.Merges.{TakesUpserts, Touches, Upserts, shown_row};
 ghost use Rattle.one_table.specs.Reading.{is_whole};
@@ -39,7 +40,8 @@ pub fn upsert<S: Alter, X: FromRow>(
     ensures ran { Inside S.Store tx (λ old new. HasCleanDisk new
         → (t : Table) (at : ℕ) (m : Merging) → IsUpsert t m sql.now → (IsTrue old.is_open
         → StandsForUpserts old.now.schema at t)
-        → OnOk result (CarriesOut sql.now (bound params.now) old new)) }
+        → IfOk result (λ x. ShowsInside (BeginsWith (λ row. X.FromRow.reads_as row x)) sql.now (bound
+        params.now) old new)) }
     ensures refused { Inside S.Store tx (λ old new. HasCleanDisk new → IsUnderWay old
         → (t : Table) (at : ℕ) (m : Merging) → IsUpsert t m sql.now
         → is_whole sql.now (length (bound params.now)) ≡ true → (IsTrue old.is_open
@@ -49,7 +51,8 @@ pub fn upsert<S: Alter, X: FromRow>(
         → (t : Table) (at : ℕ) (m : Merging) → IsUpsert t m sql.now
         → is_whole sql.now (length (bound params.now)) ≡ true → (IsTrue old.is_open
         → StandsForUpserts old.now.schema at t)
-        → IfErr result (FailsToTouch t m (bound params.now) old new at)) }
+        → IfErr result (FailsToTouch t m (bound params.now) old new at sql.now
+        X.FromRow.is_readable)) }
 {
     let rows = show(tx, sql, params)?;
     match rows.first() {

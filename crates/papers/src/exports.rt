@@ -43,6 +43,9 @@ pub fn sales_csv<W: Outlet>(
 }
 
 /// The export of some sales, behind the header where it is asked for, or want of memory.
+///
+/// # Errors
+/// `AllocError` if there is no memory.
 pub fn export(alloc: Global, sales: &[Sale], header: bool) -> Result<Vec<u8>, AllocError>
     ensures { IfOk result (λ text. text.items ≡ export_of header sales.now) }
 {

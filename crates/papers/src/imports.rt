@@ -15,6 +15,9 @@ use office_rules::{Row, RowCause, Rows};
 use std::alloc::Global;
 
 /// The meters that a file has, or its first fault (`docs/TEXTS.md`, "Meters").
+///
+/// # Errors
+/// `RowFault::At` with the row and its cause, the header being row 0; `RowFault::Memory`.
 pub fn read_meters(alloc: Global, bytes: &[u8]) -> Result<Rows, RowFault>
     ensures { (records : List Fields) × AreFileRecords bytes.now records
         × IsReading FileKind.Meters records result }
@@ -23,6 +26,9 @@ pub fn read_meters(alloc: Global, bytes: &[u8]) -> Result<Rows, RowFault>
 }
 
 /// The tariffs that a file has, or its first fault (`docs/TEXTS.md`, "Tariffs").
+///
+/// # Errors
+/// `RowFault::At` with the row and its cause, the header being row 0; `RowFault::Memory`.
 pub fn read_tariffs(alloc: Global, bytes: &[u8]) -> Result<Rows, RowFault>
     ensures { (records : List Fields) × AreFileRecords bytes.now records
         × IsReading FileKind.Tariffs records result }

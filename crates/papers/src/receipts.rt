@@ -31,6 +31,9 @@ pub fn receipt_in_place(sale: &Sale) -> ArrayVec<u8, RECEIPT_ROOM>
 }
 
 /// The receipt of a sale, or want of memory.
+///
+/// # Errors
+/// `AllocError` if there is no memory.
 pub fn receipt(alloc: Global, sale: &Sale) -> Result<Vec<u8>, AllocError>
     ensures { IfOk result (λ text. text.items ≡ receipt_of sale.now) }
 {

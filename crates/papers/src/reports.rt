@@ -14,6 +14,9 @@ use office_rules::{Moment, Sale, Shift};
 use std::alloc::{AllocError, Global};
 
 /// The report of a shift with these sales (`docs/TEXTS.md`, "Shift report"), or want of memory.
+///
+/// # Errors
+/// `AllocError` if there is no memory.
 pub fn shift_report(alloc: Global, shift: &Shift, sales: &[Sale]) -> Result<Vec<u8>, AllocError>
     ensures { IfOk result (λ text. text.items ≡ report_of shift.now sales.now) }
 {

@@ -23,9 +23,10 @@ pub(crate) struct Place {
 }
 
 // The beginnings of replies. An office of a few sales gives each of them and no others.
-static REPLIES: [&str; 22] = [
+static REPLIES: [&str; 24] = [
     "done",
     "imported",
+    "withdrawn",
     "opened",
     "closed",
     "sold",
@@ -46,6 +47,7 @@ static REPLIES: [&str; 22] = [
     "refused 14",
     "refused 18",
     "refused 19",
+    "refused 20",
 ];
 
 // It has no clause, so that no proof reads them.

@@ -10,6 +10,7 @@ use Rattle.terminal_advice.specs.declared.advice.Advice.TheVariants.{IdentifierA
 use Rattle.terminal_advice.specs.declared.advice.Advice.TheVariants.{OfficeFull, NoSale}
 use Rattle.terminal_advice.specs.declared.advice.Advice.TheVariants.{NoSuchShift, Memory, Store}
 use Rattle.terminal_advice.specs.declared.advice.Advice.TheVariants.{Stopped, NotLater, DayPast}
+use Rattle.terminal_advice.specs.declared.advice.Advice.TheVariants.{HasSales, WordFrom}
 use Rattle.terminal_advice.specs.declared.advice.Advice.TheVariants.{Amount, Clock, Value, Place}
 use Rattle.terminal_advice.specs.declared.advice.Advice.TheVariants.{File, Net, NotAnOffice, OpenStore}
 use Rattle.terminal_advice.specs.declared.advice.Advice.TheVariants.{OpenMemory, DeskStopped}
@@ -83,7 +84,9 @@ reason_of Stopped =
 reason_of NotLater =
     codes "This meter has a later base date already, and sells under it."
 reason_of DayPast =
-    codes "That day has begun (UTC)."
+    codes "That day has begun (UTC), or something was sold on it or later."
+reason_of HasSales =
+    codes "Tokens were sold to this meter with the key that it has."
 reason_of Amount =
     codes "No token carries this amount, or it is 0."
 reason_of Clock =
@@ -140,6 +143,8 @@ reason_of WordKey =
     codes "--key has to be sixteen lower-case hexadecimal digits."
 reason_of WordTariff =
     codes "--tariff has to be 1 to 32 ASCII letters, digits or hyphens."
+reason_of WordFrom =
+    codes "--from has to be a day as 2026-07-01."
 reason_of WordTender =
     codes "The tender has to be whole cents from 1 to 100000000."
 reason_of WordRows =
@@ -274,7 +279,9 @@ remedy_of Stopped =
 remedy_of NotLater =
     codes "There is nothing to do."
 remedy_of DayPast =
-    codes "Take a later day."
+    codes "Take a later day. Steps that have begun stay."
+remedy_of HasSales =
+    codes "Correct the number. The key of a meter with sales stays."
 remedy_of Amount =
     codes "Choose another."
 remedy_of Clock =
@@ -330,6 +337,8 @@ remedy_of WordBase =
 remedy_of WordKey =
     codes "Correct this value."
 remedy_of WordTariff =
+    codes "Correct this value."
+remedy_of WordFrom =
     codes "Correct this value."
 remedy_of WordTender =
     codes "Correct this value."
@@ -441,6 +450,7 @@ general_of WordMeter = Value
 general_of WordBase = Value
 general_of WordKey = Value
 general_of WordTariff = Value
+general_of WordFrom = Value
 general_of WordTender = Value
 general_of WordRows = Value
 general_of WordPaper = Value

@@ -13,6 +13,7 @@ use Rattle.terminal_advice.specs.declared.advice.Advice.TheVariants.{IdentifierA
 use Rattle.terminal_advice.specs.declared.advice.Advice.TheVariants.{OfficeFull, NoSale}
 use Rattle.terminal_advice.specs.declared.advice.Advice.TheVariants.{NoSuchShift, Memory, Store}
 use Rattle.terminal_advice.specs.declared.advice.Advice.TheVariants.{Stopped, NotLater, DayPast}
+use Rattle.terminal_advice.specs.declared.advice.Advice.TheVariants.{HasSales}
 use Rattle.terminal_advice.specs.declared.advice.Advice.TheVariants.{Amount, Clock, Value, Place}
 use Rattle.terminal_advice.specs.declared.advice.Advice.TheVariants.{File, Net, NotAnOffice, OpenStore}
 use Rattle.terminal_advice.specs.declared.advice.Advice.TheVariants.{OpenMemory, DeskStopped}
@@ -47,6 +48,7 @@ late_refusal line =
     else if pointwise eqb line (codes "refused 17 Stopped") then Some Stopped
     else if pointwise eqb line (codes "refused 18 NotLater") then Some NotLater
     else if pointwise eqb line (codes "refused 19 DayPast") then Some DayPast
+    else if pointwise eqb line (codes "refused 20 HasSales") then Some HasSales
     else None
 
 -- the other lines

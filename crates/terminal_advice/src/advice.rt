@@ -22,6 +22,7 @@ pub enum Advice {
     Stopped,
     NotLater,
     DayPast,
+    HasSales,
     Amount,
     Clock,
     Value,
@@ -50,6 +51,7 @@ pub enum Advice {
     WordBase,
     WordKey,
     WordTariff,
+    WordFrom,
     WordTender,
     WordRows,
     WordPaper,
@@ -127,7 +129,8 @@ impl Advice {
             Advice::Store => { "The office's disk failed, or a row is damaged." }
             Advice::Stopped => "The office has stopped after its disk failed.",
             Advice::NotLater => "This meter has a later base date already, and sells under it.",
-            Advice::DayPast => "That day has begun (UTC).",
+            Advice::DayPast => { "That day has begun (UTC), or something was sold on it or later." }
+            Advice::HasSales => "Tokens were sold to this meter with the key that it has.",
             Advice::Amount => "No token carries this amount, or it is 0.",
             Advice::Clock => "The computer's clock is outside the years 1993 to 2099.",
             Advice::Value => "A value is outside its rule.",
@@ -164,6 +167,7 @@ impl Advice {
             Advice::WordBase => "--base has to be 1993, 2014 or 2035.",
             Advice::WordKey => "--key has to be sixteen lower-case hexadecimal digits.",
             Advice::WordTariff => "--tariff has to be 1 to 32 ASCII letters, digits or hyphens.",
+            Advice::WordFrom => "--from has to be a day as 2026-07-01.",
             Advice::WordTender => "The tender has to be whole cents from 1 to 100000000.",
             Advice::WordRows => "The rows of a file have to be tariffs or meters.",
             Advice::WordPaper => "--kind has to be shift, receipt, totals or sales.",
@@ -262,7 +266,8 @@ impl Advice {
             Advice::Store => "Make room and try the same again, or audit the file.",
             Advice::Stopped => "Have somebody look whether it is full, and try again.",
             Advice::NotLater => "There is nothing to do.",
-            Advice::DayPast => "Take a later day.",
+            Advice::DayPast => "Take a later day. Steps that have begun stay.",
+            Advice::HasSales => "Correct the number. The key of a meter with sales stays.",
             Advice::Amount => "Choose another.",
             Advice::Clock => "Set it right. With --file you can give --at instead.",
             Advice::Value => "The command's --help has the rules.",
@@ -294,6 +299,7 @@ impl Advice {
             Advice::WordBase => "Correct this value.",
             Advice::WordKey => "Correct this value.",
             Advice::WordTariff => "Correct this value.",
+            Advice::WordFrom => "Correct this value.",
             Advice::WordTender => "Correct this value.",
             Advice::WordRows => "Give one of these words before the file.",
             Advice::WordPaper => "Correct this value.",
@@ -368,6 +374,7 @@ impl Advice {
             | Advice::WordBase
             | Advice::WordKey
             | Advice::WordTariff
+            | Advice::WordFrom
             | Advice::WordTender
             | Advice::WordRows
             | Advice::WordPaper => Advice::Value,

@@ -99,6 +99,8 @@ fn late_refusal(line: &[u8]) -> Option<Advice>
         Some(Advice::NotLater)
     } else if line == b"refused 19 DayPast".as_slice() {
         Some(Advice::DayPast)
+    } else if line == b"refused 20 HasSales".as_slice() {
+        Some(Advice::HasSales)
     } else {
         None
     }

@@ -19,7 +19,7 @@ pub(crate) fn misread(alloc: Global, name: &str, said: &ArgMatches) -> Option<Ad
 
 // An option that means the same with each command.
 fn misread_option(said: &ArgMatches) -> Option<Advice> {
-    let options: [&str; 18] = [
+    let options: [&str; 19] = [
         "transform",
         "at",
         "wait",
@@ -31,6 +31,7 @@ fn misread_option(said: &ArgMatches) -> Option<Advice> {
         "base",
         "key",
         "tariff",
+        "from",
         "tender",
         "number",
         "act",

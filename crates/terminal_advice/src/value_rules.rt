@@ -3,7 +3,7 @@
 use crate::advice::Advice;
 use office_rules::{GREATEST_COUNT, MeterNo, Operator, Ref, TariffName};
 use std::num::ParseIntError;
-use sts_fields::{Base, Moment};
+use sts_fields::{Base, Day, Moment};
 use sts_token::read_key;
 use tariff::{MAX_PRIOR, Tender};
 
@@ -33,7 +33,7 @@ fn is_paper(word: &str) -> bool {
     word == "shift" || word == "receipt" || word == "totals" || word == "sales"
 }
 
-// Of a name, a number of a meter, or a key.
+// Of a name, a number of a meter, a key, or a day.
 fn broken_name(option: &str, word: &str) -> Option<Advice> {
     let bytes = word.as_bytes();
     match option {
@@ -42,6 +42,7 @@ fn broken_name(option: &str, word: &str) -> Option<Advice> {
         "meter" => unless(MeterNo::read(bytes).is_some(), Advice::WordMeter),
         "key" => unless(read_key(bytes).is_some(), Advice::WordKey),
         "tariff" => unless(TariffName::read(bytes).is_some(), Advice::WordTariff),
+        "from" => unless(Day::of_text(bytes).is_ok(), Advice::WordFrom),
         "after tariff" => unless(TariffName::read(bytes).is_some(), Advice::WordAfter),
         "after meter" => unless(MeterNo::read(bytes).is_some(), Advice::WordAfter),
         _ => None,

@@ -45,9 +45,9 @@ fn run_given(rt: &HostRuntime, given: &[String]) -> u8 {
     match syncs_asked(rt.alloc(), &words) {
         // Of what was written and not synced a stop may leave any bytes. So the promise needs no
         // disk that finishes each sector it begins; for that a commit syncs twice.
-        Syncs::Twice => run_from(rt, Wary, &words),
+        Some(Syncs::Twice) | None => run_from(rt, Wary, &words),
         // It leaves each byte as it was before or as it was written.
-        Syncs::Once => run_from(rt, Unknown, &words),
+        Some(Syncs::Once) => run_from(rt, Unknown, &words),
     }
 }
 

@@ -65,7 +65,11 @@ held_wider way few more see old new wider one =
       accepted = one.accepted;
       run = run_wider (clocked few books) (clocked more books) on_books message_refusal_of (old.books, old.answers)
           (new.books, new.answers) _ _ _ _ one.end one.run;
-      paced = (one.paced.0, paced_wider (clocked few books) (clocked more books) on_books (old.books, old.answers) _ _ _ _ one.paced.0 one.paced.1);
+      paced = (
+        one.paced.0,
+        paced_wider (clocked few books) (clocked more books) on_books message_refusal_of (old.books, old.answers) _ _ _ _ one.paced.0 one.paced.1.0,
+        one.paced.1.1,
+      );
       clean = one.clean;
       lives = λ clean life keeps.
           let goes = one.lives clean life keeps in

@@ -207,8 +207,12 @@ answered_same texts calls uncalled desk (desk_asks.Import kind csv) o end done =
     asked_once_same texts calls uncalled desk (desk_asks.Import kind csv) o end done
 answered_same texts calls uncalled desk (desk_asks.SetTariff meter tariff) o end done =
     asked_once_same texts calls uncalled desk (desk_asks.SetTariff meter tariff) o end done
+answered_same texts calls uncalled desk (desk_asks.WithdrawSteps tariff from) o end done =
+    asked_once_same texts calls uncalled desk (desk_asks.WithdrawSteps tariff from) o end done
 answered_same texts calls uncalled desk (desk_asks.MoveBase meter base) o end done =
     asked_once_same texts calls uncalled desk (desk_asks.MoveBase meter base) o end done
+answered_same texts calls uncalled desk (desk_asks.SetKey meter key) o end done =
+    asked_once_same texts calls uncalled desk (desk_asks.SetKey meter key) o end done
 answered_same texts calls uncalled desk (desk_asks.OpenShift operator) o end done =
     asked_once_same texts calls uncalled desk (desk_asks.OpenShift operator) o end done
 answered_same texts calls uncalled desk (desk_asks.CloseShift operator) o end done =

@@ -12,7 +12,7 @@ mod serving;
 
 pub use commands::selfcheck::run_selfcheck;
 pub use office_commands::{
-    Back, Ended, Follows, Machine, OfficeFile, Part, Ports, Progress, SaltSource, reopen,
+    Back, Ended, Follows, LogName, Machine, OfficeFile, Part, Ports, Progress, SaltSource, reopen,
 };
 pub use running::{Computer, refuse, run, run_over, status};
 pub use selfcheck::fault::SelfcheckFault;

@@ -1,4 +1,4 @@
-ghost use Rattle.std.specs.Prelude.{◌≡◌, ◌≢◌, ◌⊎◌, ◌≤◌, ⊤, ℕ, Bool, false, [], map, Option};
+ghost use Rattle.std.specs.Prelude.{◌≡◌, ◌≢◌, ◌⊎◌, ◌≤◌, ℕ, Bool, false, [], map, Option};
 ghost use Rattle.sqlite.specs.Files.{over_files};
 ghost use Rattle.sts_fields.specs.Text.{Text};
 ghost use Rattle.office_rules.specs.declared.decision.refusal.Refusal.TheVariants.{Memory};
@@ -29,34 +29,9 @@ use std::io::Write;
 use std::marker::PhantomData;
 use vend_ports::commands::{meter, quote, trial};
 use vend_ports::{
-    CommandEnd, Door, FileFault, Loopback, MachineDoor, MachineLoopback, MachineTexts, TextFiles,
-    Watched, put_line, put_refusal,
+    CommandEnd, Door, Loopback, MachineDoor, MachineLoopback, MachineTexts, TextFiles, Watched,
+    put_line, put_refusal,
 };
-
-/// The files of the computer, read as `MachineTexts` reads those of any machine. That they are no
-/// type of that name lets the borrow checker read the type of a computer's ports.
-#[derive(Drop)]
-pub struct ComputerTexts<'a> {
-    rt: &'a HostRuntime,
-}
-
-impl TextFiles for ComputerTexts<'_> {
-    ghost reads = { λ _ _ _. ⊤ };
-
-    ghost lacks = { λ _ _ _. ⊤ };
-
-    ghost leaves = { λ _ _. ⊤ };
-
-    fn read(self, path: &str) -> Result<Vec<u8>, FileFault> {
-        MachineTexts { files: self.rt }.read(path)
-    }
-
-    fn leave<T: Drop>(it: T)
-        ensures { ⊤ }
-    {
-        drop(it);
-    }
-}
 
 /// The computer that the program runs on. `B` stands for what the office's file holds, and `T`
 /// tells the time of day.
@@ -68,7 +43,7 @@ pub struct Computer<'a, B: Start, T> {
 impl<'a, B: Start, T: TimeSource> Machine for Computer<'a, B, T> {
     type Office = MachineFile<'a, B>;
 
-    type Texts = ComputerTexts<'a>;
+    type Texts = MachineTexts<'a, HostRuntime>;
 
     type Clock = MachineClock<'a, T>;
 
@@ -76,7 +51,7 @@ impl<'a, B: Start, T: TimeSource> Machine for Computer<'a, B, T> {
 
     type Loopback = MachineLoopback<'a, HostRuntime, HostRuntime>;
 
-    type Progress = TerminalProgress<'a>;
+    type Progress = TerminalProgress<'a, HostRuntime>;
 }
 
 impl<'a, B: Start, T: TimeSource> Computer<'a, B, T> {
@@ -86,7 +61,7 @@ impl<'a, B: Start, T: TimeSource> Computer<'a, B, T> {
     {
         Ports {
             office: MachineFile { rt, start },
-            texts: ComputerTexts { rt },
+            texts: MachineTexts { files: rt },
             clock: MachineClock::new(time),
             door: MachineDoor::new(rt, rt, rt.alloc()),
             loopback: MachineLoopback::new(rt, rt),

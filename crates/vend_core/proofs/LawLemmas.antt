@@ -9,6 +9,8 @@ pub mod DatedLemmas
 pub mod EachAfterLemmas
 pub mod EffectLemmas
 pub mod FoldLemmas
+pub mod GrowthLemmas
+pub mod LeaveLemmas
 pub mod MeterLemmas
 pub mod PlausibleLemmas
 pub mod PriceLemmas
@@ -16,6 +18,7 @@ pub mod ReachedLemmas
 pub mod RefusalLemmas
 pub mod RiseLemmas
 pub mod SaleLemmas
+pub mod TakeBackLemmas
 pub mod WrittenLemmas
 use Rattle.std.proofs.Common.{◌≡◌, ℕ, Bool, true, false, List, [], ◌∷◌, ◌++◌, length, Option, Some, None, Result, Ok, Err, refl, sym, ◌∙◌, ap, subst}
 use Rattle.std.specs.Prelude.{◌==◌, Contains, if◌then◌else◌}

@@ -21,7 +21,8 @@ use Rattle.office_rules.specs.declared.decision.refusal.Refusal.{Refusal}
 use Rattle.office_rules.specs.declared.decision.request.Stamped.{Stamped}
 use Rattle.office_rules.specs.declared.office.sale.Sale.{Sale}
 use Rattle.vend_core.proofs.LawLemmas.AnswerLemmas.{answered_stand}
-use Rattle.vend_core.proofs.LawLemmas.FoldLemmas.{after_grows, after_keeps_office, grown_none, grown_twice, stands_on, step_grows}
+use Rattle.vend_core.proofs.LawLemmas.FoldLemmas.{after_grows, after_keeps_office, step_grows}
+use Rattle.vend_core.proofs.LawLemmas.GrowthLemmas.{grown_none, grown_twice, stands_on}
 use Rattle.office_rules.proofs.DecisionLemmas.NewSaleLemmas.{LowerLaws}
 use Rattle.office_rules.proofs.OfficeLemmas.{empty_is_office, step_keeps_office}
 use Rattle.office_rules.proofs.OfficeLemmas.RowLemmas.{contains_cases, contains_map, kept, map_source}

@@ -17,6 +17,7 @@ use Rattle.office_rules.specs.declared.decision.change.Edit.{Edit}
 use Rattle.office_rules.specs.declared.decision.change.Edit.TheVariants.{AddTariff, AddSteps}
 use Rattle.office_rules.specs.declared.decision.change.Edit.TheVariants.{AddMeter, AddRows}
 use Rattle.office_rules.specs.declared.decision.change.Edit.TheVariants.{SetTariff, MoveBase}
+use Rattle.office_rules.specs.declared.decision.change.Edit.TheVariants.{SetKey, WithdrawSteps}
 use Rattle.office_rules.specs.declared.decision.change.Edit.TheVariants.{OpenShift, CloseShift}
 use Rattle.office_rules.specs.declared.decision.change.Edit.TheVariants.{AddSale}
 use Rattle.vend_core.specs.declared.lists.Lists.{Lists}
@@ -38,10 +39,12 @@ recorded r =
 abbrev pub Fits : Edit → Office → Type 0
 Fits (AddTariff name steps) o = Unit {0}
 Fits (AddSteps name day steps) o = Unit {0}
+Fits (WithdrawSteps name day) o = Unit {0}
 Fits (AddMeter number m) o = IsSome (o.tariffs m.tariff)
 Fits (AddRows rows) o = RowsFit rows o
 Fits (SetTariff number name) o = IsSome (o.tariffs name)
 Fits (MoveBase number base) o = Unit {0}
+Fits (SetKey number key) o = Unit {0}
 Fits (OpenShift s) o = Unit {0}
 Fits (CloseShift number moment) o = Unit {0}
 Fits (AddSale s) o = (s.tid ≤ last_tid) × (length o.sales < greatest_count)
@@ -54,7 +57,9 @@ AppliesEdit edit old new (Err error) = new ≡ old
 -- an edit that adds no row
 abbrev pub sets_only : Edit → Bool
 sets_only (SetTariff number name) = true
+sets_only (SetKey number key) = true
 sets_only (CloseShift number moment) = true
+sets_only (WithdrawSteps name day) = true
 sets_only edit = false
 
 -- what plain lists copy to look at it: steps, what the office has of the names of rows, and the
@@ -62,6 +67,8 @@ sets_only edit = false
 abbrev pub CopiesList : Office → ℕ → Request → Type 0
 CopiesList o moment (requests.AddTariff name steps) = IsSome (o.tariffs name)
 CopiesList o moment (requests.AddSteps name day steps) =
+    IsSome (o.tariffs name) × IsSome (o.dated_steps name day)
+CopiesList o moment (requests.WithdrawSteps name day) =
     IsSome (o.tariffs name) × IsSome (o.dated_steps name day)
 CopiesList o moment (requests.Import rows) = Unit {0}
 CopiesList o moment (requests.Sell order) =

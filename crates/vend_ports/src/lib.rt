@@ -29,6 +29,7 @@ pub use port::text_files::TextFiles;
 pub use print::lines::{
     address_text, put_added, put_line, put_no_moment, put_open, put_opened, put_progress,
     put_quote, put_read_fault, put_refusal, put_row, put_shift, put_stopped, put_waiting,
+    put_withdrawn,
 };
 pub use print::watched::Watched;
 pub use trials::{TrialFault, trial};

@@ -3,15 +3,16 @@
 ghost use Rattle.std.specs.Prelude.{◌≡◌};
 ghost use Rattle.sqlite.specs.State.{IsUnchanged};
 ghost use Rattle.one_table.specs.Over.{Over};
-ghost use Rattle.office_rules.specs.Decision.Facts.{AreMeterFacts, AreSettingFacts};
+ghost use Rattle.office_rules.specs.Decision.Facts.{AreKeyFacts, AreMeterFacts, AreSettingFacts};
 ghost use Rattle.book_tables.specs.reading.Questions.{the_meter, the_steps};
 ghost use Rattle.book_tables.specs.reading.Seen.{AreStepsSeen, HasSpoilt, HasSpoiltSteps};
 ghost use Rattle.book_tables.specs.reading.Seen.{ShowsFirst};
-ghost use Rattle.book_states.specs.FactsSeen.{AreMeterFactsSeen, AreSettingFactsSeen};
-ghost use Rattle.book_states.specs.Spoilt.{IsMeterSpoilt, IsSettingSpoilt};
+ghost use Rattle.book_states.specs.FactsSeen.{AreKeyFactsSeen, AreMeterFactsSeen};
+ghost use Rattle.book_states.specs.FactsSeen.{AreSettingFactsSeen};
+ghost use Rattle.book_states.specs.Spoilt.{IsKeySpoilt, IsMeterSpoilt, IsSettingSpoilt};
 ghost use Rattle.book_facts.specs.Looking.{LooksUp};
 
-use book_tables::reading::{meters, tariffs};
+use book_tables::reading::{meters, tariffs, totals};
 use book_tables::{TableError, members_law};
 use office_rules::{Facts, Meter, MeterNo, TariffName};
 use sqlite::{Alter, Connection};
@@ -96,6 +97,27 @@ pub(crate) fn setting_facts<S: Alter>(
     Ok(Facts {
         meter: there,
         has_tariff,
+        ..Facts::none()
+    })
+}
+
+/// What SetKey looks at: the sales to the meter of its number only where there is one.
+pub(crate) fn key_facts<S: Alter>(
+    conn: &mut Connection<S>,
+    number: &MeterNo,
+) -> Result<Facts, TableError>
+    ensures { Over S.Store conn (λ old new. LooksUp IsUnchanged (λ o. AreKeyFacts o number.now)
+        (AreKeyFactsSeen number.now) (IsKeySpoilt number.now) old new result) }
+{
+    members_law();
+    let there = meters::meter_numbered(conn, number)?;
+    if there.is_none() {
+        return Ok(Facts::none());
+    }
+    let has_sales = totals::has_sales(conn, number)?;
+    Ok(Facts {
+        meter: there,
+        has_sales,
         ..Facts::none()
     })
 }

@@ -1,5 +1,5 @@
 -- The tables of an older format are brought up to the present one: the same office.
-use Rattle.std.proofs.Common.{◌≡◌, ◌≢◌, ◌<◌, ◌↔◌, ◌∙◌, ℕ, true, List, [], ◌∷◌, ◌++◌, codes, map, zero, suc, refl, sym, subst, inl, inr, arith, Result, Ok, Err, IfErr, IsErrAnd, OnOk}
+use Rattle.std.proofs.Common.{◌≡◌, ◌≢◌, ◌<◌, ◌↔◌, ◌∙◌, ℕ, true, List, [], ◌∷◌, ◌++◌, append-nil, ap, codes, map, zero, suc, refl, sym, subst, inl, inr, arith, Result, Ok, Err, IfErr, IsErrAnd, OnOk}
 use Rattle.std.specs.Prelude.{AllPairs, Contains}
 use Rattle.std.specs.List.{AllByRecursion}
 use Rattle.sqlite.specs.State.{HasCleanDisk, State, Survives}
@@ -10,15 +10,15 @@ use Rattle.office_rules.specs.Office.{IsOffice, Office, empty_office}
 use Rattle.office_rules.specs.declared.office.sale.Sale.{Sale}
 use Rattle.one_table.specs.InTransaction.{KeepsTransaction, StaysInside}
 use Rattle.one_table.proofs.ChangeLemmas.{if_err, keeps_inside, keeps_then, on_ok, stays_then}
-use Rattle.book_tables.specs.format.Filling.{AreHanded, Fills, FillsBases, FillsTotals, IsFilling, IsReady, base_row_of}
+use Rattle.book_tables.specs.format.Filling.{AreFilling, AreHanded, Fills, FillsBases, FillsTotals, IsReady, base_row_of}
 use Rattle.book_tables.specs.Holds.{HasOffice, HoldsMembers, HoldsOf, rows_in}
 use Rattle.book_tables.specs.format.Format.{HasFormat}
 use Rattle.book_tables.specs.Kept.{Kept, about_kept, bases_kept, kept_names, last_ids_kept, later, month_tenths_kept, shift_totals_kept}
-use Rattle.book_tables.specs.format.Making.{BringsInside, BringsTables, FailsToBring, FillsMissing, HandsOver, IsBringing, IsSoundOfFormat, MakesMissing, TellsPresent, rows_upto}
+use Rattle.book_tables.specs.format.Making.{AreBringing, BringsInside, BringsTables, FailsToBring, FillsMissing, HandsOver, IsSoundOfFormat, MakesMissing, TellsPresent, rows_upto}
 use Rattle.book_tables.specs.row.Rows.{DatedStepRow, Rows, about_rows, present_format}
 use Rattle.book_tables.specs.Stands.{AreDatedApart, AreMembersOf, AreTotalsOf, HasDatedStep, IsOfFormat}
 use Rattle.book_tables.specs.writing.Edited.{no_rows}
-use Rattle.book_tables.specs.writing.Failing.{FailsToWriteAll}
+use Rattle.book_tables.specs.writing.Failing.{FailsSomehow, FailsToWriteAll}
 use Rattle.book_tables.specs.writing.Writes.{Write, format_write}
 use Rattle.book_tables.specs.writing.Writing.{WritesOnly, WritesTables, totals_names, with_totals_of}
 use Rattle.book_tables.specs.declared.error.TableError.{TableError}
@@ -26,7 +26,7 @@ use Rattle.book_tables.specs.declared.error.TableError.TheVariants.{Database as 
 use Rattle.book_tables.specs.declared.reading.pages.MeterRow.{MeterRow}
 use Rattle.book_tables.proofs.FormatLemmas.AboutLemmas.{IsAnother, told_left}
 use Rattle.book_tables.proofs.FormatLemmas.FillingBasesLemmas.{bases_are, bases_once}
-use Rattle.book_tables.proofs.FormatLemmas.FillingLemmas.{all_joined, fills_by, fills_off, fills_then, fills_write, nothing_written}
+use Rattle.book_tables.proofs.FormatLemmas.FillingLemmas.{fills_before, fills_then, fills_write, nothing_written}
 use Rattle.book_tables.proofs.FormatLemmas.MakingLemmas.{missing_may, still_beside}
 use Rattle.book_tables.proofs.WritingLemmas.CauseLemmas.{Came, came_by, of_later}
 use Rattle.book_tables.proofs.WritingLemmas.EditLemmas.{no_members}
@@ -159,20 +159,29 @@ completes from meters sales old filled new fills tells = record {
 
 -- so it is once the tables were filled, or it is not filled for a cause
 pub filled_on : (from : ℕ) (meters : List MeterRow) (sales : List Sale) (old filled new : State) (r : Result (Unit {0}) TableError)
-    → Fills (IsFilling from meters sales) (FillsMissing from meters sales) old filled (Ok tt)
+    → Fills (AreFilling from meters sales) (FillsMissing from meters sales) old filled (Ok tt)
     → KeepsTransaction filled new r → WritesTables (format_write from) (TellsPresent from) filled new r
-    → Fills (IsBringing from meters sales) (Completes from meters sales) old new r
+    → Fills (AreBringing from meters sales) (Completes from meters sales) old new r
 filled_on from meters sales old filled new r first transaction second =
     fills_then old filled new (kept_names (later from)) r (λ fills. fills.only)
-    (λ _ _ fills tells. completes from meters sales old filled new fills tells) (fills_by old filled (Ok tt) (λ w is. inl is) first)
-    (fills_write (format_write from) (inr refl) filled new r transaction second)
+    (λ _ _ fills tells. completes from meters sales old filled new fills tells)
+    (λ vs ws filling is. (vs, filling, ap (λ (l : List Write). vs ++ l) is)) first
+    (fills_write (format_write from) filled new r transaction second)
 
 -- where the filling fails, all of it fails, for the cause that the filling had
 pub filled_off : (from : ℕ) (meters : List MeterRow) (sales : List Sale) (old new : State) (e : TableError)
     (r : Result (Unit {0}) TableError) → IsErrAnd r (λ x. x ≡ e)
-    → Fills (IsFilling from meters sales) (FillsMissing from meters sales) old new (Err e)
-    → Fills (IsBringing from meters sales) (Completes from meters sales) old new r
-filled_off from meters sales old new e r is failed = fills_off old new e r is (fills_by old new (Err e) (λ w is. inl is) failed)
+    → Fills (AreFilling from meters sales) (FillsMissing from meters sales) old new (Err e)
+    → Fills (AreBringing from meters sales) (Completes from meters sales) old new r
+filled_off from meters sales old new e r is failed =
+    fills_before old new e r is (λ vs filling. (format_write from ∷ [], (vs, filling, refl))) failed
+
+-- a format that lacks neither totals nor bases is filled by nothing
+pub lacks_nothing : (from : ℕ) (meters : List MeterRow) (sales : List Sale) → from ≢ 1 → from ≢ 2 → AreFilling from meters sales []
+lacks_nothing zero meters sales one two = ([], refl, refl)
+lacks_nothing (suc zero) meters sales one two = absurd (one refl)
+lacks_nothing (suc (suc zero)) meters sales one two = absurd (two refl)
+lacks_nothing (suc (suc (suc n))) meters sales one two = ([], refl, refl)
 
 module _ (from : ℕ) (meters : List MeterRow) (sales : List Sale) (old mid new : State) (inside : StaysInside old mid)
     (made : MakesMissing from old.now mid.now) (done : Completes from meters sales mid new) where
@@ -200,7 +209,7 @@ module _ (from : ℕ) (meters : List MeterRow) (sales : List Sale) (old mid new 
 module _ (from : ℕ) (meters : List MeterRow) (sales : List Sale) (old mid new : State) (r : Result (Unit {0}) TableError)
     (makes : HasCleanDisk mid → IsSoundOfFormat from old → MakesMissing from old.now mid.now) (inside : HasCleanDisk mid → StaysInside old mid)
     (first : KeepsTransaction {T = Unit {0}} {E = TableError} old mid (Ok tt))
-    (rest : Fills (IsBringing from meters sales) (Completes from meters sales) mid new r) where
+    (rest : Fills (AreBringing from meters sales) (Completes from meters sales) mid new r) where
   early : HasCleanDisk new → HasCleanDisk mid
   early clean = omega (arith, clean, rest.survives.clean)
 
@@ -233,17 +242,20 @@ module _ (from : ℕ) (meters : List MeterRow) (sales : List Sale) (old mid new 
       survives_from s = record { clean = s.clean; shield = s.shield; counts = s.counts; limit = s.limit; closes = s.closes; crash = s.crash }
 
       why_not : {S : Type 0} (g : Ghosts S) → MakesMissing from old.now mid.now → Came [] (record old { now = mid.now }) mid → (e : TableError)
-          → (writes : List Write) × AllByRecursion (IsBringing from meters sales) writes × FailsToWriteAll writes mid new e
-          → FailsToBring g from meters sales old new e
-      why_not g made came (Failed e) why = inr (record {
+          → FailsSomehow (AreBringing from meters sales) mid new e → FailsToBring g from meters sales old new e
+      why_not g made came (Failed e) (inl none) = inr (record { made = mid.now; makes = made; fails = inl none })
+      why_not g made came (Failed e) (inr (ws, are, why)) = inr (record {
         made = mid.now;
         makes = made;
-        writes = why.0 ++ [];
-        are = all_joined (IsBringing from meters sales) why.0 [] why.1 tt;
-        fails =
-            of_later [] (record old { now = mid.now }) mid new came why.0 [] (Failed e) why.2;
+        fails = inr (
+          ws,
+          are,
+          subst (λ (l : List Write). FailsToWriteAll l (record old { now = mid.now }) new (Failed e)) (append-nil ws)
+              (of_later [] (record old { now = mid.now }) mid new came ws [] (Failed e) why),
+        );
       })
-      why_not g made came RowOfNoOffice why = why.2
+      why_not g made came RowOfNoOffice (inl none) = absurd cc
+      why_not g made came RowOfNoOffice (inr (ws, are, why)) = why
 
   -- the transaction stays under way where it went well, and nothing is committed
   pub keeps_bringing : KeepsTransaction old new r

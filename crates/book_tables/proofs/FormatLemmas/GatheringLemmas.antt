@@ -1,5 +1,5 @@
 -- What is gathered of the sales, and what the tables of totals hold where it is put into them.
-use Rattle.std.proofs.Common.{◌≡◌, ◌≤◌, ◌<◌, ◌<ℤ◌, ◌^◌, ℕ, pos, Bool, List, [], ◌∷◌, ◌++◌, append-nil, append_assoc, filter, get_or, length, map, not, sum_by, unwrap_or, Option, Some, Less, arith, inl, inr, refl, sym, ap, subst, ◌∙◌}
+use Rattle.std.proofs.Common.{◌≡◌, ◌≤◌, ◌<◌, ◌<ℤ◌, ◌^◌, ℕ, pos, Bool, List, [], ◌∷◌, ◌++◌, append-nil, append_assoc, filter, get_or, length, map, not, sum_by, unwrap_or, Option, Some, Less, arith, refl, sym, ap, ap₂, subst, ◌∙◌}
 use Rattle.std.specs.Prelude.{◌==◌, ◌&&◌, All, Contains, bytes_eq}
 use Rattle.std.specs.BTreeMap.{values}
 use Rattle.std.specs.List.{AllByRecursion}
@@ -20,18 +20,19 @@ use Rattle.sts_fields.specs.declared.base.Base.{Base}
 use Rattle.office_rules.specs.Law.Cash.{cash_of}
 use Rattle.office_rules.specs.Office.{IsOffice, Office, greatest_count}
 use Rattle.office_rules.specs.declared.office.sale.Sale.{Sale}
-use Rattle.book_tables.specs.format.Filling.{FillsTotals, IsOfTotals, IsReady, PutsFirst}
+use Rattle.book_tables.specs.format.Filling.{ArePut, AreTotalsWrites, FillsTotals, IsReady, PutsFirst}
 use Rattle.book_tables.specs.Holds.{HoldsOf}
 use Rattle.book_tables.specs.row.Gathered.{IsGathered, base_place, key_cmp, own_place}
 use Rattle.book_tables.specs.row.Rows.{Rows, present_format}
 use Rattle.book_tables.specs.Stands.{AreRowsOf, AreTotalsOf, sales_in_month, sales_in_shift, tenths_of, totals_of}
 use Rattle.book_tables.specs.writing.Putting.{AreAnyIds, FitMonths, FitShifts, PutsLastId, PutsMonth, PutsNext, PutsTotals, with_last_ids, with_month_tenths, with_shift_totals}
-use Rattle.book_tables.specs.writing.Writes.{Write}
+use Rattle.book_tables.specs.writing.Edited.{no_rows}
+use Rattle.book_tables.specs.writing.Writes.{Write, new_last_id, new_month, new_totals}
 use Rattle.book_tables.specs.writing.Writing.{FitColumns, HasRoomFor, WritesOnly, no_totals, totals_names}
 use Rattle.book_tables.specs.declared.row.gathered.Gathered.{Gathered}
 use Rattle.book_tables.specs.declared.row.totals.Totals.{Totals}
 use Rattle.book_tables.proofs.FirstSalesLemmas.{office_within}
-use Rattle.book_tables.proofs.FormatLemmas.FillingLemmas.{nothing_written}
+use Rattle.book_tables.proofs.FormatLemmas.FillingLemmas.{may_be_put, nothing_written, put_as}
 use Rattle.book_tables.proofs.ListLemmas.{contains_first, contains_further}
 use Rattle.book_tables.proofs.RowLemmas.GatheredLemmas.{are_rows, key_exact, key_total}
 use Rattle.book_tables.proofs.SalesOfLemmas.{all_totals, fit_within, sum_of_some, tenths_sum, totals_sum}
@@ -136,38 +137,60 @@ module _ (sales : List Sale) (g : Gathered) (held : IsGathered sales g) (fit : F
 
 -- ---- the writes of it
 
--- each puts in what is gathered, where the sales are an office's
-pub record WritesOf (sales : List Sale) (g : Gathered) : Type 0 where
-  pub ids : (w : Write) → (r : (List ℕ × Base) × ℕ) × Contains (values g.last_ids) r × PutsLastId r w → IsOfTotals sales w
-  pub months : (w : Write) → (r : (List ℕ × ℕ) × ℕ) × Contains (values g.month_tenths) r × PutsMonth r w → IsOfTotals sales w
-  pub shifts : (w : Write) → (r : ℕ × Totals) × Contains (values g.shift_totals) r × PutsTotals r w → IsOfTotals sales w
+module _ (greatest : (t : ℕ) → IsRepresentable t → t ≤ 18201624) (sales : List Sale) (g : Gathered)
+    (gathered : length sales ≤ 2 ^ 32 → IsGathered sales g) where
+  abbrev ids : List ((List ℕ × Base) × ℕ)
+  ids = values g.last_ids
 
--- a write of what is gathered puts in one of the totals of an office's sales
-pub writes_gathered : ((t : ℕ) → IsRepresentable t → t ≤ 18201624) → (sales : List Sale) (g : Gathered)
-    → (length sales ≤ 2 ^ 32 → IsGathered sales g) → WritesOf sales g
-writes_gathered greatest sales g gathered = record {
-  ids = λ w (r, there, puts) o office same.
-      let held = held_of o office same in
-      inl (r, ((are_rows key_cmp key_total key_exact base_place g.last_ids _ held.last_ids).members r.0 r.1).1 there, puts);
-  months = λ w (r, there, puts) o office same.
+  abbrev months : List ((List ℕ × ℕ) × ℕ)
+  months = values g.month_tenths
+
+  abbrev shifts : List (ℕ × Totals)
+  shifts = values g.shift_totals
+
+  held_of : (o : Office) → IsOffice o → sales ≡ o.sales → IsGathered sales g
+  held_of o office same = let few : length o.sales ≤ greatest_count = office.sale_count in gathered (omega (arith, few, ap length same))
+
+  fits : (o : Office) → IsOffice o → sales ≡ o.sales → FitColumns sales
+  fits o office same = subst FitColumns (sym same) (fit_within o.sales (office_within greatest o office))
+
+  -- what puts in all that is gathered puts in the totals of an office's sales
+  pub all_written : (a b c : List Write) → ArePut PutsLastId ids a → ArePut PutsMonth months b → ArePut PutsTotals shifts c
+      → AreTotalsWrites sales (a ++ (b ++ c))
+  all_written a b c put_a put_b put_c o office same =
       let held = held_of o office same in
       let fit = fits o office same in
-      inr (inl (
-        r,
-        ((months_are sales g held fit).members r.0 r.1).1 there,
-        puts (All-contains (λ (x : (List ℕ × ℕ) × ℕ). x.1 < 2 ^ 63) (values g.month_tenths) r (months_fit sales g held fit) there),
-      ));
-  shifts = λ w (r, there, puts) o office same.
-      let held = held_of o office same in
-      let fit = fits o office same in
-      inr (inr (r, ((shifts_are sales g held fit).members r.0 r.1).1 there, puts (room_of sales g held fit r there)));
-}
-  where
-    held_of : (o : Office) → IsOffice o → sales ≡ o.sales → IsGathered sales g
-    held_of o office same = let few : length o.sales ≤ greatest_count = office.sale_count in gathered (omega (arith, few, ap length same))
+      let is_a = put_as PutsLastId new_last_id ids (λ r there w is. is) a put_a in
+      let is_b = put_as PutsMonth new_month months (λ r there w puts. puts (All-contains (λ (x : (List ℕ × ℕ) × ℕ). x.1 < 2 ^ 63) months r
+      (months_fit sales g held fit) there)) b put_b in
+      let is_c = put_as PutsTotals new_totals shifts (λ r there w puts. puts (room_of sales g held fit r there)) c put_c in (
+        with_shift_totals shifts (with_month_tenths months (with_last_ids ids no_rows)),
+        totals_are sales g held fit no_rows,
+        ap₂ ◌++◌ is_a (ap₂ ◌++◌ is_b is_c),
+      )
 
-    fits : (o : Office) → IsOffice o → sales ≡ o.sales → FitColumns sales
-    fits o office same = subst FitColumns (sym same) (fit_within o.sales (office_within greatest o office))
+  -- and those of the months and the shifts may follow
+  pub months_follow : (a : List Write) → ArePut PutsLastId ids a → (rest : List Write) × AreTotalsWrites sales (a ++ rest)
+  months_follow a put =
+      let b = may_be_put PutsMonth (λ r. (new_month r, λ small. refl)) months in
+      let c = may_be_put PutsTotals (λ r. (new_totals r, λ room. refl)) shifts in
+      (b.0 ++ c.0, all_written a b.0 c.0 put b.1 c.1)
+
+  -- these put in the first two
+  abbrev pub ArePutTwo : List Write → Type 0
+  ArePutTwo ws = (a : List Write) × (b : List Write) × ArePut PutsLastId ids a × ArePut PutsMonth months b × (ws ≡ a ++ b)
+
+  pub two_written : (a b : List Write) → ArePut PutsLastId ids a → ArePut PutsMonth months b → ArePutTwo (a ++ b)
+  two_written a b put_a put_b = (a, b, put_a, put_b, refl)
+
+  pub three_written : (ws c : List Write) → ArePutTwo ws → ArePut PutsTotals shifts c → AreTotalsWrites sales (ws ++ c)
+  three_written ws c (a, b, put_a, put_b, is) put_c =
+      subst (AreTotalsWrites sales) (sym (append_assoc a b c) ∙ ap (λ (l : List Write). l ++ c) (sym is)) (all_written a b c put_a put_b put_c)
+
+  pub shifts_follow : (ws : List Write) → ArePutTwo ws → (rest : List Write) × AreTotalsWrites sales (ws ++ rest)
+  shifts_follow ws two =
+      let c = may_be_put PutsTotals (λ r. (new_totals r, λ room. refl)) shifts in
+      (c.0, three_written ws c.0 two c.1)
 
 -- ---- all of it
 

@@ -9,19 +9,22 @@ use Rattle.sqlite_sql.specs.declared.ops.BinaryOp.TheVariants.{Compare}
 use Rattle.sqlite_sql.specs.declared.ops.CompareOp.TheVariants.{Eq, Le}
 use Rattle.sqlite_tied.specs.Compute.{everything}
 use Rattle.sqlite_resolve.specs.Scope.{Name}
+use Rattle.one_table.specs.Deleting.{IsDelete, delete_in, delete_meant, removal_meant, removal_query}
 use Rattle.one_table.specs.Inserting.{IsInsert, insert_in, insert_meant, puts_meant}
 use Rattle.one_table.specs.Listed.{falling, query_on, no_limit, rising}
 use Rattle.one_table.specs.Reading.{is_whole, meant, select_meant, text_meant}
 use Rattle.book_tables.specs.row.Rows.{number}
 use Rattle.book_tables.specs.Tables.{dated_steps_table}
-use Rattle.book_tables.specs.writing.Writes.{new_dated_text}
+use Rattle.book_tables.specs.writing.Writes.{new_dated_text, steps_withdrawn_text}
 use Rattle.book_tables.proofs.ReadingLemmas.ReadLemmas.{Asks}
 use Rattle.book_tables.proofs.ReadingLemmas.StepTexts.{step_names}
 pub use Rattle.book_tables.specs.reading.Questions.{first_day_text, steps_from_text}
 
 -- ---- the steps that begin on a day
 
-abbrev is_from_day : List Term
+-- the tests that a row is of the tariff that is the first parameter, and of the day that is the
+-- second
+abbrev pub is_from_day : List Term
 is_from_day = op2 (Compare Eq Binary) (col 1 1) (col 0 0) ∷ op2 (Compare Eq Binary) (col 1 2) (col 0 1) ∷ []
 
 -- a read of the steps of a tariff that begin on a day, in the order of their places
@@ -68,3 +71,15 @@ new_dated_means tree = record { means = refl; whole = refl; uncounted = refl; un
 pub new_dated_whole : is_whole new_dated_text 5 ≡ true
 unfolding everything is_whole
 new_dated_whole = refl
+
+-- ---- steps that are withdrawn
+
+-- the text means a DELETE of the rows of the tariff and the day
+pub steps_withdrawn_means : (tree : ℕ) → IsDelete (dated_steps_table tree) (removal_query tree is_from_day) steps_withdrawn_text
+unfolding everything delete_meant delete_in removal_meant
+steps_withdrawn_means tree = record { means = refl; from = refl }
+
+-- and is one statement with two parameters
+pub steps_withdrawn_whole : is_whole steps_withdrawn_text 2 ≡ true
+unfolding everything is_whole
+steps_withdrawn_whole = refl

@@ -34,7 +34,8 @@ sales_of P each rows (o, office, are) = subst P (sym are.sales) (each o office)
 pub sales_keep_values : (rows : Rows) → AreOfOffice rows → All AreSaleValues rows.sales
 sales_keep_values = sales_of (All AreSaleValues) sales_keep
 
-numbered : (rows : Rows) → AreOfOffice rows → AreNumbered (λ (s : Sale). s.number) rows.sales
+-- and they are numbered from 1 on
+pub numbered : (rows : Rows) → AreOfOffice rows → AreNumbered (λ (s : Sale). s.number) rows.sales
 numbered = sales_of (AreNumbered (λ (s : Sale). s.number)) (λ o office. office.sale_numbers)
 
 -- a test that at most one sale of an office passes

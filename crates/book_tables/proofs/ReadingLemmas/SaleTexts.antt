@@ -5,7 +5,7 @@ use Rattle.sqlite_value.specs.declared.keys.Collation.TheVariants.{Binary}
 use Rattle.sqlite_sql.specs.Query.{Query}
 use Rattle.sqlite_sql.specs.Term.{Term, lit, col, op2}
 use Rattle.sqlite_sql.specs.declared.ops.BinaryOp.TheVariants.{Compare}
-use Rattle.sqlite_sql.specs.declared.ops.CompareOp.TheVariants.{Eq}
+use Rattle.sqlite_sql.specs.declared.ops.CompareOp.TheVariants.{Eq, Ge}
 use Rattle.sqlite_tied.specs.Compute.{everything}
 use Rattle.sqlite_resolve.specs.Scope.{Name}
 use Rattle.one_table.specs.Listed.{query_on, no_limit, falling}
@@ -13,7 +13,7 @@ use Rattle.one_table.specs.Reading.{is_whole, meant, select_meant, text_meant}
 use Rattle.book_tables.specs.row.Rows.{number}
 use Rattle.book_tables.specs.Tables.{sales_table}
 use Rattle.book_tables.proofs.ReadingLemmas.ReadLemmas.{Asks}
-pub use Rattle.book_tables.specs.reading.Questions.{last_sale_text, sale_numbered_text, sale_of_ref_text, sale_of_tid_text}
+pub use Rattle.book_tables.specs.reading.Questions.{sold_since_text, last_sale_text, sale_numbered_text, sale_of_ref_text, sale_of_tid_text}
 
 -- all columns but the month
 abbrev pub sale_terms : List Term
@@ -76,4 +76,14 @@ last_sale_query tree = query_on tree [] (col 1 0 ∷ []) (falling 0) (lit (Int (
 pub last_sale_asks : Asks sales_table last_sale_query (codes "number" ∷ []) last_sale_text []
 unfolding everything is_whole meant select_meant text_meant
 last_sale_asks =
+    record { is = λ tree. record { means = refl; from = refl }; bare = λ tree. refl; typed = λ tree. refl; whole = refl }
+
+-- a read of the last sale, by its number, whose moment is the parameter or later
+abbrev pub sold_since_query : ℕ → Query
+sold_since_query tree = query_on tree (op2 (Compare Ge Binary) (col 1 2) (col 0 0) ∷ []) (col 1 0 ∷ []) (falling 0) (lit (Int (pos 1)))
+
+-- the text means that read, with the moment as its parameter
+pub sold_since_asks : (moment : ℕ) → Asks sales_table sold_since_query (codes "number" ∷ []) sold_since_text (number moment ∷ [])
+unfolding everything is_whole meant select_meant text_meant
+sold_since_asks moment =
     record { is = λ tree. record { means = refl; from = refl }; bare = λ tree. refl; typed = λ tree. refl; whole = refl }

@@ -36,7 +36,8 @@ use Rattle.book_tables.proofs.ReadingLemmas.SaleLemmas.{sales_keep_values}
 use Rattle.book_tables.proofs.SalesOfLemmas.{all_totals, greatest_within, tells_month, tells_number, tells_under}
 use Rattle.book_tables.proofs.WritingLemmas.TotalsTexts.{last_id_asks, last_id_names, last_id_query, last_id_text, month_tenths_asks, month_tenths_names, month_tenths_query, month_sum_text, shift_totals_asks, shift_totals_names, shift_totals_query, shift_sums_text}
 
-own_totals : (rows : Rows) → AreOfOffice rows → AreTotalsOf rows.sales rows
+-- the running totals in the rows of an office are those of its sales
+pub own_totals : (rows : Rows) → AreOfOffice rows → AreTotalsOf rows.sales rows
 own_totals rows (o, office, are) = subst (λ (l : List Sale). AreTotalsOf l rows) (sym are.sales) are.totals
 
 -- what is shown of the row of a key
@@ -45,19 +46,30 @@ shown_of : {K V M : Type 0} (show : V → Row) (shown : M → Row) (record_of : 
 shown_of show shown record_of same key None = refl
 shown_of show shown record_of same key (Some v) = ap (λ (row : Row). row ∷ []) (sym (same v))
 
-keeps_of : {V M : Type 0} (rule : V → Type 0) (keeps : M → Type 0) (record_of : V → M) → ((v : V) → rule v → keeps (record_of v))
+-- a record that is made of what keeps a rule keeps it too
+pub keeps_of : {V M : Type 0} (rule : V → Type 0) (keeps : M → Type 0) (record_of : V → M) → ((v : V) → rule v → keeps (record_of v))
     → (o : Option V) → IfSome o rule → IfSome (option_map record_of o) keeps
 keeps_of rule keeps record_of each None kept = _
 keeps_of rule keeps record_of each (Some v) kept = each v kept
 
 -- ---- the last identifier of a meter under a base
 
+-- an identifier, as it is read
+abbrev pub tid_of : ℕ → Tid
+tid_of n = record { number = n }
+
+-- two records of one identifier are one
+pub one_tid : (a b : Tid) → shown_number a.number ≡ shown_number b.number → a ≡ b
+one_tid a b same =
+    let number : a.number ≡ b.number = one_number a.number b.number same in
+    let A : Tid = record { number = a.number } in
+    let B : Tid = record { number = b.number } in
+    let is : A ≡ B = cc in
+    is
+
 module _ (meter : List ℕ) (base : Base) where
   abbrev base_key : List ℕ × Base
   base_key = (meter, base)
-
-  abbrev tid_of : ℕ → Tid
-  tid_of n = record { number = n }
 
   abbrev last_in : List Sale → Option ℕ
   last_in sales = greatest_of (map (λ s. s.tid) (sales_under sales base_key))
@@ -71,15 +83,8 @@ module _ (meter : List ℕ) (base : Base) where
   tid_back None = refl
   tid_back (Some n) = refl
 
-  one_tid : (a b : Tid) → shown_number a.number ≡ shown_number b.number → a ≡ b
-  one_tid a b same =
-      let number : a.number ≡ b.number = one_number a.number b.number same in
-      let A : Tid = record { number = a.number } in
-      let B : Tid = record { number = b.number } in
-      let is : A ≡ B = cc in
-      is
-
-  tids_within : (rows : Rows) → AreOfOffice rows → IfSome (last_in rows.sales) IsTid
+  -- those of an office's sales are of 24 bits
+  pub tids_within : (rows : Rows) → AreOfOffice rows → IfSome (last_in rows.sales) IsTid
   tids_within rows of_office =
       let sold = sales_under rows.sales base_key in
       let values = All-filter (λ s. is_under base_key (s.meter, s.base)) AreSaleValues rows.sales (sales_keep_values rows of_office) in

@@ -3,6 +3,7 @@ use Rattle.std.proofs.Common.{◌≡◌, ◌≤◌, ◌⊎◌, false, List, [], 
 use Rattle.std.proofs.lemmas.Bool.{cases_Bool, false≢true}
 use Rattle.sqlite.specs.Does.{Does, Tally}
 use Rattle.sqlite.specs.Effect.{Database}
+use Rattle.sqlite.specs.Order.{Row}
 use Rattle.sqlite.specs.Rows.{Outcome}
 use Rattle.sqlite.specs.State.{HasCause, State, Survives, mode_of, store_error}
 use Rattle.sqlite.specs.declared.error.Error.{Error}
@@ -10,11 +11,12 @@ use Rattle.sqlite_trees.specs.declared.error.StoreError.{StoreError}
 use Rattle.sqlite_trees.specs.declared.error.StoreError.TheVariants.{OutOfMemory, Io, Corrupt, Full, Broken, Unstorable}
 use Rattle.sqlite_schema.specs.declared.command.Command.{Command}
 use Rattle.sqlite_schema.specs.declared.command.Returning.{Returning}
-use Rattle.one_table.specs.InTransaction.{CarriesOut, FailsToWriteAs, IsUnderWay, StaysInside}
+use Rattle.one_table.specs.InTransaction.{BeginsWith, CarriesOut, FailsToWriteAs, IsUnderWay, ShowsInside, StaysInside}
 use Rattle.one_table.specs.Reading.{MeansAs}
 use Rattle.one_table.proofs.ChangeLemmas.{if_err, on_ok}
 use Rattle.one_table.specs.Upserting.{returning_as, upsert_as}
-use Rattle.book_tables.specs.writing.Failing.{End, Ends, FailsToMerge, FailsToMergeAll, FailsToStore, FailsToWriteAll, IsRefused}
+use Rattle.book_tables.specs.writing.Failing.{End, Ends, FailsToMerge, FailsToStore, FailsToWriteAll, IsRefused}
+use Rattle.book_tables.specs.writing.Telling.{Tells}
 use Rattle.book_tables.specs.writing.Writes.{AreCarriedOut, EndsWith, Make, Write}
 use Rattle.book_tables.specs.declared.error.TableError.{TableError}
 use Rattle.book_tables.specs.declared.error.TableError.TheVariants.{Database as Told, RowOfNoOffice}
@@ -118,13 +120,30 @@ module _ (before : List Write) (old mid new : State) (came : Came before old mid
   of_store (Told e) (command, means, why) = of_write None command means e why
   of_store RowOfNoOffice why = why
 
+  -- what a write after them shows
+  pub tells_after : (Showed : List Row → Type 0) → ShowsInside Showed w.sql w.params mid new → Tells Showed old.step_limit before w old.now
+  tells_after Showed (it, so) = record {
+    db = mid.now;
+    made = came.made;
+    tally = it.tally;
+    new = new.now;
+    ends = record {
+      command = it.command;
+      shows = it.shows;
+      means = it.means;
+      does = subst (λ (l : Option _). Does l (mode_of mid) w.params mid.now [] it.shows it.command (Ok (it.tally, new.now))) came.limit it.does;
+    };
+    showed = so;
+  }
+
   -- the same of a write that answers something of the rows
-  pub of_merge : (e : TableError) → FailsToMerge w mid new e → FailsToMergeAll (before ++ w ∷ after) old new e
-  of_merge (Told e) why = elim why.fails [
+  pub of_merge : (IsTold : Row → Type 0) (e : TableError) → FailsToMerge IsTold w mid new e → Fail e
+      ⊎ ((e ≡ RowOfNoOffice) × Tells (λ rows. ¬ BeginsWith IsTold rows) old.step_limit before w old.now)
+  of_merge IsTold (Told e) why = elim why.fails [
     | inl fails ↦ inl (of_write (Some (returning_as why.merging)) (upsert_as why.at why.table why.merging) why.means e fails)
     | inr (none, touched) ↦ inl (inl (cc))
   ]
-  of_merge RowOfNoOffice why = inr refl
+  of_merge IsTold RowOfNoOffice why = inr (refl, tells_after (λ rows. ¬ BeginsWith IsTold rows) why.fails.1)
 
 -- those of later writes are told of all, whatever were to come after them
 module _ (before : List Write) (old mid new : State) (came : Came before old mid) (later after : List Write) where
@@ -150,10 +169,35 @@ module _ (before : List Write) (old mid new : State) (came : Came before old mid
   of_later (Told e) (inr (inr (inr it))) = inr (inr (inr (refused_later e it)))
   of_later RowOfNoOffice why = why
 
-  -- the same of writes that answer something of the rows
-  pub of_later_merge : (e : TableError) → FailsToMergeAll later mid new e → FailsToMergeAll (before ++ (later ++ after)) old new e
-  of_later_merge e (inl why) = inl (of_later e why)
-  of_later_merge e (inr is) = inr is
+-- what is so of the rows that a write shows, told otherwise
+pub tells_as : {P Q : List Row → Type 0} {limit : Option _} {before : List Write} {w : Write} {old : Database} → ((rows : List Row) → P rows → Q rows)
+    → Tells P limit before w old → Tells Q limit before w old
+tells_as so it = record {
+  db = it.db;
+  made = it.made;
+  tally = it.tally;
+  new = it.new;
+  ends = it.ends;
+  showed = so it.tally.shown it.showed;
+}
+
+-- a row is told false, which is told otherwise
+pub false_as : {A B C D : Type 0} → (C → D) → A ⊎ (B × C) → A ⊎ (B × D)
+false_as so (inl fails) = inl fails
+false_as so (inr (is, told)) = inr (is, so told)
+
+-- what one of later writes shows
+pub tells_later : {before : List Write} {old mid : State} {Showed : List Row → Type 0} {w : Write} → Came before old mid → (more : List Write)
+    → Tells Showed mid.step_limit more w mid.now → Tells Showed old.step_limit (before ++ more) w old.now
+tells_later {before = before} {old = old} {mid = mid} {w = w} came more it = record {
+  db = it.db;
+  made = make_then old.step_limit before more old.now mid.now it.db came.made
+      (subst (λ (l : Option _). Make l more mid.now it.db) came.limit it.made);
+  tally = it.tally;
+  new = it.new;
+  ends = subst (λ (l : Option _). EndsWith l w it.db (Ok (it.tally, it.new))) came.limit it.ends;
+  showed = it.showed;
+}
 
 -- ---- how they end
 

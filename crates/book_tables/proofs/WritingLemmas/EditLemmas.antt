@@ -13,9 +13,10 @@ use Rattle.book_tables.specs.writing.Edited.{edited, is_sale, no_rows, row_added
 use Rattle.book_tables.specs.row.Rows.{Rows}
 use Rattle.book_tables.specs.Stands.{AreApart, AreDatedApart, AreMembersOf, AreRowsOf, AreTotalsOf}
 use Rattle.book_tables.proofs.ListLemmas.{contains_none, no_pairs}
-use Rattle.book_tables.proofs.WritingLemmas.MeterEditLemmas.{base_moved, meter_added, tariff_set}
+use Rattle.book_tables.proofs.WritingLemmas.MeterEditLemmas.{base_moved, key_set, meter_added, tariff_set}
 use Rattle.book_tables.proofs.WritingLemmas.PutLemmas.{none_some, same_totals}
 use Rattle.book_tables.proofs.WritingLemmas.TariffEditLemmas.{steps_added, tariff_added}
+use Rattle.book_tables.proofs.WritingLemmas.WithdrawEditLemmas.{steps_withdrawn}
 
 -- ---- every edit
 
@@ -33,10 +34,12 @@ pub edited_members : (rows : Rows) (o : Office) (edit : Edit) → AreMembersOf r
     → AreMembersOf (edited edit rows) (applied edit o)
 edited_members rows o (edits.AddTariff name steps) are meets no_sale = row_members rows o (kinds.Tariff name steps) are meets
 edited_members rows o (edits.AddSteps name day steps) are meets no_sale = row_members rows o (kinds.Steps name day steps) are meets
+edited_members rows o (edits.WithdrawSteps name day) are meets no_sale = steps_withdrawn rows o are name day
 edited_members rows o (edits.AddMeter number m) are meets no_sale = row_members rows o (kinds.Meter number m) are meets
 edited_members rows o (edits.AddRows new) are meets no_sale = rows_members new rows o are meets.1
 edited_members rows o (edits.SetTariff number name) are meets no_sale = tariff_set rows o are number name
 edited_members rows o (edits.MoveBase number base) are meets no_sale = base_moved rows o are number base meets.no_base
+edited_members rows o (edits.SetKey number key) are meets no_sale = key_set rows o are number key
 edited_members rows o (edits.OpenShift s) are meets no_sale = record {
   tariffs = are.tariffs;
   steps = are.steps;

@@ -1,4 +1,4 @@
--- The rows after a meter was added, or got a tariff or a base, are the members of the office.
+-- The rows after a meter was added, or got a tariff, a base or a key, are the members of the office.
 use Rattle.std.proofs.Common.{◌≡◌, ◌≢◌, ℕ, ◌⊎◌, inl, inr, Bool, true, false, List, [], ◌∷◌, ◌++◌, Option, Some, None, refl, sym, ◌∙◌, ap, subst}
 use Rattle.std.specs.Prelude.{◌&&◌, ◌||◌, AllPairs, Contains, bytes_eq, if◌then◌else◌, map, option_map}
 use Rattle.std.proofs.lemmas.Bool.{false≢true}
@@ -8,7 +8,7 @@ use Rattle.std.proofs.lemmas.Slice.Eq.{bytes_eq-Decides}
 use Rattle.sts_fields.specs.Base.{base_eq}
 use Rattle.sts_fields.specs.declared.base.Base.{Base}
 use Rattle.sts_fields.specs.declared.base.Base.TheVariants.{Y1993, Y2014, Y2035}
-use Rattle.office_rules.specs.Decision.Edits.{applied, one_base_more, set_meter, with_base, with_tariff}
+use Rattle.office_rules.specs.Decision.Edits.{applied, one_base_more, set_meter, with_base, with_key, with_tariff}
 use Rattle.office_rules.specs.Office.{Office}
 use Rattle.office_rules.specs.declared.decision.change.Edit.TheVariants as edits
 use Rattle.office_rules.specs.declared.office.meter.Meter.{Meter}
@@ -120,7 +120,7 @@ module _ (rows : Rows) (o : Office) (are : AreMembersOf rows o) (number : List �
     dated_once = are.dated_once;
   }
 
--- ---- a meter's tariff, or its present base
+-- ---- a meter's tariff, its present base, or its key
 
 abbrev set_row : Bool → (Meter → Meter) → (List ℕ × Meter) → (List ℕ × Meter)
 set_row b f r = if b then (r.0, f r.1) else r
@@ -186,6 +186,25 @@ tariff_set rows o are number name = record {
   tariffs_once = are.tariffs_once;
   steps_once = are.steps_once;
   meters_once = set_once rows o are number (with_tariff name);
+  bases_once = are.bases_once;
+  dated_once = are.dated_once;
+}
+
+-- after a meter got another key, they are too
+pub key_set : (rows : Rows) (o : Office) (are : AreMembersOf rows o) (number : List ℕ) (key : ℕ)
+    → AreMembersOf (edited (edits.SetKey number key) rows) (applied (edits.SetKey number key) o)
+key_set rows o are number key = record {
+  tariffs = are.tariffs;
+  steps = are.steps;
+  meters = λ q n. (set_there rows o are number (with_key key) q n, set_back rows o are number (with_key key) q n);
+  bases = are.bases;
+  dated_steps = are.dated_steps;
+  shifts = are.shifts;
+  sales = are.sales;
+  totals = same_totals o.sales rows _ refl refl refl are.totals;
+  tariffs_once = are.tariffs_once;
+  steps_once = are.steps_once;
+  meters_once = set_once rows o are number (with_key key);
   bases_once = are.bases_once;
   dated_once = are.dated_once;
 }

@@ -1,13 +1,15 @@
--- Which rows of a tree stay where rows of one's own are put in, set or merged, whatever the others
--- are.
+-- Which rows of a tree stay where rows of one's own are put in, set, merged or taken out, whatever
+-- the others are.
 use Rattle.std.proofs.Common.{◌≡◌, ℤ, Bool, true, false, not, if◌then◌else◌, IsTrue, List, [], ◌∷◌, drop, map, filter, Ordering, Less, Equal, Greater, is_eq, refl, sym, ap, subst, ◌∙◌, inl, inr}
 use Rattle.std.specs.List.{AllByRecursion, list_all}
 use Rattle.std.specs.Ordering.{match_ordering, ordering_reverse}
-use Rattle.std.proofs.lemmas.Bool.{false≢true}
+use Rattle.std.proofs.lemmas.Bool.{cases_Bool, false≢true}
+use Rattle.std.proofs.lemmas.Cmp.{tied_itself}
+use Rattle.std.proofs.lemmas.List.Sorted.{IsPermutation-sym}
 use Rattle.std.proofs.lemmas.List.{map-id}
 use Rattle.sqlite.specs.Order.{Row}
 use Rattle.sqlite.specs.State.{State}
-use Rattle.sqlite_keyed.proofs.ListLemmas.{all-filter, all_map, all_weaker, ascending-filter, none_from_any}
+use Rattle.sqlite_keyed.proofs.ListLemmas.{all-filter, all_both, all_map, all_weaker, ascending-filter, none_from_any}
 use Rattle.sqlite_rules.specs.Calls.{ids_of}
 use Rattle.sqlite_rules.specs.Cast.{cast_row}
 use Rattle.sqlite_rules.specs.declared.error.Rowids.TheVariants.{Given}
@@ -15,6 +17,7 @@ use Rattle.sqlite_rules.specs.Edit.{id_in, is_taken, numbered, put_all, without_
 use Rattle.sqlite_rules.specs.Lists.{Has as Member}
 use Rattle.sqlite_rules.proofs.ListLemmas.{all_from, all_has, has_filtered}
 use Rattle.sqlite_schema.specs.declared.schema.Table.{Table}
+use Rattle.sqlite_sql.specs.Query.{IsAnswer}
 use Rattle.sqlite_sql.specs.Term.{Term, col, eval_all, holds}
 use Rattle.sqlite_trees.specs.Tree.{IsTable, has_rowid, put_row, rowid, without_rowid}
 use Rattle.sqlite_trees.specs.View.{is_int}
@@ -24,13 +27,15 @@ use Rattle.sqlite_value.specs.Order.{value_cmp}
 use Rattle.sqlite_value.specs.declared.value.Value.{Value}
 use Rattle.sqlite_value.specs.declared.value.Value.TheVariants.{Null, Int, Real, Text, Blob}
 use Rattle.sqlite_value.proofs.OrderLemmas.{value_cmp_total}
-use Rattle.one_table.specs.InTransaction.{PutsRow, SetsRows}
+use Rattle.one_table.specs.Deleting.{removal_query}
+use Rattle.one_table.specs.InTransaction.{PutsRow, RemovesRows, SetsRows}
 use Rattle.one_table.specs.Listed.{IsListing, no_limit, query_on}
 use Rattle.one_table.specs.Merges.{Upserts, given_row, set_row}
 use Rattle.one_table.specs.Numbered.{IsInOrder}
 use Rattle.one_table.specs.Standing.{own_keys}
 use Rattle.one_table.specs.Upserting.{Merging, is_of_key}
 use Rattle.one_table.proofs.ListedLemmas.{all_rows}
+use Rattle.one_table.proofs.OneRowLemmas.{kept_member}
 
 -- what passes the test for equality compares as equal
 pub eq_is : (o : Ordering) → is_eq o ≡ true → o ≡ Equal
@@ -197,19 +202,19 @@ module _ (p : Row → Bool) where
     abbrev IsFound : Row → Type 0
     IsFound s = (r : Row) × Member rows r × (test r ≡ true) × (s ≡ show r)
 
-    -- The rows that pass are one's own, and so are those that they become, which have their numbers.
-    pub set_keeps : IsInOrder rows → SetsRows t (query_on t.tree tests (col 1 0 ∷ rest) [] no_limit) params old new → ((r : Row) → test r ≡ true → p r ≡ true)
-        → ((r : Row) → IsTrue (is_int (rowid r)) → p r ≡ true → (p (made_of r) ≡ true) × (rowid (made_of r) ≡ rowid r))
-        → (others p (new.now.trees t.tree) ≡ others p rows) × IsInOrder (new.now.trees t.tree)
-    set_keeps order sets passes becomes =
+    all_found : (found : List Row) → IsAnswer (query_on t.tree tests (col 1 0 ∷ rest) [] no_limit) old.now.trees params found → AllByRecursion IsFound found
+    all_found found answer =
         let listing : IsListing old.now.trees t.tree tests (col 1 0 ∷ rest) params (λ (r : Row). r) rows test show =
         record { holds_them = sym (map-id rows); passes = λ _. refl; shows = λ _. refl } in
-        let found : AllByRecursion IsFound sets.found =
-        all-permutation IsFound (map show (filter test rows)) sets.found (all_rows listing sets.found sets.answer)
+        all-permutation IsFound (map show (filter test rows)) found (all_rows listing found answer)
         (all_map IsFound show (filter test rows) (all_from (λ r. IsFound (show r)) (filter test rows)
-        (λ r there. let it = has_filtered test rows r there in (r, it.0, it.1, refl)))) in
-        let gone : AllByRecursion (λ id. OfOwn p rows (Int id)) (ids_of sets.found) =
-        all_map (λ id. OfOwn p rows (Int id)) (λ s. id_in (rowid s)) sets.found
+        (λ r there. let it = has_filtered test rows r there in (r, it.0, it.1, refl))))
+
+    -- what is found has the numbers of rows of one's own
+    all_gone : IsInOrder rows → ((r : Row) → test r ≡ true → p r ≡ true) → (found : List Row) → AllByRecursion IsFound found
+        → AllByRecursion (λ id. OfOwn p rows (Int id)) (ids_of found)
+    all_gone order passes found are =
+        all_map (λ id. OfOwn p rows (Int id)) (λ s. id_in (rowid s)) found
         (all_weaker IsFound (λ s. OfOwn p rows (Int (id_in (rowid s))))
         (λ s it. (
           it.0,
@@ -217,7 +222,15 @@ module _ (p : Row → Bool) where
           passes it.0 it.2,
           ap (λ (x : Row). Int (id_in (rowid x))) it.3
               ∙ int_back (rowid it.0) (all_has _ rows it.0 order.are_numbers it.1),
-        )) sets.found found) in
+        )) found are)
+
+    -- The rows that pass are one's own, and so are those that they become, which have their numbers.
+    pub set_keeps : IsInOrder rows → SetsRows t (query_on t.tree tests (col 1 0 ∷ rest) [] no_limit) params old new → ((r : Row) → test r ≡ true → p r ≡ true)
+        → ((r : Row) → IsTrue (is_int (rowid r)) → p r ≡ true → (p (made_of r) ≡ true) × (rowid (made_of r) ≡ rowid r))
+        → (others p (new.now.trees t.tree) ≡ others p rows) × IsInOrder (new.now.trees t.tree)
+    set_keeps order sets passes becomes =
+        let found : AllByRecursion IsFound sets.found = all_found sets.found sets.answer in
+        let gone : AllByRecursion (λ id. OfOwn p rows (Int id)) (ids_of sets.found) = all_gone order passes sets.found found in
         let news : AllByRecursion (λ n. (p n ≡ true) × OfOwn p rows (rowid n)) (map (λ s. cast_row t (drop 1 s)) sets.found) =
         all_map (λ n. (p n ≡ true) × OfOwn p rows (rowid n)) (λ s. cast_row t (drop 1 s)) sets.found
         (all_weaker IsFound (λ s. (p (cast_row t (drop 1 s)) ≡ true) × OfOwn p rows (rowid (cast_row t (drop 1 s)))) (λ s it.
@@ -238,6 +251,28 @@ module _ (p : Row → Bool) where
           subst IsInOrder (sym rows_are)
               (order_put_all (map (λ s. cast_row t (drop 1 s)) sets.found) (without_all rows (ids_of sets.found)) ints
               (order_without (ids_of sets.found) rows order)),
+        )
+
+  module _ (t : Table) (tests : List Term) (params : Row) (old new : State) where
+    abbrev rows_before : List Row
+    rows_before = old.now.trees t.tree
+
+    abbrev test_of : Row → Bool
+    test_of r = list_all (holds (params ∷ r ∷ [])) tests
+
+    abbrev id_shown : Row → Row
+    id_shown r = eval_all (col 1 0 ∷ []) (params ∷ r ∷ [])
+
+    -- where the rows that pass are one's own, and they are taken out, the others stay
+    pub remove_keeps : IsInOrder rows_before → RemovesRows t (removal_query t.tree tests) params old new
+        → ((r : Row) → test_of r ≡ true → p r ≡ true)
+        → (others p (new.now.trees t.tree) ≡ others p rows_before) × IsInOrder (new.now.trees t.tree)
+    remove_keeps order removes passes =
+        let found = all_found t tests [] params old new removes.found removes.answer in
+        let gone = all_gone t tests [] params old new order passes removes.found found in (
+          ap (others p) removes.changed.rows_are
+              ∙ without_others p (OfOwn p rows_before) (ids_of removes.found) rows_before gone (all_spare p rows_before order.rises),
+          subst IsInOrder (sym removes.changed.rows_are) (order_without (ids_of removes.found) rows_before order),
         )
 
   module _ (t : Table) (m : Merging) (params : Row) (old new : State) where
@@ -267,3 +302,70 @@ module _ (p : Row → Bool) where
           subst IsInOrder (sym s.changed.rows_are) (order_put row (without_rowid (id_in (rowid s.there)) rows_then)
               (number_too row s.there (ap rowid s.is ∙ after.1) is_number) (order_without (id_in (rowid s.there) ∷ []) rows_then order)),
         )
+
+-- ---- rows that are taken out
+
+-- a row is none of those that have these numbers
+abbrev pub HasNoneOf : List ℤ → Row → Type 0
+HasNoneOf ids r = AllByRecursion (λ id. has_rowid id r ≡ false) ids
+
+module _ (P : Row → Type 0) where
+  still_all : (ids : List ℤ) (rows : List Row) → AllByRecursion P rows → AllByRecursion P (without_all rows ids)
+  still_all [] rows all = all
+  still_all (id ∷ ids) rows all = still_all ids (without_rowid id rows) (all-filter P (λ r. not (has_rowid id r)) rows all)
+
+none_has : (id : ℤ) (rows : List Row) → AllByRecursion (λ r. has_rowid id r ≡ false) (without_rowid id rows)
+none_has id [] = tt
+none_has id (r ∷ rows) = go (has_rowid id r) refl (none_has id rows)
+  where
+    go : (b : Bool) → has_rowid id r ≡ b → AllByRecursion (λ r. has_rowid id r ≡ false) (without_rowid id rows)
+        → AllByRecursion (λ r. has_rowid id r ≡ false) (if not b then r ∷ without_rowid id rows else without_rowid id rows)
+    go true e more = more
+    go false e more = (e, more)
+
+-- what is left has none of the numbers
+left_over : (ids : List ℤ) (rows : List Row) → AllByRecursion (HasNoneOf ids) (without_all rows ids)
+left_over [] rows = all_from (HasNoneOf []) rows (λ r there. tt)
+left_over (id ∷ ids) rows =
+    all_both (λ r. has_rowid id r ≡ false) (HasNoneOf ids) (HasNoneOf (id ∷ ids)) (λ r here more. (here, more)) (without_all (without_rowid id rows) ids)
+    (still_all (λ r. has_rowid id r ≡ false) ids (without_rowid id rows) (none_has id rows)) (left_over ids (without_rowid id rows))
+
+all_unmapped : {X Y : Type 0} (P : Y → Type 0) (f : X → Y) (xs : List X) → AllByRecursion P (map f xs) → AllByRecursion (λ x. P (f x)) xs
+all_unmapped P f [] all = tt
+all_unmapped P f (x ∷ xs) all = (all.0, all_unmapped P f xs all.1)
+
+has_itself : (v : Value) → IsTrue (is_int v) → is_eq (value_cmp v (Int (id_in v))) ≡ true
+has_itself v is_number = ap (λ (w : Value). is_eq (value_cmp v w)) (int_back v is_number) ∙ ap is_eq (tied_itself value_cmp_total v)
+
+module _ (t : Table) (tests : List Term) (params : Row) (old new : State) where
+  abbrev before : List Row
+  before = old.now.trees t.tree
+
+  abbrev passing : Row → Bool
+  passing r = list_all (holds (params ∷ r ∷ [])) tests
+
+  abbrev shown_id : Row → Row
+  shown_id r = eval_all (col 1 0 ∷ []) (params ∷ r ∷ [])
+
+  -- after a DELETE no row is left that passes
+  pub none_passes : IsInOrder before → RemovesRows t (removal_query t.tree tests) params old new
+      → AllByRecursion (λ r. passing r ≡ false) (new.now.trees t.tree)
+  none_passes order removes =
+      let ids = ids_of removes.found in
+      let listing : IsListing old.now.trees t.tree tests (col 1 0 ∷ []) params (λ (r : Row). r) before passing shown_id =
+      record { holds_them = sym (map-id before); passes = λ _. refl; shows = λ _. refl } in
+      let same = IsPermutation-sym (map shown_id (filter passing before)) removes.found (all_rows listing removes.found removes.answer) in
+      let not_passing : (r : Row) → Member before r → HasNoneOf ids r → passing r ≡ false = λ r there none.
+      elim (cases_Bool (passing r)) [
+        | inl passes ↦
+            let each = all_unmapped (λ id. has_rowid id r ≡ false) (λ s. id_in (rowid s)) removes.found none in
+            let shown = all-permutation (λ s. has_rowid (id_in (rowid s)) r ≡ false) removes.found (map shown_id (filter passing before)) same each in
+            let found = all_unmapped (λ s. has_rowid (id_in (rowid s)) r ≡ false) shown_id (filter passing before) shown in
+            let apart : has_rowid (id_in (rowid r)) r ≡ false =
+            all_has (λ x. has_rowid (id_in (rowid x)) r ≡ false) (filter passing before) r found (kept_member passing before r there passes) in
+            absurd (false≢true (sym apart ∙ has_itself (rowid r) (all_has _ before r order.are_numbers there)))
+        | inr fails ↦ fails
+      ] in
+      subst (AllByRecursion (λ r. passing r ≡ false)) (sym removes.changed.rows_are)
+      (all_both (Member before) (HasNoneOf ids) (λ r. passing r ≡ false) not_passing (without_all before ids)
+      (still_all (Member before) ids before (all_from (Member before) before (λ r there. there))) (left_over ids before))

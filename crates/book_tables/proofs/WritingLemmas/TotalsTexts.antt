@@ -10,14 +10,14 @@ use Rattle.sqlite_sql.specs.declared.ops.CompareOp.TheVariants.{Eq}
 use Rattle.sqlite_tied.specs.Compute.{everything}
 use Rattle.sqlite_resolve.specs.Scope.{Name}
 use Rattle.one_table.specs.Inserting.{puts_meant}
-use Rattle.one_table.specs.Listed.{query_on, no_limit}
+use Rattle.one_table.specs.Listed.{falling, query_on, no_limit}
 use Rattle.one_table.specs.Reading.{is_whole, meant, select_meant, text_meant}
 use Rattle.one_table.specs.Upserting.{IsUpsert, Merging, set_meant, shown_meant, upsert_by, upsert_in, upsert_meant}
 use Rattle.book_tables.specs.row.Rows.{number}
 use Rattle.book_tables.specs.Tables.{last_ids_table, month_tenths_table, shift_totals_table}
 use Rattle.book_tables.specs.writing.Writes.{last_id_set_text, sale_counted_text, tenths_added_text}
 use Rattle.book_tables.proofs.ReadingLemmas.ReadLemmas.{Asks}
-pub use Rattle.book_tables.specs.reading.Questions.{last_id_text, month_sum_text, shift_sums_text}
+pub use Rattle.book_tables.specs.reading.Questions.{last_id_of_meter_text, last_id_text, month_sum_text, shift_sums_text}
 
 -- ---- what is read by a key
 
@@ -37,6 +37,17 @@ last_id_names = codes "tid" ∷ []
 pub last_id_asks : (meter : List ℕ) (year : ℕ) → Asks last_ids_table last_id_query last_id_names last_id_text (Text meter ∷ number year ∷ [])
 unfolding everything is_whole meant select_meant text_meant
 last_id_asks meter year =
+    record { is = λ tree. record { means = refl; from = refl }; bare = λ tree. refl; typed = λ tree. refl; whole = refl }
+
+-- the read of the greatest identifier of a meter, under any base
+abbrev pub last_id_of_meter_query : ℕ → Query
+last_id_of_meter_query tree =
+    query_on tree (op2 (Compare Eq Binary) (col 1 1) (col 0 0) ∷ []) (col 1 3 ∷ []) (falling 3) (lit (Int (pos 1)))
+
+-- its text asks this of `last_ids`, with the meter
+pub last_id_of_meter_asks : (meter : List ℕ) → Asks last_ids_table last_id_of_meter_query last_id_names last_id_of_meter_text (Text meter ∷ [])
+unfolding everything is_whole meant select_meant text_meant
+last_id_of_meter_asks meter =
     record { is = λ tree. record { means = refl; from = refl }; bare = λ tree. refl; typed = λ tree. refl; whole = refl }
 
 -- the read of the tenths of a meter in a month

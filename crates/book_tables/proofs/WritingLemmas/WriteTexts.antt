@@ -13,7 +13,7 @@ use Rattle.one_table.specs.Listed.{no_limit, query_on}
 use Rattle.one_table.specs.Reading.{is_whole}
 use Rattle.one_table.specs.Inserting.{IsInsert, insert_in, insert_meant, puts_meant}
 use Rattle.book_tables.specs.Tables.{meters_table, sales_table, shifts_table, tariff_steps_table, tariffs_table}
-use Rattle.book_tables.specs.writing.Writes.{new_meter_text, new_sale_text, new_shift_text, new_step_text, new_tariff_text, shift_closed_text, tariff_set_text}
+use Rattle.book_tables.specs.writing.Writes.{key_set_text, new_meter_text, new_sale_text, new_shift_text, new_step_text, new_tariff_text, shift_closed_text, tariff_set_text}
 
 -- ---- a new sale
 
@@ -134,3 +134,23 @@ tariff_set_means tree = record { means = refl; from = refl }
 pub tariff_set_whole : is_whole tariff_set_text 2 ≡ true
 unfolding everything is_whole
 tariff_set_whole = refl
+
+-- ---- the key of a meter
+
+-- the number of a meter's row, and this row with the second parameter as the text of its key
+abbrev pub key_set_terms : List Term
+key_set_terms = col 1 0 ∷ col 1 0 ∷ col 1 1 ∷ col 1 2 ∷ col 1 3 ∷ col 0 1 ∷ []
+
+-- the read of the meter that is the first parameter, and of what it becomes
+abbrev pub key_set_query : ℕ → Query
+key_set_query tree = query_on tree is_that_meter key_set_terms [] no_limit
+
+-- the text of another key means an UPDATE of `meters` by this read
+pub key_set_means : (tree : ℕ) → IsUpdate (meters_table tree) (key_set_query tree) key_set_text
+unfolding everything update_meant update_in sets_meant
+key_set_means tree = record { means = refl; from = refl }
+
+-- and is one statement with two parameters
+pub key_set_whole : is_whole key_set_text 2 ≡ true
+unfolding everything is_whole
+key_set_whole = refl

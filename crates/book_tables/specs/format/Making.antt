@@ -1,6 +1,7 @@
 -- The tables of an office that are made in a database, beside whatever other tables it has, and the
 -- tables of an older format that are brought up to the present one.
-use Rattle.std.specs.Prelude.{◌≡◌, ◌⊎◌, ℕ, zero, suc, true, List, [], ◌∷◌, codes, fold, IsTrue}
+use Rattle.std.specs.Prelude.{◌≡◌, ◌⊎◌, ℕ, zero, suc, true, List, [], ◌∷◌, ◌++◌, codes, fold}
+use Rattle.std.specs.Prelude.{IsTrue}
 use Rattle.std.specs.List.{AllByRecursion}
 use Rattle.sqlite.specs.Effect.{Database, IsDatabase}
 use Rattle.sqlite.specs.State.{Shows, State}
@@ -12,14 +13,14 @@ use Rattle.one_table.specs.Place.{Has}
 use Rattle.office_rules.specs.Office.{IsOffice, Office, empty_office}
 use Rattle.office_rules.specs.declared.office.sale.Sale.{Sale}
 use Rattle.book_tables.specs.writing.Edited.{no_rows}
-use Rattle.book_tables.specs.format.Filling.{AreHanded, IsFilling}
+use Rattle.book_tables.specs.format.Filling.{AreFilling, AreHanded}
 use Rattle.book_tables.specs.format.Format.{HasFormat, TellsFormat}
 use Rattle.book_tables.specs.Holds.{HasOffice, HasOfficeOf, Holds, HoldsMembers, HoldsOf, StandsFor}
 use Rattle.book_tables.specs.Holds.{rows_in}
 use Rattle.book_tables.specs.Kept.{kept_names, kept_tables, kept_texts, later}
 use Rattle.book_tables.specs.row.Rows.{Rows, about_rows, present_format}
 use Rattle.book_tables.specs.Stands.{AreMembersOf, IsOfFormat}
-use Rattle.book_tables.specs.writing.Failing.{FailsToWriteAll}
+use Rattle.book_tables.specs.writing.Failing.{FailsSomehow}
 use Rattle.book_tables.specs.writing.Writes.{Write, format_write}
 use Rattle.book_tables.specs.writing.Writing.{IsOfNone, WritesOnly}
 use Rattle.book_tables.specs.declared.error.TableError.{TableError}
@@ -109,19 +110,21 @@ pub record BringsInside (from : ℕ) (old new : State) : Type 0 where
   pub inside : Shows old new new.now old.committed true
   pub brings : BringsOffice from old.now new.now
 
--- one of the writes by which tables are brought up: it fills what was lacking, by these meters and
--- sales, or tells the format
-abbrev pub IsBringing : ℕ → List MeterRow → List Sale → Write → Type 0
-IsBringing from meters sales w = IsFilling from meters sales w ⊎ (w ≡ format_write from)
+-- the writes by which tables are brought up: they fill what was lacking, by these meters and sales,
+-- and then one tells the format
+abbrev pub AreBringing : ℕ → List MeterRow → List Sale → List Write → Type 0
+AreBringing from meters sales writes =
+    (filling : List Write) × AreFilling from meters sales filling
+    × (writes ≡ filling ++ format_write from ∷ [])
 
--- the tables that the format lacked were made, and one of the writes after that failed
+-- the tables that the format lacked were made, and one of the writes after that failed, or there was
+-- no memory
 pub record FailsOnceMade (from : ℕ) (meters : List MeterRow) (sales : List Sale) (old new : State)
     (e : Error) : Type 0 where
   pub made : Database
   pub makes : MakesMissing from old.now made
-  pub writes : List Write
-  pub are : AllByRecursion (IsBringing from meters sales) writes
-  pub fails : FailsToWriteAll writes (record old { now = made }) new (fails.Database e)
+  pub fails : FailsSomehow (AreBringing from meters sales) (record old { now = made }) new
+      (fails.Database e)
 
 -- one of the tables that the format lacked was not made
 abbrev pub FailsToMakeMissing : {S : Type 0} → Ghosts S → ℕ → State → State → TableError → Type 0

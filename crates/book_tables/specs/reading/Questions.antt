@@ -1,9 +1,10 @@
 -- What the reads ask: each a SELECT over one of the tables.
-use Rattle.std.specs.Prelude.{ℕ, List, [], ◌∷◌, ◌++◌, codes}
+use Rattle.std.specs.Prelude.{ℕ, ◌+◌, ◌*◌, List, [], ◌∷◌, ◌++◌, codes}
 use Rattle.sqlite.specs.Order.{Row}
 use Rattle.sqlite.specs.declared.types.Value.TheVariants.{Text}
 use Rattle.sts_fields.specs.Base.{year_of}
 use Rattle.sts_fields.specs.Day.{IsDay}
+use Rattle.sts_fields.specs.Moment.{first_moment}
 use Rattle.sts_fields.specs.declared.base.Base.{Base}
 use Rattle.tariff.specs.declared.step.Step.{Step}
 use Rattle.office_rules.specs.Name.{IsName}
@@ -119,6 +120,17 @@ last_sale_text = codes "SELECT number FROM sales ORDER BY number DESC LIMIT 1"
 abbrev pub the_last_sale : Question ℕ
 the_last_sale = question sales_kept shown_number IsNumber last_sale_text []
 
+-- the first second of a day
+abbrev pub first_second : ℕ → ℕ
+first_second day = first_moment + day * 86400
+
+abbrev pub sold_since_text : List ℕ
+sold_since_text = codes "SELECT number FROM sales WHERE moment >= ?1 ORDER BY number DESC LIMIT 1"
+
+abbrev pub the_sale_since : ℕ → Question ℕ
+the_sale_since day =
+    question sales_kept shown_number IsNumber sold_since_text (number (first_second day) ∷ [])
+
 -- ---- shifts
 
 abbrev shifts_asked : List ℕ → Row → Question Shift
@@ -153,6 +165,13 @@ abbrev pub the_last_id : List ℕ → Base → Question ℕ
 the_last_id meter base =
     question last_ids_kept shown_number IsTid last_id_text
     (Text meter ∷ number (year_of base) ∷ [])
+
+abbrev pub last_id_of_meter_text : List ℕ
+last_id_of_meter_text = codes "SELECT tid FROM last_ids WHERE meter = ?1 ORDER BY tid DESC LIMIT 1"
+
+abbrev pub the_last_id_of : List ℕ → Question ℕ
+the_last_id_of meter =
+    question last_ids_kept shown_number IsTid last_id_of_meter_text (Text meter ∷ [])
 
 abbrev pub month_sum_text : List ℕ
 month_sum_text = codes "SELECT tenths FROM month_tenths WHERE meter = ?1 AND month = ?2"

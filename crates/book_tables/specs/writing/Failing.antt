@@ -2,8 +2,8 @@
 -- carried out, or one of them fails for a cause.
 use Rattle.std.specs.Prelude.{◌≡◌, ◌⊎◌, ℕ, false, List, [], ◌∷◌, ◌++◌, None, Some, Result, Err}
 use Rattle.std.specs.Prelude.{IfErr, IsTrue, OnOk}
-use Rattle.std.specs.List.{AllByRecursion}
 use Rattle.sqlite.specs.Effect.{Database}
+use Rattle.sqlite.specs.Order.{Row as Values}
 use Rattle.sqlite.specs.State.{HasCause, State}
 use Rattle.sqlite.specs.declared.error.Error.{Error}
 use Rattle.sqlite.specs.declared.error.Error.TheVariants.{SqliteFailure}
@@ -17,6 +17,8 @@ use Rattle.one_table.specs.Reading.{Means, MeansAs}
 use Rattle.one_table.specs.Upserting.{Merging, returning_as, upsert_as}
 use Rattle.one_table.specs.declared.read_fault.ReadFault.{ReadFault}
 use Rattle.one_table.specs.declared.read_fault.ReadFault.TheVariants as fault
+use Rattle.office_rules.specs.declared.office.sale.Sale.{Sale}
+use Rattle.book_tables.specs.writing.Telling.{IsToldFalse}
 use Rattle.book_tables.specs.writing.Writes.{AreCarriedOut, EndsWith, Make, Write}
 use Rattle.book_tables.specs.declared.error.TableError.{TableError}
 use Rattle.book_tables.specs.declared.error.TableError.TheVariants as fails
@@ -30,19 +32,20 @@ FailsToStore w old new (fails.Database e) =
     × FailsToWrite command w.params old new e
 FailsToStore w old new fails.RowOfNoOffice = ⊥
 
--- the same of an upsert, of which a row comes back
-pub record FailsToTell (w : Write) (old new : State) (why : ReadFault) : Type 0 where
+-- the same of an upsert, of which such a row comes back
+pub record FailsToTell (IsTold : Values → Type 0) (w : Write) (old new : State) (why : ReadFault)
+    : Type 0 where
   pub table : Table
   pub merging : Merging
   pub at : ℕ
   pub means : IsTrue old.is_open
       → MeansAs old.now.schema w.sql (upsert_as at table merging) (Some (returning_as merging))
-  pub fails : FailsToTouch table merging w.params old new at why
+  pub fails : FailsToTouch table merging w.params old new at w.sql IsTold why
 
--- this row may be no office's
-abbrev pub FailsToMerge : Write → State → State → TableError → Type 0
-FailsToMerge w old new (fails.Database e) = FailsToTell w old new (fault.Database e)
-FailsToMerge w old new fails.RowOfNoOffice = FailsToTell w old new fault.Row
+-- the row that comes first may be no such one
+abbrev pub FailsToMerge : (Values → Type 0) → Write → State → State → TableError → Type 0
+FailsToMerge IsTold w old new (fails.Database e) = FailsToTell IsTold w old new (fault.Database e)
+FailsToMerge IsTold w old new fails.RowOfNoOffice = FailsToTell IsTold w old new fault.Row
 
 -- ---- several
 
@@ -68,10 +71,12 @@ FailsToWriteAll writes old new (fails.Database e) =
     ⊎ ((old.is_open ≡ false) ⊎ IsRefused writes old e))
 FailsToWriteAll writes old new fails.RowOfNoOffice = ⊥
 
--- the same of writes that are told rows, which may be no office's
-abbrev pub FailsToMergeAll : List Write → State → State → TableError → Type 0
-FailsToMergeAll writes old new e =
-    FailsToWriteAll writes old new e ⊎ (e ≡ fails.RowOfNoOffice)
+-- The same of the writes that keep a sale's totals, and of some before them. A row is no office's
+-- only where one of these totals is told false.
+abbrev pub FailsToTotal : List Write → Sale → ℕ → List Write → State → State → TableError → Type 0
+FailsToTotal before s last writes old new e =
+    FailsToWriteAll writes old new e
+    ⊎ ((e ≡ fails.RowOfNoOffice) × IsToldFalse before s last old.step_limit old.now)
 
 -- ---- how they end
 
@@ -87,10 +92,15 @@ abbrev pub Ends : {T : Type 0} → (Write → State → State → TableError →
 Ends Fails w old new result =
     OnOk result (AreCarriedOut (w ∷ []) old new) × IfErr result (Fails w old new)
 
--- the same of some writes, or of none, each of which is such a one
-abbrev pub EndSomehow : {T : Type 0} → (Write → Type 0) → State → State → Result T TableError
-    → Type 0
-EndSomehow Is old new result =
-    OnOk result ((writes : List Write) × AllByRecursion Is writes × AreCarriedOut writes old new)
-    × IfErr result (λ e. (writes : List Write) × AllByRecursion Is writes
-    × FailsToWriteAll writes old new e)
+-- Why some writes fail that are known by this alone: there was no memory, or they fail as writes do.
+abbrev pub FailsSomehow : (List Write → Type 0) → State → State → TableError → Type 0
+FailsSomehow Are old new e =
+    (e ≡ fails.Database (SqliteFailure OutOfMemory))
+    ⊎ ((writes : List Write) × Are writes × FailsToWriteAll writes old new e)
+
+-- the same of how they end
+abbrev pub EndSomehow : {T : Type 0} → (List Write → Type 0) → State → State
+    → Result T TableError → Type 0
+EndSomehow Are old new result =
+    OnOk result ((writes : List Write) × Are writes × AreCarriedOut writes old new)
+    × IfErr result (FailsSomehow Are old new)

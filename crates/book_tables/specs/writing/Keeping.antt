@@ -1,5 +1,6 @@
 -- Which rows of the office's tables a write leaves, whatever they are: all but its own.
-use Rattle.std.specs.Prelude.{◌≡◌, ℕ, Bool, not, ◌&&◌, List, [], ◌∷◌, ◌++◌, bytes_eq, codes, filter}
+use Rattle.std.specs.Prelude.{◌≡◌, ℕ, Bool, false, not, ◌&&◌, List, [], ◌∷◌, ◌++◌, bytes_eq, codes}
+use Rattle.std.specs.Prelude.{filter}
 use Rattle.std.specs.List.{AllByRecursion, list_all, list_any}
 use Rattle.std.specs.Ordering.{is_eq}
 use Rattle.sqlite.specs.Effect.{Database}
@@ -47,6 +48,10 @@ pub record KeepsRows (keys : Keys) (old new : Database) : Type 0 where
       (λ name. others_in keys new name ≡ others_in keys old name) table_names
   pub order : AreInOrder table_names old → AreInOrder table_names new
 
+-- no row of the table of a name has the key, whatever its rows are
+abbrev pub HasNone : List ℕ → Key → Database → Type 0
+HasNone name key db = AllByRecursion (λ row. has_key key row ≡ false) (rows_in db name)
+
 -- ---- the keys of what is written
 
 abbrev pub sale_key : ℕ → Keys
@@ -88,8 +93,11 @@ abbrev pub tariff_keys : List ℕ → Keys
 tariff_keys name =
     (codes "tariffs", (1, Text name) ∷ []) ∷ (codes "tariff_steps", (1, Text name) ∷ []) ∷ []
 
+abbrev pub dated_key : List ℕ → ℕ → Key
+dated_key name day = (1, Text name) ∷ (2, number day) ∷ []
+
 abbrev pub dated_keys : List ℕ → ℕ → Keys
-dated_keys name day = (codes "dated_steps", (1, Text name) ∷ (2, number day) ∷ []) ∷ []
+dated_keys name day = (codes "dated_steps", dated_key name day) ∷ []
 
 abbrev pub totals_keys : Sale → Keys
 totals_keys s =

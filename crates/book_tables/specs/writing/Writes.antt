@@ -21,7 +21,8 @@ use Rattle.office_rules.specs.declared.decision.change.Edit.TheVariants.{AddTari
 use Rattle.office_rules.specs.declared.decision.change.Edit.TheVariants.{AddMeter, AddRows}
 use Rattle.office_rules.specs.declared.decision.change.Edit.TheVariants.{SetTariff, MoveBase}
 use Rattle.office_rules.specs.declared.decision.change.Edit.TheVariants.{OpenShift, CloseShift}
-use Rattle.office_rules.specs.declared.decision.change.Edit.TheVariants.{AddSale}
+use Rattle.office_rules.specs.declared.decision.change.Edit.TheVariants.{AddSale, SetKey}
+use Rattle.office_rules.specs.declared.decision.change.Edit.TheVariants.{WithdrawSteps}
 use Rattle.office_rules.specs.declared.office.meter.Meter.{Meter}
 use Rattle.office_rules.specs.declared.office.row.Row.{Row}
 use Rattle.office_rules.specs.declared.office.row.Row.TheVariants as kinds
@@ -30,7 +31,7 @@ use Rattle.office_rules.specs.declared.office.shift.Shift.{Shift}
 use Rattle.book_tables.specs.row.Rows.{DatedStepRow, StepRow, base_columns, dated_columns}
 use Rattle.book_tables.specs.row.Rows.{last_id_columns, meter_columns, month_columns, number}
 use Rattle.book_tables.specs.row.Rows.{sale_columns, shift_columns, step_columns, tariff_columns}
-use Rattle.book_tables.specs.row.Rows.{totals_columns}
+use Rattle.book_tables.specs.row.Rows.{secret_of, totals_columns}
 use Rattle.book_tables.specs.writing.Edited.{dated_rows, step_rows}
 use Rattle.book_tables.specs.declared.row.totals.Totals.{Totals}
 
@@ -47,6 +48,9 @@ abbrev pub new_dated_text : List ℕ
 new_dated_text =
     codes "INSERT INTO dated_steps (tariff, day, place, ends, price) VALUES (?1, ?2, ?3, ?4, ?5)"
 
+abbrev pub steps_withdrawn_text : List ℕ
+steps_withdrawn_text = codes "DELETE FROM dated_steps WHERE tariff = ?1 AND day = ?2"
+
 abbrev pub new_meter_text : List ℕ
 new_meter_text = codes "INSERT INTO meters (meter, base, tariff, secret) VALUES (?1, ?2, ?3, ?4)"
 
@@ -58,6 +62,9 @@ tariff_set_text = codes "UPDATE meters SET tariff = ?2 WHERE meter = ?1"
 
 abbrev pub base_set_text : List ℕ
 base_set_text = codes "UPDATE meters SET base = ?2 WHERE meter = ?1"
+
+abbrev pub key_set_text : List ℕ
+key_set_text = codes "UPDATE meters SET secret = ?2 WHERE meter = ?1"
 
 abbrev pub new_shift_text : List ℕ
 new_shift_text =
@@ -121,6 +128,10 @@ new_step r = record { sql = new_step_text; params = step_columns r }
 abbrev pub new_dated : DatedStepRow → Write
 new_dated r = record { sql = new_dated_text; params = dated_columns r }
 
+abbrev pub steps_withdrawn : List ℕ → ℕ → Write
+steps_withdrawn name day =
+    record { sql = steps_withdrawn_text; params = Text name ∷ number day ∷ [] }
+
 abbrev pub new_meter : List ℕ → Meter → Write
 new_meter meter m = record { sql = new_meter_text; params = meter_columns (meter, m) }
 
@@ -133,6 +144,10 @@ tariff_set meter name =
 
 abbrev pub base_set : List ℕ → Base → Write
 base_set meter base = record { sql = base_set_text; params = base_columns (meter, base) }
+
+abbrev pub key_set : List ℕ → ℕ → Write
+key_set meter key =
+    record { sql = key_set_text; params = Text meter ∷ Text (secret_of key) ∷ [] }
 
 abbrev pub new_shift : Shift → Write
 new_shift s = record { sql = new_shift_text; params = shift_columns s }
@@ -205,10 +220,12 @@ sale_writes s = new_sale s ∷ totals_writes s s.tid
 abbrev pub writes_of : Edit → List Write
 writes_of (AddTariff name steps) = tariff_writes name steps
 writes_of (AddSteps name day steps) = steps_writes name day steps
+writes_of (WithdrawSteps name day) = steps_withdrawn name day ∷ []
 writes_of (AddMeter meter m) = meter_writes meter m
 writes_of (AddRows rows) = flat_map row_writes rows
 writes_of (SetTariff meter name) = tariff_set meter name ∷ []
 writes_of (MoveBase meter base) = base_writes meter base
+writes_of (SetKey meter key) = key_set meter key ∷ []
 writes_of (OpenShift s) = new_shift s ∷ []
 writes_of (CloseShift shift moment) = shift_ended shift moment ∷ []
 writes_of (AddSale s) = sale_writes s

@@ -4,6 +4,7 @@ use Rattle.std.specs.Prelude.{◌∷◌, ◌++◌, codes, bytes_eq, if◌then◌
 use Rattle.std.specs.Prelude.{unwrap_or, AllPairs, Option, Some, Result, Err, IfOk, OnOk, IsTrue}
 use Rattle.std.specs.List.{AllByRecursion}
 use Rattle.sqlite.specs.Effect.{IsDatabase}
+use Rattle.sqlite.specs.Order.{Row as Values}
 use Rattle.sqlite.specs.State.{HasCleanDisk, Shows, State}
 use Rattle.tariff.specs.declared.step.Step.{Step}
 use Rattle.sqlite_keyed.specs.Keyed.{IsKeyedBy}
@@ -16,21 +17,22 @@ use Rattle.office_rules.specs.Office.Lookup.{greatest_of}
 use Rattle.office_rules.specs.Law.Store.{MeetsNewSale}
 use Rattle.office_rules.specs.declared.decision.change.Edit.TheVariants.{AddMeter, AddSale}
 use Rattle.office_rules.specs.declared.decision.change.Edit.TheVariants.{AddSteps, AddTariff}
-use Rattle.office_rules.specs.declared.decision.change.Edit.TheVariants.{MoveBase}
+use Rattle.office_rules.specs.declared.decision.change.Edit.TheVariants.{MoveBase, WithdrawSteps}
 use Rattle.office_rules.specs.declared.office.meter.Meter.{Meter}
 use Rattle.sqlite_rules.specs.Edit.{IsNoIndex}
 use Rattle.sqlite_schema.specs.declared.schema.Schema.{Schema}
-use Rattle.one_table.specs.InTransaction.{IsUnderWay}
+use Rattle.one_table.specs.InTransaction.{BeginsWith, IsUnderWay, ShowsInside}
 use Rattle.one_table.specs.Standing.{tree_in}
 use Rattle.office_rules.specs.Office.{AreNumbered, IsOffice, Office}
 use Rattle.office_rules.specs.declared.office.sale.Sale.{Sale}
 use Rattle.office_rules.specs.declared.office.shift.Shift.{Shift}
-use Rattle.book_tables.specs.writing.Edited.{dated_rows, edited, row_with_base, row_with_tariff}
-use Rattle.book_tables.specs.writing.Edited.{shift_closed, step_rows}
+use Rattle.book_tables.specs.writing.Edited.{dated_rows, edited, row_with_base, row_with_key}
+use Rattle.book_tables.specs.writing.Edited.{row_with_tariff, shift_closed, step_rows}
 use Rattle.book_tables.specs.writing.Failing.{Ends, FailsToMerge, FailsToStore}
 use Rattle.book_tables.specs.writing.Writes.{Write}
-use Rattle.book_tables.specs.writing.Keeping.{AreInOrder, KeepsRows, base_keys, dated_keys}
-use Rattle.book_tables.specs.writing.Keeping.{dated_step_key, last_id_keys, meter_keys, month_keys}
+use Rattle.book_tables.specs.writing.Keeping.{AreInOrder, HasNone, KeepsRows, base_keys}
+use Rattle.book_tables.specs.writing.Keeping.{dated_key, dated_keys, dated_step_key}
+use Rattle.book_tables.specs.writing.Keeping.{last_id_keys, meter_keys, month_keys}
 use Rattle.book_tables.specs.writing.Keeping.{name_keys, sale_key, shift_keys, shift_totals_key}
 use Rattle.book_tables.specs.writing.Keeping.{step_keys, tariff_keys, totals_keys}
 use Rattle.book_tables.specs.writing.Storing.{StoresRow, StoresRows}
@@ -56,14 +58,17 @@ pub record WritesTables (w : Write) (Makes : State → State → Type 0) (old ne
   pub made : HasCleanDisk new → HasAllTables old → OnOk result (Makes old new)
   pub ends : HasCleanDisk new → HasAllTables old → Ends FailsToStore w old new result
 
--- The same of a write that answers something of the rows, while its transaction is under way: one
--- that has ended would let it run.
-pub record MergesTables {T : Type 0} (w : Write) (Makes : T → State → State → Type 0)
-    (old new : State) (result : Result T TableError) : Type 0 where
+-- The same of a write that answers something of the rows, as the first row that it shows says
+-- (`Says`), while its transaction is under way: one that has ended would let it run.
+pub record MergesTables {T : Type 0} (w : Write) (Says : T → Values → Type 0)
+    (Makes : T → State → State → Type 0) (old new : State) (result : Result T TableError)
+    : Type 0 where
   pub made : HasCleanDisk new → IsUnderWay old → HasAllTables old
       → IfOk result (λ x. Makes x old new)
   pub ends : HasCleanDisk new → IsUnderWay old → HasAllTables old
-      → Ends FailsToMerge w old new result
+      → Ends (FailsToMerge (λ row. (x : T) × Says x row)) w old new result
+  pub told : HasCleanDisk new → IsUnderWay old → HasAllTables old
+      → IfOk result (λ x. ShowsInside (BeginsWith (Says x)) w.sql w.params old new)
 
 -- where the tables hold rows of which this is known, and `about` tells this format, none is told to
 -- be no office's
@@ -193,6 +198,14 @@ pub record SetsTariff (number name : List ℕ) (old new : State) : Type 0 where
   pub rows : (rows : Rows) → Holds old.now rows → AllPairs (λ a b. a.0 ≢ b.0) rows.meters
       → Holds new.now (record rows { meters = map (row_with_tariff number name) rows.meters })
 
+-- the meter of this number has this key, and stays in its place
+pub record SetsKey (number : List ℕ) (key : ℕ) (old new : State) : Type 0 where
+  pub only : WritesOnly (codes "meters" ∷ []) old new
+  pub kept : AreInOrder (codes "meters" ∷ []) old.now
+      → KeepsRows (meter_keys number) old.now new.now
+  pub rows : (rows : Rows) → Holds old.now rows → AllPairs (λ a b. a.0 ≢ b.0) rows.meters
+      → Holds new.now (record rows { meters = map (row_with_key number key) rows.meters })
+
 -- a tariff more: its name, and its steps at their places, stand after the others
 pub record AddsTariff (name : List ℕ) (added : List Step) (old new : State) : Type 0 where
   pub only : WritesOnly (codes "tariffs" ∷ codes "tariff_steps" ∷ []) old new
@@ -210,6 +223,17 @@ pub record AddsSteps (name : List ℕ) (day : ℕ) (added : List Step) (old new 
       new.now
   pub rows : (rows : Rows) → Holds old.now rows
       → Holds new.now (edited (AddSteps name day added) rows)
+
+-- the steps that a tariff has from a first day on are withdrawn: none of their rows is left, and the
+-- others stand in their order
+pub record WithdrawsSteps (name : List ℕ) (day : ℕ) (old new : State) : Type 0 where
+  pub only : WritesOnly (codes "dated_steps" ∷ []) old new
+  pub kept : AreInOrder (codes "dated_steps" ∷ []) old.now
+      → KeepsRows (dated_keys name day) old.now new.now
+  pub gone : AreInOrder (codes "dated_steps" ∷ []) old.now
+      → HasNone (codes "dated_steps") (dated_key name day) new.now
+  pub rows : (rows : Rows) → Holds old.now rows
+      → Holds new.now (edited (WithdrawSteps name day) rows)
 
 -- ---- running totals, whatever format `about` tells
 

@@ -1,10 +1,10 @@
 //! The filling of tables that a format lacked, from the meters and the sales of the office.
 
-ghost use Rattle.std.specs.Prelude.{◌≡◌, ◌<◌, Contains};
+ghost use Rattle.std.specs.Prelude.{◌≡◌, ◌<◌, map};
 ghost use Rattle.std.specs.BTreeMap.{values};
 ghost use Rattle.one_table.specs.Over.{Inside};
-ghost use Rattle.book_tables.specs.format.Filling.{Fills, FillsBases, FillsTotals, IsBaseWrite};
-ghost use Rattle.book_tables.specs.format.Filling.{IsFilling, IsOfTotals, PutsFirst};
+ghost use Rattle.book_tables.specs.format.Filling.{AreFilling, ArePut, AreTotalsWrites, Fills};
+ghost use Rattle.book_tables.specs.format.Filling.{FillsBases, FillsTotals, PutsFirst, base_write};
 ghost use Rattle.book_tables.specs.format.Making.{FillsMissing};
 ghost use Rattle.book_tables.specs.row.Rows.{present_format};
 
@@ -25,9 +25,8 @@ fn put_all<S: Alter, K: Ord, T: TotalRow>(
     rows: &BTreeMap<K, T>,
 ) -> Result<(), TableError>
     ensures same_reference { tx.new.conn.ghost_name ≡ tx.old.conn.ghost_name }
-    ensures fills { Inside S.Store tx (λ old new. Fills (λ w. (row : T) × Contains (values
-        rows.now) row × T.TotalRow.puts row w) (PutsFirst T.TotalRow.in_table T.TotalRow.are (values
-        rows.now)) old new result) }
+    ensures fills { Inside S.Store tx (λ old new. Fills (ArePut T.TotalRow.puts (values rows.now))
+        (PutsFirst T.TotalRow.in_table T.TotalRow.are (values rows.now)) old new result) }
 {
     'rows: for row in rows.values() {
         row.put(tx)?;
@@ -42,8 +41,8 @@ fn fill_totals<S: Alter>(
     sales: &[Sale],
 ) -> Result<(), TableError>
     ensures same_reference { tx.new.conn.ghost_name ≡ tx.old.conn.ghost_name }
-    ensures fills { Inside S.Store tx (λ old new. Fills (IsOfTotals sales.now) (FillsTotals
-        sales.now) old new result) }
+    ensures fills { Inside S.Store tx (λ old new. Fills (AreTotalsWrites sales.now)
+        (FillsTotals sales.now) old new result) }
 {
     amount_law();
     let mut gathered = Gathered::new(alloc);
@@ -56,8 +55,8 @@ fn fill_totals<S: Alter>(
 // Makes the present base of each meter one that it had.
 fn fill_bases<S: Alter>(tx: &mut Transaction<'_, S>, meters: &[MeterRow]) -> Result<(), TableError>
     ensures same_reference { tx.new.conn.ghost_name ≡ tx.old.conn.ghost_name }
-    ensures fills { Inside S.Store tx (λ old new. Fills (IsBaseWrite meters.now) (FillsBases
-        meters.now) old new result) }
+    ensures fills { Inside S.Store tx (λ old new. Fills (λ writes. writes ≡ map base_write
+        meters.now) (FillsBases meters.now) old new result) }
 {
     'bases: for present in meters {
         add_base(tx, &present.number, present.meter.base)?;
@@ -78,7 +77,7 @@ pub(crate) fn fill_missing<S: Alter>(
 ) -> Result<(), TableError>
     requires { from < present_format }
     ensures same_reference { tx.new.conn.ghost_name ≡ tx.old.conn.ghost_name }
-    ensures fills { Inside S.Store tx (λ old new. Fills (IsFilling from meters.now sales.now)
+    ensures fills { Inside S.Store tx (λ old new. Fills (AreFilling from meters.now sales.now)
         (FillsMissing from meters.now sales.now) old new result) }
 {
     match from {

@@ -54,7 +54,7 @@ impl FromRow for ToldFormat {
 /// number is not 1, or one that tells no number of 32 bits.
 ///
 /// # Errors
-/// What the database refuses, and want of memory.
+/// `TableError::Database` if the database refuses or fails, or memory runs out.
 pub fn format_number<S: Alter>(
     alloc: Global,
     conn: &mut Connection<S>,

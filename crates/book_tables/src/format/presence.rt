@@ -50,7 +50,7 @@ fn has_tables(alloc: Global, schema: &Schema, format: u32) -> Result<bool, Alloc
 /// the tables, others of their names, or a table that refers to them.
 ///
 /// # Errors
-/// Want of memory.
+/// `AllocError` if there is no memory.
 pub fn format_here(alloc: Global, schema: &Schema) -> Result<Option<u32>, AllocError>
     ensures known { IfOk result (λ found. IfSome found (λ n. n ≤ present_format)) }
     ensures found { IfOk result (λ found. (n : ℕ) → n ≤ present_format

@@ -56,7 +56,7 @@ fn tell_present<S: Alter>(tx: &mut Transaction<'_, S>, before: u32) -> Result<()
 /// drops.
 ///
 /// # Errors
-/// What the database refuses, and want of memory.
+/// `TableError::Database` if the database refuses or fails, or memory runs out.
 pub fn bring<S: Alter>(
     alloc: Global,
     tx: &mut Transaction<'_, S>,

@@ -43,8 +43,9 @@ impl Record for Day {
 /// where none begin on that day.
 ///
 /// # Errors
-/// What the database refuses, want of memory, and rows that are no office's: also those that are
-/// no steps of a tariff together.
+/// `TableError::Database` if the database refuses or fails, or memory runs out.
+/// `TableError::RowOfNoOffice` if a row is outside its bounds (`docs/OFFICE.md`, "Bounds"), or if
+/// the rows together are no steps of a tariff.
 pub fn steps_from<S: Alter>(
     alloc: Global,
     conn: &mut Connection<S>,
@@ -66,7 +67,8 @@ pub fn steps_from<S: Alter>(
 /// of tariff, day and place, whatever other days there are.
 ///
 /// # Errors
-/// What the database refuses, and a row that is no office's.
+/// `TableError::Database` if the database refuses or fails, or memory runs out.
+/// `TableError::RowOfNoOffice` if a row is outside its bounds (`docs/OFFICE.md`, "Bounds").
 pub fn first_day_until<S: Alter>(
     conn: &mut Connection<S>,
     name: &TariffName,
@@ -86,7 +88,8 @@ pub fn first_day_until<S: Alter>(
 /// The latest steps of the tariff of a name that have begun until a day; `None` where none have.
 ///
 /// # Errors
-/// What the database refuses, want of memory, and rows that are no office's.
+/// `TableError::Database` if the database refuses or fails, or memory runs out.
+/// `TableError::RowOfNoOffice` if a row is outside its bounds (`docs/OFFICE.md`, "Bounds").
 pub fn latest_steps<S: Alter>(
     alloc: Global,
     conn: &mut Connection<S>,

@@ -27,7 +27,8 @@ pub(crate) fn records_of<T: Record + Drop>(
 /// The records that the rows of an answer show, in its order: for a SELECT over one table.
 ///
 /// # Errors
-/// What the database refuses, want of memory, and a row that shows no such record.
+/// `TableError::Database` if the database refuses or fails, or memory runs out.
+/// `TableError::RowOfNoOffice` if a row shows no such record.
 pub fn all_records<S: Alter, T: Record + Drop>(
     alloc: Global,
     conn: &mut Connection<S>,

@@ -17,7 +17,8 @@ use sqlite::{Alter, Connection};
 /// The meter of a number.
 ///
 /// # Errors
-/// What the database refuses, and a row that is no office's.
+/// `TableError::Database` if the database refuses or fails, or memory runs out.
+/// `TableError::RowOfNoOffice` if a row is outside its bounds (`docs/OFFICE.md`, "Bounds").
 pub fn meter_numbered<S: Alter>(
     conn: &mut Connection<S>,
     number: &MeterNo,

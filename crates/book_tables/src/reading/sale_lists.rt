@@ -18,7 +18,8 @@ use std::alloc::Global;
 /// A page: the first sales after a number, at most so many.
 ///
 /// # Errors
-/// What the database refuses, and a row that is no office's.
+/// `TableError::Database` if the database refuses or fails, or memory runs out.
+/// `TableError::RowOfNoOffice` if a row is outside its bounds (`docs/OFFICE.md`, "Bounds").
 pub fn sales_after<S: Alter>(
     alloc: Global,
     conn: &mut Connection<S>,
@@ -38,7 +39,8 @@ pub fn sales_after<S: Alter>(
 /// The sales of a shift. This walks all sales: no index has their shifts.
 ///
 /// # Errors
-/// What the database refuses, and a row that is no office's.
+/// `TableError::Database` if the database refuses or fails, or memory runs out.
+/// `TableError::RowOfNoOffice` if a row is outside its bounds (`docs/OFFICE.md`, "Bounds").
 pub fn sales_of_shift<S: Alter>(
     alloc: Global,
     conn: &mut Connection<S>,

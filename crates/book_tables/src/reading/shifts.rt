@@ -19,7 +19,8 @@ use sqlite::{Alter, Connection};
 /// The shift of a number.
 ///
 /// # Errors
-/// What the database refuses, and a row that is no office's.
+/// `TableError::Database` if the database refuses or fails, or memory runs out.
+/// `TableError::RowOfNoOffice` if a row is outside its bounds (`docs/OFFICE.md`, "Bounds").
 pub fn shift_numbered<S: Alter>(
     conn: &mut Connection<S>,
     number: u32,
@@ -35,7 +36,8 @@ pub fn shift_numbered<S: Alter>(
 /// The shift of an operator that is open, if there is one.
 ///
 /// # Errors
-/// What the database refuses, and a row that is no office's.
+/// `TableError::Database` if the database refuses or fails, or memory runs out.
+/// `TableError::RowOfNoOffice` if a row is outside its bounds (`docs/OFFICE.md`, "Bounds").
 pub fn open_shift<S: Alter>(
     conn: &mut Connection<S>,
     operator: &Operator,
@@ -54,7 +56,8 @@ pub fn open_shift<S: Alter>(
 /// numbered from 1 without a gap.
 ///
 /// # Errors
-/// What the database refuses, and a row that is no office's.
+/// `TableError::Database` if the database refuses or fails, or memory runs out.
+/// `TableError::RowOfNoOffice` if a row is outside its bounds (`docs/OFFICE.md`, "Bounds").
 pub fn last_shift_number<S: Alter>(conn: &mut Connection<S>) -> Result<Option<u32>, TableError>
     ensures given { Over S.Store conn (λ old new. SaysOfTable shifts_kept (λ rows found. found ≡
         option_map (λ s. s.number) (last_or None rows.shifts)) old new result) }

@@ -26,7 +26,8 @@ use tariff::{Step, Steps, StepsFault};
 /// Whether there is a tariff of a name.
 ///
 /// # Errors
-/// What the database refuses, and a row that is no office's.
+/// `TableError::Database` if the database refuses or fails, or memory runs out.
+/// `TableError::RowOfNoOffice` if a row is outside its bounds (`docs/OFFICE.md`, "Bounds").
 pub fn has_tariff<S: Alter>(conn: &mut Connection<S>, name: &TariffName) -> Result<bool, TableError>
     ensures given { Over S.Store conn (λ old new. SaysOfTable tariffs_kept (λ rows there. IsTrue
         there ↔ Contains rows.tariffs name.now) old new result) }
@@ -61,8 +62,9 @@ pub(crate) fn tariff_of(alloc: Global, shown: &[Step]) -> Result<Option<Steps>, 
 /// The steps of the tariff of a name, in the order of their places; `None` where there is none.
 ///
 /// # Errors
-/// What the database refuses, want of memory, and rows that are no office's: also those that are
-/// no steps of a tariff together.
+/// `TableError::Database` if the database refuses or fails, or memory runs out.
+/// `TableError::RowOfNoOffice` if a row is outside its bounds (`docs/OFFICE.md`, "Bounds"), or if
+/// the rows together are no steps of a tariff.
 pub fn steps_of<S: Alter>(
     alloc: Global,
     conn: &mut Connection<S>,

@@ -1,13 +1,15 @@
 //! What was sold so far, each as one row by its key: to a meter under a base and in a month, and in
 //! a shift.
 
-ghost use Rattle.std.specs.Prelude.{◌≡◌, length, map, option_map, sum_by, unwrap_or};
+ghost use Rattle.std.specs.Prelude.{◌≡◌, bytes_eq, is_some, length, map, option_map, sum_by};
+ghost use Rattle.std.specs.Prelude.{unwrap_or};
+ghost use Rattle.std.specs.List.{list_any};
 ghost use Rattle.one_table.specs.Over.{Over};
 ghost use Rattle.office_rules.specs.Law.Cash.{cash_of};
 ghost use Rattle.office_rules.specs.Office.Lookup.{greatest_of};
 ghost use Rattle.book_tables.specs.Kept.{last_ids_kept, month_tenths_kept, shift_totals_kept};
-ghost use Rattle.book_tables.specs.reading.Questions.{the_last_id, the_month_tenths};
-ghost use Rattle.book_tables.specs.reading.Questions.{the_shift_totals};
+ghost use Rattle.book_tables.specs.reading.Questions.{the_last_id, the_last_id_of};
+ghost use Rattle.book_tables.specs.reading.Questions.{the_month_tenths, the_shift_totals};
 ghost use Rattle.book_tables.specs.reading.Reading.{ReadsTable, SaysOfTable};
 ghost use Rattle.book_tables.specs.reading.Seen.{SeesFirst, SeesMade};
 ghost use Rattle.book_tables.specs.Stands.{sales_in_month, sales_in_shift, sales_under};
@@ -17,16 +19,17 @@ use crate::error::TableError;
 use crate::row::record::first_record;
 use crate::row::total_records::{Tenths, Tid};
 use crate::row::totals::Totals;
-use crate::row::values::{base_values, month_values, number_values};
-use crate::texts::{LAST_ID, MONTH_TENTHS, SHIFT_TOTALS};
-use office_rules::MeterNo;
+use crate::row::values::{base_values, meter_no_values, month_values, number_values};
+use crate::texts::{LAST_ID, LAST_ID_OF_METER, MONTH_TENTHS, SHIFT_TOTALS};
+use office_rules::{MeterNo, store_law};
 use sqlite::{Alter, Connection};
 use sts_fields::{Base, amount_law};
 
 /// The greatest identifier sold to a meter under a base.
 ///
 /// # Errors
-/// What the database refuses, and a row that is no office's.
+/// `TableError::Database` if the database refuses or fails, or memory runs out.
+/// `TableError::RowOfNoOffice` if a row is outside its bounds (`docs/OFFICE.md`, "Bounds").
 pub fn greatest_tid<S: Alter>(
     conn: &mut Connection<S>,
     meter: &MeterNo,
@@ -52,10 +55,27 @@ fn number_of(found: Option<Tid>) -> Option<u32>
     }
 }
 
-/// The tenths of a kWh sold to a meter in a month, under any base.
+/// Whether anything was sold to a meter, under any base.
 ///
 /// # Errors
 /// What the database refuses, and a row that is no office's.
+pub fn has_sales<S: Alter>(conn: &mut Connection<S>, meter: &MeterNo) -> Result<bool, TableError>
+    ensures given { Over S.Store conn (λ old new. SaysOfTable last_ids_kept (λ rows sold. sold ≡
+        list_any (λ s. bytes_eq s.meter meter.now) rows.sales) old new result) }
+    ensures reads { Over S.Store conn (λ old new. ReadsTable last_ids_kept old new result) }
+    ensures sees { Over S.Store conn (λ old new. SeesMade (the_last_id_of meter.now) is_some old
+        new result) }
+{
+    store_law();
+    let found: Option<Tid> = first_record(conn, LAST_ID_OF_METER, &meter_no_values(meter))?;
+    Ok(found.is_some())
+}
+
+/// The tenths of a kWh sold to a meter in a month, under any base.
+///
+/// # Errors
+/// `TableError::Database` if the database refuses or fails, or memory runs out.
+/// `TableError::RowOfNoOffice` if a row is outside its bounds (`docs/OFFICE.md`, "Bounds").
 pub fn tenths_in_month<S: Alter>(
     conn: &mut Connection<S>,
     meter: &MeterNo,
@@ -85,7 +105,8 @@ fn sum_of(found: Option<Tenths>) -> u64
 /// How many sales there are in a shift, and the sums of their tenths and of their prices.
 ///
 /// # Errors
-/// What the database refuses, and a row that is no office's.
+/// `TableError::Database` if the database refuses or fails, or memory runs out.
+/// `TableError::RowOfNoOffice` if a row is outside its bounds (`docs/OFFICE.md`, "Bounds").
 pub fn totals_of_shift<S: Alter>(conn: &mut Connection<S>, shift: u32) -> Result<Totals, TableError>
     ensures given { Over S.Store conn (λ old new. SaysOfTable shift_totals_kept (λ rows totals.
         totals ≡ record {

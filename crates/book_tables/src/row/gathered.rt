@@ -190,7 +190,7 @@ impl Gathered {
     /// Adds a sale to them. After an error they hold a part of it and are of no use.
     ///
     /// # Errors
-    /// Want of memory.
+    /// `AllocError` if there is no memory.
     pub fn add(&mut self, sale: &Sale) -> Result<(), AllocError>
         ensures { OnOk result ((sales : List Sale) → length sales < 2 ^ 32
             → IsGathered sales self.old → IsGathered (sales ++ sale.now ∷ []) self.new) }
@@ -211,7 +211,7 @@ impl Gathered {
     /// Adds several sales to them, one after another.
     ///
     /// # Errors
-    /// Want of memory.
+    /// `AllocError` if there is no memory.
     pub fn add_all(&mut self, sales: &[Sale]) -> Result<(), AllocError>
         ensures { OnOk result ((before : List Sale) → length before + length sales.now ≤ 2 ^ 32
             → IsGathered before self.old → IsGathered (before ++ sales.now) self.new) }

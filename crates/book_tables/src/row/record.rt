@@ -50,7 +50,8 @@ impl<T: Record> FromRow for ShownRecord<T> {
 /// most one row.
 ///
 /// # Errors
-/// What the database refuses, and a row that shows no such record.
+/// `TableError::Database` if the database refuses or fails, or memory runs out.
+/// `TableError::RowOfNoOffice` if a row shows no such record.
 pub fn first_record<S: Alter, T: Record>(
     conn: &mut Connection<S>,
     sql: &str,

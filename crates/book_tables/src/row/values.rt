@@ -5,6 +5,7 @@ ghost use Rattle.sqlite.specs.Values.{bound};
 ghost use Rattle.sqlite.specs.declared.types.Value.TheVariants.{Text};
 ghost use Rattle.sts_fields.specs.Base.{year_of};
 ghost use Rattle.sts_token.specs.Key.{IsKeyText};
+ghost use Rattle.book_tables.specs.reading.Questions.{first_second};
 ghost use Rattle.book_tables.specs.row.Rows.{dated_columns, last_id_columns, meter_columns};
 ghost use Rattle.book_tables.specs.row.Rows.{month_columns, number, sale_columns, shift_columns};
 ghost use Rattle.book_tables.specs.row.Rows.{step_columns, tariff_columns, totals_columns};
@@ -16,6 +17,12 @@ use office_rules::{Meter, MeterNo, Operator, Ref, Sale, Shift, TariffName};
 use sqlite::types::ValueRef;
 use sts_fields::{Base, Day, Moment, month_of};
 use tariff::Step;
+
+// The first second of 1993, in seconds since 1970.
+const FIRST_SECOND: u32 = 725_846_400;
+
+// The seconds of a day.
+const DAY_LENGTH: u32 = 86_400;
 
 /// A whole number.
 pub(crate) fn whole(n: u32) -> ValueRef<'static>
@@ -91,6 +98,13 @@ pub(crate) fn dated_values(name: &TariffName, day: Day) -> [ValueRef<'_>; 2]
     ensures { bound result ≡ Text name.now ∷ number day ∷ [] }
 {
     [ValueRef::Text(name.as_bytes()), whole(day.days())]
+}
+
+/// The first second of a day.
+pub(crate) fn first_second_values(day: Day) -> [ValueRef<'static>; 1]
+    ensures { bound result ≡ number (first_second day) ∷ [] }
+{
+    [whole(FIRST_SECOND + day.days() * DAY_LENGTH)]
 }
 
 /// A step of those that a tariff has from a day on, at its place, from 0.

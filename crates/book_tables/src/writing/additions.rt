@@ -25,8 +25,8 @@ use tariff::Step;
 /// Adds a sale, with the month of its moment.
 ///
 /// # Errors
-/// What the database refuses: a number or a ref that is taken, an identifier that the meter has
-/// had, a shift or a meter that is not there; want of memory, and the disk.
+/// `TableError::Database`: a number or a ref that is taken, an identifier that the meter has had, a
+/// shift or a meter that is not there; or there is no memory, or the disk fails.
 pub fn add_sale<S: Alter>(tx: &mut Transaction<'_, S>, sale: &Sale) -> Result<(), TableError>
     ensures writes { WorksInside S.Store tx result (λ old new. WritesTables (new_sale sale.now)
         (AddsSale sale.now) old new result) }
@@ -37,7 +37,7 @@ pub fn add_sale<S: Alter>(tx: &mut Transaction<'_, S>, sale: &Sale) -> Result<()
 /// Adds a shift.
 ///
 /// # Errors
-/// What the database refuses: a number that is taken; want of memory, and the disk.
+/// `TableError::Database`: a number that is taken; or there is no memory, or the disk fails.
 pub fn add_shift<S: Alter>(tx: &mut Transaction<'_, S>, shift: &Shift) -> Result<(), TableError>
     ensures writes { WorksInside S.Store tx result (λ old new. WritesTables (new_shift shift.now)
         (AddsShift shift.now) old new result) }
@@ -67,8 +67,8 @@ fn add_meter_row<S: Alter>(
 /// What was added before an error goes with the transaction, which the caller drops.
 ///
 /// # Errors
-/// What the database refuses: a number that is taken, a tariff that is not there; want of memory,
-/// and the disk.
+/// `TableError::Database`: a number that is taken, a tariff that is not there; or there is no
+/// memory, or the disk fails.
 pub fn add_meter<S: Alter>(
     tx: &mut Transaction<'_, S>,
     number: &MeterNo,
@@ -87,7 +87,7 @@ pub fn add_meter<S: Alter>(
 /// Adds the name of a tariff, with no steps.
 ///
 /// # Errors
-/// What the database refuses: a name that is taken; want of memory, and the disk.
+/// `TableError::Database`: a name that is taken; or there is no memory, or the disk fails.
 pub fn add_name<S: Alter>(tx: &mut Transaction<'_, S>, name: &TariffName) -> Result<(), TableError>
     ensures writes { WorksInside S.Store tx result (λ old new. WritesTables (new_tariff name.now)
         (AddsName name.now) old new result) }
@@ -98,8 +98,8 @@ pub fn add_name<S: Alter>(tx: &mut Transaction<'_, S>, name: &TariffName) -> Res
 /// Adds a step of a tariff at a place, from 0.
 ///
 /// # Errors
-/// What the database refuses: a place that is taken, a tariff that is not there; want of memory,
-/// and the disk.
+/// `TableError::Database`: a place that is taken, a tariff that is not there; or there is no
+/// memory, or the disk fails.
 pub fn add_step<S: Alter>(
     tx: &mut Transaction<'_, S>,
     name: &TariffName,
@@ -117,7 +117,7 @@ pub fn add_step<S: Alter>(
 /// What was added before an error goes with the transaction, which the caller drops.
 ///
 /// # Errors
-/// What the database refuses: a name that is taken; want of memory, and the disk.
+/// `TableError::Database`: a name that is taken; or there is no memory, or the disk fails.
 pub fn add_tariff<S: Alter>(
     tx: &mut Transaction<'_, S>,
     name: &TariffName,

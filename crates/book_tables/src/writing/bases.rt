@@ -20,8 +20,8 @@ use sts_fields::Base;
 /// Adds a base that the meter of a number has had.
 ///
 /// # Errors
-/// What the database refuses: a base that the meter has had, a meter that is not there; want of
-/// memory, and the disk.
+/// `TableError::Database`: a base that the meter has had, a meter that is not there; or there is no
+/// memory, or the disk fails.
 pub fn add_base<S: Alter>(
     tx: &mut Transaction<'_, S>,
     number: &MeterNo,
@@ -36,7 +36,7 @@ pub fn add_base<S: Alter>(
 /// Sets the present base of the meter of a number.
 ///
 /// # Errors
-/// Want of memory, and the disk.
+/// `TableError::Database` if there is no memory, or the disk fails.
 pub fn set_base<S: Alter>(
     tx: &mut Transaction<'_, S>,
     number: &MeterNo,
@@ -53,7 +53,7 @@ pub fn set_base<S: Alter>(
 /// What was written before an error goes with the transaction, which the caller drops.
 ///
 /// # Errors
-/// What the database refuses: a base that the meter has had; want of memory, and the disk.
+/// `TableError::Database`: a base that the meter has had; or there is no memory, or the disk fails.
 pub fn move_base<S: Alter>(
     tx: &mut Transaction<'_, S>,
     number: &MeterNo,

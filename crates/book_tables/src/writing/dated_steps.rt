@@ -5,13 +5,14 @@ ghost use Rattle.one_table.specs.InTransaction.{IsUnderWay, WorksInside};
 ghost use Rattle.book_tables.specs.writing.Failing.{End, FailsToWriteAll};
 ghost use Rattle.book_tables.specs.writing.Edited.{dated_row};
 ghost use Rattle.book_tables.specs.reading.Reading.{HasAllTables};
-ghost use Rattle.book_tables.specs.writing.Writes.{new_dated, steps_writes};
-ghost use Rattle.book_tables.specs.writing.Writing.{AddsDatedStep, AddsSteps, WritesTables};
+ghost use Rattle.book_tables.specs.writing.Writes.{new_dated, steps_withdrawn, steps_writes};
+ghost use Rattle.book_tables.specs.writing.Writing.{AddsDatedStep, AddsSteps, WithdrawsSteps};
+ghost use Rattle.book_tables.specs.writing.Writing.{WritesTables};
 
 use crate::error::TableError;
-use crate::row::values::dated_step_values;
-use crate::texts::NEW_DATED_STEP;
-use crate::writing::store::put;
+use crate::row::values::{dated_step_values, dated_values};
+use crate::texts::{NEW_DATED_STEP, STEPS_WITHDRAWN};
+use crate::writing::store::{put, remove};
 use office_rules::TariffName;
 use sqlite::{Alter, Error, ErrorCode, Transaction};
 use sts_fields::Day;
@@ -20,8 +21,8 @@ use tariff::Step;
 /// Adds a step of those that a tariff has from a day on, at a place, from 0.
 ///
 /// # Errors
-/// What the database refuses: a place that is taken, a tariff that is not there; want of memory,
-/// and the disk.
+/// `TableError::Database`: a place that is taken, a tariff that is not there; or there is no
+/// memory, or the disk fails.
 pub fn add_dated_step<S: Alter>(
     tx: &mut Transaction<'_, S>,
     name: &TariffName,
@@ -46,8 +47,8 @@ pub fn add_dated_step<S: Alter>(
 /// error.
 ///
 /// # Errors
-/// What the database refuses: steps of that day, a tariff that is not there; want of memory, and
-/// the disk.
+/// `TableError::Database`: steps of that day, a tariff that is not there; or there is no memory, or
+/// the disk fails.
 pub fn add_steps<S: Alter>(
     tx: &mut Transaction<'_, S>,
     name: &TariffName,
@@ -71,4 +72,19 @@ pub fn add_steps<S: Alter>(
         place += 1;
     }
     Ok(())
+}
+
+/// Deletes the steps that a tariff has from a day on, if there are any.
+///
+/// # Errors
+/// Want of memory, and the disk.
+pub fn withdraw_steps<S: Alter>(
+    tx: &mut Transaction<'_, S>,
+    name: &TariffName,
+    day: Day,
+) -> Result<(), TableError>
+    ensures writes { WorksInside S.Store tx result (λ old new. WritesTables
+        (steps_withdrawn name.now day) (WithdrawsSteps name.now day) old new result) }
+{
+    remove(tx, STEPS_WITHDRAWN, &dated_values(name, day))
 }

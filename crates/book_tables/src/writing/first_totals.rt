@@ -1,12 +1,12 @@
 //! The statements that put a row of the running totals in, where none of its key is.
 
-ghost use Rattle.std.specs.Prelude.{List};
+ghost use Rattle.std.specs.Prelude.{List, refl};
 ghost use Rattle.one_table.specs.InTransaction.{WorksInside};
 ghost use Rattle.book_tables.specs.row.Rows.{Rows};
 ghost use Rattle.book_tables.specs.writing.Putting.{AreAnyIds, FitMonths, FitShifts, PutsLastId};
 ghost use Rattle.book_tables.specs.writing.Putting.{PutsMonth, PutsNext, PutsTotals, with_last_ids};
 ghost use Rattle.book_tables.specs.writing.Putting.{with_month_tenths, with_shift_totals};
-ghost use Rattle.book_tables.specs.writing.Writes.{Write};
+ghost use Rattle.book_tables.specs.writing.Writes.{Write, new_last_id, new_month, new_totals};
 ghost use Rattle.book_tables.specs.writing.Writing.{WritesTables};
 
 use crate::error::TableError;
@@ -35,6 +35,9 @@ pub(crate) trait TotalRow: Sized {
     fn put<S: Alter>(&self, tx: &mut Transaction<'_, S>) -> Result<(), TableError>
         ensures writes { WorksInside S.Store tx result (λ old new. (w : Write) × puts self.now w
             × WritesTables w (PutsNext in_table are self.now) old new result) };
+
+    // There is such a write.
+    ghost has_write: { (row : Self) → (w : Write) × puts row w };
 }
 
 impl TotalRow for ((MeterNo, Base), u32) {
@@ -43,6 +46,8 @@ impl TotalRow for ((MeterNo, Base), u32) {
     ghost are = { AreAnyIds };
 
     ghost puts = { PutsLastId };
+
+    ghost has_write = { λ row. (new_last_id row, refl) };
 
     fn put<S: Alter>(&self, tx: &mut Transaction<'_, S>) -> Result<(), TableError> {
         put(
@@ -60,6 +65,8 @@ impl TotalRow for ((MeterNo, u32), u64) {
 
     ghost puts = { PutsMonth };
 
+    ghost has_write = { λ row. (new_month row, λ small. refl) };
+
     fn put<S: Alter>(&self, tx: &mut Transaction<'_, S>) -> Result<(), TableError> {
         put(
             tx,
@@ -75,6 +82,8 @@ impl TotalRow for (u32, Totals) {
     ghost are = { FitShifts };
 
     ghost puts = { PutsTotals };
+
+    ghost has_write = { λ row. (new_totals row, λ room. refl) };
 
     fn put<S: Alter>(&self, tx: &mut Transaction<'_, S>) -> Result<(), TableError> {
         put(tx, NEW_SHIFT_TOTALS, &shift_total_values(self.0, &self.1))

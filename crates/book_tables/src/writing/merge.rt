@@ -6,7 +6,7 @@ ghost use Rattle.sqlite.specs.Order.{Row};
 ghost use Rattle.sqlite.specs.State.{HasCleanDisk};
 ghost use Rattle.sqlite.specs.Table.{Table};
 ghost use Rattle.sqlite.specs.Values.{bound};
-ghost use Rattle.one_table.specs.InTransaction.{IsUnderWay, WorksInside};
+ghost use Rattle.one_table.specs.InTransaction.{BeginsWith, IsUnderWay, ShowsInside, WorksInside};
 ghost use Rattle.one_table.specs.Merges.{StandsForUpserts, TakesUpserts, Touches, Upserts};
 ghost use Rattle.one_table.specs.Merges.{shown_row};
 ghost use Rattle.one_table.specs.Reading.{is_whole};
@@ -40,7 +40,15 @@ pub(crate) fn merge<S: Alter, T: Record>(
         → (t : Table) (at : ℕ) (m : Merging) → IsUpsert t m sql.now
         → is_whole sql.now (length (bound params.now)) ≡ true → (IsTrue old.is_open
         → StandsForUpserts old.now.schema at t)
-        → Ends FailsToMerge (record { sql = sql.now; params = bound params.now }) old new result) }
+        → Ends (FailsToMerge (ShowsRecord T.Record.shown T.Record.keeps)) (record {
+          sql = sql.now;
+          params = bound params.now;
+        }) old new result) }
+    ensures told { Inside S.Store tx (λ old new. HasCleanDisk new
+        → (t : Table) (at : ℕ) (m : Merging) → IsUpsert t m sql.now → (IsTrue old.is_open
+        → StandsForUpserts old.now.schema at t)
+        → IfOk result (λ x. ShowsInside (BeginsWith (λ row. IsShown T.Record.shown T.Record.keeps
+        row x)) sql.now (bound params.now) old new)) }
     ensures false_row { Inside S.Store tx (λ old new. HasCleanDisk new → IsUnderWay old
         → (t : Table) (at : ℕ) (m : Merging) → IsUpsert t m sql.now
         → is_whole sql.now (length (bound params.now)) ≡ true → (IsTrue old.is_open

@@ -1,13 +1,14 @@
 //! The statements that keep the running totals. Each puts the row of its key in, or merges it into
 //! the one that is there.
 
-ghost use Rattle.std.specs.Prelude.{IfOk};
+ghost use Rattle.std.specs.Prelude.{[], ◌∷◌, IfOk};
 ghost use Rattle.one_table.specs.Over.{Inside};
 ghost use Rattle.sqlite.specs.State.{HasCleanDisk};
 ghost use Rattle.one_table.specs.InTransaction.{IsUnderWay, WorksInside};
-ghost use Rattle.book_tables.specs.writing.Failing.{End, FailsToMergeAll};
+ghost use Rattle.book_tables.specs.writing.Failing.{End, FailsToTotal};
 ghost use Rattle.book_tables.specs.reading.Reading.{HasAllTables};
-ghost use Rattle.book_tables.specs.writing.Writes.{last_id_set, sale_counted, sale_writes};
+ghost use Rattle.book_tables.specs.writing.Telling.{ShowsSum, ShowsTid, ShowsTotals, TellsTotals};
+ghost use Rattle.book_tables.specs.writing.Writes.{last_id_set, new_sale, sale_counted, sale_writes};
 ghost use Rattle.book_tables.specs.writing.Writes.{tenths_added, totals_writes};
 ghost use Rattle.book_tables.specs.writing.Writing.{AddsTenths, AddsToShift, FindsNoFalseRow};
 ghost use Rattle.book_tables.specs.writing.Writing.{MayAddSold, MayAddTenths, MayAddToShift};
@@ -29,7 +30,7 @@ use sts_fields::{Base, amount_law};
 /// Sets the last identifier of a meter under a base.
 ///
 /// # Errors
-/// Want of memory, and the disk.
+/// `TableError::Database` if there is no memory, or the disk fails.
 pub fn set_last_id<S: Alter>(
     tx: &mut Transaction<'_, S>,
     meter: &MeterNo,
@@ -37,7 +38,7 @@ pub fn set_last_id<S: Alter>(
     tid: u32,
 ) -> Result<(), TableError>
     ensures merges { WorksInside S.Store tx result (λ old new. MergesTables
-        (last_id_set (meter.now, base) tid) (λ done. SetsLastId (meter.now, base) tid)
+        (last_id_set (meter.now, base) tid) (λ done. ShowsTid tid) (λ done. SetsLastId (meter.now, base) tid)
         old new result) }
     ensures no_false_row { Inside S.Store tx (λ old new. FindsNoFalseRow (MaySetLastId tid) old
         new result) }
@@ -52,7 +53,8 @@ pub fn set_last_id<S: Alter>(
 /// Adds tenths of a kWh to those of a meter in a month, and answers their sum.
 ///
 /// # Errors
-/// Want of memory, and the disk; and a sum that is no office's.
+/// `TableError::Database` if there is no memory, or the disk fails. `TableError::RowOfNoOffice` for
+/// a sum that no office has.
 pub fn add_tenths<S: Alter>(
     tx: &mut Transaction<'_, S>,
     meter: &MeterNo,
@@ -60,7 +62,7 @@ pub fn add_tenths<S: Alter>(
     tenths: u32,
 ) -> Result<u64, TableError>
     ensures merges { WorksInside S.Store tx result (λ old new. MergesTables
-        (tenths_added (meter.now, month) tenths) (AddsTenths (meter.now, month) tenths)
+        (tenths_added (meter.now, month) tenths) ShowsSum (AddsTenths (meter.now, month) tenths)
         old new result) }
     ensures no_false_row { Inside S.Store tx (λ old new. FindsNoFalseRow (MayAddTenths (
       meter.now,
@@ -74,7 +76,8 @@ pub fn add_tenths<S: Alter>(
 /// Adds a sale of these tenths at this price to the totals of a shift, and answers these.
 ///
 /// # Errors
-/// Want of memory, and the disk; and totals that are no office's.
+/// `TableError::Database` if there is no memory, or the disk fails. `TableError::RowOfNoOffice` for
+/// totals that no office has.
 pub fn add_to_shift<S: Alter>(
     tx: &mut Transaction<'_, S>,
     shift: u32,
@@ -82,7 +85,7 @@ pub fn add_to_shift<S: Alter>(
     price: u32,
 ) -> Result<Totals, TableError>
     ensures merges { WorksInside S.Store tx result (λ old new. MergesTables
-        (sale_counted shift tenths price) (AddsToShift shift tenths price) old new result) }
+        (sale_counted shift tenths price) ShowsTotals (AddsToShift shift tenths price) old new result) }
     ensures no_false_row { Inside S.Store tx (λ old new. FindsNoFalseRow (MayAddToShift shift
         tenths price) old new result) }
 {
@@ -96,7 +99,8 @@ pub fn add_to_shift<S: Alter>(
 /// What was added before an error goes with the transaction, which the caller drops.
 ///
 /// # Errors
-/// Want of memory, and the disk; and totals that are no office's.
+/// `TableError::Database` if there is no memory, or the disk fails. `TableError::RowOfNoOffice` for
+/// totals that no office has.
 pub fn add_totals<S: Alter>(
     tx: &mut Transaction<'_, S>,
     sale: &Sale,
@@ -105,7 +109,11 @@ pub fn add_totals<S: Alter>(
     ensures adds { WorksInside S.Store tx result (λ old new. HasCleanDisk new → IsUnderWay old
         → HasAllTables old → IfOk result (λ shown. TellsSaleTotals sale.now last shown old new)) }
     ensures ends { Inside S.Store tx (λ old new. HasCleanDisk new → IsUnderWay old
-        → HasAllTables old → End FailsToMergeAll (totals_writes sale.now last) old new result) }
+        → HasAllTables old → End (FailsToTotal [] sale.now last) (totals_writes sale.now last) old
+        new result) }
+    ensures told { Inside S.Store tx (λ old new. HasCleanDisk new → IsUnderWay old
+        → HasAllTables old
+        → IfOk result (λ shown. TellsTotals [] sale.now last shown old.step_limit old.now)) }
     ensures no_false_row { Inside S.Store tx (λ old new. FindsNoFalseRow (MayAddTotals sale.now
         last) old new result) }
 {
@@ -133,7 +141,13 @@ pub fn add_sold<S: Alter>(
     ensures adds { WorksInside S.Store tx result (λ old new. HasCleanDisk new → IsUnderWay old
         → HasAllTables old → IfOk result (λ shown. TellsSold sale.now shown old new)) }
     ensures ends { Inside S.Store tx (λ old new. HasCleanDisk new → IsUnderWay old
-        → HasAllTables old → End FailsToMergeAll (sale_writes sale.now) old new result) }
+        → HasAllTables old
+        → End (FailsToTotal (new_sale sale.now ∷ []) sale.now sale.now.tid) (sale_writes sale.now)
+        old new result) }
+    ensures told { Inside S.Store tx (λ old new. HasCleanDisk new → IsUnderWay old
+        → HasAllTables old
+        → IfOk result (λ shown. TellsTotals (new_sale sale.now ∷ []) sale.now sale.now.tid shown
+        old.step_limit old.now)) }
     ensures no_false_row { Inside S.Store tx (λ old new. FindsNoFalseRow (MayAddSold sale.now) old
         new result) }
 {

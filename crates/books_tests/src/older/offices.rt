@@ -70,6 +70,12 @@ const SHOP_LATER: &str = "
   refused 18 NotLater
 > 1388534430 add-steps flat 2014-02-01 :200
   done
+> 1388534430 withdraw-steps flat 2014-02-01
+  withdrawn 1
+> 1388534430 set-key 10000000009 0123456789abcdef
+  done
+> 1388534430 set-key 12345678903 0123456789abcdef
+  refused 20 HasSales
 > 1388534430 report 1
   report 1 ann 1388534430 - 2 2 20 1,2
 ";
@@ -131,6 +137,10 @@ const MOVED_LATER: &str = "
   refused 7 BeforeBase
 > 1732479359 add-steps flat 2024-11-25 :200
   done
+> 1732479359 withdraw-steps flat 2024-11-25
+  withdrawn 1
+> 1732479359 set-key 12345678903 0123456789abcdef
+  refused 20 HasSales
 > 1732479359 reprint 1
   reprinted 1 1732479359 1 ann A-1 12345678903 1993 16777215 1 10 100 100 00144115183781602958
 > 1732479359 report 1

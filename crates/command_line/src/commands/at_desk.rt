@@ -9,13 +9,13 @@ use crate::address::Address;
 use crate::commands::import::{read_csv, read_kind};
 use crate::commands::list::{Listed, read_listed};
 use crate::commands::report::{Paper, read_paper};
+use crate::commands::sell;
 use crate::commands::show::{Shown, read_shown};
-use crate::commands::{sell, set_tariff};
 use crate::{options, said};
 use clap::ArgMatches;
 use office_rules::{MeterNo, Operator, Order, TariffName};
 use papers::FileKind;
-use sts_fields::Base;
+use sts_fields::{Base, Day};
 use tariff::Tender;
 
 /// What a desk is asked.
@@ -24,7 +24,10 @@ pub enum DeskQuestion<'a> {
     /// To add the rows of this file.
     Import(FileKind, &'a str),
     SetTariff(MeterNo, TariffName),
+    /// To take back the steps that a tariff has from this day on.
+    WithdrawSteps(TariffName, Day),
     MoveBase(MeterNo, Base),
+    SetKey(MeterNo, u64),
     OpenShift(Operator),
     CloseShift(Operator),
     Sell(Order),
@@ -122,11 +125,19 @@ fn read_question<'a>(name: &str, matches: &ArgMatches<'a>) -> Option<DeskQuestio
         }
         "tariff" => {
             let meter = options::read_meter(matches)?;
-            Some(DeskQuestion::SetTariff(meter, set_tariff::read_tariff(matches)?))
+            Some(DeskQuestion::SetTariff(meter, options::read_tariff(matches)?))
+        }
+        "withdraw" => {
+            let tariff = options::read_tariff(matches)?;
+            Some(DeskQuestion::WithdrawSteps(tariff, options::read_from(matches)?))
         }
         "base" => {
             let meter = options::read_meter(matches)?;
             Some(DeskQuestion::MoveBase(meter, options::read_base(matches)?))
+        }
+        "key" => {
+            let meter = options::read_meter(matches)?;
+            Some(DeskQuestion::SetKey(meter, options::read_key_of(matches)?))
         }
         "shift" => read_act(matches),
         "sell" => Some(DeskQuestion::Sell(sell::read_order(matches)?)),

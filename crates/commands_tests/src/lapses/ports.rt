@@ -11,7 +11,7 @@ use std::fs::OpenOptions;
 use std::io::{self, Read, Write};
 use std::marker::PhantomData;
 use vend_commands::{
-    Back, Door, FileFault, Follows, Machine, MachineLoopback, OfficeFile, Part, Progress,
+    Back, Door, FileFault, Follows, LogName, Machine, MachineLoopback, OfficeFile, Part, Progress,
     SaltSource, TextFiles,
 };
 
@@ -82,14 +82,18 @@ impl OfficeFile for LapsingOffice {
 
     ghost lets_go = { λ _ _ _. ⊤ };
 
+    ghost names = { λ _ _ _. ⊤ };
+
+    ghost ends_look = { λ _ _ _ _. ⊤ };
+
     ghost leaves = { λ _ _. ⊤ };
 
     fn salts(&self) -> OneSalt {
         OneSalt
     }
 
-    fn new_log(&self, _path: &str) -> Option<String> {
-        None
+    fn new_log(&self, _path: &str) -> LogName {
+        LogName::none()
     }
 
     fn find(self, _path: &str, _wait: u32) -> Result<(Lapse<Memory>, Lapse<Memory>), OpenFault> {
@@ -123,7 +127,7 @@ impl OfficeFile for LapsingOffice {
         Some((log, db))
     }
 
-    fn let_go_looked<D: Drop>(log: D, db: D, _salts: &OneSalt, _new_log: &Option<String>)
+    fn let_go_looked<D: Drop>(log: D, db: D, _salts: &OneSalt, _new_log: &LogName)
         ensures { ⊤ }
     {
         drop(log);
@@ -256,6 +260,10 @@ impl<'a> Door for Texts<'a> {
 pub(crate) struct Unseen;
 
 impl Follows for Unseen {
+    ghost use Rattle.std.specs.Prelude.{⊤};
+
+    ghost told = { λ _ _ _. ⊤ };
+
     fn passed(&mut self, _part: Part) {}
 }
 

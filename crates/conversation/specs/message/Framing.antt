@@ -13,6 +13,7 @@ use Rattle.conversation.specs.declared.message.message_fault.MessageFault.{Messa
 use Rattle.conversation.specs.declared.message.message_fault.MessageFault.TheVariants as faults
 use Rattle.conversation.specs.declared.message.method.Method.{Method}
 use Rattle.conversation.specs.declared.message.method.Method.TheVariants.{Get, Head, Post}
+use Rattle.conversation.specs.declared.message.method.Method.TheVariants.{Delete}
 use Rattle.conversation.specs.message.Fields.{values_of}
 
 -- the most bytes of a body
@@ -24,7 +25,8 @@ abbrev pub method_of : List ℕ → Result Method MessageFault
 method_of name =
     if bytes_eq name (codes "GET") then Ok Get
     else (if bytes_eq name (codes "POST") then Ok Post
-    else (if bytes_eq name (codes "HEAD") then Ok Head else Err faults.Method))
+    else (if bytes_eq name (codes "HEAD") then Ok Head
+    else (if bytes_eq name (codes "DELETE") then Ok Delete else Err faults.Method)))
 
 -- a message of HTTP/1.1 has exactly one `Host` field
 abbrev pub names_its_host : ℕ → List (List ℕ × List ℕ) → Bool

@@ -1,4 +1,4 @@
-ghost use Rattle.std.specs.Prelude.{◌≡◌, length, All, codes};
+ghost use Rattle.std.specs.Prelude.{◌≡◌, length, All, bytes_eq, codes};
 ghost use Rattle.std.specs.Char.{is_ascii_digit};
 ghost use Rattle.std.specs.List.{list_all};
 ghost use Rattle.httparse.specs.Spans.{IsHeaderWithin};
@@ -64,8 +64,15 @@ fn method_of(name: &[u8]) -> Result<Method, MessageFault>
         b"GET" => Ok(Method::Get),
         b"POST" => Ok(Method::Post),
         b"HEAD" => Ok(Method::Head),
+        _ if is_delete(name) => Ok(Method::Delete),
         _ => Err(MessageFault::Method),
     }
+}
+
+fn is_delete(name: &[u8]) -> bool
+    ensures { result ≡ bytes_eq name.now (codes "DELETE") }
+{
+    name == b"DELETE".as_slice()
 }
 
 // Whether a message of HTTP/1.1 has exactly one `Host` field.

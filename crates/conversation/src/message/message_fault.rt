@@ -9,8 +9,8 @@ pub enum MessageFault {
     /// The input doesn't begin with a head, or with none within the limits.
     #[error("no head of a message")]
     Head,
-    /// The method is none of GET, HEAD and POST.
-    #[error("another method than GET, HEAD and POST")]
+    /// The method is none of GET, HEAD, POST and DELETE.
+    #[error("another method than GET, HEAD, POST and DELETE")]
     Method,
     /// A message of HTTP/1.1 hasn't exactly one `Host` field.
     #[error("not exactly one Host field")]

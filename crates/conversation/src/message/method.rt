@@ -3,6 +3,7 @@
 pub enum Method {
     Get,
     Post,
+    Delete,
     /// As `Get`, but the reply is to have no body.
     Head,
 }

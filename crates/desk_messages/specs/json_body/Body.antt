@@ -92,6 +92,12 @@ pub record BodySaysTariffName (json : Data) (name : List ℕ) : Type 0 where
 pub record BodySaysBase (json : Data) (base : Base) : Type 0 where
   pub members : IsObject json ((codes "base", number (unsigned (year_of base))) ∷ [])
 
+-- the value says the text of a key
+pub record BodySaysKey (json : Data) (key : ℕ) : Type 0 where
+  pub key_text : List ℕ
+  pub members : IsObject json ((codes "key", string key_text) ∷ [])
+  pub keyed : IsKeyText key key_text
+
 -- the value says an operator
 pub record BodySaysOperator (json : Data) (operator : List ℕ) : Type 0 where
   pub members : IsObject json ((codes "operator", string operator) ∷ [])
@@ -123,6 +129,8 @@ BodySays (kinds.SetTariff meter) json request =
     (name : List ℕ) × (request ≡ requests.SetTariff meter name) × BodySaysTariffName json name
 BodySays (kinds.MoveBase meter) json request =
     (base : Base) × (request ≡ requests.MoveBase meter base) × BodySaysBase json base
+BodySays (kinds.SetKey meter) json request =
+    (key : ℕ) × (request ≡ requests.SetKey meter key) × BodySaysKey json key
 BodySays kinds.OpenShift json request =
     (operator : List ℕ) × (request ≡ requests.OpenShift operator) × BodySaysOperator json operator
 BodySays kinds.CloseShift json request =

@@ -28,7 +28,7 @@ use Rattle.office_rules.specs.Decision.RowCauses.{cause_text}
 use Rattle.office_rules.specs.declared.decision.answer.Answer.{Answer}
 use Rattle.office_rules.specs.declared.decision.answer.Answer.TheVariants.{Done, Imported, Opened}
 use Rattle.office_rules.specs.declared.decision.answer.Answer.TheVariants.{Closed, Sold, Reprinted}
-use Rattle.office_rules.specs.declared.decision.answer.Answer.TheVariants.{Report}
+use Rattle.office_rules.specs.declared.decision.answer.Answer.TheVariants.{Report, Withdrawn}
 use Rattle.office_rules.specs.declared.decision.category.Category.{Category}
 use Rattle.office_rules.specs.declared.decision.category.Category.TheVariants.{Missing, Forbidden}
 use Rattle.office_rules.specs.declared.decision.category.Category.TheVariants.{Unfit, UnfitRow}
@@ -98,6 +98,7 @@ sale_body Paper sale = receipt_of sale
 abbrev pub answer_body : Form → Answer → List ℕ
 answer_body form Done = json_text ((codes "done", boolean true) ∷ [])
 answer_body form (Imported count) = json_text ((codes "added", whole_number count) ∷ [])
+answer_body form (Withdrawn count) = json_text ((codes "withdrawn", whole_number count) ∷ [])
 answer_body form (Opened shift) = json_text ((codes "shift", whole_number shift) ∷ [])
 answer_body form (Closed shift) = json_text ((codes "shift", whole_number shift) ∷ [])
 answer_body form (Sold sale) = sale_body form sale

@@ -16,7 +16,7 @@ use Rattle.book_states.specs.declared.lookup.Found.TheVariants as found
 use Rattle.office_rules.specs.declared.decision.answer.Answer.{Answer}
 use Rattle.office_rules.specs.declared.decision.answer.Answer.TheVariants.{Done, Imported, Opened}
 use Rattle.office_rules.specs.declared.decision.answer.Answer.TheVariants.{Closed, Sold, Reprinted}
-use Rattle.office_rules.specs.declared.decision.answer.Answer.TheVariants.{Report}
+use Rattle.office_rules.specs.declared.decision.answer.Answer.TheVariants.{Report, Withdrawn}
 use Rattle.office_rules.specs.Decision.Refusals.{refusal_category}
 use Rattle.office_rules.specs.declared.decision.category.Category.{Category}
 use Rattle.office_rules.specs.declared.decision.category.Category.TheVariants.{Missing, Forbidden}
@@ -47,6 +47,7 @@ allowed_by faults.Body = None
 abbrev pub answer_form : Form → Answer → Form
 answer_form form Done = Json
 answer_form form (Imported count) = Json
+answer_form form (Withdrawn count) = Json
 answer_form form (Opened shift) = Json
 answer_form form (Closed shift) = Json
 answer_form form (Sold sale) = form

@@ -4,6 +4,7 @@ use Rattle.std.specs.Prelude.{Some, if◌then◌else◌}
 use Rattle.http.specs.StatusCode.{status_text}
 use Rattle.conversation.specs.declared.message.method.Method.{Method}
 use Rattle.conversation.specs.declared.message.method.Method.TheVariants.{Get, Head, Post}
+use Rattle.conversation.specs.declared.message.method.Method.TheVariants.{Delete}
 use Rattle.desk_messages.specs.declared.reply.form.Form.{Form}
 use Rattle.desk_messages.specs.declared.reply.form.Form.TheVariants.{Json, Paper}
 use Rattle.desk_messages.specs.declared.reply.outcome.Outcome.{Outcome}
@@ -39,6 +40,7 @@ allow_line None = []
 allow_line (Some Get) = field_line (codes "Allow") (codes "GET, HEAD")
 allow_line (Some Head) = field_line (codes "Allow") (codes "GET, HEAD")
 allow_line (Some Post) = field_line (codes "Allow") (codes "POST")
+allow_line (Some Delete) = field_line (codes "Allow") (codes "DELETE")
 
 -- that the conversation ends, where it does
 abbrev pub connection_line : Bool → List ℕ
@@ -70,3 +72,4 @@ reply_to Get dated outcome closes = reply_bytes_of dated outcome closes
 reply_to Head dated outcome closes =
     head_text (head_of dated outcome closes) (length (body_of outcome))
 reply_to Post dated outcome closes = reply_bytes_of dated outcome closes
+reply_to Delete dated outcome closes = reply_bytes_of dated outcome closes

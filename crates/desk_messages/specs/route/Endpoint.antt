@@ -9,11 +9,12 @@ use Rattle.matchit.specs.Router.{RouteOf, route_from}
 use Rattle.matchit.specs.Rows.{RowsOf}
 use Rattle.matchit.specs.declared.error.InsertError.{InsertError}
 use Rattle.conversation.specs.declared.message.method.Method.{Method}
-use Rattle.conversation.specs.declared.message.method.Method.TheVariants.{Get, Post}
+use Rattle.conversation.specs.declared.message.method.Method.TheVariants.{Get, Post, Delete}
 use Rattle.desk_messages.specs.declared.route.endpoint.Endpoint.{Endpoint}
 use Rattle.desk_messages.specs.declared.route.endpoint.Endpoint.TheVariants.{Tariffs, TariffSteps}
 use Rattle.desk_messages.specs.declared.route.endpoint.Endpoint.TheVariants.{Meters, MeterTariff}
 use Rattle.desk_messages.specs.declared.route.endpoint.Endpoint.TheVariants.{MeterBase, Shifts}
+use Rattle.desk_messages.specs.declared.route.endpoint.Endpoint.TheVariants.{DatedSteps, MeterKey}
 use Rattle.desk_messages.specs.declared.route.endpoint.Endpoint.TheVariants.{ShiftClosing, Shift}
 use Rattle.desk_messages.specs.declared.route.endpoint.Endpoint.TheVariants.{Sales, Sale}
 use Rattle.desk_messages.specs.declared.route.endpoint.Endpoint.TheVariants.{SaleReceipt}
@@ -32,9 +33,11 @@ use Rattle.desk_messages.specs.declared.route.endpoint.Endpoint.TheVariants.{Sal
 abbrev pub endpoint_method : Endpoint → Method
 endpoint_method Tariffs = Post
 endpoint_method TariffSteps = Post
+endpoint_method DatedSteps = Delete
 endpoint_method Meters = Post
 endpoint_method MeterTariff = Post
 endpoint_method MeterBase = Post
+endpoint_method MeterKey = Post
 endpoint_method Shifts = Post
 endpoint_method ShiftClosing = Post
 endpoint_method Shift = Get
@@ -60,9 +63,11 @@ endpoint_method SalesAfter = Get
 abbrev pub pattern_of : Endpoint → List ℕ
 pattern_of Tariffs = codes "/tariffs"
 pattern_of TariffSteps = codes "/tariffs/{tariff}/steps"
+pattern_of DatedSteps = codes "/tariffs/{tariff}/steps/{day}"
 pattern_of Meters = codes "/meters"
 pattern_of MeterTariff = codes "/meters/{meter}/tariff"
 pattern_of MeterBase = codes "/meters/{meter}/base"
+pattern_of MeterKey = codes "/meters/{meter}/key"
 pattern_of Shifts = codes "/shifts"
 pattern_of ShiftClosing = codes "/shifts/close"
 pattern_of Shift = codes "/shifts/{number}"
@@ -100,7 +105,10 @@ HasParameter pattern = (position_or_len opens pattern < length pattern)
 abbrev pub filled : List ℕ → List ℕ → List ℕ
 filled pattern value = (before_first opens pattern ++ value) ++ after_first closes pattern
 
--- the targets of the two patterns that have two parameters
+-- the targets of the three patterns that have two parameters
+abbrev pub steps_target : List ℕ → List ℕ → List ℕ
+steps_target tariff date = codes "/tariffs/" ++ (tariff ++ (codes "/steps/" ++ date))
+
 abbrev pub sale_target : List ℕ → List ℕ → List ℕ
 sale_target operator order_ref =
     codes "/operators/" ++ (operator ++ (codes "/sales/" ++ order_ref))
@@ -116,10 +124,10 @@ LacksSlash text = All (λ byte. eqb byte 47 ≡ false) text
 -- all endpoints, in the order in which their patterns are inserted
 abbrev pub endpoints : List Endpoint
 endpoints =
-    Tariffs ∷ TariffSteps ∷ Meters ∷ MeterTariff ∷ MeterBase ∷ Shifts ∷ ShiftClosing ∷ Shift ∷ Sales
-    ∷ Sale ∷ SaleReceipt ∷ MeterImports ∷ TariffImports ∷ Health ∷ Meter ∷ LastSale ∷ Quote
-    ∷ SaleOfRef ∷ ShiftTotals ∷ FirstTariffs ∷ TariffsAfter ∷ FirstMeters ∷ MetersAfter
-    ∷ ShiftsAfter ∷ SalesAfter ∷ []
+    Tariffs ∷ TariffSteps ∷ DatedSteps ∷ Meters ∷ MeterTariff ∷ MeterBase ∷ MeterKey ∷ Shifts
+    ∷ ShiftClosing ∷ Shift ∷ Sales ∷ Sale ∷ SaleReceipt ∷ MeterImports ∷ TariffImports ∷ Health
+    ∷ Meter ∷ LastSale ∷ Quote ∷ SaleOfRef ∷ ShiftTotals ∷ FirstTariffs ∷ TariffsAfter
+    ∷ FirstMeters ∷ MetersAfter ∷ ShiftsAfter ∷ SalesAfter ∷ []
 
 -- the rows of a router, as `matchit` keeps them
 abbrev pub Table : Type 0

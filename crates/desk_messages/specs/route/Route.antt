@@ -4,12 +4,14 @@ use Rattle.std.specs.Prelude.{IsUtf8, decimal, ⊤}
 use Rattle.matchit.specs.Router.{RouteOf}
 use Rattle.matchit.specs.Seek.{first}
 use Rattle.papers.specs.declared.file_kind.FileKind.TheVariants as files
+use Rattle.sts_fields.specs.Day.{IsDayText}
 use Rattle.tariff.specs.Tender.{IsTender}
 use Rattle.office_rules.specs.Name.{IsMeterNo, IsName, IsOperator}
 use Rattle.book_states.specs.declared.lookup.Lookup.{Lookup}
 use Rattle.book_states.specs.declared.lookup.Lookup.TheVariants as lookups
 use Rattle.conversation.specs.declared.message.method.Method.{Method}
 use Rattle.conversation.specs.declared.message.method.Method.TheVariants.{Get, Head, Post}
+use Rattle.conversation.specs.declared.message.method.Method.TheVariants.{Delete}
 use Rattle.desk_messages.specs.declared.desk_fault.DeskFault.{DeskFault}
 use Rattle.desk_messages.specs.declared.desk_fault.DeskFault.TheVariants as faults
 use Rattle.desk_messages.specs.declared.json_body.kind.JsonKind.{JsonKind}
@@ -18,6 +20,7 @@ use Rattle.desk_messages.specs.declared.route.endpoint.Endpoint.{Endpoint}
 use Rattle.desk_messages.specs.declared.route.endpoint.Endpoint.TheVariants.{Tariffs, TariffSteps}
 use Rattle.desk_messages.specs.declared.route.endpoint.Endpoint.TheVariants.{Meters, MeterTariff}
 use Rattle.desk_messages.specs.declared.route.endpoint.Endpoint.TheVariants.{MeterBase, Shifts}
+use Rattle.desk_messages.specs.declared.route.endpoint.Endpoint.TheVariants.{DatedSteps, MeterKey}
 use Rattle.desk_messages.specs.declared.route.endpoint.Endpoint.TheVariants.{ShiftClosing, Shift}
 use Rattle.desk_messages.specs.declared.route.endpoint.Endpoint.TheVariants.{Sales, Sale}
 use Rattle.desk_messages.specs.declared.route.endpoint.Endpoint.TheVariants.{SaleReceipt}
@@ -34,8 +37,9 @@ use Rattle.desk_messages.specs.declared.route.endpoint.Endpoint.TheVariants.{Sal
 use Rattle.desk_messages.specs.declared.route.Route.{Route}
 use Rattle.desk_messages.specs.declared.route.Route.TheVariants.{Object, Import, ShiftReport}
 use Rattle.desk_messages.specs.declared.route.Route.TheVariants.{Reprint, Receipt, LookUp}
+use Rattle.desk_messages.specs.declared.route.Route.TheVariants.{WithdrawSteps}
 use Rattle.desk_messages.specs.route.Endpoint.{endpoint_method, filled, pattern_of, quote_target}
-use Rattle.desk_messages.specs.route.Endpoint.{sale_target, table}
+use Rattle.desk_messages.specs.route.Endpoint.{sale_target, steps_target, table}
 
 -- the endpoint at which something is looked up
 abbrev pub lookup_endpoint : Lookup → Endpoint
@@ -59,6 +63,7 @@ object_endpoint (kinds.AddSteps tariff) = TariffSteps
 object_endpoint kinds.AddMeter = Meters
 object_endpoint (kinds.SetTariff meter) = MeterTariff
 object_endpoint (kinds.MoveBase meter) = MeterBase
+object_endpoint (kinds.SetKey meter) = MeterKey
 object_endpoint kinds.OpenShift = Shifts
 object_endpoint kinds.CloseShift = ShiftClosing
 object_endpoint kinds.Sell = Sales
@@ -68,6 +73,7 @@ abbrev pub endpoint_of : Route → Endpoint
 endpoint_of (Object kind) = object_endpoint kind
 endpoint_of (Import files.Meters) = MeterImports
 endpoint_of (Import files.Tariffs) = TariffImports
+endpoint_of (WithdrawSteps tariff day) = DatedSteps
 endpoint_of (ShiftReport number) = Shift
 endpoint_of (Reprint number) = Sale
 endpoint_of (Receipt number) = SaleReceipt
@@ -124,15 +130,24 @@ NamesObject target (kinds.SetTariff meter) =
     (target ≡ filled (pattern_of MeterTariff) meter) × IsMeterNo meter
 NamesObject target (kinds.MoveBase meter) =
     (target ≡ filled (pattern_of MeterBase) meter) × IsMeterNo meter
+NamesObject target (kinds.SetKey meter) =
+    (target ≡ filled (pattern_of MeterKey) meter) × IsMeterNo meter
 NamesObject target kinds.OpenShift = ⊤
 NamesObject target kinds.CloseShift = ⊤
 NamesObject target kinds.Sell = ⊤
 
+-- the target names a tariff, and by its date the day from which steps of it hold
+abbrev pub NamesSteps : List ℕ → List ℕ → ℕ → Type 0
+NamesSteps target tariff day =
+    (date : List ℕ) × (target ≡ steps_target tariff date) × IsName tariff × IsDayText date day
+
 -- The target names what the route is for, where the pattern has its parameter: a tariff's name, a
--- meter's number, or a number without leading zeros. A route whose pattern has none names nothing.
+-- tariff's name and a day, a meter's number, or a number without leading zeros. A route whose
+-- pattern has none names nothing.
 abbrev pub Names : List ℕ → Route → Type 0
 Names target (Object kind) = NamesObject target kind
 Names target (Import kind) = ⊤
+Names target (WithdrawSteps tariff day) = NamesSteps target tariff day
 Names target (ShiftReport number) =
     (target ≡ filled (pattern_of Shift) (decimal number)) × IsTargetNumber number
 Names target (Reprint number) =
@@ -151,6 +166,7 @@ abbrev pub route_method : Method → Method
 route_method Get = Get
 route_method Head = Get
 route_method Post = Post
+route_method Delete = Delete
 
 -- what a target and a method ask for: a route by its own method, or why there is none
 abbrev pub IsRouted : List ℕ → Method → Result Route DeskFault → Type 0

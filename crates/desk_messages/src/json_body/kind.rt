@@ -14,6 +14,8 @@ pub enum JsonKind {
     SetTariff(MeterNo),
     /// The base date that this meter is moved to.
     MoveBase(MeterNo),
+    /// The key that this meter is to have.
+    SetKey(MeterNo),
     /// Who opens a shift.
     OpenShift,
     /// Who closes a shift.

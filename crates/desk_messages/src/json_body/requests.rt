@@ -1,6 +1,6 @@
 ghost use Rattle.serde_json.specs.View.{view};
 ghost use Rattle.desk_messages.specs.json_body.Body.{BodySays, BodySaysMeter, BodySaysOperator};
-ghost use Rattle.desk_messages.specs.json_body.Body.{BodySaysBase, BodySaysDatedSteps};
+ghost use Rattle.desk_messages.specs.json_body.Body.{BodySaysBase, BodySaysDatedSteps, BodySaysKey};
 ghost use Rattle.desk_messages.specs.json_body.Body.{BodySaysOrder, BodySaysTariff};
 ghost use Rattle.desk_messages.specs.json_body.Body.{BodySaysTariffName};
 ghost use Rattle.desk_messages.specs.Reads.{IsFound, IsFoundInBody};
@@ -40,6 +40,10 @@ pub(crate) fn said(alloc: Global, kind: JsonKind, value: &Value) -> Result<Reque
         },
         JsonKind::MoveBase(meter) => match base(value) {
             Some(base) => Ok(Request::MoveBase(meter, base)),
+            None => Err(BodyFault::OutsideRule),
+        },
+        JsonKind::SetKey(meter) => match key(value) {
+            Some(key) => Ok(Request::SetKey(meter, key)),
             None => Err(BodyFault::OutsideRule),
         },
         JsonKind::OpenShift => operator(value)
@@ -126,6 +130,18 @@ fn base(value: &Value) -> Option<Base>
 {
     if has_count(value, 1) {
         base_at(value, "base")
+    } else {
+        None
+    }
+}
+
+// The key that a value says.
+#[tactic(auto, using(crate::proofs::BodyLemmas::says_key))]
+fn key(value: &Value) -> Option<u64>
+    ensures { IsFound (BodySaysKey (view value.now)) result }
+{
+    if has_count(value, 1) {
+        key_at(value, "key")
     } else {
         None
     }

@@ -93,6 +93,9 @@ fn answer_body(alloc: Global, form: Form, answer: &Answer) -> Result<Vec<u8>, Al
         Answer::Imported(count) => {
             object_text(alloc, &[("added", Member::Number(u64::from(*count)))])
         }
+        Answer::Withdrawn(count) => {
+            object_text(alloc, &[("withdrawn", Member::Number(u64::from(*count)))])
+        }
         Answer::Opened(shift) | Answer::Closed(shift) => {
             object_text(alloc, &[("shift", Member::Number(u64::from(*shift)))])
         }
@@ -121,7 +124,7 @@ fn found_body(alloc: Global, form: Form, found: &Found) -> Result<Vec<u8>, Alloc
 /// What was found as JSON, a sale too: the body of the reply that tells it so.
 ///
 /// # Errors
-/// Want of memory.
+/// `AllocError` if there is no memory.
 pub fn found_json(alloc: Global, found: &Found) -> Result<Vec<u8>, AllocError>
     ensures { IfOk result (λ body. body.items ≡ found_body Form.Json found.now) }
 {

@@ -15,7 +15,7 @@ const DAY_LENGTH: i64 = 86_400;
 /// Adds the date of a day, as `Day::of_text` reads it.
 ///
 /// # Errors
-/// Want of memory; then a part of it may have been added.
+/// `AllocError` if there is no memory; then a part of it may have been added.
 pub fn put_day(text: &mut Vec<u8>, day: Day) -> Result<(), AllocError>
     ensures text { OnOk result (text.new.items ≡ text.old.items ++ day_text day) }
     ensures shown { IsWithinRanges (civil_at (beginning day)) }

@@ -22,8 +22,11 @@ impl Form {
         match answer {
             Answer::Sold(_) | Answer::Reprinted(_) => self,
             Answer::Report(..) => Form::Paper,
-            Answer::Done | Answer::Imported(_) | Answer::Opened(_) | Answer::Closed(_) =>
-                Form::Json,
+            Answer::Done
+            | Answer::Imported(_)
+            | Answer::Withdrawn(_)
+            | Answer::Opened(_)
+            | Answer::Closed(_) => Form::Json,
         }
     }
 

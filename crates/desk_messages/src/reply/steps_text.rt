@@ -11,7 +11,7 @@ use tariff::{Step, Steps};
 /// Adds the text of steps, as `Steps::of_text` reads it.
 ///
 /// # Errors
-/// Want of memory; then a part of it may have been added.
+/// `AllocError` if there is no memory; then a part of it may have been added.
 pub fn put_steps(text: &mut Vec<u8>, steps: &Steps) -> Result<(), AllocError>
     ensures text { OnOk result (text.new.items ≡ text.old.items ++ steps_text steps.now) }
     ensures steps { IsSteps steps.now }

@@ -54,7 +54,9 @@ pub fn reply_to(
     ensures { IfOk result (λ text. text.items ≡ reply_to method dated outcome.now closes) }
 {
     match method {
-        Method::Get | Method::Post => reply_bytes(alloc, dated, outcome, closes),
+        Method::Get | Method::Post | Method::Delete => {
+            reply_bytes(alloc, dated, outcome, closes)
+        }
         Method::Head => bodiless_reply(alloc, dated, outcome, closes),
     }
 }
@@ -182,6 +184,7 @@ fn put_allowed(text: &mut Vec<u8>, allowed: Option<Method>) -> Result<(), AllocE
         None => Ok(()),
         Some(Method::Get | Method::Head) => put_field(text, "Allow", "GET, HEAD"),
         Some(Method::Post) => put_field(text, "Allow", "POST"),
+        Some(Method::Delete) => put_field(text, "Allow", "DELETE"),
     }
 }
 

@@ -8,9 +8,11 @@ use conversation::Method;
 pub enum Endpoint {
     Tariffs,
     TariffSteps,
+    DatedSteps,
     Meters,
     MeterTariff,
     MeterBase,
+    MeterKey,
     Shifts,
     ShiftClosing,
     Shift,
@@ -57,11 +59,13 @@ impl Endpoint {
             | Endpoint::Meters
             | Endpoint::MeterTariff
             | Endpoint::MeterBase
+            | Endpoint::MeterKey
             | Endpoint::Shifts
             | Endpoint::ShiftClosing
             | Endpoint::Sales
             | Endpoint::MeterImports
             | Endpoint::TariffImports => Method::Post,
+            Endpoint::DatedSteps => Method::Delete,
         }
     }
 
@@ -72,9 +76,11 @@ impl Endpoint {
         match self {
             Endpoint::Tariffs => "/tariffs",
             Endpoint::TariffSteps => "/tariffs/{tariff}/steps",
+            Endpoint::DatedSteps => "/tariffs/{tariff}/steps/{day}",
             Endpoint::Meters => "/meters",
             Endpoint::MeterTariff => "/meters/{meter}/tariff",
             Endpoint::MeterBase => "/meters/{meter}/base",
+            Endpoint::MeterKey => "/meters/{meter}/key",
             Endpoint::Shifts => "/shifts",
             Endpoint::ShiftClosing => "/shifts/close",
             Endpoint::Shift => "/shifts/{number}",

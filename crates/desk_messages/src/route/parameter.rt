@@ -3,13 +3,15 @@ ghost use Rattle.std.specs.Prelude.{MatchOption, decimal, length, slice_index, t
 ghost use Rattle.desk_messages.specs.Reads.{IsFound, ReadsWritten};
 ghost use Rattle.desk_messages.specs.route.Endpoint.{HasParameter, LacksSlash, filled, pattern_of};
 ghost use Rattle.desk_messages.specs.route.Endpoint.{quote_target, sale_target};
-ghost use Rattle.desk_messages.specs.route.Route.{IsPageStart, IsTargetNumber};
+ghost use Rattle.desk_messages.specs.route.Route.{IsPageStart, IsTargetNumber, NamesSteps};
+ghost use Rattle.sts_fields.specs.Day.{IsDayText};
 ghost use Rattle.tariff.specs.Tender.{IsTender};
 ghost use Rattle.office_rules.specs.Name.{IsMeterNo, IsName, IsOperator};
 
 use crate::route::endpoint::Endpoint;
 use office_rules::{GREATEST_COUNT, MeterNo, Operator, Ref, TariffName, Tender};
 use std::str;
+use sts_fields::Day;
 
 // The greatest number that a target may name.
 const GREATEST: u32 = GREATEST_COUNT as u32;
@@ -54,6 +56,22 @@ pub(crate) fn tariff_at(endpoint: Endpoint, target: &[u8]) -> Option<TariffName>
 {
     match parameter_at(endpoint, target) {
         Some(name) => TariffName::read(name),
+        None => None,
+    }
+}
+
+// The tariff that a target names, and the day of its steps.
+pub(crate) fn dated_steps_at(target: &[u8]) -> Option<(TariffName, Day)>
+    ensures { IsFound (λ named. NamesSteps target.now named.0 named.1) result }
+{
+    let Some((name, date)) = two_behind(target, b"/tariffs/", b"steps/") else {
+        return None;
+    };
+    let Some(name) = TariffName::read(name) else {
+        return None;
+    };
+    match read_day(date) {
+        Some(day) => Some((name, day)),
         None => None,
     }
 }
@@ -159,6 +177,13 @@ fn between<'t>(text: &'t [u8], front: &[u8], end: &[u8]) -> Option<&'t [u8]>
         Some(text) => text.strip_prefix(front),
         None => None,
     }
+}
+
+// The day of a date.
+fn read_day(date: &[u8]) -> Option<Day>
+    ensures { IsFound (IsDayText date.now) result }
+{
+    Day::of_text(date).ok()
 }
 
 // The tender that digits without leading zeros write.

@@ -12,21 +12,26 @@ use crate::desk_fault::DeskFault;
 use crate::json_body::kind::JsonKind;
 use crate::route::Route;
 use crate::route::endpoint::Endpoint;
-use crate::route::parameter::{meter_at, number_at, quote_at, sale_of_ref_at, start_at, tariff_at};
+use crate::route::parameter::{
+    dated_steps_at, meter_at, number_at, quote_at, sale_of_ref_at, start_at, tariff_at,
+};
 use book_states::Lookup;
 use conversation::Method;
 use matchit::Router;
 use papers::FileKind;
 use std::alloc::{AllocError, Global};
 use std::str;
+use sts_fields::day_law;
 
 // The endpoints, in the order in which their patterns are inserted.
-const ENDPOINTS: [Endpoint; 25] = [
+const ENDPOINTS: [Endpoint; 27] = [
     Endpoint::Tariffs,
     Endpoint::TariffSteps,
+    Endpoint::DatedSteps,
     Endpoint::Meters,
     Endpoint::MeterTariff,
     Endpoint::MeterBase,
+    Endpoint::MeterKey,
     Endpoint::Shifts,
     Endpoint::ShiftClosing,
     Endpoint::Shift,
@@ -99,7 +104,9 @@ pub fn route_law()
     ensures one { (target : List ℕ) (method : Method) (a b : Result Route DeskFault)
         → IsRouted target method a → IsRouted target method b → a ≡ b }
     ensures each { (endpoint : Endpoint) → (target : List ℕ) × FindsRoute target endpoint }
-{}
+{
+    day_law();
+}
 
 // The route of a target, whose endpoint was found, or why there is none.
 fn route_at(endpoint: Endpoint, target: &[u8], method: Method) -> Result<Route, DeskFault>
@@ -120,6 +127,7 @@ fn route_method(method: Method) -> Method
     match method {
         Method::Get | Method::Head => Method::Get,
         Method::Post => Method::Post,
+        Method::Delete => Method::Delete,
     }
 }
 
@@ -133,6 +141,10 @@ fn read_route(endpoint: Endpoint, target: &[u8]) -> Option<Route>
             Some(name) => Some(Route::Object(JsonKind::AddSteps(name))),
             None => None,
         },
+        Endpoint::DatedSteps => match dated_steps_at(target) {
+            Some((name, day)) => Some(Route::WithdrawSteps(name, day)),
+            None => None,
+        },
         Endpoint::Meters => Some(Route::Object(JsonKind::AddMeter)),
         Endpoint::MeterTariff => match meter_at(endpoint, target) {
             Some(meter) => Some(Route::Object(JsonKind::SetTariff(meter))),
@@ -140,6 +152,10 @@ fn read_route(endpoint: Endpoint, target: &[u8]) -> Option<Route>
         },
         Endpoint::MeterBase => match meter_at(endpoint, target) {
             Some(meter) => Some(Route::Object(JsonKind::MoveBase(meter))),
+            None => None,
+        },
+        Endpoint::MeterKey => match meter_at(endpoint, target) {
+            Some(meter) => Some(Route::Object(JsonKind::SetKey(meter))),
             None => None,
         },
         Endpoint::Shifts => Some(Route::Object(JsonKind::OpenShift)),

@@ -1,4 +1,4 @@
-//! Later base dates and dated steps.
+//! Later base dates and dated steps, and what takes a mistake back.
 
 /// Of a new office.
 pub(crate) fn later() -> &'static str {
@@ -62,6 +62,34 @@ GET /sales/1
 200 OK, 199 = {'base':1993,'change':0,'meter':'10000000009','moment':1732479359,'number':1,\
     'operator':'ann','price':100,'ref':'A-1','shift':1,'tender':100,'tenths':10,'tid':16777215,\
     'token':'00144115183781602958'}
+> 1388534430 set-key 00000000000 0123456789abcdef
+  refused 4 NoMeter
+POST /meters/00000000000/key = {'key':'0123456789abcdef'}
+404 Not Found, 31 = {'error':'NoMeter','refusal':4}
+> 1388534430 set-key 12345678903 0123456789abcdef
+  done
+POST /meters/12345678903/key = {'key':'0123456789abcdef'}
+200 OK, 13 = {'done':true}
+> 1388534430 set-key 12345678903 0000000000000000
+  done
+POST /meters/12345678903/key = {'key':'0000000000000000'}
+200 OK, 13 = {'done':true}
+> 1388534430 set-key 10000000009 0000000000000000
+  done
+POST /meters/10000000009/key = {'key':'0000000000000000'}
+200 OK, 13 = {'done':true}
+> 1388534430 set-key 10000000009 0123456789abcdef
+  refused 20 HasSales
+POST /meters/10000000009/key = {'key':'0123456789abcdef'}
+409 Conflict, 33 = {'error':'HasSales','refusal':20}
+> 1388534430 withdraw-steps none 2014-02-01
+  refused 5 NoTariff
+DELETE /tariffs/none/steps/2014-02-01
+404 Not Found, 32 = {'error':'NoTariff','refusal':5}
+> 1388534430 withdraw-steps flat 2014-02-01
+  withdrawn 0
+DELETE /tariffs/flat/steps/2014-02-01
+200 OK, 15 = {'withdrawn':0}
 > 1388534430 add-steps none 2014-02-01 :200
   refused 5 NoTariff
 POST /tariffs/none/steps = {'from':'2014-02-01','steps':':200'}
@@ -74,6 +102,10 @@ POST /tariffs/flat/steps = {'from':'2014-01-01','steps':':200'}
   done
 POST /tariffs/flat/steps = {'from':'2014-02-01','steps':':200'}
 200 OK, 13 = {'done':true}
+> 1388534430 withdraw-steps flat 2014-02-01
+  refused 19 DayPast
+DELETE /tariffs/flat/steps/2014-02-01
+409 Conflict, 32 = {'error':'DayPast','refusal':19}
 > 1391212799 sell ann B-1 12345678903 100
   sold 3 1391212799 1 ann B-1 12345678903 2014 44639 3 10 100 100 00216364505159618187
 POST /sales = {'meter':'12345678903','operator':'ann','ref':'B-1','tender':100}
@@ -98,6 +130,18 @@ POST /tariffs/flat/steps = {'from':'2014-02-01','steps':':300'}
   refused 19 DayPast
 POST /tariffs/flat/steps = {'from':'2014-01-31','steps':':300'}
 409 Conflict, 32 = {'error':'DayPast','refusal':19}
+> 1391212800 add-steps flat 2099-12-31 1:1;:1000000
+  done
+POST /tariffs/flat/steps = {'from':'2099-12-31','steps':'1:1;:1000000'}
+200 OK, 13 = {'done':true}
+> 1391212800 withdraw-steps flat 2099-12-31
+  withdrawn 1
+DELETE /tariffs/flat/steps/2099-12-31
+200 OK, 15 = {'withdrawn':1}
+> 1391212800 withdraw-steps flat 2099-12-31
+  withdrawn 0
+DELETE /tariffs/flat/steps/2099-12-31
+200 OK, 15 = {'withdrawn':0}
 > 1391212800 add-steps flat 2099-12-31 1:1;:1000000
   done
 POST /tariffs/flat/steps = {'from':'2099-12-31','steps':'1:1;:1000000'}

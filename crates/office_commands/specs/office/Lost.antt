@@ -1,6 +1,6 @@
 -- The file of stopped books that is not opened again.
 use Rattle.std.specs.Prelude.{◌≡◌, ◌⊎◌, ◌&&◌, ℕ, false, IsTrue}
-use Rattle.book_opening.specs.Opening.{LeavesRefused, Refuses, fault_of}
+use Rattle.book_opening.specs.Opening.{FailsToOpen, LeavesRefused, Refuses, fault_of}
 use Rattle.book_opening.specs.declared.fault.OpenFault.{OpenFault}
 use Rattle.book_opening.specs.declared.fault.OpenFault.TheVariants.{Store}
 use Rattle.books.specs.Keeps.{Seen}
@@ -8,7 +8,7 @@ use Rattle.books.specs.Path.{AreTakenFrom}
 use Rattle.books.specs.declared.refused_files.RefusedFiles.{RefusedFiles}
 use Rattle.books.specs.declared.refused_files.RefusedFiles.TheVariants.{Connected, Unconnected}
 use Rattle.sqlite.specs.Files.{FailsToOpenFiles, HoldsDatabase, IsCleanLeft, IsClosed, LeavesFiles}
-use Rattle.sqlite.specs.Files.{file_state, image_of}
+use Rattle.sqlite.specs.Files.{file_state, image_of, over_files}
 use Rattle.sqlite.specs.Held.{Held}
 use Rattle.sqlite.specs.State.{HasCleanDisk, Survives}
 use Rattle.sqlite.specs.declared.error.Error.{Error}
@@ -42,14 +42,16 @@ module _ {D : Type 0} {g : disk.Ghosts D} where
         ⊎ (IsCleanLeft left → FailsToOpenFiles here left error)
     pub kept : IsCleanLeft left → LeavesFiles here left
 
-  -- One was made, and no office was opened over it: a fault that names the file is true of it, and
-  -- what it stood for it stands for.
+  -- One was made, and no office was opened over it: a fault that names the file is true of it, any
+  -- other has its cause there, and what it stood for it stands for.
   pub record RefusesNext (old : Held (FileStore D g)) (fault : OpenFault)
       (last : Held (FileStore D g)) : Type 0 where
     pub first : Held (FileStore D g)
     pub next : HasCleanDisk (file_state first) → IsNextOf (file_state old) (file_state first)
     pub refuses : HasCleanDisk (file_state last)
         → Refuses (file_state first) (file_state last) fault
+    pub fails : HasCleanDisk (file_state last)
+        → FailsToOpen {S = FileStore D g} over_files (file_state first) (file_state last) fault
     pub rests : last.in_transaction ≡ false
     pub survives : Survives (file_state first) (file_state last)
         (LeavesRefused (file_state first) fault)

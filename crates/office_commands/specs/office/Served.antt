@@ -8,11 +8,12 @@ use Rattle.sts_fields.specs.Text.{Text}
 use Rattle.office_rules.specs.declared.decision.answer.Answer as core
 use Rattle.office_rules.specs.declared.decision.answer.Answer.TheVariants.{Done, Imported, Opened}
 use Rattle.office_rules.specs.declared.decision.answer.Answer.TheVariants.{Closed, Sold, Reprinted}
-use Rattle.office_rules.specs.declared.decision.answer.Answer.TheVariants.{Report}
+use Rattle.office_rules.specs.declared.decision.answer.Answer.TheVariants.{Report, Withdrawn}
 use Rattle.office_rules.specs.declared.decision.refusal.Refusal.{Refusal}
 use Rattle.office_rules.specs.declared.decision.refusal.Refusal.TheVariants.{Memory}
 use Rattle.office_rules.specs.declared.decision.request.Request.{Request}
 use Rattle.vend_ports.specs.print.Printed.{added_line, done_line, refusal_line, shift_line}
+use Rattle.vend_ports.specs.print.Printed.{withdrawn_line}
 use Rattle.vend_ports.specs.print.Told.{Outputs, IsTold}
 use Rattle.vend_ports.specs.declared.command_end.CommandEnd.{CommandEnd}
 use Rattle.vend_ports.specs.declared.command_end.CommandEnd.TheVariants as how
@@ -21,6 +22,7 @@ use Rattle.vend_ports.specs.declared.command_end.CommandEnd.TheVariants as how
 abbrev pub answer_text : core.Answer → Text
 answer_text Done = done_line
 answer_text (Imported count) = added_line count
+answer_text (Withdrawn count) = withdrawn_line count
 answer_text (Opened number) = shift_line number
 answer_text (Closed number) = shift_line number
 answer_text (Sold sale) = receipt_of sale
@@ -32,6 +34,7 @@ answer_text (Report shift sales) = report_of shift sales
 abbrev pub TakesAnswerRoom : core.Answer → Type 0
 TakesAnswerRoom Done = ⊥
 TakesAnswerRoom (Imported count) = ⊥
+TakesAnswerRoom (Withdrawn count) = ⊥
 TakesAnswerRoom (Opened number) = ⊥
 TakesAnswerRoom (Closed number) = ⊥
 TakesAnswerRoom (Sold sale) = ⊥

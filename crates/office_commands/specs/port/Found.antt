@@ -1,5 +1,5 @@
 -- What the port of this machine tells of the files that it opens.
-use Rattle.std.specs.Prelude.{◌≡◌, ◌⊎◌, true, false}
+use Rattle.std.specs.Prelude.{◌≡◌, ◌⊎◌, ◌++◌, true, false, IfSome, codes, string_bytes}
 use Rattle.sqlite_disk.specs.declared.Disk as disk
 use Rattle.sqlite_disk.specs.declared.calls.Calls as calls
 use Rattle.sqlite_disk.specs.declared.modelled.Modelled.{Modelled}
@@ -10,6 +10,8 @@ use Rattle.sqlite_wal.specs.Files.{image_at, outcomes, seen_image}
 use Rattle.sqlite_wal.specs.Recovery.{Image}
 use Rattle.book_opening.specs.declared.fault.OpenFault.{OpenFault}
 use Rattle.book_opening.specs.declared.fault.OpenFault.TheVariants.{Memory, Store}
+use Rattle.sts_fields.specs.Text.{Text}
+use Rattle.office_commands.specs.declared.port.new_log.LogName.{LogName}
 
 -- these are a log and a database file that were just opened: nothing has happened to them since
 abbrev pub AreFresh : {S : Type 0} → {g : calls.Ghosts Host} → {start : Ghosts S}
@@ -25,3 +27,10 @@ pub record HoldWhatWasFound {D S : Type 0} (disk : disk.Ghosts D) (start : Ghost
 -- files that are not opened were not looked into, so that this says nothing of what they hold
 abbrev pub IsUnopenable : OpenFault → Type 0
 IsUnopenable fault = (fault ≡ Store) ⊎ (fault ≡ Memory)
+
+-- the name of a log: that of its database file, and `-wal` behind it
+abbrev pub IsNameOfLog : Text → Type 0
+IsNameOfLog name = (file : Text) × (name ≡ file ++ codes "-wal")
+
+abbrev pub IsLogName : LogName → Type 0
+IsLogName log = IfSome log.name (λ name. IsNameOfLog (string_bytes name))

@@ -18,7 +18,7 @@ use Rattle.office_commands.specs.office.Closed.{IsClosed}
 use Rattle.office_commands.specs.office.Lost.{IsUnreopened}
 use Rattle.office_commands.specs.office.Opened.{OpensIn, OpensThere}
 use Rattle.office_commands.specs.office.Vacant.{AreMeasured, IsVacant}
-use Rattle.office_commands.specs.port.Back.{lets_go_giving}
+use Rattle.office_commands.specs.port.Back.{lets_go_giving, lets_looked_go, lets_unopened_go}
 use Rattle.office_commands.specs.declared.port.ports.OfficeFile as file
 use Rattle.office_commands.specs.declared.port.ports.SaltSource as source
 
@@ -100,10 +100,10 @@ places_of {D = D} disk salts of office back path wait = record {
   meets = (log : D) × (db : D) × of.meets office path wait log db;
   misses = of.misses office path wait × (back ≡ None);
   vacant = ((log : D) × (db : D) × of.meets office path wait log db)
-      × IsVacant disk (of.image office path) (lets_go_giving of back false);
+      × IsVacant disk (of.image office path) (lets_looked_go of office path back);
   opens_there = OpensThere disk (of.image office path);
   refuses = IsUnopened disk salts (AreMeasured disk (of.meets office path wait))
-      (lets_go_giving of back false)
+      (lets_unopened_go of office path back)
       (λ fault. IsUnfound of office path wait fault × (back ≡ None));
   audits = AuditsIn disk (of.image office path) (lets_go_giving of back);
 }

@@ -13,7 +13,7 @@ use sqlite::Alter;
 use std::alloc::{AllocError, Global};
 use std::io::Write;
 use sts_token::BlockTransform;
-use vend_ports::{CommandEnd, Watched, put_added, put_line, put_refusal, put_shift};
+use vend_ports::{CommandEnd, Watched, put_added, put_line, put_refusal, put_shift, put_withdrawn};
 
 /// Asks books for an answer at a moment, and prints it, or tells why it is refused.
 ///
@@ -70,6 +70,7 @@ fn print_answer<O: Write>(
     match answer {
         Answer::Done => put_line(&[b"done"], out),
         Answer::Imported(count) => put_added(*count, out),
+        Answer::Withdrawn(count) => put_withdrawn(*count, out),
         Answer::Opened(number) => put_shift(*number, out),
         Answer::Closed(number) => put_shift(*number, out),
         Answer::Sold(sale) => out.put(&receipt_in_place(sale)),

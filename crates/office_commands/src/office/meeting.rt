@@ -13,11 +13,12 @@ ghost use Rattle.books.specs.Path.{AreTakenFrom};
 ghost use Rattle.books.specs.declared.refused_files.RefusedFiles.TheVariants.{Connected};
 ghost use Rattle.office_commands.specs.office.Met.{IsMet};
 ghost use Rattle.office_commands.specs.office.Vacant.{IsConnection, IsThere, IsTooShort};
-ghost use Rattle.office_commands.specs.port.Back.{lets_go_giving};
+ghost use Rattle.office_commands.specs.port.Back.{ends_look};
 ghost use Rattle.office_commands.specs.port.Places.{HasFailed, IsUnopenedIn, places_of};
 
 use crate::office::met::Met;
 use crate::office::opening::options_of;
+use crate::port::new_log::LogName;
 use crate::port::ports::{OfficeFile, SaltSource};
 use book_opening::fault_of;
 use book_tables::format::presence::format_here;
@@ -132,18 +133,18 @@ fn are_short<D: Disk>(log: &mut D, db: &mut D) -> io::Result<bool>
     }
 }
 
-// Connects with the database in two files, or lets them go.
+// Connects with the database in two files, or ends the look at them.
 fn connect_in<H: OfficeFile>(
     alloc: Global,
     salts: &H::Salts,
     found: Files<H::Medium>,
-    new_log: &Option<String>,
+    new_log: &LogName,
 ) -> Result<Connection<FileStore<H::Medium>>, OpenFault>
     requires log { IsTrue (H.Medium.Disk.is_usable found.log) }
     requires db { IsTrue (H.Medium.Disk.is_usable found.db) }
     ensures connected { IfOk result (IsConnection H.Medium.Disk (image_of H.Medium.Disk found)) }
     ensures refused { IfErr result
-        (IsUnopenedIn H.Medium.Disk H.Salts.SaltSource (lets_go_giving H.OfficeFile None false)
+        (IsUnopenedIn H.Medium.Disk H.Salts.SaltSource (ends_look H.OfficeFile new_log.now)
         found) }
 {
     found_law::<FileStore<H::Medium>>();
@@ -167,7 +168,7 @@ fn keep_taken<H: OfficeFile>(
     alloc: Global,
     conn: Connection<FileStore<H::Medium>>,
     salts: &H::Salts,
-    new_log: &Option<String>,
+    new_log: &LogName,
 ) -> Result<Option<Connection<FileStore<H::Medium>>>, OpenFault>
     ensures kept { IfOk result (λ kept. IfSome kept
         (λ it. (it ≡ conn) × (¬ IsUntaken conn.schema))) }
@@ -175,11 +176,11 @@ fn keep_taken<H: OfficeFile>(
         × ((n : ℕ) → n ≤ present_format → HasOfficeOf n conn.schema → n ≡ 0))) }
     ensures vacant { IfOk result (λ kept. IfNone kept ((left : Files H.Medium)
         × AreTakenFrom (Connected conn) left
-        × lets_go_giving H.OfficeFile None false left.log left.db)) }
+        × ends_look H.OfficeFile new_log.now left.log left.db)) }
     ensures memory { IfErr result (λ fault. fault ≡ OpenFault.Memory) }
     ensures refused { IfErr result (λ _. (left : Files H.Medium)
         × AreTakenFrom (Connected conn) left
-        × lets_go_giving H.OfficeFile None false left.log left.db) }
+        × ends_look H.OfficeFile new_log.now left.log left.db) }
 {
     match is_untaken(alloc, conn.schema()) {
         Ok(false) => Ok(Some(conn)),

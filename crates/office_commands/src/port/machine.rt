@@ -2,10 +2,11 @@
 
 ghost use Rattle.std.specs.Prelude.{◌≡◌, ⊤, IfSome, None};
 ghost use Rattle.sqlite_wal.specs.Files.{image_at};
-ghost use Rattle.office_commands.specs.port.Found.{AreFresh, HoldWhatWasFound, IsUnopenable};
+ghost use Rattle.office_commands.specs.port.Found.{AreFresh, HoldWhatWasFound, IsLogName};
+ghost use Rattle.office_commands.specs.port.Found.{IsUnopenable};
 
 use crate::port::ended::Back;
-use crate::port::new_log::{absent_log, remove_log};
+use crate::port::new_log::LogName;
 use crate::port::openings::{EachTry, Openings, Pair, PresentOpenings, make_private};
 use crate::port::ports::{OfficeFile, SaltSource};
 use crate::port::tries::try_for;
@@ -61,14 +62,18 @@ impl<'a, B: Start> OfficeFile for MachineFile<'a, B> {
 
     ghost lets_go = { λ _ _ _. ⊤ };
 
+    ghost names = { λ _ _ name. IsLogName name };
+
+    ghost ends_look = { λ _ _ _ _. ⊤ };
+
     ghost leaves = { λ _ _. ⊤ };
 
     fn salts(&self) -> MachineSalts<'a> {
         MachineSalts { rt: self.rt }
     }
 
-    fn new_log(&self, path: &str) -> Option<String> {
-        absent_log(self.rt, path)
+    fn new_log(&self, path: &str) -> LogName {
+        LogName::absent(self.rt, path)
     }
 
     fn find(self, path: &str, wait: u32) -> Result<Pair<B>, OpenFault> {
@@ -98,12 +103,10 @@ impl<'a, B: Start> OfficeFile for MachineFile<'a, B> {
     }
 
     // The log goes while the database file is still open, so that no other program has either.
-    fn let_go_looked<D: Drop>(log: D, db: D, salts: &MachineSalts<'a>, new_log: &Option<String>)
+    fn let_go_looked<D: Drop>(log: D, db: D, salts: &MachineSalts<'a>, new_log: &LogName)
         ensures { ⊤ }
     {
-        if let Some(name) = new_log {
-            remove_log(salts.rt, name);
-        }
+        new_log.remove(salts.rt);
         drop(log);
         drop(db);
     }

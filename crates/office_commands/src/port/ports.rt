@@ -6,8 +6,10 @@ ghost use Rattle.sqlite_wal.specs.Files.{seen_image};
 ghost use Rattle.sqlite_wal.specs.Recovery.{Image};
 ghost use Rattle.sts_fields.specs.Text.{Text};
 ghost use Rattle.book_opening.specs.declared.fault.OpenFault.{OpenFault};
+ghost use Rattle.office_commands.specs.declared.port.new_log.LogName.{LogName};
 
 use crate::port::ended::Back;
+use crate::port::new_log::LogName;
 use crate::port::progress::Progress;
 use books::OpenFault;
 use conversation::Clock;
@@ -56,6 +58,13 @@ pub trait OfficeFile: Drop {
     /// The log and the database file were let go, as their last use left them.
     ghost lets_go: { (D : Type 0) → D → D → Type 0 };
 
+    /// A look at the file at this path would make a log of this name, or none.
+    ghost names: { Self → Text → LogName → Type 0 };
+
+    /// A look at the log and the database file was ended: they were let go, and a log of this name,
+    /// if the look made it, was removed.
+    ghost ends_look: { (D : Type 0) → D → D → LogName → Type 0 };
+
     /// It was left as it was: no files were opened.
     ghost leaves: { (T : Type 0) → T → Type 0 };
 
@@ -63,7 +72,8 @@ pub trait OfficeFile: Drop {
     fn salts(&self) -> Self::Salts;
 
     /// The name of the log that opening the file at a path would make, if it is there and has none.
-    fn new_log(&self, path: &str) -> Option<String>;
+    fn new_log(&self, path: &str) -> LogName
+        ensures { names self.now path.now result };
 
     /// Opens the log and the database file at a path, or makes them where there is none. Waits up
     /// to so many seconds while another program has them.
@@ -105,8 +115,8 @@ pub trait OfficeFile: Drop {
 
     /// Lets the log and the database file go, which were only looked at, and removes a log of this name
     /// that the look has made. Whatever this is given, it can do nothing else with it.
-    fn let_go_looked<D: Drop>(log: D, db: D, salts: &Self::Salts, new_log: &Option<String>)
-        ensures { lets_go D log db };
+    fn let_go_looked<D: Drop>(log: D, db: D, salts: &Self::Salts, new_log: &LogName)
+        ensures { ends_look D log db new_log.now };
 
     /// Leaves it as it is. Then no files can be opened any more. Whatever this is given, it can do
     /// nothing with it.

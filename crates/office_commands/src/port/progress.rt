@@ -3,8 +3,8 @@
 use crate::print::audit_lines::put_passed;
 use audit::{Follows, Part};
 use std::io::IsTerminal;
-use std::time::{Duration, Instant};
-use vend_ports::{Watched, put_opened, put_progress};
+use std::time::{Clock, Duration, Instant};
+use vend_ports::{Terminal, Watched, put_opened, put_progress};
 
 // So many seconds lie between two lines, at the least.
 const PAUSE: u64 = 1;
@@ -19,26 +19,59 @@ pub trait Progress: Follows + Drop {
     fn tell_opened(&mut self);
 }
 
+/// The error output, where it goes to a terminal, and what a command that takes long prints there.
+pub trait Onlooker: Terminal {
+    /// Whether the output goes to a terminal too.
+    fn shows_output(&self) -> bool;
+
+    /// Prints there that a part of an audit has passed.
+    fn print_passed(&self, part: Part);
+
+    /// Prints there how many of all sales are printed.
+    fn print_progress(&self, printed: u64, all: u64);
+
+    /// Prints there that a file is open.
+    fn print_opened(&self);
+}
+
+impl Onlooker for HostRuntime {
+    fn shows_output(&self) -> bool {
+        self.stdout().is_terminal()
+    }
+
+    fn print_passed(&self, part: Part) {
+        put_passed(part, &mut Watched::new(&mut self.stderr()));
+    }
+
+    fn print_progress(&self, printed: u64, all: u64) {
+        put_progress(printed, all, &mut Watched::new(&mut self.stderr()));
+    }
+
+    fn print_opened(&self) {
+        put_opened(&mut Watched::new(&mut self.stderr()));
+    }
+}
+
 /// The terminal where the error output goes. Where the output goes to a terminal too, what it shows
 /// tells how far an export is.
 #[derive(Drop)]
-pub struct TerminalProgress<'a> {
-    rt: &'a HostRuntime,
+pub struct TerminalProgress<'a, H: Clock + Onlooker> {
+    host: &'a H,
     last: Option<Instant>,
 }
 
-impl<'a> TerminalProgress<'a> {
+impl<'a, H: Clock + Onlooker> TerminalProgress<'a, H> {
     /// The first line comes a second from now, or later.
-    pub fn new(rt: &'a HostRuntime) -> TerminalProgress<'a> {
+    pub fn new(host: &'a H) -> TerminalProgress<'a, H> {
         TerminalProgress {
-            rt,
-            last: Instant::now(rt).ok(),
+            host,
+            last: Instant::now(host).ok(),
         }
     }
 
     // Whether the next line may come now.
     fn is_due(&mut self) -> bool {
-        let (Some(last), Ok(now)) = (self.last, Instant::now(self.rt)) else {
+        let (Some(last), Ok(now)) = (self.last, Instant::now(self.host)) else {
             return false;
         };
         if now.duration_since(last) < Duration::from_secs(PAUSE) {
@@ -49,27 +82,29 @@ impl<'a> TerminalProgress<'a> {
     }
 }
 
-impl Follows for TerminalProgress<'_> {
+impl<H: Clock + Onlooker> Follows for TerminalProgress<'_, H> {
+    ghost use Rattle.std.specs.Prelude.{⊤};
+
+    // No contract says what a terminal shows.
+    ghost told = { λ _ _ _. ⊤ };
+
     fn passed(&mut self, part: Part) {
-        let mut terminal = self.rt.stderr();
-        if terminal.is_terminal() && self.is_due() {
-            put_passed(part, &mut Watched::new(&mut terminal));
+        if self.host.is_watched() && self.is_due() {
+            self.host.print_passed(part);
         }
     }
 }
 
-impl Progress for TerminalProgress<'_> {
+impl<H: Clock + Onlooker> Progress for TerminalProgress<'_, H> {
     fn tell(&mut self, printed: u64, all: u64) {
-        let mut terminal = self.rt.stderr();
-        if terminal.is_terminal() && !self.rt.stdout().is_terminal() && self.is_due() {
-            put_progress(printed, all, &mut Watched::new(&mut terminal));
+        if self.host.is_watched() && !self.host.shows_output() && self.is_due() {
+            self.host.print_progress(printed, all);
         }
     }
 
     fn tell_opened(&mut self) {
-        let mut terminal = self.rt.stderr();
-        if terminal.is_terminal() && self.is_due() {
-            put_opened(&mut Watched::new(&mut terminal));
+        if self.host.is_watched() && self.is_due() {
+            self.host.print_opened();
         }
     }
 }

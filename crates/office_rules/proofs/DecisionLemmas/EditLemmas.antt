@@ -1,5 +1,5 @@
 -- Each edit that a decision makes keeps an office an office.
-use Rattle.std.proofs.Common.{◌≡◌, ℕ, ◌+◌, ◌<◌, ◌≤◌, ◌⊎◌, inl, inr, Bool, true, false, List, [], ◌∷◌, ◌++◌, length, Option, Some, None, refl, sym, ◌∙◌, ap, subst, arith}
+use Rattle.std.proofs.Common.{◌≡◌, ℕ, ◌+◌, ◌<◌, ◌≤◌, ◌^◌, ◌⊎◌, inl, inr, Bool, true, false, List, [], ◌∷◌, ◌++◌, length, Option, Some, None, refl, sym, ◌∙◌, ap, subst, arith}
 use Rattle.std.specs.Prelude.{◌&&◌, ◌||◌, ◌==◌, All, Contains, IsNone, IsSome, bytes_eq, is_none, not, if◌then◌else◌, option_map}
 use Rattle.std.proofs.lemmas.Bool.Decides.{nat_tests}
 use Rattle.std.proofs.lemmas.List.{length-map, length_push}
@@ -13,7 +13,7 @@ use Rattle.sts_fields.specs.declared.base.Base.TheVariants.{Y1993, Y2014, Y2035}
 use Rattle.tariff.specs.Steps.{IsSteps}
 use Rattle.tariff.specs.declared.step.Step.{Step}
 use Rattle.office_rules.specs.Decision.Edits.{one_base_more}
-use Rattle.office_rules.specs.Decision.Fold.{applied, closed_at, with_base, with_tariff}
+use Rattle.office_rules.specs.Decision.Fold.{applied, closed_at, with_base, with_key, with_tariff}
 use Rattle.office_rules.specs.Office.Lookup.{open_shift}
 use Rattle.office_rules.specs.Name.{IsName}
 use Rattle.sts_fields.specs.Moment.{IsMoment}
@@ -151,6 +151,32 @@ keeps_add_steps o name day steps office is priced tariff =
             }
         | inr there ↦ dated_row_kept o p keeps q d s (office.dated_steps q d s there)
       ];
+      shifts = office.shifts;
+      shift_numbers = office.shift_numbers;
+      one_open = office.one_open;
+      shift_count = office.shift_count;
+      sales = sales_kept o p keeps o.sales office.sales;
+      sale_numbers = office.sale_numbers;
+      before = office.before;
+      sale_count = office.sale_count;
+    }
+
+-- what stands where a row may have been taken away stood there before
+pub kept_beside : {A : Type 0} (b : Bool) (there : Option A) (x : A) → (if b then None else there) ≡ Some x → there ≡ Some x
+kept_beside true there x e = cc
+kept_beside false there x e = e
+
+-- an office without some of its further steps is an office
+pub keeps_withdraw_steps : (o : Office) (name : List ℕ) (day : ℕ) → IsOffice o → IsOffice (applied (edits.WithdrawSteps name day) o)
+keeps_withdraw_steps o name day office =
+    let p = applied (edits.WithdrawSteps name day) o in
+    let keeps : Keeps o p = keeps_rows o p refl refl refl (omega arith) in
+    record {
+      tariffs = office.tariffs;
+      meters = λ number m e. meter_row_kept o p keeps number m (office.meters number m e);
+      bases = λ q b had. base_row_kept o p keeps q b (office.bases q b had);
+      dated_steps = λ q d s e.
+          dated_row_kept o p keeps q d s (office.dated_steps q d s (kept_beside (bytes_eq q name && (d == day)) (o.dated_steps q d) s e));
       shifts = office.shifts;
       shift_numbers = office.shift_numbers;
       one_open = office.one_open;
@@ -317,6 +343,46 @@ keeps_move_base o number base m office there later =
             record { meter = with_base base m; meter_is = ap p.meters same ∙ put; not_after = omega (arith, equal_years b base both.1) }
         | inr before ↦ base_row_kept o p keeps q b (office.bases q b before)
       ];
+      dated_steps = λ q d s e. dated_row_kept o p keeps q d s (office.dated_steps q d s e);
+      shifts = office.shifts;
+      shift_numbers = office.shift_numbers;
+      one_open = office.one_open;
+      shift_count = office.shift_count;
+      sales = sales_kept o p keeps o.sales office.sales;
+      sale_numbers = office.sale_numbers;
+      before = office.before;
+      sale_count = office.sale_count;
+    }
+
+-- a meter that is given a key has its base
+pub base_with_key : (b : Bool) (key : ℕ) (m : Meter) → (if b then with_key key m else m).base ≡ m.base
+base_with_key true key m = refl
+base_with_key false key m = refl
+
+-- an office with a meter given a key is an office
+pub keeps_set_key : (o : Office) (number : List ℕ) (key : ℕ) → IsOffice o → key < 2 ^ 64 → IsOffice (applied (edits.SetKey number key) o)
+keeps_set_key o number key office is =
+    let p = applied (edits.SetKey number key) o in
+    let keeps : Keeps o p = record {
+      tariffs = λ n some. some;
+      bases = λ q b had. had;
+      meters = λ q m at. (
+        (if bytes_eq q number then with_key key m else m),
+        set_kept (bytes_eq q number) (with_key key) m (o.meters q) at,
+        omega (arith, ap year_of (base_with_key (bytes_eq q number) key m)),
+      );
+      shifts = omega arith;
+    } in
+    record {
+      tariffs = office.tariffs;
+      meters = λ q m e.
+          let was = set_cases (bytes_eq q number) (with_key key) m (o.meters q) e in
+          let old = office.meters q was.0 was.1 in
+          elim was.2 [
+            | inl set ↦ subst (λ (k : Meter). IsMeterRow p q k) set.1 (record { numbered = old.numbered; key = is; tariff = old.tariff; base = old.base })
+            | inr same ↦ subst (λ (k : Meter). IsMeterRow p q k) same (meter_row_kept o p keeps q was.0 old)
+          ];
+      bases = λ q b had. base_row_kept o p keeps q b (office.bases q b had);
       dated_steps = λ q d s e. dated_row_kept o p keeps q d s (office.dated_steps q d s e);
       shifts = office.shifts;
       shift_numbers = office.shift_numbers;

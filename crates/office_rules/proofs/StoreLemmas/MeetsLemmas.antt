@@ -1,16 +1,17 @@
 -- The edit of a granted request meets what it needs in the office: a free name, the tariff, the
 -- open shift, the next number.
-use Rattle.std.proofs.Common.{◌≡◌, ℕ, ◌<◌, Bool, true, false, List, Option, Some, None, Result, Ok, Err, is_some, length, refl, sym, ◌∙◌, ap, subst, if◌then◌else◌, arith}
-use Rattle.std.specs.Prelude.{All, IsSome, bytes_eq, nat_lt}
+use Rattle.std.proofs.Common.{◌≡◌, ℕ, ◌^◌, ◌<◌, Bool, true, false, List, Option, Some, None, Result, Ok, Err, is_some, length, refl, sym, ◌∙◌, ap, subst, if◌then◌else◌, arith}
+use Rattle.std.specs.Prelude.{◌&&◌, ◌==◌, All, IsSome, bytes_eq, nat_lt, not}
 use Rattle.std.proofs.lemmas.Bool.{false≢true}
-use Rattle.std.proofs.lemmas.Bool.Decides.{nat_tests}
+use Rattle.std.proofs.lemmas.Bool.Decides.{Decides-eqb, nat_tests}
 use Rattle.std.proofs.lemmas.Slice.Eq.{bytes_eq-Decides}
 use Rattle.sts_token.specs.Token.{KeepsRange}
+use Rattle.tariff.specs.declared.step.Step.{Step}
 use Rattle.sts_fields.specs.Base.{base_date, base_eq, year_of}
 use Rattle.sts_fields.specs.Day.{day_at}
 use Rattle.sts_fields.specs.declared.base.Base.{Base}
-use Rattle.office_rules.specs.Decision.{changed, close_shift, decision, decision_of, is_earlier, move_base, account_of, next_number, open_a_shift, report, reprint, sell, sell_once, set_tariff, unchanged}
-use Rattle.office_rules.specs.Office.Lookup.{open_shift, sale_numbered, sale_of_ref, sales_of_shift, shift_numbered, used}
+use Rattle.office_rules.specs.Decision.{changed, close_shift, decision, decision_of, is_earlier, move_base, account_of, next_number, open_a_shift, report, reprint, sell, sell_once, set_key, set_tariff, unchanged, withdraw_steps}
+use Rattle.office_rules.specs.Office.Lookup.{has_sales, open_shift, sale_numbered, sale_of_ref, sales_of_shift, shift_numbered, sold_since, used}
 use Rattle.office_rules.specs.Name.{IsOperator}
 use Rattle.office_rules.specs.Law.NewSale.{IsNewSale}
 use Rattle.sts_fields.specs.Moment.{IsMoment}
@@ -36,6 +37,7 @@ use Rattle.office_rules.proofs.DecisionLemmas.NewSaleLemmas.{LowerLaws, granted_
 use Rattle.office_rules.proofs.OfficeLemmas.{after_sales, new_row}
 use Rattle.office_rules.proofs.OfficeLemmas.RowLemmas.{same_number}
 use Rattle.office_rules.proofs.StoreLemmas.{open_shift_is}
+use Rattle.office_rules.proofs.StoreLemmas.SoldLemmas.{not_sold_since_is, not_sold_to_is, passed_both}
 use Rattle.office_rules.proofs.StoreLemmas.RowMeetsLemmas.{EditMeets, if_changed, if_import, if_tested, if_unchanged, not_moved_yet, row_meets}
 
 if_set : (o : Office) (number name : List ℕ) (m : Meter) (b : Bool) → bytes_eq m.tariff name ≡ b
@@ -51,6 +53,48 @@ if_set o number name m false is meter_is there =
           λ same. false≢true (sym is ∙ (bytes_eq-Decides m.tariff name).1 same);
       tariff = there;
     })
+
+if_withdrawing : (o : Office) (name : List ℕ) (day : ℕ) (steps : List Step) (b : Bool)
+    → o.dated_steps name day ≡ Some steps → (b ≡ true → sold_since o day ≡ false)
+    → EditMeets o (if b then changed (edits.WithdrawSteps name day) (answers.Withdrawn 1)
+    else Err refusals.DayPast)
+if_withdrawing o name day steps true there none =
+    if_changed o _ (record {
+      steps = steps;
+      steps_are = there;
+      sold_before = (not_sold_since_is o day).0 (none refl);
+    })
+if_withdrawing o name day steps false there none = tt
+
+if_withdraw_steps : (o : Office) (name : List ℕ) (day today : ℕ) (has : Bool)
+    (there : Option (List Step)) → o.dated_steps name day ≡ there
+    → EditMeets o (withdraw_steps name day today has there (sold_since o day))
+if_withdraw_steps o name day today false there e = tt
+if_withdraw_steps o name day today true None e = if_unchanged o
+if_withdraw_steps o name day today true (Some steps) e =
+    if_withdrawing o name day steps (nat_lt today day && not (sold_since o day)) e
+    (passed_both (nat_lt today day) (sold_since o day))
+
+if_key : (o : Office) (number : List ℕ) (key : ℕ) (m : Meter) (same sold : Bool) → key < 2 ^ 64
+    → o.meters number ≡ Some m → (m.key == key) ≡ same → has_sales o number ≡ sold
+    → EditMeets o (if same then unchanged answers.Done
+    else (if sold then Err refusals.HasSales else changed (edits.SetKey number key) answers.Done))
+if_key o number key m true sold is there same_is sold_is = if_unchanged o
+if_key o number key m false true is there same_is sold_is = tt
+if_key o number key m false false is there same_is sold_is =
+    if_changed o _ (record {
+      in_range = is;
+      meter = m;
+      meter_is = there;
+      other = λ same. false≢true (sym same_is ∙ (Decides-eqb m.key key).1 same);
+      no_sale = (not_sold_to_is o number).0 sold_is;
+    })
+
+if_set_key : (o : Office) (number : List ℕ) (key : ℕ) (there : Option Meter) → key < 2 ^ 64
+    → o.meters number ≡ there → EditMeets o (set_key number key there (has_sales o number))
+if_set_key o number key None is e = tt
+if_set_key o number key (Some m) is e =
+    if_key o number key m (m.key == key) (has_sales o number) is e refl refl
 
 module _ (o : Office) (office : IsOffice o) where
   if_set_tariff : (number name : List ℕ) (meter : Option Meter) (has : Bool)
@@ -176,6 +220,9 @@ module _ (o : Office) (office : IsOffice o) where
         row_meets o (day_at at.moment) (kinds.Tariff name steps) office is
     if_decided (requests.AddSteps name day steps) is =
         row_meets o (day_at at.moment) (kinds.Steps name day steps) office is
+    if_decided (requests.WithdrawSteps name day) is =
+        if_withdraw_steps o name day (day_at at.moment) (is_some (o.tariffs name))
+        (o.dated_steps name day) refl
     if_decided (requests.AddMeter number m) is =
         row_meets o (day_at at.moment) (kinds.Meter number m) office is
     if_decided (requests.Import rows) is = if_import o (day_at at.moment) rows office is
@@ -183,6 +230,8 @@ module _ (o : Office) (office : IsOffice o) where
         if_set_tariff number name (o.meters number) (is_some (o.tariffs name)) refl refl
     if_decided (requests.MoveBase number base) is =
         if_move_base number base at.moment (o.meters number) refl
+    if_decided (requests.SetKey number key) is =
+        if_set_key o number key (o.meters number) is.1 refl
     if_decided (requests.OpenShift operator) is =
         if_open_shift at.moment operator (open_shift o operator) moment is refl
     if_decided (requests.CloseShift operator) is =

@@ -1,6 +1,6 @@
 -- What a decision makes of an office: the rows that it adds or sets.
 use Rattle.std.specs.Prelude.{ℕ, ◌==◌, ◌&&◌, ◌||◌, Bool, List, [], ◌∷◌, ◌++◌, map, if◌then◌else◌}
-use Rattle.std.specs.Prelude.{Option, Some, Result, Ok, Err, IsSome, option_map, bytes_eq}
+use Rattle.std.specs.Prelude.{Option, Some, None, Result, Ok, Err, IsSome, option_map, bytes_eq}
 use Rattle.std.specs.Option.{option_map_or}
 use Rattle.sts_fields.specs.Base.{base_eq}
 use Rattle.sts_fields.specs.declared.base.Base.{Base}
@@ -10,6 +10,7 @@ use Rattle.office_rules.specs.declared.decision.change.Edit.{Edit}
 use Rattle.office_rules.specs.declared.decision.change.Edit.TheVariants.{AddTariff, AddSteps}
 use Rattle.office_rules.specs.declared.decision.change.Edit.TheVariants.{AddMeter, AddRows}
 use Rattle.office_rules.specs.declared.decision.change.Edit.TheVariants.{SetTariff, MoveBase}
+use Rattle.office_rules.specs.declared.decision.change.Edit.TheVariants.{SetKey, WithdrawSteps}
 use Rattle.office_rules.specs.declared.decision.change.Edit.TheVariants.{OpenShift, CloseShift}
 use Rattle.office_rules.specs.declared.decision.change.Edit.TheVariants.{AddSale}
 use Rattle.office_rules.specs.declared.office.meter.Meter.{Meter}
@@ -18,12 +19,15 @@ use Rattle.office_rules.specs.declared.office.row.Row.{Row}
 use Rattle.office_rules.specs.declared.office.row.Row.TheVariants as kinds
 use Rattle.office_rules.specs.declared.office.shift.Shift.{Shift}
 
--- a meter with another tariff or another base, and a shift that is closed
+-- a meter with another tariff, another base or another key, and a shift that is closed
 abbrev pub with_tariff : List ℕ → Meter → Meter
 with_tariff name m = record m { tariff = name }
 
 abbrev pub with_base : Base → Meter → Meter
 with_base base m = record m { base = base }
+
+abbrev pub with_key : ℕ → Meter → Meter
+with_key key m = record m { key = key }
 
 abbrev pub closed_at : ℕ → Shift → Shift
 closed_at moment s = record s { closed = Some moment }
@@ -57,10 +61,14 @@ with_rows [] o = o
 with_rows (row ∷ rows) o = with_rows rows (with_row row o)
 
 -- the office after an edit: rows are put under their names and numbers, or one is set, moved to a
--- base, added at the end, or closed
+-- base, taken away, added at the end, or closed
 abbrev pub applied : Edit → Office → Office
 applied (AddTariff name steps) o = with_row (kinds.Tariff name steps) o
 applied (AddSteps name day steps) o = with_row (kinds.Steps name day steps) o
+applied (WithdrawSteps name day) o =
+    record o {
+      dated_steps = λ q d. if bytes_eq q name && (d == day) then None else o.dated_steps q d;
+    }
 applied (AddMeter number m) o = with_row (kinds.Meter number m) o
 applied (AddRows rows) o = with_rows rows o
 applied (SetTariff number name) o =
@@ -70,6 +78,8 @@ applied (MoveBase number base) o =
       meters = set_meter number (with_base base) o.meters;
       bases = one_base_more number base o.bases;
     }
+applied (SetKey number key) o =
+    record o { meters = set_meter number (with_key key) o.meters }
 applied (OpenShift s) o = record o { shifts = o.shifts ++ s ∷ [] }
 applied (CloseShift number moment) o =
     record o { shifts = map (λ s. if s.number == number then closed_at moment s else s) o.shifts }

@@ -4,8 +4,8 @@ use Rattle.std.specs.Prelude.{IsNone, IsSome, Result, Ok, Err, is_some, length, 
 use Rattle.sts_fields.specs.Day.{day_at}
 use Rattle.office_rules.specs.Decision.{account_of, add_steps, add_tariff, is_new, row_decision}
 use Rattle.office_rules.specs.Decision.{unchanged}
-use Rattle.office_rules.specs.Office.Lookup.{open_shift, sale_numbered, sale_of_ref, sales_of_shift}
-use Rattle.office_rules.specs.Office.Lookup.{shift_numbered}
+use Rattle.office_rules.specs.Office.Lookup.{has_sales, open_shift, sale_numbered, sale_of_ref}
+use Rattle.office_rules.specs.Office.Lookup.{sales_of_shift, shift_numbered, sold_since}
 use Rattle.office_rules.specs.Office.{Office}
 use Rattle.office_rules.specs.declared.decision.answer.Answer.TheVariants.{Report}
 use Rattle.office_rules.specs.declared.decision.change.Change.{Change}
@@ -19,6 +19,7 @@ use Rattle.office_rules.specs.declared.decision.request.Request.{Request}
 use Rattle.office_rules.specs.declared.decision.request.Request.TheVariants.{AddTariff, AddSteps}
 use Rattle.office_rules.specs.declared.decision.request.Request.TheVariants.{AddMeter, Import}
 use Rattle.office_rules.specs.declared.decision.request.Request.TheVariants.{SetTariff, MoveBase}
+use Rattle.office_rules.specs.declared.decision.request.Request.TheVariants.{SetKey, WithdrawSteps}
 use Rattle.office_rules.specs.declared.decision.request.Request.TheVariants.{OpenShift, CloseShift}
 use Rattle.office_rules.specs.declared.decision.request.Request.TheVariants.{Sell, Reprint}
 use Rattle.office_rules.specs.declared.decision.request.Request.TheVariants.{ShiftReport}
@@ -37,6 +38,8 @@ no_facts = record {
   meter = None;
   has_tariff = false;
   dated_steps = None;
+  sold_since = false;
+  has_sales = false;
   rows = None;
   open_shift = None;
   shift_count = 0;
@@ -62,6 +65,18 @@ pub record AreSettingFacts (o : Office) (number name : List ℕ) (f : Facts) : T
 pub record AreDatedFacts (o : Office) (name : List ℕ) (day : ℕ) (f : Facts) : Type 0 where
   pub has_tariff : f.has_tariff ≡ is_some (o.tariffs name)
   pub dated_steps : f.has_tariff ≡ true → f.dated_steps ≡ o.dated_steps name day
+
+-- WithdrawSteps looks at the steps of the day only where the tariff stands, and at the sales since
+-- that day only where there are such steps
+pub record AreWithdrawalFacts (o : Office) (name : List ℕ) (day : ℕ) (f : Facts) : Type 0 where
+  pub has_tariff : f.has_tariff ≡ is_some (o.tariffs name)
+  pub dated_steps : f.has_tariff ≡ true → f.dated_steps ≡ o.dated_steps name day
+  pub sold_since : f.has_tariff ≡ true → IsSome f.dated_steps → f.sold_since ≡ sold_since o day
+
+-- SetKey looks at the sales to the meter only where the meter stands
+pub record AreKeyFacts (o : Office) (number : List ℕ) (f : Facts) : Type 0 where
+  pub meter : f.meter ≡ o.meters number
+  pub has_sales : IsSome f.meter → f.has_sales ≡ has_sales o number
 
 -- OpenShift counts the shifts only where the operator has no open one
 pub record AreOpeningFacts (o : Office) (operator : List ℕ) (f : Facts) : Type 0 where
@@ -108,11 +123,13 @@ report_of o number = option_map (λ s. (s, sales_of_shift o number)) (shift_numb
 abbrev pub AreFactsOf : Office → ℕ → Request → Facts → Type 0
 AreFactsOf o moment (AddTariff name steps) f = f.tariff ≡ o.tariffs name
 AreFactsOf o moment (AddSteps name day steps) f = AreDatedFacts o name day f
+AreFactsOf o moment (WithdrawSteps name day) f = AreWithdrawalFacts o name day f
 AreFactsOf o moment (AddMeter number m) f = AreMeterFacts o number m f
 AreFactsOf o moment (Import rows) f =
     (fs : List RowFacts) × (f.rows ≡ Some fs) × AreRowsFacts o (day_at moment) rows fs
 AreFactsOf o moment (SetTariff number name) f = AreSettingFacts o number name f
 AreFactsOf o moment (MoveBase number base) f = f.meter ≡ o.meters number
+AreFactsOf o moment (SetKey number key) f = AreKeyFacts o number f
 AreFactsOf o moment (OpenShift operator) f = AreOpeningFacts o operator f
 AreFactsOf o moment (CloseShift operator) f = f.open_shift ≡ open_shift o operator
 AreFactsOf o moment (Sell order) f = AreSaleFacts o moment order f

@@ -3,7 +3,7 @@ use Rattle.std.specs.Prelude.{List, [], ◌∷◌, Result, Ok, Err}
 use Rattle.sts_token.specs.Token.{BlockFunction}
 use Rattle.office_rules.specs.Decision.{decision}
 pub use Rattle.office_rules.specs.Decision.Edits.{applied, closed_at, office_after, with_base}
-pub use Rattle.office_rules.specs.Decision.Edits.{with_tariff}
+pub use Rattle.office_rules.specs.Decision.Edits.{with_key, with_tariff}
 use Rattle.office_rules.specs.Office.{Office}
 use Rattle.office_rules.specs.declared.decision.answer.Answer.{Answer}
 use Rattle.office_rules.specs.declared.decision.change.Change.{Change}

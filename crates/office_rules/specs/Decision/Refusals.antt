@@ -17,6 +17,7 @@ use Rattle.office_rules.specs.declared.decision.refusal.Refusal.TheVariants.{NoS
 use Rattle.office_rules.specs.declared.decision.refusal.Refusal.TheVariants.{ImportRow, Memory}
 use Rattle.office_rules.specs.declared.decision.refusal.Refusal.TheVariants.{Store, Stopped}
 use Rattle.office_rules.specs.declared.decision.refusal.Refusal.TheVariants.{NotLater, DayPast}
+use Rattle.office_rules.specs.declared.decision.refusal.Refusal.TheVariants.{HasSales}
 
 -- the number that a user meets
 abbrev pub refusal_number : Refusal → ℕ
@@ -39,6 +40,7 @@ refusal_number Store = 16
 refusal_number Stopped = 17
 refusal_number NotLater = 18
 refusal_number DayPast = 19
+refusal_number HasSales = 20
 
 -- the name that a user meets
 abbrev pub refusal_name : Refusal → Text
@@ -61,6 +63,7 @@ refusal_name Store = codes "Store"
 refusal_name Stopped = codes "Stopped"
 refusal_name NotLater = codes "NotLater"
 refusal_name DayPast = codes "DayPast"
+refusal_name HasSales = codes "HasSales"
 
 -- what kind of reason it has: something is not there, the office forbids it as it stands, it cannot
 -- be done as it was asked, or the office is unable to answer
@@ -84,3 +87,4 @@ refusal_category Store = Unable
 refusal_category Stopped = Unable
 refusal_category NotLater = Forbidden
 refusal_category DayPast = Forbidden
+refusal_category HasSales = Forbidden

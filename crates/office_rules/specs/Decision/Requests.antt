@@ -10,8 +10,10 @@ use Rattle.office_rules.specs.declared.office.meter.Meter.{Meter}
 use Rattle.office_rules.specs.declared.decision.request.Order.{Order}
 use Rattle.office_rules.specs.declared.decision.request.Request.{Request}
 use Rattle.office_rules.specs.declared.decision.request.Request.TheVariants.{AddTariff, AddSteps}
+use Rattle.office_rules.specs.declared.decision.request.Request.TheVariants.{WithdrawSteps}
 use Rattle.office_rules.specs.declared.decision.request.Request.TheVariants.{AddMeter, Import}
 use Rattle.office_rules.specs.declared.decision.request.Request.TheVariants.{SetTariff, MoveBase}
+use Rattle.office_rules.specs.declared.decision.request.Request.TheVariants.{SetKey}
 use Rattle.office_rules.specs.declared.decision.request.Request.TheVariants.{OpenShift, CloseShift}
 use Rattle.office_rules.specs.declared.decision.request.Request.TheVariants.{Sell, Reprint}
 use Rattle.office_rules.specs.declared.decision.request.Request.TheVariants.{ShiftReport}
@@ -41,10 +43,12 @@ pub record IsOrder (order : Order) : Type 0 where
 abbrev pub IsRequest : Request → Type 0
 IsRequest (AddTariff name steps) = IsName name × IsSteps steps
 IsRequest (AddSteps name day steps) = IsName name × IsDay day × IsSteps steps
+IsRequest (WithdrawSteps name day) = IsName name × IsDay day
 IsRequest (AddMeter number m) = IsMeter number m
 IsRequest (Import rows) = All IsRow rows
 IsRequest (SetTariff number name) = IsMeterNo number × IsName name
 IsRequest (MoveBase number base) = IsMeterNo number
+IsRequest (SetKey number key) = IsMeterNo number × (key < 2 ^ 64)
 IsRequest (OpenShift operator) = IsOperator operator
 IsRequest (CloseShift operator) = IsOperator operator
 IsRequest (Sell order) = IsOrder order

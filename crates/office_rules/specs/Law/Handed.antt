@@ -1,7 +1,8 @@
 -- The sales that an office hands out with its answers.
 use Rattle.std.specs.Prelude.{List, [], ◌∷◌, Result, Ok, Err}
 use Rattle.office_rules.specs.declared.decision.answer.Answer.{Answer}
-use Rattle.office_rules.specs.declared.decision.answer.Answer.TheVariants.{Done, Imported, Opened}
+use Rattle.office_rules.specs.declared.decision.answer.Answer.TheVariants.{Done, Imported}
+use Rattle.office_rules.specs.declared.decision.answer.Answer.TheVariants.{Withdrawn, Opened}
 use Rattle.office_rules.specs.declared.decision.answer.Answer.TheVariants.{Closed, Sold, Reprinted}
 use Rattle.office_rules.specs.declared.decision.answer.Answer.TheVariants.{Report}
 use Rattle.office_rules.specs.declared.decision.refusal.Refusal.{Refusal}
@@ -11,6 +12,7 @@ use Rattle.office_rules.specs.declared.office.sale.Sale.{Sale}
 abbrev pub sales_in : Answer → List Sale
 sales_in Done = []
 sales_in (Imported new) = []
+sales_in (Withdrawn count) = []
 sales_in (Opened number) = []
 sales_in (Closed number) = []
 sales_in (Sold s) = s ∷ []

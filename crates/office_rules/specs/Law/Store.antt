@@ -1,10 +1,10 @@
 -- What a store finds among the office's rows, and what an edit meets there.
-use Rattle.std.specs.Prelude.{◌≡◌, ◌↔◌, ◌⊎◌, ℕ, ◌+◌, ◌<◌, ◌≤◌, ◌&&◌, ◌==◌, false, List, ◌≢◌, ◌∷◌}
-use Rattle.std.specs.Prelude.{[], Some, None, IsSome, IsNone, All, AllPairs, Contains, bytes_eq}
+use Rattle.std.specs.Prelude.{◌≡◌, ◌↔◌, ◌⊎◌, ℕ, ◌+◌, ◌^◌, ◌<◌, ◌≤◌, ◌&&◌, ◌==◌, false, List, ◌≢◌}
+use Rattle.std.specs.Prelude.{[], ◌∷◌, Some, None, IsSome, IsNone, All, AllPairs, Contains, bytes_eq}
 use Rattle.std.specs.Prelude.{filter, length, max, nat_lt, sum_by, take, unwrap_or, if◌then◌else◌}
 use Rattle.sts_fields.specs.Base.{base_eq, year_of}
 use Rattle.sts_fields.specs.Calendar.{month_at}
-use Rattle.sts_fields.specs.Day.{IsDay}
+use Rattle.sts_fields.specs.Day.{IsDay, day_at}
 use Rattle.sts_fields.specs.declared.base.Base.{Base}
 use Rattle.tariff.specs.Steps.{IsSteps}
 use Rattle.tariff.specs.declared.step.Step.{Step}
@@ -20,6 +20,7 @@ use Rattle.office_rules.specs.declared.decision.change.Edit.{Edit}
 use Rattle.office_rules.specs.declared.decision.change.Edit.TheVariants.{AddTariff, AddSteps}
 use Rattle.office_rules.specs.declared.decision.change.Edit.TheVariants.{AddMeter, AddRows}
 use Rattle.office_rules.specs.declared.decision.change.Edit.TheVariants.{SetTariff, MoveBase}
+use Rattle.office_rules.specs.declared.decision.change.Edit.TheVariants.{SetKey, WithdrawSteps}
 use Rattle.office_rules.specs.declared.decision.change.Edit.TheVariants.{OpenShift, CloseShift}
 use Rattle.office_rules.specs.declared.decision.change.Edit.TheVariants.{AddSale}
 use Rattle.office_rules.specs.declared.office.meter.Meter.{Meter}
@@ -154,14 +155,30 @@ pub record MeetsMove (o : Office) (number : List ℕ) (base : Base) : Type 0 whe
   pub later : year_of meter.base < year_of base
   pub no_base : o.bases number base ≡ false
 
+-- steps that are withdrawn: there are such, and each sale was made before their day
+pub record MeetsWithdrawal (o : Office) (name : List ℕ) (day : ℕ) : Type 0 where
+  pub steps : List Step
+  pub steps_are : o.dated_steps name day ≡ Some steps
+  pub sold_before : (s : Sale) → Contains o.sales s → day_at s.moment < day
+
+-- a meter that is given a key: it is there, it had another one, and it has no sale
+pub record MeetsKey (o : Office) (number : List ℕ) (key : ℕ) : Type 0 where
+  pub in_range : key < 2 ^ 64
+  pub meter : Meter
+  pub meter_is : o.meters number ≡ Some meter
+  pub other : meter.key ≢ key
+  pub no_sale : (s : Sale) → Contains o.sales s → s.meter ≢ number
+
 -- what an edit meets in the office that decided it
 abbrev pub Meets : Edit → Office → Type 0
 Meets (AddTariff name steps) o = MeetsRow (kinds.Tariff name steps) o
 Meets (AddSteps name day steps) o = MeetsRow (kinds.Steps name day steps) o
+Meets (WithdrawSteps name day) o = MeetsWithdrawal o name day
 Meets (AddMeter number m) o = MeetsRow (kinds.Meter number m) o
 Meets (AddRows rows) o = (1 ≤ length rows) × MeetRows rows o
 Meets (SetTariff number name) o = MeetsSetting o number name
 Meets (MoveBase number base) o = MeetsMove o number base
+Meets (SetKey number key) o = MeetsKey o number key
 Meets (OpenShift s) o = MeetsNewShift o s
 Meets (CloseShift number moment) o = MeetsClosing o number moment
 Meets (AddSale s) o = MeetsNewSale o s

@@ -1,9 +1,12 @@
 -- What is looked up in an office.
-use Rattle.std.specs.Prelude.{◌≡◌, ℕ, zero, suc, ◌<◌, ◌≤◌, ◌&&◌, ◌==◌, List, [], ◌∷◌, map, filter}
-use Rattle.std.specs.Prelude.{find, sum_by, max, Option, Some, None, is_none, unwrap_or, bytes_eq}
+use Rattle.std.specs.Prelude.{◌≡◌, ℕ, zero, suc, ◌<◌, ◌≤◌, ◌&&◌, ◌==◌, Bool, List, [], ◌∷◌, map}
+use Rattle.std.specs.Prelude.{filter, find, nat_le, sum_by, max, Contains, Option, Some, None}
+use Rattle.std.specs.Prelude.{is_none, unwrap_or, bytes_eq}
+use Rattle.std.specs.List.{list_any}
 use Rattle.std.specs.Option.{option_or}
 use Rattle.sts_fields.specs.Base.{base_eq}
 use Rattle.sts_fields.specs.Calendar.{month_at}
+use Rattle.sts_fields.specs.Day.{day_at}
 use Rattle.sts_fields.specs.declared.base.Base.{Base}
 use Rattle.tariff.specs.declared.step.Step.{Step}
 use Rattle.office_rules.specs.Office.{Office}
@@ -20,6 +23,22 @@ abbrev pub prior : Office → List ℕ → ℕ → ℕ
 prior o meter month =
     sum_by (λ s. s.tenths)
     (filter (λ s. bytes_eq s.meter meter && (month_at s.moment == month)) o.sales)
+
+-- whether there is a sale to a meter, under any base
+abbrev pub has_sales : Office → List ℕ → Bool
+has_sales o meter = list_any (λ s. bytes_eq s.meter meter) o.sales
+
+-- the same in a rule
+abbrev pub WasSoldTo : Office → List ℕ → Type 0
+WasSoldTo o meter = (s : Sale) × Contains o.sales s × (s.meter ≡ meter)
+
+-- whether a sale was made on a day or later, to whichever meter
+abbrev pub sold_since : Office → ℕ → Bool
+sold_since o day = list_any (λ s. nat_le day (day_at s.moment)) o.sales
+
+-- the same in a rule
+abbrev pub WasSoldSince : Office → ℕ → Type 0
+WasSoldSince o day = (s : Sale) × Contains o.sales s × (day ≤ day_at s.moment)
 
 -- of further steps by first day, those with the greatest first day that is not after a day
 unfoldable pub latest : (ℕ → Option (List Step)) → ℕ → Option (List Step)

@@ -7,6 +7,8 @@ pub enum Answer {
     Done,
     /// How many rows of an import were new.
     Imported(u32),
+    /// How many lists of steps were withdrawn, 0 or 1.
+    Withdrawn(u32),
     /// The number of the shift that was opened.
     Opened(u32),
     /// The number of the shift that was closed.

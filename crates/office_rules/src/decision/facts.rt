@@ -9,13 +9,17 @@ use tariff::Steps;
 pub struct Facts {
     /// The steps under the name of the tariff that is added.
     pub tariff: Option<Steps>,
-    /// The meter under the request's number, where a meter is added, set or moved.
+    /// The meter under the request's number, where one is added, set, moved or given a key.
     pub meter: Option<Meter>,
     /// Whether there is a tariff of that meter's tariff name, of the one that it is set to, or of
-    /// the one that steps are added to.
+    /// the one whose steps are added or withdrawn.
     pub has_tariff: bool,
-    /// The steps of the tariff that have the first day of those that are added.
+    /// The steps of the tariff that have the first day of those that are added or withdrawn.
     pub dated_steps: Option<Steps>,
+    /// Whether a sale, to any meter, was made on the day of the steps that are withdrawn, or later.
+    pub sold_since: bool,
+    /// Whether there is a sale, under any base, to the meter that is given a key.
+    pub has_sales: bool,
     /// What there is under the names of an import's rows.
     pub rows: Option<ImportFacts>,
     /// The open shift of the request's operator.
@@ -47,6 +51,8 @@ impl Facts {
             meter: None,
             has_tariff: false,
             dated_steps: None,
+            sold_since: false,
+            has_sales: false,
             rows: None,
             open_shift: None,
             shift_count: 0,

@@ -33,6 +33,10 @@ fn request_keeps_ranges(request: &Request)
             let _steps = steps.as_slice();
         }
         Request::AddSteps(name, day, steps) => steps_keep_ranges(name, *day, steps),
+        Request::WithdrawSteps(name, day) => {
+            let _name = name.as_bytes();
+            let _day = day.days();
+        }
         Request::AddMeter(number, meter) => meter_keeps_ranges(number, meter),
         Request::Import(rows) => rows_keep_ranges(rows.as_slice()),
         Request::SetTariff(number, name) => {
@@ -41,6 +45,10 @@ fn request_keeps_ranges(request: &Request)
         }
         Request::MoveBase(number, _) => {
             let _number = number.as_bytes();
+        }
+        Request::SetKey(number, key) => {
+            let _number = number.as_bytes();
+            let _key = *key;
         }
         Request::OpenShift(operator) => {
             let _operator = operator.as_bytes();

@@ -49,6 +49,8 @@ pub enum Refusal {
     NotLater,
     #[error("the day of the steps has begun")]
     DayPast,
+    #[error("the meter has sales")]
+    HasSales,
 }
 
 impl Refusal {
@@ -76,6 +78,7 @@ impl Refusal {
             Refusal::Stopped => 17,
             Refusal::NotLater => 18,
             Refusal::DayPast => 19,
+            Refusal::HasSales => 20,
         }
     }
 
@@ -103,6 +106,7 @@ impl Refusal {
             Refusal::Stopped => "Stopped",
             Refusal::NotLater => "NotLater",
             Refusal::DayPast => "DayPast",
+            Refusal::HasSales => "HasSales",
         }
     }
 
@@ -123,7 +127,8 @@ impl Refusal {
             | Refusal::IdentifierAhead
             | Refusal::OfficeFull
             | Refusal::NotLater
-            | Refusal::DayPast => Category::Forbidden,
+            | Refusal::DayPast
+            | Refusal::HasSales => Category::Forbidden,
             Refusal::TooLittle => Category::Unfit,
             Refusal::ImportRow(row, cause) => Category::UnfitRow(row, cause),
             Refusal::Memory | Refusal::Store | Refusal::Stopped => Category::Unable,

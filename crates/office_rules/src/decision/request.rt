@@ -22,12 +22,16 @@ pub enum Request {
     AddTariff(TariffName, Steps),
     /// Further steps of a tariff, valid from this day of UTC on.
     AddSteps(TariffName, Day, Steps),
+    /// The further steps of a tariff that are valid from this day of UTC on are taken back.
+    WithdrawSteps(TariffName, Day),
     AddMeter(MeterNo, Meter),
     /// All the rows, or none.
     Import(Rows),
     SetTariff(MeterNo, TariffName),
     /// The meter's next identifiers count from this base date.
     MoveBase(MeterNo, Base),
+    /// The key of a meter that has no sale under any base.
+    SetKey(MeterNo, u64),
     OpenShift(Operator),
     CloseShift(Operator),
     Sell(Order),

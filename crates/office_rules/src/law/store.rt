@@ -1,7 +1,8 @@
 ghost use Rattle.std.specs.Prelude.{◌≡◌, ◌≢◌, ◌↔◌, ◌&&◌, ◌==◌, ◌+◌, ◌-◌, ◌^◌, ◌<◌, ◌≤◌, ℕ, List};
-ghost use Rattle.std.specs.Prelude.{Option, Some, None, Ok, All, Contains, bytes_eq, drop, max};
-ghost use Rattle.std.specs.Prelude.{slice_get, take, unwrap_or, if◌then◌else◌};
+ghost use Rattle.std.specs.Prelude.{Option, Some, None, Ok, All, Contains, bytes_eq, drop, false};
+ghost use Rattle.std.specs.Prelude.{max, slice_get, take, true, unwrap_or, if◌then◌else◌};
 ghost use Rattle.sts_fields.specs.Calendar.{month_at};
+ghost use Rattle.sts_fields.specs.Day.{day_at};
 ghost use Rattle.sts_fields.specs.Tid.{IsLast, last_tid};
 ghost use Rattle.sts_fields.specs.declared.base.Base.{Base};
 ghost use Rattle.sts_token.specs.Token.{KeepsRange, BlockFunction};
@@ -9,9 +10,10 @@ ghost use Rattle.tariff.specs.declared.step.Step.{Step};
 ghost use Rattle.office_rules.specs.Decision.{decision};
 ghost use Rattle.office_rules.specs.Decision.Fold.{applied};
 ghost use Rattle.sts_fields.specs.Base.{base_eq};
-ghost use Rattle.office_rules.specs.Office.Lookup.{IsLatest, NoneBegun, greatest_of, latest};
-ghost use Rattle.office_rules.specs.Office.Lookup.{open_shift, prior, sale_numbered, sale_of_ref};
-ghost use Rattle.office_rules.specs.Office.Lookup.{sales_of_shift, shift_numbered, used};
+ghost use Rattle.office_rules.specs.Office.Lookup.{IsLatest, NoneBegun, WasSoldSince, WasSoldTo};
+ghost use Rattle.office_rules.specs.Office.Lookup.{greatest_of, has_sales, latest, open_shift};
+ghost use Rattle.office_rules.specs.Office.Lookup.{prior, sale_numbered, sale_of_ref};
+ghost use Rattle.office_rules.specs.Office.Lookup.{sales_of_shift, shift_numbered, sold_since, used};
 ghost use Rattle.office_rules.specs.Office.{IsOffice, Office};
 ghost use Rattle.office_rules.specs.Decision.Requests.{IsStamped};
 ghost use Rattle.office_rules.specs.Law.Store.{AreByNumber, HasOneSaleMore, IsLastSale};
@@ -49,6 +51,18 @@ pub fn store_law()
         → ((latest dated day ≡ Some steps) ↔ IsLatest dated day steps) }
     ensures no_latest_steps { (dated : ℕ → Option (List Step)) (day : ℕ)
         → ((latest dated day ≡ None) ↔ NoneBegun dated day) }
+
+    // Whether there is a sale to a meter, and whether one was made since a day.
+    ensures has_sales { (o : Office) (number : List ℕ)
+        → ((has_sales o number ≡ true) ↔ WasSoldTo o number) }
+    ensures has_no_sales { (o : Office) (number : List ℕ)
+        → ((has_sales o number ≡ false)
+        ↔ ((s : Sale) → Contains o.sales s → s.meter ≢ number)) }
+    ensures sold_since { (o : Office) (day : ℕ)
+        → ((sold_since o day ≡ true) ↔ WasSoldSince o day) }
+    ensures not_sold_since { (o : Office) (day : ℕ)
+        → ((sold_since o day ≡ false)
+        ↔ ((s : Sale) → Contains o.sales s → day_at s.moment < day)) }
 
     // A shift that stands, is the operator's and is open is the operator's open shift.
     ensures open_shift { (o : Office) (name : List ℕ) (s : Shift)

@@ -305,9 +305,17 @@ module _ (laws : DeskLaws) (old new : Timed Life) (x : MessageExchange) (opening
         let q = questions.SetTariff meter tariff in
         request_says q (requests.SetTariff meter tariff) asked (laws.means q moment askable is_moment) tt refl (λ json s. refl) (λ json s none. none) tt
         (λ o end r at asks goes may told. tt) c
+    question_says (questions.WithdrawSteps name day) askable asked c =
+        let q = questions.WithdrawSteps name day in
+        request_says q (requests.WithdrawSteps name day) asked (laws.means q moment askable is_moment) tt refl (λ json s. refl) (λ json s none. none) tt
+        (λ o end r at asks goes may told. tt) c
     question_says (questions.MoveBase meter base) askable asked c =
         let q = questions.MoveBase meter base in
         request_says q (requests.MoveBase meter base) asked (laws.means q moment askable is_moment) tt refl (λ json s. refl) (λ json s none. none) tt
+        (λ o end r at asks goes may told. tt) c
+    question_says (questions.SetKey meter key) askable asked c =
+        let q = questions.SetKey meter key in
+        request_says q (requests.SetKey meter key) asked (laws.means q moment askable is_moment) tt refl (λ json s. refl) (λ json s none. none) tt
         (λ o end r at asks goes may told. tt) c
     question_says (questions.OpenShift operator) askable asked c =
         let q = questions.OpenShift operator in

@@ -67,6 +67,20 @@ answers_base number base (Ok answers.Done) h = tt
 answers_base number base (Ok answer) h = absurd h
 answers_base number base (Err refusal) h = h
 
+-- that of withdrawing steps
+pub answers_withdraw : (name : List ℕ) (day : ℕ) (r : Result Answer Refusal) → MayReplyTo (requests.WithdrawSteps name day) r
+    → IsAnswered (questions.WithdrawSteps name day) r
+answers_withdraw name day (Ok (answers.Withdrawn n)) h = tt
+answers_withdraw name day (Ok answer) h = absurd h
+answers_withdraw name day (Err refusal) h = h
+
+-- that of setting a key
+pub answers_key : (number : List ℕ) (key : ℕ) (r : Result Answer Refusal) → MayReplyTo (requests.SetKey number key) r
+    → IsAnswered (questions.SetKey number key) r
+answers_key number key (Ok answers.Done) h = tt
+answers_key number key (Ok answer) h = absurd h
+answers_key number key (Err refusal) h = h
+
 -- of opening a shift
 pub answers_open : (operator : List ℕ) (r : Result Answer Refusal) → MayReplyTo (requests.OpenShift operator) r → IsAnswered (questions.OpenShift operator) r
 answers_open operator (Ok (answers.Opened n)) h = tt

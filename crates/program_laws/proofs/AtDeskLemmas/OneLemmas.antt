@@ -118,6 +118,7 @@ import_for files.Tariffs csv = (record { finds = record { text = seen_text (code
 short_granted : (g : Granted) → length (start_text (granted_start (wanted_of g))) ≤ 83
 short_granted granted.Done = omega arith
 short_granted (granted.Imported count) = omega arith
+short_granted (granted.Withdrawn count) = omega arith
 short_granted (granted.Shift number) = omega arith
 short_granted (granted.Sale sale) = omega arith
 short_granted (granted.Meter meter) = omega arith
@@ -194,7 +195,9 @@ module _ (laws : DeskLaws) where
       → reply_to (question_method question) dated outcome false ≡ reply_bytes_of dated outcome false
   has_body (questions.Import kind csv) dated outcome = refl
   has_body (questions.SetTariff meter tariff) dated outcome = refl
+  has_body (questions.WithdrawSteps name day) dated outcome = refl
   has_body (questions.MoveBase meter base) dated outcome = refl
+  has_body (questions.SetKey meter key) dated outcome = refl
   has_body (questions.OpenShift operator) dated outcome = refl
   has_body (questions.CloseShift operator) dated outcome = refl
   has_body (questions.Sell order) dated outcome = refl
@@ -408,9 +411,15 @@ module _ (laws : DeskLaws) where
     prints (questions.SetTariff meter tariff) one askable c is told =
         let q = questions.SetTariff meter tariff in
         request_prints q (requests.SetTariff meter tariff) (laws.means q moment askable is_moment) tt refl (λ s. refl) (λ s none. none) c is told
+    prints (questions.WithdrawSteps name day) one askable c is told =
+        let q = questions.WithdrawSteps name day in
+        request_prints q (requests.WithdrawSteps name day) (laws.means q moment askable is_moment) tt refl (λ s. refl) (λ s none. none) c is told
     prints (questions.MoveBase meter base) one askable c is told =
         let q = questions.MoveBase meter base in
         request_prints q (requests.MoveBase meter base) (laws.means q moment askable is_moment) tt refl (λ s. refl) (λ s none. none) c is told
+    prints (questions.SetKey meter key) one askable c is told =
+        let q = questions.SetKey meter key in
+        request_prints q (requests.SetKey meter key) (laws.means q moment askable is_moment) tt refl (λ s. refl) (λ s none. none) c is told
     prints (questions.OpenShift operator) one askable c is told =
         let q = questions.OpenShift operator in
         request_prints q (requests.OpenShift operator) (laws.means q moment askable is_moment) tt refl (λ s. refl) (λ s none. none) c is told

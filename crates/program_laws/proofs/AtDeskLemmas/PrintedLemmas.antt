@@ -61,6 +61,8 @@ module _ (json : Bool) (q : Question) (o : Outputs) (end : CommandEnd) where
   grant_alike granted.Done granted.Done same is = is
   grant_alike (granted.Imported n) (granted.Imported m) same is =
       same_granted (granted.Imported n) (granted.Imported m) (ap (λ (n : ℕ). granted.Imported n) same) is
+  grant_alike (granted.Withdrawn n) (granted.Withdrawn m) same is =
+      same_granted (granted.Withdrawn n) (granted.Withdrawn m) (ap (λ (n : ℕ). granted.Withdrawn n) same) is
   grant_alike (granted.Shift n) (granted.Shift m) same is = same_granted (granted.Shift n) (granted.Shift m) (ap (λ (n : ℕ). granted.Shift n) same) is
   grant_alike (granted.Sale s) (granted.Sale t) same is = same_granted (granted.Sale s) (granted.Sale t) (ap (λ s. granted.Sale s) same) is
   grant_alike (granted.Meter s) (granted.Meter t) same is = same_granted (granted.Meter s) (granted.Meter t) (ap (λ s. granted.Meter s) same) is
@@ -104,6 +106,7 @@ module _ (json : Bool) (q : Question) (sold : (s : Sale) → told_sale_text json
   prints_answer : (form : Form) (answer : Answer) → TellsTold json q (told_answer form answer) o end → TellsAnswer answer o end
   prints_answer form answers.Done is = is
   prints_answer form (answers.Imported n) is = is
+  prints_answer form (answers.Withdrawn n) is = is
   prints_answer form (answers.Opened n) is = is
   prints_answer form (answers.Closed n) is = is
   prints_answer form (answers.Sold s) is = inl (prints_sale form s is)

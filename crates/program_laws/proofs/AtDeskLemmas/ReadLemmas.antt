@@ -46,7 +46,7 @@ use Rattle.program_laws.specs.AtDesk.{IsAnsweredAt}
 use Rattle.program_laws.proofs.AtDeskLemmas.OneLemmas.{Came, DeskLaws, came_of, few_fields, few_rows, import_for, may_be, reply_length, row_tellable}
 use Rattle.program_laws.proofs.AtDeskLemmas.PaperLemmas.{last_to}
 use Rattle.program_laws.proofs.AtDeskLemmas.MeaningLemmas.{ComesOfRows, IsRead, came_rows, looked, replied}
-use Rattle.program_laws.proofs.AtDeskLemmas.AnswerLemmas.{IsAnswered, IsShown, answers_base, answers_close, answers_import, answers_open, answers_report, answers_reprint, answers_sell, answers_tariff, shows_last, shows_meter, shows_meters, shows_none, shows_quote, shows_sale, shows_sales, shows_shifts, shows_tariffs, shows_totals}
+use Rattle.program_laws.proofs.AtDeskLemmas.AnswerLemmas.{IsAnswered, IsShown, answers_base, answers_close, answers_import, answers_key, answers_open, answers_report, answers_reprint, answers_sell, answers_tariff, answers_withdraw, shows_last, shows_meter, shows_meters, shows_none, shows_quote, shows_sale, shows_sales, shows_shifts, shows_tariffs, shows_totals}
 use Rattle.vend_core.specs.Law.Reached.{IsPlausible}
 use Rattle.office_rules.specs.Law.Handed.{sales_of}
 use Rattle.std.specs.Prelude.{All}
@@ -172,9 +172,15 @@ module _ (laws : DeskLaws) (moment : ℕ) (is_moment : IsMoment moment) (old new
   question_reads (questions.SetTariff meter tariff) askable c =
       request_reads (questions.SetTariff meter tariff) (requests.SetTariff meter tariff)
       (laws.means (questions.SetTariff meter tariff) moment askable is_moment) tt tt refl (λ r tokens. answers_tariff meter tariff r) c
+  question_reads (questions.WithdrawSteps name day) askable c =
+      request_reads (questions.WithdrawSteps name day) (requests.WithdrawSteps name day)
+      (laws.means (questions.WithdrawSteps name day) moment askable is_moment) tt tt refl (λ r tokens. answers_withdraw name day r) c
   question_reads (questions.MoveBase meter base) askable c =
       request_reads (questions.MoveBase meter base) (requests.MoveBase meter base)
       (laws.means (questions.MoveBase meter base) moment askable is_moment) tt tt refl (λ r tokens. answers_base meter base r) c
+  question_reads (questions.SetKey meter key) askable c =
+      request_reads (questions.SetKey meter key) (requests.SetKey meter key)
+      (laws.means (questions.SetKey meter key) moment askable is_moment) tt tt refl (λ r tokens. answers_key meter key r) c
   question_reads (questions.OpenShift operator) askable c =
       request_reads (questions.OpenShift operator) (requests.OpenShift operator) (laws.means (questions.OpenShift operator) moment askable is_moment) tt tt refl (λ r tokens. answers_open operator r) c
   question_reads (questions.CloseShift operator) askable c =

@@ -1,6 +1,6 @@
 -- What an office answers to each request, by its rules alone.
 use Rattle.std.proofs.Common.{◌≡◌, ◌∙◌, ℕ, ◌+◌, ◌<◌, ◌≤◌, Bool, true, false, cond, List, [], ◌∷◌, ◌++◌, length, Option, None, Some, Result, Ok, Err, refl, sym, ap, subst, arith}
-use Rattle.std.specs.Prelude.{◌&&◌, ◌==◌, ⊤, All, Contains, IfErr, IfSome, filter, map, nat_lt, is_some, if◌then◌else◌, bytes_eq}
+use Rattle.std.specs.Prelude.{◌&&◌, ◌==◌, ⊤, All, Contains, IfErr, IfSome, filter, map, nat_lt, not, is_some, if◌then◌else◌, bytes_eq}
 use Rattle.std.specs.Option.{ok_or}
 use Rattle.std.proofs.lemmas.Bool.Decides.{Decides-eqb, nat_tests}
 use Rattle.std.proofs.lemmas.Slice.Eq.{bytes_eq-Decides}
@@ -14,12 +14,12 @@ use Rattle.sts_fields.specs.declared.fault.TidFault.TheVariants as tids
 use Rattle.sts_token.specs.Token.{BlockFunction, KeepsRange}
 use Rattle.tariff.specs.Purchase.{purchase_of}
 use Rattle.tariff.specs.declared.step.Step.{Step}
-use Rattle.office_rules.specs.Decision.{◌>>=◌, MeterAccount, account_of, add_meter, add_rows, add_steps, add_tariff, at_row, changed, close_shift, decision_of, import, is_earlier, meter_eq, move_base, new_rows, open_a_shift, or_refusal, row_decision, sell_once, set_tariff, steps_eq, unchanged}
+use Rattle.office_rules.specs.Decision.{◌>>=◌, MeterAccount, account_of, add_meter, add_rows, add_steps, add_tariff, at_row, changed, close_shift, decision_of, import, is_earlier, meter_eq, move_base, new_rows, open_a_shift, or_refusal, row_decision, sell_once, set_key, set_tariff, steps_eq, unchanged, withdraw_steps}
 use Rattle.office_rules.specs.Decision.Fold.{after, office_after, replies_to, reply, reply_of, step}
 use Rattle.office_rules.specs.Decision.Requests.{IsStamped}
 use Rattle.vend_core.specs.Law.Life.{Exchange, IsLife, Life, acknowledged, acknowledges, present, replies_acknowledged}
 use Rattle.vend_core.specs.Law.LifeLaws.{IsReadingRequest, extended_by}
-use Rattle.office_rules.specs.Office.Lookup.{open_shift, sale_numbered, sale_of_ref, shift_numbered}
+use Rattle.office_rules.specs.Office.Lookup.{has_sales, open_shift, sale_numbered, sale_of_ref, shift_numbered, sold_since}
 use Rattle.office_rules.specs.Office.{IsOffice, Office, greatest_count}
 use Rattle.office_rules.specs.declared.decision.answer.Answer.{Answer}
 use Rattle.office_rules.specs.declared.decision.answer.Answer.TheVariants as answers
@@ -156,7 +156,9 @@ RefusesRows most refusal = ⊥
 abbrev pub MayAnswer : Request → Answer → Type 0
 MayAnswer (requests.Import rows) (answers.Imported count) = count ≤ length rows
 MayAnswer (requests.SetTariff number name) answers.Done = ⊤
+MayAnswer (requests.WithdrawSteps name day) (answers.Withdrawn count) = count ≤ 1
 MayAnswer (requests.MoveBase number base) answers.Done = ⊤
+MayAnswer (requests.SetKey number key) answers.Done = ⊤
 MayAnswer (requests.OpenShift operator) (answers.Opened number) = IsTargetNumber number
 MayAnswer (requests.CloseShift operator) (answers.Closed number) = IsTargetNumber number
 MayAnswer (requests.Sell order) (answers.Sold sale) = IsSaleFor order sale
@@ -168,7 +170,9 @@ MayAnswer request answer = ⊥
 abbrev pub MayRefuseSo : Request → Refusal → Type 0
 MayRefuseSo (requests.Import rows) refusal = RefusesRows (length rows) refusal
 MayRefuseSo (requests.SetTariff number name) refusal = MayRefuse refusal (questions.SetTariff number name)
+MayRefuseSo (requests.WithdrawSteps name day) refusal = MayRefuse refusal (questions.WithdrawSteps name day)
 MayRefuseSo (requests.MoveBase number base) refusal = MayRefuse refusal (questions.MoveBase number base)
+MayRefuseSo (requests.SetKey number key) refusal = MayRefuse refusal (questions.SetKey number key)
 MayRefuseSo (requests.OpenShift operator) refusal = MayRefuse refusal (questions.OpenShift operator)
 MayRefuseSo (requests.CloseShift operator) refusal = MayRefuse refusal (questions.CloseShift operator)
 MayRefuseSo (requests.Sell order) refusal = MayRefuse refusal (questions.Sell order)
@@ -237,6 +241,29 @@ may_move number base false false false = tt
 may_base : (number : List ℕ) (base : Base) (moment : ℕ) (there : Option Meter) → MayDecide (requests.MoveBase number base) (move_base number base moment there)
 may_base number base moment None = tt
 may_base number base moment (Some m) = may_move number base (base_eq m.base base) (is_earlier base m.base) (nat_lt moment (base_date base))
+
+may_take_back : (name : List ℕ) (day : ℕ) (b : Bool)
+    → MayDecide (requests.WithdrawSteps name day)
+    (if b then changed (edits.WithdrawSteps name day) (answers.Withdrawn 1) else Err refusals.DayPast)
+may_take_back name day true = omega arith
+may_take_back name day false = tt
+
+may_withdraw : (name : List ℕ) (day today : ℕ) (has : Bool) (there : Option (List Step)) (sold : Bool)
+    → MayDecide (requests.WithdrawSteps name day) (withdraw_steps name day today has there sold)
+may_withdraw name day today false there sold = tt
+may_withdraw name day today true None sold = omega arith
+may_withdraw name day today true (Some there) sold = may_take_back name day (nat_lt today day && not sold)
+
+may_give : (number : List ℕ) (key : ℕ) (same sold : Bool)
+    → MayDecide (requests.SetKey number key)
+    (if same then unchanged answers.Done else (if sold then Err refusals.HasSales else changed (edits.SetKey number key) answers.Done))
+may_give number key true sold = tt
+may_give number key false true = tt
+may_give number key false false = tt
+
+may_key : (number : List ℕ) (key : ℕ) (there : Option Meter) (sold : Bool) → MayDecide (requests.SetKey number key) (set_key number key there sold)
+may_key number key None sold = tt
+may_key number key (Some m) sold = may_give number key (m.key == key) sold
 
 may_open : (moment : ℕ) (operator : List ℕ) (there : Option Shift) (count : ℕ)
     → MayDecide (requests.OpenShift operator) (open_a_shift moment operator there count)
@@ -385,7 +412,9 @@ unable why any rows_any (requests.AddSteps name day steps) = tt
 unable why any rows_any (requests.AddMeter number m) = tt
 unable why any rows_any (requests.SetTariff number name) = any (questions.SetTariff number name)
 unable why any rows_any (requests.Import rows) = rows_any (length rows)
+unable why any rows_any (requests.WithdrawSteps name day) = any (questions.WithdrawSteps name day)
 unable why any rows_any (requests.MoveBase number base) = any (questions.MoveBase number base)
+unable why any rows_any (requests.SetKey number key) = any (questions.SetKey number key)
 unable why any rows_any (requests.OpenShift operator) = any (questions.OpenShift operator)
 unable why any rows_any (requests.CloseShift operator) = any (questions.CloseShift operator)
 unable why any rows_any (requests.Sell order) = any (questions.Sell order)
@@ -399,7 +428,10 @@ may_decide forward o office moment nibble (requests.AddSteps name day steps) of_
 may_decide forward o office moment nibble (requests.AddMeter number m) of_desk = absurd of_desk
 may_decide forward o office moment nibble (requests.SetTariff number name) of_desk = may_tariff number name (o.meters number) (is_some (o.tariffs name))
 may_decide forward o office moment nibble (requests.Import rows) of_desk = may_import o (day_at moment) rows
+may_decide forward o office moment nibble (requests.WithdrawSteps name day) of_desk =
+    may_withdraw name day (day_at moment) (is_some (o.tariffs name)) (o.dated_steps name day) (sold_since o day)
 may_decide forward o office moment nibble (requests.MoveBase number base) of_desk = may_base number base moment (o.meters number)
+may_decide forward o office moment nibble (requests.SetKey number key) of_desk = may_key number key (o.meters number) (has_sales o number)
 may_decide forward o office moment nibble (requests.OpenShift operator) of_desk = may_open moment operator (open_shift o operator) (length o.shifts)
 may_decide forward o office moment nibble (requests.CloseShift operator) of_desk = may_close o office moment operator
 may_decide forward o office moment nibble (requests.Sell order) of_desk =

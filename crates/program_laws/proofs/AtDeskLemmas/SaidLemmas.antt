@@ -1,8 +1,10 @@
 -- What the words of a command say can be asked of a desk.
-use Rattle.std.proofs.Common.{◌≡◌, ◌≢◌, ◌∙◌, ℕ, ◌≤◌, Bool, true, false, List, length, Option, None, Some, inl, inr, refl, sym, ap, subst, arith}
+use Rattle.std.proofs.Common.{◌≡◌, ◌≢◌, ◌∙◌, ℕ, ◌<◌, ◌≤◌, ◌^◌, Bool, true, false, List, length, Option, None, Some, inl, inr, refl, sym, ap, subst, arith}
 use Rattle.std.specs.Borrow.{Bor}
 use Rattle.clap.specs.Walk.{Row}
+use Rattle.sts_fields.specs.Day.{IsDay}
 use Rattle.sts_fields.specs.Text.{Text}
+use Rattle.sts_token.proofs.KeyLemmas.{key_within}
 use Rattle.tariff.specs.Tender.{IsTender}
 use Rattle.office_rules.specs.Name.{IsMeterNo, IsName, IsOperator}
 use Rattle.office_rules.specs.declared.decision.request.Order.{Order}
@@ -11,7 +13,7 @@ use Rattle.desk_messages.specs.route.Route.{IsPageStart, IsTargetNumber}
 use Rattle.desk_client.specs.Asks.{IsAskable, IsAskableOrder}
 use Rattle.command_line.specs.Commands.{IsNumberOrNone, SaysDeskQuestion, SaysListed, SaysOrder, SaysShown}
 use Rattle.command_line.specs.Said.{IsArgument, IsOptionalArgument}
-use Rattle.command_line.specs.Values.{SaysFlag, SaysItem, SaysMeterNo, SaysOperator, SaysRef, SaysTariff, SaysTender, flag_text}
+use Rattle.command_line.specs.Values.{SaysDay, SaysFlag, SaysItem, SaysKey, SaysMeterNo, SaysOperator, SaysRef, SaysTariff, SaysTender, flag_text}
 use Rattle.command_line.specs.declared.commands.at_desk.DeskQuestion.{DeskQuestion}
 use Rattle.command_line.specs.declared.commands.at_desk.DeskQuestion.TheVariants as asks
 use Rattle.command_line.specs.declared.commands.list.Listed.{Listed}
@@ -42,6 +44,14 @@ says_tender (Some text) tender says = says.1
 says_tariff : (text : Option Text) (name : Text) → IsArgument SaysTariff text name → IsName name
 says_tariff None name says = absurd says
 says_tariff (Some text) name says = says.1
+
+says_day : (text : Option Text) (day : ℕ) → IsArgument SaysDay text day → IsDay day
+says_day None day says = absurd says
+says_day (Some text) day says = says.range
+
+says_key : (text : Option Text) (key : ℕ) → IsArgument SaysKey text key → key < 2 ^ 64
+says_key None key says = absurd says
+says_key (Some text) key says = key_within key text says
 
 says_item : (text : Option Text) (number : ℕ) → IsArgument SaysItem text number → IsTargetNumber number
 says_item None number says = absurd says
@@ -88,7 +98,9 @@ pub says_askable : (name : Text) (words : List Row) (asked : DeskQuestion) (rows
     → IsAskable (question_of asked rows)
 says_askable name words (asks.Import kind csv) rows says few = few
 says_askable name words (asks.SetTariff meter tariff) rows says few = (says_meter _ meter says.1, says_tariff _ tariff says.2)
+says_askable name words (asks.WithdrawSteps tariff from) rows says few = (says_tariff _ tariff says.1, says_day _ from says.2)
 says_askable name words (asks.MoveBase meter base) rows says few = says_meter _ meter says.1
+says_askable name words (asks.SetKey meter key) rows says few = (says_meter _ meter says.1, says_key _ key says.2)
 says_askable name words (asks.OpenShift operator) rows says few = says_operator _ operator says.2
 says_askable name words (asks.CloseShift operator) rows says few = says_operator _ operator says.2
 says_askable name words (asks.Sell order) rows says few = says_order words order says.1
@@ -116,7 +128,9 @@ pub says_by_one : (name : Text) (words : List Row) (asked : DeskQuestion) (rows 
     → IsAskedByOne (is_json asked) (question_of asked rows)
 says_by_one name words (asks.Import kind csv) rows says other = tt
 says_by_one name words (asks.SetTariff meter tariff) rows says other = tt
+says_by_one name words (asks.WithdrawSteps tariff from) rows says other = tt
 says_by_one name words (asks.MoveBase meter base) rows says other = tt
+says_by_one name words (asks.SetKey meter key) rows says other = tt
 says_by_one name words (asks.OpenShift operator) rows says other = tt
 says_by_one name words (asks.CloseShift operator) rows says other = tt
 says_by_one name words (asks.Sell order) rows says other = tt

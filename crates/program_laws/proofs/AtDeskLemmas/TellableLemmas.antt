@@ -84,6 +84,7 @@ told_sale forms.Paper s = paper (receipt_of s)
 abbrev pub told_answer : Form → Answer → Told
 told_answer form answers.Done = told.Granted granted.Done
 told_answer form (answers.Imported n) = told.Granted (granted.Imported n)
+told_answer form (answers.Withdrawn n) = told.Granted (granted.Withdrawn n)
 told_answer form (answers.Opened n) = told.Granted (granted.Shift n)
 told_answer form (answers.Closed n) = told.Granted (granted.Shift n)
 told_answer form (answers.Sold s) = told_sale form s
@@ -120,6 +121,7 @@ sale_tells forms.Paper s = refl
 pub reply_tells : (form : Form) (r : Result Answer Refusal) → Tells (outcomes.Replied form r) (told_reply form r)
 reply_tells form (Ok answers.Done) = refl
 reply_tells form (Ok (answers.Imported n)) = refl
+reply_tells form (Ok (answers.Withdrawn n)) = refl
 reply_tells form (Ok (answers.Opened n)) = refl
 reply_tells form (Ok (answers.Closed n)) = refl
 reply_tells form (Ok (answers.Sold s)) = sale_tells form s
@@ -213,6 +215,18 @@ tellable_base number base (Ok answers.Done) h = (tt, refl)
 tellable_base number base (Ok answer) h = absurd h
 tellable_base number base (Err refusal) h = tellable_refusal (questions.MoveBase number base) refusal (λ row cause no. no) h
 
+tellable_withdraw : (name : List ℕ) (day : ℕ) (r : Result Answer Refusal) → MayReplyTo (requests.WithdrawSteps name day) r
+    → IsTellable wanted.Withdrawn (told_reply forms.Json r)
+tellable_withdraw name day (Ok (answers.Withdrawn n)) h = (h, refl)
+tellable_withdraw name day (Ok answer) h = absurd h
+tellable_withdraw name day (Err refusal) h = tellable_refusal (questions.WithdrawSteps name day) refusal (λ row cause no. no) h
+
+tellable_key : (number : List ℕ) (key : ℕ) (r : Result Answer Refusal) → MayReplyTo (requests.SetKey number key) r
+    → IsTellable wanted.Done (told_reply forms.Json r)
+tellable_key number key (Ok answers.Done) h = (tt, refl)
+tellable_key number key (Ok answer) h = absurd h
+tellable_key number key (Err refusal) h = tellable_refusal (questions.SetKey number key) refusal (λ row cause no. no) h
+
 tellable_open : (operator : List ℕ) (r : Result Answer Refusal) → MayReplyTo (requests.OpenShift operator) r → IsTellable wanted.Shift (told_reply forms.Json r)
 tellable_open operator (Ok (answers.Opened n)) h = (h, refl)
 tellable_open operator (Ok answer) h = absurd h
@@ -258,6 +272,7 @@ wanted_for (requests.Sell order) = wanted.Sale
 wanted_for (requests.Reprint number) = wanted.Sale
 wanted_for (requests.ShiftReport number) = wanted.Paper
 wanted_for (requests.Import rows) = wanted.Imported
+wanted_for (requests.WithdrawSteps name day) = wanted.Withdrawn
 wanted_for request = wanted.Done
 
 -- a command asks it of a desk; rows are no more than a file has
@@ -276,7 +291,9 @@ tellable_reply (requests.AddSteps name day steps) r ask sales h = absurd ask
 tellable_reply (requests.AddMeter number m) r ask sales h = absurd ask
 tellable_reply (requests.SetTariff number name) r ask sales h = tellable_tariff number name r (h tt)
 tellable_reply (requests.Import rows) r ask sales h = tellable_import rows r ask (h tt)
+tellable_reply (requests.WithdrawSteps name day) r ask sales h = tellable_withdraw name day r (h tt)
 tellable_reply (requests.MoveBase number base) r ask sales h = tellable_base number base r (h tt)
+tellable_reply (requests.SetKey number key) r ask sales h = tellable_key number key r (h tt)
 tellable_reply (requests.OpenShift operator) r ask sales h = tellable_open operator r (h tt)
 tellable_reply (requests.CloseShift operator) r ask sales h = tellable_close operator r (h tt)
 tellable_reply (requests.Sell order) r ask sales h = tellable_sell order r sales (h tt)

@@ -35,6 +35,8 @@ IsSell name = IsNamed (codes "sell") name
 is_order : (rows : List Row) (order : Order) (r : Request) → SaysOrder rows order → SaysRequest (codes "sell") rows r → requests.Sell order ≡ r
 is_order rows order (requests.Sell other) one says = ap requests.Sell (one_order rows order other one says.1)
 is_order rows order (requests.MoveBase meter base) one says = absurd (subst IsSell says.0 tt)
+is_order rows order (requests.WithdrawSteps name day) one says = absurd (subst IsSell says.0 tt)
+is_order rows order (requests.SetKey meter key) one says = absurd (subst IsSell says.0 tt)
 is_order rows order (requests.OpenShift operator) one says = absurd (subst IsSell says.0 tt)
 is_order rows order (requests.CloseShift operator) one says = absurd (subst IsSell says.0 tt)
 is_order rows order (requests.AddTariff name steps) one says = absurd says

@@ -40,6 +40,8 @@ IsReport name = IsNamed (codes "report") name
 requests_nothing : (rows : List Row) (r : Request) → ¬ SaysRequest (codes "report") rows r
 requests_nothing rows (requests.Sell order) says = subst IsReport says.0 tt
 requests_nothing rows (requests.MoveBase meter base) says = subst IsReport says.0 tt
+requests_nothing rows (requests.WithdrawSteps name day) says = subst IsReport says.0 tt
+requests_nothing rows (requests.SetKey meter key) says = subst IsReport says.0 tt
 requests_nothing rows (requests.OpenShift operator) says = subst IsReport says.0 tt
 requests_nothing rows (requests.CloseShift operator) says = subst IsReport says.0 tt
 requests_nothing rows (requests.AddTariff name steps) says = says

@@ -1,9 +1,10 @@
 //! Steps of later days whose rows are no office's, between other tables.
-use crate::office_tables::made::batch;
+use crate::office_tables::made::{batch, count};
 use book_tables::TableError;
 use book_tables::reading::dated_steps::{first_day_until, latest_steps, steps_from};
+use book_tables::writing::dated_steps::withdraw_steps;
 use office_rules::TariffName;
-use sqlite::Connection;
+use sqlite::{Connection, Error, ErrorCode, MemStore};
 use std::test::Fail;
 use sts_fields::Day;
 
@@ -46,5 +47,39 @@ fn dated_rows_outside_their_rules(rt: HostRuntime) -> Result<(), Fail> {
     let found = latest_steps(rt.alloc(), &mut conn, &home, day(10)?);
     assert_eq!(rt; found, Err(TableError::RowOfNoOffice));
     assert!(rt; latest_steps(rt.alloc(), &mut conn, &home, day(20)?)?.is_some());
+    Ok(())
+}
+
+fn withdrawn(
+    conn: &mut Connection<MemStore>,
+    name: &TariffName,
+    day: Day,
+) -> Result<Result<(), TableError>, Error> {
+    if !conn.is_autocommit() {
+        return Err(Error::SqliteFailure(ErrorCode::TransactionState));
+    }
+    let mut tx = conn.transaction();
+    let done = withdraw_steps(&mut tx, name, day);
+    tx.commit()?;
+    Ok(done)
+}
+
+// Those of the day go, each of them, and a row of no office too; all others stay.
+#[test]
+fn withdrawn_rows_are_gone(rt: HostRuntime) -> Result<(), Fail> {
+    let mut conn = Connection::open_in_memory(rt.alloc())?;
+    batch(&mut conn, TABLES)?;
+    batch(&mut conn, ROWS)?;
+    let shop = name(b"shop")?;
+    let all = "SELECT count(*) FROM dated_steps";
+    for (days, left) in [(5, 7), (39_080, 5), (0, 4), (0, 4)] {
+        assert_eq!(rt; withdrawn(&mut conn, &shop, day(days)?)?, Ok(()));
+        assert_eq!(rt; count(&mut conn, all)?, left);
+    }
+    let home = name(b"home")?;
+    assert!(rt; steps_from(rt.alloc(), &mut conn, &home, day(20)?)?.is_some());
+    assert_eq!(rt; withdrawn(&mut conn, &home, day(20)?)?, Ok(()));
+    assert_eq!(rt; steps_from(rt.alloc(), &mut conn, &home, day(20)?)?, None);
+    assert_eq!(rt; count(&mut conn, all)?, 3);
     Ok(())
 }

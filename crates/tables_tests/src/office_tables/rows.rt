@@ -2,11 +2,12 @@
 use crate::office_tables::made::batch;
 use book_tables::TableError;
 use book_tables::reading::{meters, sales, shifts};
+use book_tables::writing::changes::set_key;
 use office_rules::{Meter, MeterNo, Operator, Ref, Sale, TariffName};
 use sqlite::{Connection, Error, ErrorCode, MemStore};
 use std::alloc::Global;
 use std::test::Fail;
-use sts_fields::{Amount, Base, Moment};
+use sts_fields::{Amount, Base, Day, Moment};
 use tariff::Tender;
 
 pub(crate) const TABLES: &str = "\
@@ -198,4 +199,72 @@ fn want_of_memory_is_told_apart(rt: HostRuntime) {
     assert!(rt; memory.is_memory());
     assert!(rt; !TableError::Database(Error::InvalidQuery).is_memory());
     assert!(rt; !TableError::RowOfNoOffice.is_memory());
+}
+
+fn sold_since(alloc: Global, change: &str, days: u32) -> Result<Result<bool, TableError>, Fail> {
+    let mut conn = changed(alloc, change)?;
+    let day = Day::of_days(days).ok_or("a day")?;
+    Ok(sales::sold_since(&mut conn, day))
+}
+
+// The moments are 11274 and 11275 days after 1993-01-01, and 1700092800 is the first second of the
+// day after these.
+#[test]
+fn sales_since_a_day(rt: HostRuntime) -> Result<(), Fail> {
+    let swapped = "UPDATE sales SET moment = 1700030100 WHERE number = 1; \
+        UPDATE sales SET moment = 1700000100 WHERE number = 2";
+    let first = "UPDATE sales SET moment = 1700092800 WHERE number = 1";
+    let last = "UPDATE sales SET moment = 1700092799 WHERE number = 1";
+    for (change, days, sold) in [
+        ("", 0, true),
+        ("", 11_275, true),
+        ("", 11_276, false),
+        (swapped, 11_275, true),
+        (swapped, 11_276, false),
+        (first, 11_276, true),
+        (first, 11_277, false),
+        (last, 11_276, false),
+        ("DELETE FROM sales", 0, false),
+    ] {
+        let found = sold_since(rt.alloc(), change, days)?;
+        assert_eq!(rt; found, Ok(sold), "{change} {days}");
+    }
+    let spoilt = "UPDATE sales SET number = 1000000001 WHERE number = 2";
+    assert_eq!(rt;
+        sold_since(rt.alloc(), spoilt, 11_275)?,
+        Err(TableError::RowOfNoOffice)
+    );
+    // The row of no office is not one of those that were made since.
+    assert_eq!(rt; sold_since(rt.alloc(), spoilt, 11_276)?, Ok(false));
+    Ok(())
+}
+
+fn keyed(
+    conn: &mut Connection<MemStore>,
+    number: &MeterNo,
+    key: u64,
+) -> Result<Result<(), TableError>, Error> {
+    if !conn.is_autocommit() {
+        return Err(Error::SqliteFailure(ErrorCode::TransactionState));
+    }
+    let mut tx = conn.transaction();
+    let done = set_key(&mut tx, number, key);
+    tx.commit()?;
+    Ok(done)
+}
+
+#[test]
+fn another_key(rt: HostRuntime) -> Result<(), Fail> {
+    let other = "INSERT INTO meters VALUES ('79927398713', 2035, 'home', '0123456789abcdef')";
+    let mut conn = changed(rt.alloc(), other)?;
+    let number = meter_no()?;
+    for key in [0, u64::MAX] {
+        assert_eq!(rt; keyed(&mut conn, &number, key)?, Ok(()));
+        let meter = meters::meter_numbered(&mut conn, &number)?;
+        assert_eq!(rt; meter.map(|meter| meter.key), Some(key));
+    }
+    let neighbour = MeterNo::read(b"79927398713").ok_or("a meter's number")?;
+    let meter = meters::meter_numbered(&mut conn, &neighbour)?;
+    assert_eq!(rt; meter.map(|meter| meter.key), Some(0x0123_4567_89ab_cdef));
+    Ok(())
 }

@@ -1,7 +1,7 @@
 //! Running totals that are too great, or are no office's otherwise.
 
 use crate::office_tables::made::batch;
-use book_tables::reading::totals::{tenths_in_month, totals_of_shift};
+use book_tables::reading::totals::{has_sales, tenths_in_month, totals_of_shift};
 use book_tables::writing::totals::{add_tenths, add_to_shift};
 use book_tables::{TableError, Totals};
 use office_rules::MeterNo;
@@ -116,5 +116,31 @@ fn the_greatest_totals(rt: HostRuntime) -> Result<(), Fail> {
         let found = totals_of_shift(&mut conn, shift);
         assert_eq!(rt; found, Err(TableError::RowOfNoOffice));
     }
+    Ok(())
+}
+
+// Under any base; and an identifier of more than 24 bits is no office's.
+#[test]
+fn sales_to_a_meter(rt: HostRuntime) -> Result<(), Fail> {
+    let mut conn = tables(rt.alloc())?;
+    let meter = MeterNo::read(b"12345678903").ok_or("a meter's number")?;
+    assert_eq!(rt; has_sales(&mut conn, &meter)?, false);
+    batch(
+        &mut conn,
+        "INSERT INTO last_ids VALUES ('79927398713', 2014, 5)",
+    )?;
+    assert_eq!(rt; has_sales(&mut conn, &meter)?, false);
+    for base in ["1993", "2014", "2035"] {
+        let mut conn = tables(rt.alloc())?;
+        let row = format!(in rt.alloc(); "INSERT INTO last_ids VALUES ('12345678903', {base}, 0)")?;
+        batch(&mut conn, &row)?;
+        assert_eq!(rt; has_sales(&mut conn, &meter)?, true);
+    }
+    batch(
+        &mut conn,
+        "INSERT INTO last_ids VALUES ('12345678903', 2014, 16777216)",
+    )?;
+    let found = has_sales(&mut conn, &meter);
+    assert_eq!(rt; found, Err(TableError::RowOfNoOffice));
     Ok(())
 }

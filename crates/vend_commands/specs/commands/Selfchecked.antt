@@ -1,7 +1,8 @@
 -- What `selfcheck` does: the desk answers two messages over memory, and the replies over a
 -- connection of the machine with itself are compared with those.
-use Rattle.std.specs.Prelude.{◌≡◌, ◌⊎◌, ⊤, ℕ, pos, List, [], ◌∷◌, ◌++◌, Contains, Option, Some}
+use Rattle.std.specs.Prelude.{◌≡◌, ◌⊎◌, ℕ, pos, List, [], ◌∷◌, ◌++◌, Contains, Option, Some}
 use Rattle.std.specs.Prelude.{None, Ok, Err, codes}
+use Rattle.book_opening.specs.declared.fault.OpenFault.TheVariants as opening
 use Rattle.books.specs.Asking.{ReplyAt}
 use Rattle.books.specs.Keeps.{Seen}
 use Rattle.desk.specs.Answering.{answers_by, life_serves, message_refusal_of}
@@ -82,10 +83,11 @@ abbrev pub IsUngranted : {B : Type 0} → (B → Seen) → Refusal → Type 0
 IsUngranted {B} see refusal = (request : Request) × Contains preparing request
     × (old : B) × (new : B) × ReplyAt clock_moment request (Err refusal) (see old) (see new)
 
--- why no office was prepared: none was opened, or there was no room for a tariff, or books refused
+-- why no office was prepared: the store failed, or there was no room for the books or for a tariff,
+-- or books refused
 abbrev pub IsUnprepared : {B : Type 0} → (B → Seen) → SelfcheckFault → Type 0
 IsUnprepared see Net = ⊥
-IsUnprepared see (Unopened fault) = ⊤
+IsUnprepared see (Unopened fault) = (fault ≡ opening.Store) ⊎ (fault ≡ opening.Memory)
 IsUnprepared see (Refused why) = (why ≡ refusal.Memory) ⊎ IsUngranted see why
 
 -- ---- the conversation

@@ -1,20 +1,19 @@
--- An import that was granted and comes again, with no SetTariff and no MoveBase in between, changes
--- nothing.
-use Rattle.std.proofs.Common.{◌≡◌, ℕ, ◌+◌, Bool, true, false, List, [], ◌∷◌, length, Option, Some, None, Result, Ok, Err, is_some, refl, sym, ◌∙◌, ap, subst}
+-- An import that was granted and comes again, where nothing in between changed what its rows may have
+-- added, changes nothing.
+use Rattle.std.proofs.Common.{◌≡◌, ℕ, ◌+◌, Bool, true, false, List, [], ◌∷◌, Option, Some, None, Result, Ok, Err, is_some, refl, sym, ◌∙◌, ap, subst}
 use Rattle.std.specs.Prelude.{◌&&◌, ◌==◌, All, bytes_eq, nat_lt, if◌then◌else◌}
 use Rattle.sts_fields.specs.Day.{day_at}
-use Rattle.std.proofs.lemmas.List.Elements.{All-cons, All-head, All-nil, All-tail, All-weaker}
+use Rattle.std.proofs.lemmas.List.Elements.{All-cons, All-contains, All-head, All-nil, All-tail}
 use Rattle.std.proofs.lemmas.Option.{none-some}
 use Rattle.std.proofs.lemmas.Slice.Eq.{bytes_eq-Decides}
 use Rattle.std.proofs.lemmas.Bool.Decides.{Decides-eqb}
 use Rattle.tariff.specs.StepsEq.{steps_eq-equiv}
 use Rattle.tariff.specs.declared.step.Step.{Step}
-use Rattle.office_rules.specs.Decision.{◌>>=◌, MeterAccount, at_row, add_meter, add_rows, add_steps, add_tariff, account_of, changed, close_shift, decision_of, import, meter_eq, new_rows, next_number, open_a_shift, report, reprint, row_decision, sell, sell_once, steps_eq, unchanged}
+use Rattle.office_rules.specs.Decision.{◌>>=◌, at_row, add_meter, add_rows, add_steps, add_tariff, changed, decision_of, import, meter_eq, new_rows, row_decision, steps_eq, unchanged}
 use Rattle.office_rules.specs.Decision.Edits.{office_after, with_rows}
 use Rattle.office_rules.specs.Decision.Fold.{after, reply, reply_of, step}
 use Rattle.office_rules.specs.Law.Growth.{HaveStayed}
-use Rattle.vend_core.specs.Law.Imports.{ImportsNothing, ChangesNoMeter}
-use Rattle.office_rules.specs.Office.Lookup.{open_shift, sale_numbered, sale_of_ref, sales_of_shift, shift_numbered}
+use Rattle.vend_core.specs.Law.Imports.{ImportsNothing, LeavesRow, LeavesRows}
 use Rattle.office_rules.specs.Office.{Office}
 use Rattle.office_rules.specs.declared.decision.answer.Answer.{Answer}
 use Rattle.office_rules.specs.declared.decision.answer.Answer.TheVariants as answers
@@ -24,95 +23,17 @@ use Rattle.office_rules.specs.declared.decision.change.Edit.TheVariants as edits
 use Rattle.office_rules.specs.declared.office.meter.Meter.{Meter}
 use Rattle.office_rules.specs.declared.decision.refusal.Refusal.{Refusal}
 use Rattle.office_rules.specs.declared.decision.refusal.Refusal.TheVariants as refusals
-use Rattle.office_rules.specs.declared.decision.request.Order.{Order}
-use Rattle.office_rules.specs.declared.decision.request.Request.{Request}
 use Rattle.office_rules.specs.declared.decision.request.Request.TheVariants as requests
 use Rattle.office_rules.specs.declared.decision.request.Stamped.{Stamped}
 use Rattle.office_rules.specs.declared.office.row.Row.{Row}
 use Rattle.office_rules.specs.declared.office.row.Row.TheVariants as kinds
-use Rattle.office_rules.specs.declared.office.sale.Sale.{Sale}
-use Rattle.office_rules.specs.declared.office.shift.Shift.{Shift}
-use Rattle.office_rules.proofs.DecisionLemmas.{after_test, same_Ok, sell_ok}
-use Rattle.office_rules.proofs.DecisionLemmas.ImportLemmas.{after_add, import_keeps, new_rows_keep, takes, taken_office}
+use Rattle.office_rules.proofs.DecisionLemmas.{same_Ok}
+use Rattle.office_rules.proofs.DecisionLemmas.ImportLemmas.{after_add, new_rows_keep, takes, taken_office}
 use Rattle.office_rules.proofs.DecisionLemmas.EditLemmas.{base_eq-refl}
+use Rattle.office_rules.proofs.OfficeLemmas.MapLemmas.{all_from_contains}
 use Rattle.office_rules.proofs.OfficeLemmas.RowLemmas.{both_true}
-use Rattle.office_rules.proofs.DecisionLemmas.StayLemmas.{stayed_by_meter, stayed_by_row, stayed_by_steps, stayed_by_tariff, still_there, stayed_if, stayed_none, stayed_twice}
-
--- whatever is asked but SetTariff and MoveBase, the tariffs and the meters stand
-stayed_by_import : (o : Office) (today : ℕ) (rows : List Row) → HaveStayed o (office_after o (import o today rows))
-stayed_by_import o today rows =
-    import_keeps (HaveStayed o) (λ row. Unit {0}) today
-    (λ p row any stayed. stayed_twice o p (office_after p (row_decision p today row)) stayed (stayed_by_row p today row)) o rows
-    (λ i d within. tt) (stayed_none o)
-
-module _ (o : Office) where
-  same_rows : (p : Office) → p.tariffs ≡ o.tariffs → p.dated_steps ≡ o.dated_steps → p.meters ≡ o.meters → HaveStayed o p
-  same_rows p tariffs dated meters = record {
-    tariffs = record {
-      first = λ name steps at. ap (λ (f : List ℕ → Option (List Step)). f name) tariffs ∙ at;
-      dated = λ name day steps at. ap (λ (f : List ℕ → ℕ → Option (List Step)). f name day) dated ∙ at;
-    };
-    meters = λ number m at. ap (λ (f : List ℕ → Option Meter). f number) meters ∙ at;
-  }
-
-  stayed_by_open : (moment : ℕ) (operator : List ℕ) (there : Option Shift) (count : ℕ)
-      → HaveStayed o (office_after o (open_a_shift moment operator there count))
-  stayed_by_open moment operator (Some there) count = stayed_none o
-  stayed_by_open moment operator None count = after_test (λ r. HaveStayed o (office_after o r)) (next_number count) _
-      (λ refusal. stayed_none o) (λ number next. same_rows _ refl refl refl)
-
-  stayed_by_close : (moment : ℕ) (there : Option Shift) → HaveStayed o (office_after o (close_shift moment there))
-  stayed_by_close moment None = stayed_none o
-  stayed_by_close moment (Some s) = same_rows _ refl refl refl
-
-  stayed_by_new : (forward : ℕ → ℕ → ℕ) (moment nibble : ℕ) (order : Order) (shift : Option Shift) (account : Option MeterAccount)
-      (count : ℕ) (r : Result Change Refusal) → sell forward moment nibble order shift account count ≡ r → HaveStayed o (office_after o r)
-  stayed_by_new forward moment nibble order shift account count (Err refusal) e = stayed_none o
-  stayed_by_new forward moment nibble order shift account count (Ok change) e =
-      let is = (sell_ok forward moment nibble order shift account count change e).change_is in
-      subst (λ (c : Change). HaveStayed o (office_after o (Ok c))) (sym is) (same_rows _ refl refl refl)
-
-  stayed_by_sell : (forward : ℕ → ℕ → ℕ) (moment nibble : ℕ) (order : Order) (first : Option Sale) (shift : Option Shift)
-      (account : Option MeterAccount) (count : ℕ) → HaveStayed o (office_after o (sell_once forward moment nibble order first shift account count))
-  stayed_by_sell forward moment nibble order None shift account count = stayed_by_new forward moment nibble order shift account count _ refl
-  stayed_by_sell forward moment nibble order (Some first) shift account count = stayed_if o _ _ _
-
-  stayed_by_reprint : (sale : Option Sale) → HaveStayed o (office_after o (reprint sale))
-  stayed_by_reprint None = stayed_none o
-  stayed_by_reprint (Some s) = stayed_none o
-
-  stayed_by_report : (shift : Option Shift) (sales : List Sale) → HaveStayed o (office_after o (report shift sales))
-  stayed_by_report None sales = stayed_none o
-  stayed_by_report (Some s) sales = stayed_none o
-
-  stayed_by : (forward : ℕ → ℕ → ℕ) (at : Stamped) (request : Request) → at.request ≡ request → ChangesNoMeter at
-      → HaveStayed o (office_after o (decision_of forward o at.moment at.nibble request))
-  stayed_by forward at (requests.AddTariff name steps) e other = stayed_by_tariff o name steps (o.tariffs name) refl
-  stayed_by forward at (requests.AddSteps name day steps) e other =
-      stayed_by_steps o name day (day_at at.moment) steps (is_some (o.tariffs name)) (o.dated_steps name day) refl
-  stayed_by forward at (requests.AddMeter number m) e other = stayed_by_meter o number m (o.meters number) (is_some (o.tariffs m.tariff)) refl
-  stayed_by forward at (requests.Import rows) e other = stayed_by_import o (day_at at.moment) rows
-  stayed_by forward at (requests.SetTariff number name) e other = absurd (subst (λ (r : Request). ChangesNoMeter (record at { request = r })) e other)
-  stayed_by forward at (requests.MoveBase number base) e other = absurd (subst (λ (r : Request). ChangesNoMeter (record at { request = r })) e other)
-  stayed_by forward at (requests.OpenShift operator) e other = stayed_by_open at.moment operator (open_shift o operator) (length o.shifts)
-  stayed_by forward at (requests.CloseShift operator) e other = stayed_by_close at.moment (open_shift o operator)
-  stayed_by forward at (requests.Sell order) e other =
-      stayed_by_sell forward at.moment at.nibble order (sale_of_ref o order.operator order.order_ref) (open_shift o order.operator)
-      (account_of o order.meter at.moment) (length o.sales)
-  stayed_by forward at (requests.Reprint number) e other = stayed_by_reprint (sale_numbered o number)
-  stayed_by forward at (requests.ShiftReport number) e other = stayed_by_report (shift_numbered o number) (sales_of_shift o number)
-
--- tariffs and meters stay as they are over any request but SetTariff and MoveBase
-pub step_stays : (forward : ℕ → ℕ → ℕ) (o : Office) (at : Stamped) → ChangesNoMeter at → HaveStayed o (step forward o at)
-step_stays forward o at other = stayed_by o forward at at.request refl other
-
--- the same over any number of such requests
-pub after_stays : (forward : ℕ → ℕ → ℕ) (o : Office) (ats : List Stamped) → All ChangesNoMeter ats → HaveStayed o (after forward o ats)
-unfolding after
-after_stays forward o [] others = stayed_none o
-after_stays forward o (at ∷ ats) others =
-    stayed_twice o (step forward o at) (after forward (step forward o at) ats) (step_stays forward o at (All-head ChangesNoMeter at ats others))
-    (after_stays forward (step forward o at) ats (All-tail ChangesNoMeter at ats others))
+use Rattle.office_rules.proofs.DecisionLemmas.StayLemmas.{stayed_by_row, still_there, stayed_none, stayed_twice}
+use Rattle.vend_core.proofs.LawLemmas.LeaveLemmas.{RowStays, row_stays, step_leaves}
 
 -- a row that stands in an office: on whatever day, it would be granted, and change nothing
 abbrev pub Stands : Office → Row → Type 0
@@ -148,15 +69,28 @@ stands_steps name day today steps true had (Some there) later has_still stays e 
     ap (λ (l : Option (List Step)). add_steps name day steps today had l) (stays there refl)
     ∙ ap (λ (b : Bool). add_steps name day steps today b (Some there)) (has_still refl) ∙ e
 
-stands_still : (o p : Office) (row : Row) → HaveStayed o p → Stands o row → Stands p row
-stands_still o p (kinds.Tariff name steps) stayed stands today =
-    stands_tariff name steps (o.tariffs name) (p.tariffs name) (stayed.tariffs.first name) (stands today)
-stands_still o p (kinds.Steps name day steps) stayed stands today =
+stands_still : (o p : Office) (row : Row) → RowStays o p row → Stands o row → Stands p row
+stands_still o p (kinds.Tariff name steps) stays stands today = stands_tariff name steps (o.tariffs name) (p.tariffs name) stays (stands today)
+stands_still o p (kinds.Steps name day steps) stays stands today =
     stands_steps name day today steps (is_some (o.tariffs name)) (is_some (p.tariffs name)) (o.dated_steps name day) (p.dated_steps name day)
-    (still_there (o.tariffs name) (p.tariffs name) (stayed.tariffs.first name)) (stayed.tariffs.dated name day) (stands today)
-stands_still o p (kinds.Meter number m) stayed stands today =
-    stands_meter number m (o.meters number) (p.meters number) (is_some (o.tariffs m.tariff)) (is_some (p.tariffs m.tariff))
-    (stayed.meters number) (stands today)
+    (still_there (o.tariffs name) (p.tariffs name) stays.0) stays.1 (stands today)
+stands_still o p (kinds.Meter number m) stays stands today =
+    stands_meter number m (o.meters number) (p.meters number) (is_some (o.tariffs m.tariff)) (is_some (p.tariffs m.tariff)) stays (stands today)
+
+-- rows that stand still do after a request that leaves them, and after many
+pub step_stand : (forward : ℕ → ℕ → ℕ) (o : Office) (at : Stamped) (rows : List Row) → LeavesRows rows at → All (Stands o) rows
+    → All (Stands (step forward o at)) rows
+step_stand forward o at rows leaves stand = all_from_contains (Stands (step forward o at)) rows (λ row there.
+    stands_still o (step forward o at) row (step_leaves forward o at row (All-contains (LeavesRow at.request) rows row leaves there))
+    (All-contains (Stands o) rows row stand there))
+
+pub after_stand : (forward : ℕ → ℕ → ℕ) (o : Office) (ats : List Stamped) (rows : List Row) → All (LeavesRows rows) ats → All (Stands o) rows
+    → All (Stands (after forward o ats)) rows
+unfolding after
+after_stand forward o [] rows leave stand = stand
+after_stand forward o (at ∷ ats) rows leave stand =
+    after_stand forward (step forward o at) ats rows (All-tail (LeavesRows rows) at ats leave)
+    (step_stand forward o at rows (All-head (LeavesRows rows) at ats leave) stand)
 
 -- a row that was granted stands
 same_bytes : (text : List ℕ) → bytes_eq text text ≡ true
@@ -235,7 +169,7 @@ module _ (today : ℕ) where
       let p = office_after o (Ok t.change) in
       let q = with_rows t.more p in
       subst (λ (r : Office). All (Stands r) (row ∷ rest)) (sym (taken_office o today number row rest new t))
-      (All-cons (Stands q) row rest (stands_still p q row (new_rows_stay p (number + 1) rest t.more t.further) (granted_stands o today row t.change t.granted))
+      (All-cons (Stands q) row rest (stands_still p q row (row_stays p q (new_rows_stay p (number + 1) rest t.more t.further) row) (granted_stands o today row t.change t.granted))
       (new_rows_stand p (number + 1) rest t.more t.further))
 
   -- where all rows stand, none is new
@@ -252,10 +186,6 @@ module _ (today : ℕ) where
       → reply_of (r >>= add_rows) ≡ Ok (answers.Imported new) → All (Stands (office_after o (r >>= add_rows))) rows
   granted_import o rows (Err refusal) new e granted = cc
   granted_import o rows (Ok added) new e granted = subst (λ (p : Office). All (Stands p) rows) (sym (after_add o added)) (new_rows_stand o 1 rows added e)
-
--- rows that stand in an office still do where its tariffs and meters have stayed
-pub all_stand_still : (o p : Office) (rows : List Row) → HaveStayed o p → All (Stands o) rows → All (Stands p) rows
-all_stand_still o p rows stayed stand = All-weaker (Stands o) (Stands p) (λ row stands. stands_still o p row stayed stands) rows stand
 
 -- an import of rows that all stand is granted and changes nothing
 pub imports_nothing : (forward : ℕ → ℕ → ℕ) (o : Office) (at : Stamped) (rows : List Row) → at.request ≡ requests.Import rows
@@ -274,11 +204,11 @@ rows_stand forward o at rows new asks granted =
     subst (λ (r : Result Change Refusal). All (Stands (office_after o r)) rows) (sym decided)
     (granted_import (day_at at.moment) o rows (new_rows o (day_at at.moment) 1 rows) new refl (ap reply_of (sym decided) ∙ granted))
 
--- a granted import that comes again with no meter changed between changes nothing
+-- a granted import that comes again changes nothing, where all that came in between leaves its rows
 pub imported_again : (forward : ℕ → ℕ → ℕ) (o : Office) (at again : Stamped) (between : List Stamped) (rows : List Row) (new : ℕ)
-    → at.request ≡ requests.Import rows → again.request ≡ requests.Import rows → reply forward o at ≡ Ok (answers.Imported new) → All ChangesNoMeter between
-    → ImportsNothing forward (after forward (step forward o at) between) again
-imported_again forward o at again between rows new asks asks_again granted others =
+    → at.request ≡ requests.Import rows → again.request ≡ requests.Import rows → reply forward o at ≡ Ok (answers.Imported new)
+    → All (LeavesRows rows) between → ImportsNothing forward (after forward (step forward o at) between) again
+imported_again forward o at again between rows new asks asks_again granted leave =
     let p = step forward o at in
     imports_nothing forward (after forward p between) again rows asks_again
-    (all_stand_still p (after forward p between) rows (after_stays forward p between others) (rows_stand forward o at rows new asks granted))
+    (after_stand forward p between rows leave (rows_stand forward o at rows new asks granted))

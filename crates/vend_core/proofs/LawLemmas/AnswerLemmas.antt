@@ -1,17 +1,17 @@
 -- The sales that are answered stand, and what a decision leaves as it was.
 use Rattle.std.proofs.Common.{◌≡◌, ℕ, ◌⊎◌, inl, inr, Bool, true, false, List, [], ◌∷◌, ◌++◌, length, Option, Some, None, Result, Ok, Err, refl, sym, subst}
-use Rattle.std.specs.Prelude.{◌==◌, All, Contains, bytes_eq, if◌then◌else◌, is_some, nat_lt}
+use Rattle.std.specs.Prelude.{◌&&◌, ◌==◌, All, Contains, bytes_eq, if◌then◌else◌, is_some, nat_lt, not}
 use Rattle.sts_fields.specs.Base.{base_date, base_eq}
 use Rattle.sts_fields.specs.Day.{day_at}
 use Rattle.sts_fields.specs.declared.base.Base.{Base}
 use Rattle.std.proofs.lemmas.List.Elements.{All-contains_itself, All-cons, All-filter, All-nil, Contains-push}
 use Rattle.sts_token.specs.Token.{KeepsRange}
 use Rattle.tariff.specs.declared.step.Step.{Step}
-use Rattle.office_rules.specs.Decision.{MeterAccount, add_meter, add_rows, add_steps, add_tariff, changed, close_shift, decision_of, import, is_earlier, meter_eq, move_base, new_rows, account_of, next_number, open_a_shift, report, reprint, sell, sell_once, set_tariff, steps_eq, unchanged}
+use Rattle.office_rules.specs.Decision.{MeterAccount, add_meter, add_rows, add_steps, add_tariff, changed, close_shift, decision_of, import, is_earlier, meter_eq, move_base, new_rows, account_of, next_number, open_a_shift, report, reprint, sell, sell_once, set_key, set_tariff, steps_eq, unchanged, withdraw_steps}
 use Rattle.office_rules.specs.Decision.Edits.{with_row, with_rows}
 use Rattle.office_rules.specs.Decision.Fold.{office_after, reply, reply_of, step}
 use Rattle.office_rules.specs.Law.Handed.{sales_in, sales_of}
-use Rattle.office_rules.specs.Office.Lookup.{open_shift, sale_numbered, sale_of_ref, sales_of_shift, shift_numbered}
+use Rattle.office_rules.specs.Office.Lookup.{has_sales, open_shift, sale_numbered, sale_of_ref, sales_of_shift, shift_numbered, sold_since}
 use Rattle.office_rules.specs.Law.NewSale.{IsNewSale}
 use Rattle.office_rules.specs.Office.{IsOffice, Office}
 use Rattle.vend_core.specs.Law.OfficeLaws.{SellsOne}
@@ -75,6 +75,17 @@ module _ (o : Office) (New : Sale → Type 0) where
   stand_add_steps name day today steps true (Some there) = stand_if (steps_eq there steps) _ _ (nothing o)
   stand_add_steps name day today steps true None = stand_day name day steps (nat_lt today day)
 
+  stand_withdrawing : (name : List ℕ) (day : ℕ) (b : Bool)
+      → IsHonest o New (if b then changed (edits.WithdrawSteps name day) (answers.Withdrawn 1) else Err refusals.DayPast)
+  stand_withdrawing name day true = record { stand = nothing o; adds = inl refl }
+  stand_withdrawing name day false = record { stand = nothing o; adds = inl refl }
+
+  stand_withdraw : (name : List ℕ) (day today : ℕ) (has : Bool) (there : Option (List Step)) (sold : Bool)
+      → IsHonest o New (withdraw_steps name day today has there sold)
+  stand_withdraw name day today false there sold = record { stand = nothing o; adds = inl refl }
+  stand_withdraw name day today true None sold = record { stand = nothing o; adds = inl refl }
+  stand_withdraw name day today true (Some there) sold = stand_withdrawing name day (nat_lt today day && not sold)
+
   stand_add_meter : (number : List ℕ) (m : Meter) (there : Option Meter) (has : Bool) → IsHonest o New (add_meter number m there has)
   stand_add_meter number m (Some there) has = stand_if (meter_eq there m) _ _ (nothing o)
   stand_add_meter number m None true = record { stand = nothing o; adds = inl refl }
@@ -100,6 +111,17 @@ module _ (o : Office) (New : Sale → Type 0) where
   stand_move_base : (number : List ℕ) (base : Base) (moment : ℕ) (there : Option Meter) → IsHonest o New (move_base number base moment there)
   stand_move_base number base moment None = record { stand = nothing o; adds = inl refl }
   stand_move_base number base moment (Some m) = stand_later number base (base_eq m.base base) (is_earlier base m.base) (nat_lt moment (base_date base))
+
+  stand_key : (number : List ℕ) (key : ℕ) (same sold : Bool)
+      → IsHonest o New (if same then unchanged answers.Done else
+      (if sold then Err refusals.HasSales else changed (edits.SetKey number key) answers.Done))
+  stand_key number key true sold = record { stand = nothing o; adds = inl refl }
+  stand_key number key false true = record { stand = nothing o; adds = inl refl }
+  stand_key number key false false = record { stand = nothing o; adds = inl refl }
+
+  stand_set_key : (number : List ℕ) (key : ℕ) (there : Option Meter) (sold : Bool) → IsHonest o New (set_key number key there sold)
+  stand_set_key number key None sold = record { stand = nothing o; adds = inl refl }
+  stand_set_key number key (Some m) sold = stand_key number key (m.key == key) sold
 
   -- rows add no sale
   rows_add_none : (new : List Row) (p : Office) → (with_rows new p).sales ≡ p.sales
@@ -170,10 +192,13 @@ module _ (o : Office) (New : Sale → Type 0) where
         → IsHonest o New (decision_of forward o moment nibble request)
     honest (requests.AddTariff name steps) sells = stand_add_tariff name steps (o.tariffs name)
     honest (requests.AddSteps name day steps) sells = stand_add_steps name day (day_at moment) steps (is_some (o.tariffs name)) (o.dated_steps name day)
+    honest (requests.WithdrawSteps name day) sells =
+        stand_withdraw name day (day_at moment) (is_some (o.tariffs name)) (o.dated_steps name day) (sold_since o day)
     honest (requests.AddMeter number m) sells = stand_add_meter number m (o.meters number) (is_some (o.tariffs m.tariff))
     honest (requests.Import rows) sells = stand_import (day_at moment) rows
     honest (requests.SetTariff number name) sells = stand_set_tariff number name (o.meters number) (is_some (o.tariffs name))
     honest (requests.MoveBase number base) sells = stand_move_base number base moment (o.meters number)
+    honest (requests.SetKey number key) sells = stand_set_key number key (o.meters number) (has_sales o number)
     honest (requests.OpenShift operator) sells = stand_open_shift moment operator (open_shift o operator) (length o.shifts)
     honest (requests.CloseShift operator) sells = stand_close_shift moment (open_shift o operator)
     honest (requests.Sell order) sells =

@@ -1,6 +1,6 @@
 -- The steps of a tariff on a day: which they are, and that those of a day that has passed stay.
 use Rattle.std.proofs.Common.{◌≡◌, ℕ, zero, suc, ◌<◌, ◌≤◌, ◌↔◌, inl, inr, Bool, true, false, List, [], ◌∷◌, length, Option, Some, None, Result, Ok, Err, is_some, refl, sym, ◌∙◌, ap, subst, arith}
-use Rattle.std.specs.Prelude.{◌&&◌, ◌==◌, All, IsSome, bytes_eq, nat_lt, unwrap_or, if◌then◌else◌}
+use Rattle.std.specs.Prelude.{◌&&◌, ◌==◌, All, IsSome, bytes_eq, nat_lt, not, unwrap_or, if◌then◌else◌}
 use Rattle.std.specs.Option.{option_or}
 use Rattle.std.proofs.lemmas.Bool.{le-ltb, lt-ltb}
 use Rattle.std.proofs.lemmas.Bool.Decides.{Decides-eqb, nat_tests}
@@ -13,9 +13,9 @@ use Rattle.sts_fields.specs.declared.base.Base.{Base}
 use Rattle.sts_token.specs.Token.{KeepsRange}
 use Rattle.tariff.specs.StepsEq.{steps_eq-equiv}
 use Rattle.tariff.specs.declared.step.Step.{Step}
-use Rattle.office_rules.specs.Decision.{MeterAccount, account_of, add_meter, add_steps, add_tariff, changed, close_shift, decision_of, import, is_earlier, meter_eq, move_base, next_number, open_a_shift, report, reprint, row_decision, sell, sell_once, set_tariff, steps_eq, unchanged}
+use Rattle.office_rules.specs.Decision.{MeterAccount, account_of, add_meter, add_steps, add_tariff, changed, close_shift, decision_of, import, is_earlier, meter_eq, move_base, next_number, open_a_shift, report, reprint, row_decision, sell, sell_once, set_key, set_tariff, steps_eq, unchanged, withdraw_steps}
 use Rattle.office_rules.specs.Decision.Fold.{after, office_after, reply, reply_of, step}
-use Rattle.office_rules.specs.Office.Lookup.{latest, open_shift, sale_numbered, sale_of_ref, sales_of_shift, shift_numbered, steps_on}
+use Rattle.office_rules.specs.Office.Lookup.{has_sales, latest, open_shift, sale_numbered, sale_of_ref, sales_of_shift, shift_numbered, sold_since, steps_on}
 use Rattle.office_rules.specs.Office.{IsOffice, Office}
 use Rattle.vend_core.specs.Law.OfficeLaws.{AreStepsOn, IsNotBefore}
 use Rattle.office_rules.specs.Decision.Requests.{IsStamped}
@@ -38,7 +38,7 @@ use Rattle.office_rules.proofs.DecisionLemmas.{after_test, sell_ok}
 use Rattle.vend_core.proofs.LawLemmas.FoldLemmas.{after_grows}
 use Rattle.office_rules.proofs.DecisionLemmas.ImportLemmas.{import_keeps}
 use Rattle.office_rules.proofs.DecisionLemmas.NewSaleLemmas.{LowerLaws}
-use Rattle.office_rules.proofs.OfficeLemmas.RowLemmas.{both_true}
+use Rattle.office_rules.proofs.OfficeLemmas.RowLemmas.{both_true, parts_true}
 use Rattle.office_rules.proofs.StoreLemmas.LatestLemmas.{LatestIs, latest_is, one_latest}
 
 -- the steps of a tariff on a day are one list
@@ -141,6 +141,22 @@ module _ (day : ℕ) (o : Office) where
   same_by_steps name first today steps true (Some there) past = same_if (steps_eq there steps) _ _
   same_by_steps name first today steps true None past = same_by_day name first today steps (nat_lt today first) past refl
 
+  -- and withdrawn from a later day on alone
+  same_by_withdrawing : (name : List ℕ) (first today : ℕ) (b : Bool) → day ≤ today → (b ≡ true → nat_lt today first ≡ true)
+      → Same (if b then changed (edits.WithdrawSteps name first) (answers.Withdrawn 1) else Err refusals.DayPast)
+  same_by_withdrawing name first today true past later = λ q d below.
+      let after : nat_lt today first ≡ true = later refl in
+      let other : (d == first) ≡ false = grind (arith, nat_tests) in
+      beside_day (bytes_eq q name) (d == first) None (o.dated_steps q d) other
+  same_by_withdrawing name first today false past later = λ q d below. refl
+
+  same_by_withdraw : (name : List ℕ) (first today : ℕ) (has : Bool) (there : Option (List Step)) (sold : Bool) → day ≤ today
+      → Same (withdraw_steps name first today has there sold)
+  same_by_withdraw name first today false there sold past = λ q d below. refl
+  same_by_withdraw name first today true None sold past = λ q d below. refl
+  same_by_withdraw name first today true (Some there) sold past =
+      same_by_withdrawing name first today (nat_lt today first && not sold) past (λ both. (parts_true (nat_lt today first) (not sold) both).0)
+
   same_by_meter : (number : List ℕ) (m : Meter) (there : Option Meter) (has : Bool) → Same (add_meter number m there has)
   same_by_meter number m (Some there) has = same_if (meter_eq there m) _ _
   same_by_meter number m None true = λ q d below. refl
@@ -166,6 +182,16 @@ module _ (day : ℕ) (o : Office) where
   same_by_move : (number : List ℕ) (base : Base) (moment : ℕ) (there : Option Meter) → Same (move_base number base moment there)
   same_by_move number base moment None = λ q d below. refl
   same_by_move number base moment (Some m) = same_by_later number base (base_eq m.base base) (is_earlier base m.base) (nat_lt moment (base_date base))
+
+  same_by_key : (number : List ℕ) (key : ℕ) (same sold : Bool)
+      → Same (if same then unchanged answers.Done else (if sold then Err refusals.HasSales else changed (edits.SetKey number key) answers.Done))
+  same_by_key number key true sold = λ q d below. refl
+  same_by_key number key false true = λ q d below. refl
+  same_by_key number key false false = λ q d below. refl
+
+  same_by_set_key : (number : List ℕ) (key : ℕ) (there : Option Meter) (sold : Bool) → Same (set_key number key there sold)
+  same_by_set_key number key None sold = λ q d below. refl
+  same_by_set_key number key (Some m) sold = same_by_key number key (m.key == key) sold
 
   same_by_row : (today : ℕ) (row : Row) → day ≤ today → Same (row_decision o today row)
   same_by_row today (kinds.Tariff name steps) past = same_by_tariff name steps (o.tariffs name)
@@ -211,10 +237,13 @@ same_by : (day : ℕ) (o : Office) (forward : ℕ → ℕ → ℕ) (moment nibbl
 same_by day o forward moment nibble (requests.AddTariff name steps) past = same_by_tariff day o name steps (o.tariffs name)
 same_by day o forward moment nibble (requests.AddSteps name first steps) past =
     same_by_steps day o name first (day_at moment) steps (is_some (o.tariffs name)) (o.dated_steps name first) past
+same_by day o forward moment nibble (requests.WithdrawSteps name first) past =
+    same_by_withdraw day o name first (day_at moment) (is_some (o.tariffs name)) (o.dated_steps name first) (sold_since o first) past
 same_by day o forward moment nibble (requests.AddMeter number m) past = same_by_meter day o number m (o.meters number) (is_some (o.tariffs m.tariff))
 same_by day o forward moment nibble (requests.Import rows) past = same_by_import day o (day_at moment) rows past
 same_by day o forward moment nibble (requests.SetTariff number name) past = same_by_set day o number name (o.meters number) (is_some (o.tariffs name))
 same_by day o forward moment nibble (requests.MoveBase number base) past = same_by_move day o number base moment (o.meters number)
+same_by day o forward moment nibble (requests.SetKey number key) past = same_by_set_key day o number key (o.meters number) (has_sales o number)
 same_by day o forward moment nibble (requests.OpenShift operator) past = same_by_open day o moment operator (open_shift o operator) (length o.shifts)
 same_by day o forward moment nibble (requests.CloseShift operator) past = same_by_close day o moment (open_shift o operator)
 same_by day o forward moment nibble (requests.Sell order) past =
@@ -223,8 +252,8 @@ same_by day o forward moment nibble (requests.Sell order) past =
 same_by day o forward moment nibble (requests.Reprint number) past = same_by_reprint day o (sale_numbered o number)
 same_by day o forward moment nibble (requests.ShiftReport number) past = same_by_report day o (shift_numbered o number) (sales_of_shift o number)
 
--- along requests of the day or later ones
-after_same : (day : ℕ) (forward : ℕ → ℕ → ℕ) (o : Office) (ats : List Stamped) → All (IsNotBefore day) ats → SameUntil day o (after forward o ats)
+-- along requests of a day and of later ones further steps neither come for the day nor go
+pub after_same : (day : ℕ) (forward : ℕ → ℕ → ℕ) (o : Office) (ats : List Stamped) → All (IsNotBefore day) ats → SameUntil day o (after forward o ats)
 unfolding after
 after_same day forward o [] past = λ q d below. refl
 after_same day forward o (at ∷ ats) past =

@@ -1,14 +1,13 @@
--- What an edit makes of the shifts, and that a meter keeps its key.
-use Rattle.std.proofs.Common.{◌≡◌, ℕ, ◌+◌, ◌⊎◌, inl, inr, Bool, true, false, List, [], ◌∷◌, ◌++◌, length, Option, Some, None, Result, Ok, Err, refl, ◌∙◌}
-use Rattle.std.specs.Prelude.{bytes_eq, if◌then◌else◌, map}
+-- What an edit makes of the shifts.
+use Rattle.std.proofs.Common.{◌≡◌, ℕ, ◌+◌, ◌⊎◌, inl, inr, List, [], ◌∷◌, ◌++◌, length, Option, Some, None, Result, Ok, Err, refl, ◌∙◌}
+use Rattle.std.specs.Prelude.{map}
 use Rattle.std.specs.Option.{option_map_or}
 use Rattle.sts_token.specs.Token.{KeepsRange}
-use Rattle.sts_fields.specs.declared.base.Base.{Base}
 use Rattle.office_rules.specs.Decision.{decision}
-use Rattle.office_rules.specs.Decision.Edits.{applied, office_after, with_base, with_row, with_rows, with_tariff}
+use Rattle.office_rules.specs.Decision.Edits.{applied, office_after, with_row, with_rows}
 use Rattle.office_rules.specs.Decision.Fold.{step}
 use Rattle.office_rules.specs.Decision.Requests.{IsStamped}
-use Rattle.office_rules.specs.Law.Store.{Meets, MeetRows, MeetsRow}
+use Rattle.office_rules.specs.Law.Store.{Meets}
 use Rattle.office_rules.specs.Office.Lookup.{open_shift}
 use Rattle.office_rules.specs.Office.{IsOffice, Office}
 use Rattle.office_rules.specs.declared.decision.change.Change.{Change}
@@ -16,13 +15,11 @@ use Rattle.office_rules.specs.declared.decision.change.Edit.{Edit}
 use Rattle.office_rules.specs.declared.decision.change.Edit.TheVariants as edits
 use Rattle.office_rules.specs.declared.decision.refusal.Refusal.{Refusal}
 use Rattle.office_rules.specs.declared.decision.request.Stamped.{Stamped}
-use Rattle.office_rules.specs.declared.office.meter.Meter.{Meter}
 use Rattle.office_rules.specs.declared.office.row.Row.{Row}
 use Rattle.office_rules.specs.declared.office.row.Row.TheVariants as kinds
 use Rattle.office_rules.specs.declared.office.shift.Shift.{Shift}
-use Rattle.office_rules.proofs.DecisionLemmas.EditLemmas.{closing, set_kept}
+use Rattle.office_rules.proofs.DecisionLemmas.EditLemmas.{closing}
 use Rattle.office_rules.proofs.DecisionLemmas.NewSaleLemmas.{LowerLaws}
-use Rattle.office_rules.proofs.DecisionLemmas.StayLemmas.{put_beside}
 use Rattle.office_rules.proofs.StoreLemmas.MeetsLemmas.{decided_meets}
 
 -- what holds of no change, and of each edit that meets its office, holds of a step
@@ -76,10 +73,12 @@ shifts_of_rows (row ∷ rest) o = shifts_of_rows rest (with_row row o) ∙ shift
 pub shifts_by : (o : Office) (e : Edit) → Meets e o → ShiftsChange o (applied e o)
 shifts_by o (edits.AddTariff name steps) meets = inl refl
 shifts_by o (edits.AddSteps name day steps) meets = inl refl
+shifts_by o (edits.WithdrawSteps name day) meets = inl refl
 shifts_by o (edits.AddMeter number m) meets = inl refl
 shifts_by o (edits.AddRows rows) meets = inl (shifts_of_rows rows o)
 shifts_by o (edits.SetTariff number name) meets = inl refl
 shifts_by o (edits.MoveBase number base) meets = inl refl
+shifts_by o (edits.SetKey number key) meets = inl refl
 shifts_by o (edits.OpenShift s) meets =
     inr (inl (record {
       shift = s;
@@ -90,59 +89,3 @@ shifts_by o (edits.OpenShift s) meets =
 shifts_by o (edits.CloseShift number moment) meets =
     inr (inr (record { number = number; moment = moment; shifts = refl }))
 shifts_by o (edits.AddSale s) meets = inl refl
-
--- meters stand in the later office too, with their keys
-abbrev pub KeysStay : Office → Office → Type 0
-KeysStay o p = (number : List ℕ) (m : Meter) → o.meters number ≡ Some m
-    → (n : Meter) × (p.meters number ≡ Some n) × (n.key ≡ m.key)
-
--- keys stay where nothing changes
-pub keys_same : (o : Office) → KeysStay o o
-keys_same o number m there = (m, there, refl)
-
-keys_twice : (o p q : Office) → KeysStay o p → KeysStay p q → KeysStay o q
-keys_twice o p q a b number m there =
-    let n = a number m there in
-    let k = b number n.0 n.1 in
-    (k.0, k.1, k.2 ∙ n.2)
-
-keys_by_row : (row : Row) (o : Office) → MeetsRow row o → KeysStay o (with_row row o)
-keys_by_row (kinds.Tariff name steps) o meets = λ q k there. (k, there, refl)
-keys_by_row (kinds.Steps name day steps) o meets = λ q k there. (k, there, refl)
-keys_by_row (kinds.Meter number m) o meets = λ q k there.
-    (k, put_beside (bytes_eq q number) q number m k o.meters refl meets.free there, refl)
-
-keys_by_rows : (rows : List Row) (o : Office) → MeetRows rows o → KeysStay o (with_rows rows o)
-keys_by_rows [] o meet = keys_same o
-keys_by_rows (row ∷ rest) o meet =
-    keys_twice o (with_row row o) (with_rows rest (with_row row o)) (keys_by_row row o meet.0)
-    (keys_by_rows rest (with_row row o) meet.1)
-
-key_with_tariff : (b : Bool) (name : List ℕ) (m : Meter)
-    → (if b then with_tariff name m else m).key ≡ m.key
-key_with_tariff true name m = refl
-key_with_tariff false name m = refl
-
-key_with_base : (b : Bool) (m : Meter) (base : Base) → (if b then with_base base m else m).key ≡ m.key
-key_with_base true m base = refl
-key_with_base false m base = refl
-
--- an edit leaves each meter in the office, with its key
-pub keys_by : (o : Office) (e : Edit) → Meets e o → KeysStay o (applied e o)
-keys_by o (edits.AddTariff name steps) meets = keys_by_row (kinds.Tariff name steps) o meets
-keys_by o (edits.AddSteps name day steps) meets = keys_by_row (kinds.Steps name day steps) o meets
-keys_by o (edits.AddMeter number m) meets = keys_by_row (kinds.Meter number m) o meets
-keys_by o (edits.AddRows rows) meets = keys_by_rows rows o meets.1
-keys_by o (edits.SetTariff number name) meets = λ q m there. (
-  (if bytes_eq q number then with_tariff name m else m),
-  set_kept (bytes_eq q number) (with_tariff name) m (o.meters q) there,
-  key_with_tariff (bytes_eq q number) name m,
-)
-keys_by o (edits.MoveBase number base) meets = λ q m there. (
-  (if bytes_eq q number then with_base base m else m),
-  set_kept (bytes_eq q number) (with_base base) m (o.meters q) there,
-  key_with_base (bytes_eq q number) m base,
-)
-keys_by o (edits.OpenShift s) meets = λ q k there. (k, there, refl)
-keys_by o (edits.CloseShift number moment) meets = λ q k there. (k, there, refl)
-keys_by o (edits.AddSale s) meets = λ q k there. (k, there, refl)

@@ -1,20 +1,21 @@
 -- What holds along steps and along whole folds: an office stays one, and its rows only grow.
-use Rattle.std.proofs.Common.{◌≡◌, ℕ, Bool, true, false, List, [], ◌∷◌, ◌++◌, length, Option, Some, None, Result, Ok, Err, refl, sym, ◌∙◌, ap, subst, arith}
-use Rattle.std.specs.Prelude.{◌≤◌, ◌&&◌, ◌==◌, All, Contains, IsNone, bytes_eq, is_none, is_some, nat_lt, if◌then◌else◌, option_map, slice_get}
+use Rattle.std.proofs.Common.{◌≡◌, ◌≢◌, ℕ, Bool, true, false, List, [], ◌∷◌, ◌++◌, length, Option, Some, None, Result, Ok, Err, refl, sym, ◌∙◌, ap, subst, arith}
+use Rattle.std.specs.Prelude.{◌≤◌, ◌&&◌, ◌==◌, All, Contains, IsNone, bytes_eq, is_none, is_some, nat_lt, not, if◌then◌else◌, option_map, slice_get}
 use Rattle.std.proofs.lemmas.Bool.{false≢true}
-use Rattle.std.proofs.lemmas.Bool.Decides.{nat_tests}
-use Rattle.std.proofs.lemmas.List.{append-nil, append_assoc, length-append, get_or_append_left}
-use Rattle.std.proofs.lemmas.List.Elements.{All-head, All-tail, Contains-append_left}
-use Rattle.std.proofs.lemmas.Option.{get_or_from_slice_get, slice_get-get_or, slice_get-map, slice_get_within}
+use Rattle.std.proofs.lemmas.Bool.Decides.{Decides-eqb, nat_tests}
+use Rattle.std.proofs.lemmas.List.{append-nil, length-append, get_or_append_left}
+use Rattle.std.proofs.lemmas.List.Elements.{All-head, All-tail}
+use Rattle.std.proofs.lemmas.Slice.Eq.{bytes_eq-Decides}
+use Rattle.std.proofs.lemmas.Option.{get_or_from_slice_get, same_Some, slice_get-get_or, slice_get-map, slice_get_within}
 use Rattle.sts_fields.specs.Base.{base_date, base_eq, year_of}
 use Rattle.sts_fields.specs.Day.{day_at}
 use Rattle.sts_fields.specs.declared.base.Base.{Base}
 use Rattle.sts_token.specs.Token.{KeepsRange}
 use Rattle.tariff.specs.declared.step.Step.{Step}
-use Rattle.office_rules.specs.Decision.{MeterAccount, add_meter, add_steps, add_tariff, changed, close_shift, decision_of, import, is_earlier, meter_eq, move_base, account_of, next_number, open_a_shift, report, reprint, row_decision, sell, sell_once, set_tariff, steps_eq, unchanged}
-use Rattle.office_rules.specs.Decision.Fold.{after, applied, closed_at, office_after, step, with_base, with_tariff}
-use Rattle.office_rules.specs.Law.Growth.{HasGrown, HaveStayed, IsSameShift, TariffsStay}
-use Rattle.office_rules.specs.Office.Lookup.{open_shift, sale_numbered, sale_of_ref, sales_of_shift, shift_numbered}
+use Rattle.office_rules.specs.Decision.{MeterAccount, add_meter, add_steps, add_tariff, changed, close_shift, decision_of, import, is_earlier, meter_eq, move_base, account_of, next_number, open_a_shift, report, reprint, row_decision, sell, sell_once, set_key, set_tariff, steps_eq, unchanged, withdraw_steps}
+use Rattle.office_rules.specs.Decision.Fold.{after, applied, closed_at, office_after, step, with_base, with_key, with_tariff}
+use Rattle.office_rules.specs.Law.Growth.{HasGrown, HaveStayed, IsSameShift}
+use Rattle.office_rules.specs.Office.Lookup.{WasSoldSince, has_sales, open_shift, sale_numbered, sale_of_ref, sales_of_shift, shift_numbered, sold_since}
 use Rattle.office_rules.specs.Office.{IsOffice, Office}
 use Rattle.office_rules.specs.Decision.Requests.{IsStamped}
 use Rattle.office_rules.specs.declared.decision.answer.Answer.{Answer}
@@ -33,71 +34,14 @@ use Rattle.office_rules.specs.declared.office.row.Row.TheVariants as kinds
 use Rattle.office_rules.specs.declared.office.sale.Sale.{Sale}
 use Rattle.office_rules.specs.declared.office.shift.Shift.{Shift}
 use Rattle.office_rules.proofs.DecisionLemmas.{after_test, sell_ok}
-use Rattle.office_rules.proofs.DecisionLemmas.EditLemmas.{closing, more_kept, moved_base, set_kept}
+use Rattle.office_rules.proofs.DecisionLemmas.EditLemmas.{base_with_key, closing, more_kept, moved_base, set_kept}
 use Rattle.office_rules.proofs.DecisionLemmas.ImportLemmas.{import_keeps}
 use Rattle.office_rules.proofs.DecisionLemmas.NewSaleLemmas.{LowerLaws}
 use Rattle.office_rules.proofs.OfficeLemmas.{step_keeps_office}
-use Rattle.office_rules.proofs.OfficeLemmas.RowLemmas.{found, same_number}
-use Rattle.office_rules.proofs.DecisionLemmas.StayLemmas.{stayed_by_meter, stayed_by_steps, stayed_by_tariff, tariffs_stay_twice}
-
--- an office has grown out of itself, and out of what it had grown out of
-same_shift : (s : Shift) → IsSameShift s s
-same_shift s = record { number = refl; operator = refl; opened = refl; closed = λ some. refl }
-
--- what an office that has grown keeps of its names: tariffs, meters that are not moved back, bases
-record NamesGrow (o p : Office) : Type 0 where
-  tariffs : TariffsStay o p
-  meters : (number : List ℕ) (m : Meter) → o.meters number ≡ Some m → (n : Meter) × (p.meters number ≡ Some n) × (year_of m.base ≤ year_of n.base)
-  bases : (number : List ℕ) (base : Base) → o.bases number base ≡ true → p.bases number base ≡ true
-
-names_same : (o p : Office) → p.tariffs ≡ o.tariffs → p.dated_steps ≡ o.dated_steps → p.meters ≡ o.meters → p.bases ≡ o.bases → NamesGrow o p
-names_same o p tariffs dated meters bases = record {
-  tariffs = record {
-    first = λ name steps at. ap (λ (f : List ℕ → Option (List Step)). f name) tariffs ∙ at;
-    dated = λ name day steps at. ap (λ (f : List ℕ → ℕ → Option (List Step)). f name day) dated ∙ at;
-  };
-  meters = λ number m at. (m, ap (λ (f : List ℕ → Option Meter). f number) meters ∙ at, omega arith);
-  bases = λ number base had. ap (λ (f : List ℕ → Base → Bool). f number base) bases ∙ had;
-}
-
--- where names, sales and shifts have grown
-grown : (o p : Office) → NamesGrow o p → (rest : List Sale) → p.sales ≡ o.sales ++ rest
-    → ((i : ℕ) (s : Shift) → slice_get o.shifts i ≡ Some s → (t : Shift) × (slice_get p.shifts i ≡ Some t) × IsSameShift s t) → HasGrown o p
-grown o p names rest sales shifts = record {
-  sales = (rest, sales);
-  shifts = shifts;
-  tariffs = names.tariffs;
-  meters = names.meters;
-  bases = names.bases;
-}
-
--- an office that does not change counts as grown
-pub grown_none : (o : Office) → HasGrown o o
-grown_none o = grown o o (names_same o o refl refl refl refl) [] (sym (append-nil o.sales)) (λ i s at. (s, at, same_shift s))
-
-same_shift_twice : (a b c : Shift) → IsSameShift a b → IsSameShift b c → IsSameShift a c
-same_shift_twice a b c x y = record {
-  number = y.number ∙ x.number;
-  operator = y.operator ∙ x.operator;
-  opened = y.opened ∙ x.opened;
-  closed = λ some. y.closed (ap is_some (x.closed some) ∙ some) ∙ x.closed some;
-}
-
--- an office that grows and grows again has grown
-pub grown_twice : (o p q : Office) → HasGrown o p → HasGrown p q → HasGrown o q
-grown_twice o p q a b = record {
-  sales = (a.sales.0 ++ b.sales.0, b.sales.1 ∙ ap (λ xs. xs ++ b.sales.0) a.sales.1 ∙ append_assoc o.sales a.sales.0 b.sales.0);
-  shifts = λ i s at.
-      let t = a.shifts i s at in
-      let u = b.shifts i t.0 t.1 in
-      (u.0, u.1, same_shift_twice s t.0 u.0 t.2 u.2);
-  tariffs = tariffs_stay_twice o p q a.tariffs b.tariffs;
-  meters = λ number m at.
-      let n = a.meters number m at in
-      let k = b.meters number n.0 n.1 in
-      (k.0, k.1, omega (arith, n.2, k.2));
-  bases = λ number base had. b.bases number base (a.bases number base had);
-}
+use Rattle.office_rules.proofs.OfficeLemmas.RowLemmas.{found, parts_true, same_number}
+use Rattle.office_rules.proofs.StoreLemmas.SoldLemmas.{not_sold_to_is, passed_both, sold_since_is}
+use Rattle.office_rules.proofs.DecisionLemmas.StayLemmas.{stayed_by_meter, stayed_by_steps, stayed_by_tariff}
+use Rattle.vend_core.proofs.LawLemmas.GrowthLemmas.{NamesGrow, grown, grown_none, grown_twice, keys_stay, names_same, same_shift, sold_steps_stay}
 
 -- the rows of a grown office, where only sales came, a shift came, or one was closed
 pub grown_sale : (o : Office) (s : Sale) → HasGrown o (applied (edits.AddSale s) o)
@@ -149,7 +93,12 @@ module _ (o : Office) where
       grown o p names [] (sales ∙ sym (append-nil o.sales)) (λ i s at. (s, ap (λ rows. slice_get rows i) shifts ∙ at, same_shift s))
 
   stayed_names : (p : Office) → HaveStayed o p → ((number : List ℕ) (base : Base) → o.bases number base ≡ true → p.bases number base ≡ true) → NamesGrow o p
-  stayed_names p stayed bases = record { tariffs = stayed.tariffs; meters = λ number m at. (m, stayed.meters number m at, omega arith); bases = bases }
+  stayed_names p stayed bases = record {
+    tariffs = sold_steps_stay o p stayed.tariffs;
+    meters = λ number m at. (m, stayed.meters number m at, omega arith);
+    keys = keys_stay o p stayed.meters;
+    bases = bases;
+  }
 
   grown_by_tariff : (name : List ℕ) (steps : List Step) (there : Option (List Step)) → o.tariffs name ≡ there
       → HasGrown o (office_after o (add_tariff name steps there))
@@ -168,6 +117,33 @@ module _ (o : Office) where
   grown_by_steps name day today steps true (Some there) at = grown_if (steps_eq there steps) _ _
   grown_by_steps name day today steps true None at = grown_by_day name day steps (nat_lt today day) (stayed_by_steps o name day today steps true None at)
 
+  -- steps that are withdrawn are of a day since which nothing was sold
+  stays_beside : (b : Bool) (there : Option (List Step)) (steps : List Step) → (b ≡ true → ⊥) → there ≡ Some steps → (if b then None else there) ≡ Some steps
+  stays_beside true there steps other at = absurd (other refl)
+  stays_beside false there steps other at = at
+
+  grown_by_withdrawing : (name : List ℕ) (day : ℕ) (b : Bool) → (b ≡ true → sold_since o day ≡ false)
+      → HasGrown o (office_after o (if b then changed (edits.WithdrawSteps name day) (answers.Withdrawn 1) else Err refusals.DayPast))
+  grown_by_withdrawing name day true none = new_names (applied (edits.WithdrawSteps name day) o) (record {
+    tariffs = record {
+      first = λ q steps at. at;
+      dated = λ q d steps sold at. stays_beside (bytes_eq q name && (d == day)) (o.dated_steps q d) steps (λ both.
+          let same : d ≡ day = (Decides-eqb d day).0 (parts_true (bytes_eq q name) (d == day) both).1 in
+          false≢true (sym (none refl) ∙ (sold_since_is o day).1 (subst (WasSoldSince o) same sold))) at;
+    };
+    meters = λ q m at. (m, at, omega arith);
+    keys = keys_stay o (applied (edits.WithdrawSteps name day) o) (λ q m at. at);
+    bases = λ q b had. had;
+  }) refl refl
+  grown_by_withdrawing name day false none = grown_none o
+
+  grown_by_withdrawal : (name : List ℕ) (day today : ℕ) (has : Bool) (there : Option (List Step))
+      → HasGrown o (office_after o (withdraw_steps name day today has there (sold_since o day)))
+  grown_by_withdrawal name day today false there = grown_none o
+  grown_by_withdrawal name day today true None = grown_none o
+  grown_by_withdrawal name day today true (Some there) =
+      grown_by_withdrawing name day (nat_lt today day && not (sold_since o day)) (passed_both (nat_lt today day) (sold_since o day))
+
   grown_by_meter : (number : List ℕ) (m : Meter) (there : Option Meter) (has : Bool) → o.meters number ≡ there
       → HasGrown o (office_after o (add_meter number m there has))
   grown_by_meter number m (Some there) has at = grown_if (meter_eq there m) _ _
@@ -181,17 +157,24 @@ module _ (o : Office) where
   same_base true name m = omega arith
   same_base false name m = omega arith
 
+  -- a meter that is given a tariff or a base has its key
+  key_of_set : (b : Bool) (f : Meter → Meter) (m n : Meter) (there : Option Meter) → ((k : Meter) → (f k).key ≡ k.key) → there ≡ Some m
+      → (if b then option_map f there else there) ≡ Some n → n.key ≡ m.key
+  key_of_set true f m n there keeps at now = ap (λ (k : Meter). k.key) (same_Some n (f m) (sym now ∙ ap (option_map f) at)) ∙ keeps m
+  key_of_set false f m n there keeps at now = ap (λ (k : Meter). k.key) (same_Some n m (sym now ∙ at))
+
   grown_by_setting : (number name : List ℕ) (b : Bool)
       → HasGrown o (office_after o (if b then unchanged answers.Done else changed (edits.SetTariff number name) answers.Done))
   grown_by_setting number name true = grown_none o
   grown_by_setting number name false = new_names (applied (edits.SetTariff number name) o) (record {
-    tariffs = record { first = λ q steps at. at; dated = λ q day steps at. at };
+    tariffs = record { first = λ q steps at. at; dated = λ q day steps sold at. at };
     meters =
         λ q m at. (
           (if bytes_eq q number then with_tariff name m else m),
           set_kept (bytes_eq q number) (with_tariff name) m (o.meters q) at,
           same_base (bytes_eq q number) name m,
         );
+    keys = λ q m n sold at now. key_of_set (bytes_eq q number) (with_tariff name) m n (o.meters q) (λ k. refl) at now;
     bases = λ q b had. had;
   }) refl refl
 
@@ -205,12 +188,13 @@ module _ (o : Office) where
       → HasGrown o (office_after o (if b then Err refusals.BeforeBase else changed (edits.MoveBase number base) answers.Done))
   grown_by_move number base m true there later = grown_none o
   grown_by_move number base m false there later = new_names (applied (edits.MoveBase number base) o) (record {
-    tariffs = record { first = λ q steps at. at; dated = λ q day steps at. at };
+    tariffs = record { first = λ q steps at. at; dated = λ q day steps sold at. at };
     meters = λ q k at. (
       (if bytes_eq q number then with_base base k else k),
       set_kept (bytes_eq q number) (with_base base) k (o.meters q) at,
       moved_base (bytes_eq q number) q number base m k o.meters refl there later at,
     );
+    keys = λ q k n sold at now. key_of_set (bytes_eq q number) (with_base base) k n (o.meters q) (λ k. refl) at now;
     bases = λ q b had. more_kept (bytes_eq q number && base_eq b base) (o.bases q b) had;
   }) refl refl
 
@@ -228,6 +212,33 @@ module _ (o : Office) where
       → HasGrown o (office_after o (move_base number base moment there))
   grown_by_move_base number base moment None at = grown_none o
   grown_by_move_base number base moment (Some m) at = grown_by_later number base moment m (base_eq m.base base) (is_earlier base m.base) at refl
+
+  -- a meter that is given a key was not sold to
+  key_of_other : (b : Bool) (q number : List ℕ) (key : ℕ) (m n : Meter) (there : Option Meter) → bytes_eq q number ≡ b → q ≢ number → there ≡ Some m
+      → (if b then option_map (with_key key) there else there) ≡ Some n → n.key ≡ m.key
+  key_of_other true q number key m n there is other at now = absurd (other ((bytes_eq-Decides q number).0 is))
+  key_of_other false q number key m n there is other at now = ap (λ (k : Meter). k.key) (same_Some n m (sym now ∙ at))
+
+  grown_by_key : (number : List ℕ) (key : ℕ) (same sold : Bool) → has_sales o number ≡ sold
+      → HasGrown o (office_after o (if same then unchanged answers.Done else
+      (if sold then Err refusals.HasSales else changed (edits.SetKey number key) answers.Done)))
+  grown_by_key number key true sold is = grown_none o
+  grown_by_key number key false true is = grown_none o
+  grown_by_key number key false false is = new_names (applied (edits.SetKey number key) o) (record {
+    tariffs = record { first = λ q steps at. at; dated = λ q day steps sold at. at };
+    meters = λ q m at. (
+      (if bytes_eq q number then with_key key m else m),
+      set_kept (bytes_eq q number) (with_key key) m (o.meters q) at,
+      omega (arith, ap year_of (base_with_key (bytes_eq q number) key m)),
+    );
+    keys = λ q m n sold at now. key_of_other (bytes_eq q number) q number key m n (o.meters q) refl
+        (λ same. (not_sold_to_is o number).0 is sold.0 sold.1 (sold.2 ∙ same)) at now;
+    bases = λ q b had. had;
+  }) refl refl
+
+  grown_by_set_key : (number : List ℕ) (key : ℕ) (there : Option Meter) → HasGrown o (office_after o (set_key number key there (has_sales o number)))
+  grown_by_set_key number key None = grown_none o
+  grown_by_set_key number key (Some m) = grown_by_key number key (m.key == key) (has_sales o number) refl
 
   grown_by_row : (today : ℕ) (row : Row) → HasGrown o (office_after o (row_decision o today row))
   grown_by_row today (kinds.Tariff name steps) = grown_by_tariff name steps (o.tariffs name) refl
@@ -276,10 +287,13 @@ module _ (o : Office) (office : IsOffice o) where
   grown_by forward moment nibble (requests.AddTariff name steps) = grown_by_tariff o name steps (o.tariffs name) refl
   grown_by forward moment nibble (requests.AddSteps name day steps) =
       grown_by_steps o name day (day_at moment) steps (is_some (o.tariffs name)) (o.dated_steps name day) refl
+  grown_by forward moment nibble (requests.WithdrawSteps name day) =
+      grown_by_withdrawal o name day (day_at moment) (is_some (o.tariffs name)) (o.dated_steps name day)
   grown_by forward moment nibble (requests.AddMeter number m) = grown_by_meter o number m (o.meters number) (is_some (o.tariffs m.tariff)) refl
   grown_by forward moment nibble (requests.Import rows) = grown_by_import o (day_at moment) rows
   grown_by forward moment nibble (requests.SetTariff number name) = grown_by_set o number name (o.meters number) (is_some (o.tariffs name))
   grown_by forward moment nibble (requests.MoveBase number base) = grown_by_move_base o number base moment (o.meters number) refl
+  grown_by forward moment nibble (requests.SetKey number key) = grown_by_set_key o number key (o.meters number)
   grown_by forward moment nibble (requests.OpenShift operator) = grown_by_open moment operator (open_shift o operator) (length o.shifts)
   grown_by forward moment nibble (requests.CloseShift operator) = grown_by_close moment operator (open_shift o operator) refl
   grown_by forward moment nibble (requests.Sell order) =
@@ -288,7 +302,7 @@ module _ (o : Office) (office : IsOffice o) where
   grown_by forward moment nibble (requests.Reprint number) = grown_by_reprint (sale_numbered o number)
   grown_by forward moment nibble (requests.ShiftReport number) = grown_by_report (shift_numbered o number) (sales_of_shift o number)
 
--- a request makes an office grow: nothing that stands in it is taken away
+-- a request makes an office grow: nothing that something was sold by is taken away
 pub step_grows : (forward : ℕ → ℕ → ℕ) (o : Office) (at : Stamped) → IsOffice o → HasGrown o (step forward o at)
 step_grows forward o at office = grown_by o office forward at.moment at.nibble at.request
 
@@ -310,7 +324,3 @@ after_grows laws forward o (at ∷ ats) office are range =
     let next = step_keeps_office laws forward o at office (All-head IsStamped at ats are) range in
     grown_twice o (step forward o at) (after forward (step forward o at) ats) (step_grows forward o at office)
     (after_grows laws forward (step forward o at) ats next (All-tail IsStamped at ats are) range)
-
--- a sale that stands in an office stands in what it has grown to
-pub stands_on : (o p : Office) (s : Sale) → HasGrown o p → Contains o.sales s → Contains p.sales s
-stands_on o p s grown there = subst (λ (sales : List Sale). Contains sales s) (sym grown.sales.1) (Contains-append_left o.sales grown.sales.0 s there)

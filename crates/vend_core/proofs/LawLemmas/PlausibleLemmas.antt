@@ -94,6 +94,12 @@ later_pair R number xs x y pairs numbered a b less =
     (subst (λ v. R (get_or xs a.0 y) v) b.2 (pairs a.0 b.0 y before b.1))
 
 -- ---- a sale of an office stays what it was while the office grows
+
+-- the further steps that have begun on a day stay
+abbrev pub BegunStay : ℕ → Office → Office → Type 0
+BegunStay day o p = (name : List ℕ) (first : ℕ) (steps : List Step) → first ≤ day
+    → o.dated_steps name first ≡ Some steps → p.dated_steps name first ≡ Some steps
+
 module _ (o p : Office) (grown : HasGrown o p) (goes : ShiftsChange o p) where
   own_stays : (s : Sale) → IsInOwnShift o s → IsInOwnShift p s
   own_stays s own =
@@ -137,27 +143,27 @@ module _ (o p : Office) (grown : HasGrown o p) (goes : ShiftsChange o p) where
       subst (λ n. All (λ (a : Sale). a.shift < n) earlier) number
       (was old.0 old.1 by (omega (arith, number, later)))
 
-  steps_stay : (day : ℕ) (steps : List Step) → AreStepsOfOne o day steps → AreStepsOfOne p day steps
-  steps_stay day steps one = record {
+  steps_stay : (day : ℕ) (steps : List Step) → BegunStay day o p → AreStepsOfOne o day steps
+      → AreStepsOfOne p day steps
+  steps_stay day steps stay one = record {
     name = one.name;
     are = elim one.are [
       | inl first ↦ inl (grown.tariffs.first one.name steps first)
-      | inr (first, begun, there) ↦
-          inr (first, begun, grown.tariffs.dated one.name first steps there)
+      | inr (first, begun, there) ↦ inr (first, begun, stay one.name first steps begun there)
     ];
   }
 
   -- a sale that the rules grant after those before it is one in the grown office too
   pub granted_stays : (earlier : List Sale) (s : Sale) → All (λ (a : Sale). a.shift ≤ length o.shifts) earlier
-      → IsGrantedAfter o earlier s → IsGrantedAfter p earlier s
-  granted_stays earlier s within granted = record {
+      → BegunStay (day_at s.moment) o p → IsGrantedAfter o earlier s → IsGrantedAfter p earlier s
+  granted_stays earlier s within steps granted = record {
     operator = own_stays s granted.operator;
     shift = open_stays earlier s within goes granted.shift;
     base = granted.base;
     tid = granted.tid;
     bought = record {
       steps = granted.bought.steps;
-      are = steps_stay (day_at s.moment) granted.bought.steps granted.bought.are;
+      are = steps_stay (day_at s.moment) granted.bought.steps steps granted.bought.are;
       bought = granted.bought.bought;
     };
     digits = granted.digits;

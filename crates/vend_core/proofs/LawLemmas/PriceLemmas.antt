@@ -19,7 +19,8 @@ use Rattle.office_rules.specs.declared.decision.request.Request.TheVariants as r
 use Rattle.office_rules.specs.declared.decision.request.Stamped.{Stamped}
 use Rattle.office_rules.specs.declared.office.sale.Sale.{Sale}
 use Rattle.vend_core.proofs.LawLemmas.DatedLemmas.{passed_steps_stay}
-use Rattle.vend_core.proofs.LawLemmas.FoldLemmas.{after_grows, stands_on}
+use Rattle.vend_core.proofs.LawLemmas.FoldLemmas.{after_grows}
+use Rattle.vend_core.proofs.LawLemmas.GrowthLemmas.{stands_on}
 use Rattle.vend_core.proofs.LawLemmas.{new_sale_is}
 use Rattle.office_rules.proofs.DecisionLemmas.NewSaleLemmas.{LowerLaws}
 use Rattle.office_rules.proofs.OfficeLemmas.{step_keeps_office}

@@ -7,12 +7,15 @@ use Rattle.sts_token.specs.Token.{KeepsRange}
 use Rattle.office_rules.specs.Decision.Fold.{after, step}
 use Rattle.office_rules.specs.Decision.Requests.{IsStamped}
 use Rattle.office_rules.specs.Law.Growth.{HasGrown}
+use Rattle.vend_core.specs.Law.Imports.{LeavesRow}
 use Rattle.vend_core.specs.Law.Life.{LeadTo, Life}
 use Rattle.vend_core.specs.Law.Reached.{EachAfter, IsGrantedAfter, IsPlausible}
 use Rattle.office_rules.specs.Office.{IsOffice, IsSaleRow, Office, empty_office}
 use Rattle.office_rules.specs.declared.decision.request.Stamped.{Stamped}
+use Rattle.office_rules.specs.declared.office.row.Row.TheVariants as kinds
 use Rattle.office_rules.specs.declared.office.sale.Sale.{Sale}
 use Rattle.office_rules.proofs.DecisionLemmas.NewSaleLemmas.{LowerLaws}
+use Rattle.vend_core.proofs.LawLemmas.LeaveLemmas.{step_stays}
 use Rattle.vend_core.proofs.LawLemmas.AnswerLemmas.{sells_one}
 use Rattle.vend_core.proofs.LawLemmas.EachAfterLemmas.{each_after_none, each_after_push, each_after_weaker}
 use Rattle.vend_core.proofs.LawLemmas.EffectLemmas.{ShiftsChange, shifts_by, step_by_edit}
@@ -33,6 +36,7 @@ module _ (laws : LowerLaws) (codes : AmountCodes) where
       each_after_weaker (IsGrantedAfter o) (IsGrantedAfter p) o.sales (λ i s there granted.
       granted_stays o p grown goes (take i o.sales) s
       (All-take (λ (a : Sale). a.shift ≤ length o.shifts) i o.sales (within_shifts o office))
+      (λ name first steps begun at. grown.tariffs.dated name first steps (s, there, begun) at)
       granted) each
 
   goes_on : (forward : ℕ → ℕ → ℕ) (o : Office) (at : Stamped) → IsOffice o → IsStamped at
@@ -56,6 +60,9 @@ module _ (laws : LowerLaws) (codes : AmountCodes) where
               subst (λ (sales : List Sale). EachAfter (IsGrantedAfter p) sales) (sym pushed)
               (each_after_push (IsGrantedAfter p) o.sales s stay
               (granted_stays o p grown goes o.sales s (within_shifts o office)
+              (λ name first steps begun there.
+              step_stays forward o at (kinds.Steps name first steps)
+              (subst (λ request. LeavesRow request (kinds.Steps name first steps)) (sym asks) tt) there)
               (new_granted codes forward range o office at order s new plausible.shifts)))
         ];
       }

@@ -1,7 +1,7 @@
 -- The rules refuse for reasons of the request's own: never for memory, for the store, or because
 -- the office stopped.
 use Rattle.std.proofs.Common.{◌≡◌, ◌≢◌, ℕ, ◌+◌, Bool, true, false, List, [], ◌∷◌, Option, Some, None, Result, Ok, Err, length, refl, sym, ◌∙◌, ap}
-use Rattle.std.specs.Prelude.{bytes_eq, if◌then◌else◌, is_some, nat_lt}
+use Rattle.std.specs.Prelude.{◌&&◌, ◌==◌, bytes_eq, if◌then◌else◌, is_some, nat_lt, not}
 use Rattle.std.specs.Option.{ok_or}
 use Rattle.std.proofs.lemmas.Bool.{false≢true}
 use Rattle.sts_fields.specs.Base.{base_date, base_eq}
@@ -12,10 +12,10 @@ use Rattle.sts_fields.specs.declared.fault.TidFault.{TidFault}
 use Rattle.sts_fields.specs.declared.fault.TidFault.TheVariants.{BeforeBase, PastEnd, IdentifiersSpent, IdentifierAhead}
 use Rattle.tariff.specs.Purchase.{purchase_of}
 use Rattle.tariff.specs.declared.step.Step.{Step}
-use Rattle.office_rules.specs.Decision.{◌>>=◌, MeterAccount, add_meter, add_rows, add_steps, add_tariff, at_row, changed, decision_of, import, is_earlier, meter_eq, move_base, new_rows, account_of, open_a_shift, or_refusal, row_decision, sell_once, set_tariff, steps_eq, unchanged}
+use Rattle.office_rules.specs.Decision.{◌>>=◌, MeterAccount, add_meter, add_rows, add_steps, add_tariff, at_row, changed, decision_of, import, is_earlier, meter_eq, move_base, new_rows, account_of, open_a_shift, or_refusal, row_decision, sell_once, set_key, set_tariff, steps_eq, unchanged, withdraw_steps}
 use Rattle.office_rules.specs.Decision.Fold.{reply, reply_of}
 use Rattle.vend_core.specs.Law.Life.{acknowledges}
-use Rattle.office_rules.specs.Office.Lookup.{open_shift, sale_numbered, sale_of_ref, shift_numbered}
+use Rattle.office_rules.specs.Office.Lookup.{has_sales, open_shift, sale_numbered, sale_of_ref, shift_numbered, sold_since}
 use Rattle.office_rules.specs.Office.{Office, greatest_count}
 use Rattle.office_rules.specs.declared.decision.answer.Answer.{Answer}
 use Rattle.office_rules.specs.Decision.Edits.{office_after}
@@ -74,6 +74,17 @@ own_steps name day today steps false there = refl
 own_steps name day today steps true (Some there) = own_if (steps_eq there steps) _ refusals.Differs refl
 own_steps name day today steps true None = own_day name day steps (nat_lt today day)
 
+own_withdrawing : (name : List ℕ) (day : ℕ) (b : Bool)
+    → IsOwn (if b then changed (edits.WithdrawSteps name day) (answers.Withdrawn 1) else Err refusals.DayPast)
+own_withdrawing name day true = refl
+own_withdrawing name day false = refl
+
+own_withdraw : (name : List ℕ) (day today : ℕ) (has : Bool) (there : Option (List Step)) (sold : Bool)
+    → IsOwn (withdraw_steps name day today has there sold)
+own_withdraw name day today false there sold = refl
+own_withdraw name day today true None sold = refl
+own_withdraw name day today true (Some there) sold = own_withdrawing name day (nat_lt today day && not sold)
+
 own_meter : (number : List ℕ) (m : Meter) (there : Option Meter) (has : Bool) → IsOwn (add_meter number m there has)
 own_meter number m (Some there) has = own_if (meter_eq there m) _ refusals.Differs refl
 own_meter number m None true = refl
@@ -99,6 +110,16 @@ own_later number base false false false = refl
 own_move : (number : List ℕ) (base : Base) (moment : ℕ) (there : Option Meter) → IsOwn (move_base number base moment there)
 own_move number base moment None = refl
 own_move number base moment (Some m) = own_later number base (base_eq m.base base) (is_earlier base m.base) (nat_lt moment (base_date base))
+
+own_key : (number : List ℕ) (key : ℕ) (same sold : Bool)
+    → IsOwn (if same then unchanged answers.Done else (if sold then Err refusals.HasSales else changed (edits.SetKey number key) answers.Done))
+own_key number key true sold = refl
+own_key number key false true = refl
+own_key number key false false = refl
+
+own_set_key : (number : List ℕ) (key : ℕ) (there : Option Meter) (sold : Bool) → IsOwn (set_key number key there sold)
+own_set_key number key None sold = refl
+own_set_key number key (Some m) sold = own_key number key (m.key == key) sold
 
 -- so are the rows of an import
 own_row : (o : Office) (today : ℕ) (row : Row) → IsOwn (row_decision o today row)
@@ -159,10 +180,13 @@ own_decision : (forward : ℕ → ℕ → ℕ) (o : Office) (moment nibble : ℕ
 own_decision forward o moment nibble (requests.AddTariff name steps) = own_tariff name steps (o.tariffs name)
 own_decision forward o moment nibble (requests.AddSteps name day steps) =
     own_steps name day (day_at moment) steps (is_some (o.tariffs name)) (o.dated_steps name day)
+own_decision forward o moment nibble (requests.WithdrawSteps name day) =
+    own_withdraw name day (day_at moment) (is_some (o.tariffs name)) (o.dated_steps name day) (sold_since o day)
 own_decision forward o moment nibble (requests.AddMeter number m) = own_meter number m (o.meters number) (is_some (o.tariffs m.tariff))
 own_decision forward o moment nibble (requests.Import rows) = own_import o (day_at moment) rows
 own_decision forward o moment nibble (requests.SetTariff number name) = own_set number name (o.meters number) (is_some (o.tariffs name))
 own_decision forward o moment nibble (requests.MoveBase number base) = own_move number base moment (o.meters number)
+own_decision forward o moment nibble (requests.SetKey number key) = own_set_key number key (o.meters number) (has_sales o number)
 own_decision forward o moment nibble (requests.OpenShift operator) = own_open moment operator (open_shift o operator) (length o.shifts)
 own_decision forward o moment nibble (requests.CloseShift operator) = own_there (open_shift o operator) refusals.NoShift _ refl (λ s. refl)
 own_decision forward o moment nibble (requests.Sell order) =

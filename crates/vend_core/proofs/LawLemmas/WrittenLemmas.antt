@@ -1,23 +1,29 @@
--- Under one transform each sale has the token of its fields by its meter's key, which stays: along
--- requests, and in what lives lead to.
-use Rattle.std.proofs.Common.{◌≡◌, ◌⊎◌, ℕ, inl, inr, List, sym, ◌∙◌, ap, subst, arith}
+-- Under one transform each sale has the token of its fields by its meter's key, which stays from the
+-- first sale on: along requests, and in what lives lead to.
+use Rattle.std.proofs.Common.{◌≡◌, ◌⊎◌, ℕ, inl, inr, List, Some, refl, sym, ◌∙◌, ap, subst, arith}
 use Rattle.std.specs.Prelude.{All, Contains}
 use Rattle.std.proofs.lemmas.List.Elements.{All-contains, All-nil, All-push, All-weaker, Contains-get_or}
 use Rattle.std.proofs.lemmas.Option.{same_Some}
 use Rattle.sts_token.specs.Token.{IsToken, KeepsRange}
 use Rattle.office_rules.specs.Decision.Fold.{after, step}
 use Rattle.office_rules.specs.Decision.Requests.{IsStamped}
+use Rattle.vend_core.specs.Law.Imports.{LeavesRow}
 use Rattle.vend_core.specs.Law.Life.{LeadTo, Life, WasMadeSince}
-use Rattle.office_rules.specs.Law.NewSale.{fields_of}
+use Rattle.office_rules.specs.Law.Growth.{HasGrown}
+use Rattle.office_rules.specs.Law.NewSale.{IsNewSale, fields_of}
 use Rattle.vend_core.specs.Law.Reached.{HasTokensOf, IsWrittenBy}
 use Rattle.vend_core.specs.Law.SoldTokens.{AreMadeFor, SimMeter}
 use Rattle.office_rules.specs.Office.{IsOffice, Office, empty_office}
+use Rattle.office_rules.specs.declared.decision.request.Order.{Order}
+use Rattle.office_rules.specs.declared.decision.request.Request.TheVariants as requests
 use Rattle.office_rules.specs.declared.decision.request.Stamped.{Stamped}
 use Rattle.office_rules.specs.declared.office.meter.Meter.{Meter}
+use Rattle.office_rules.specs.declared.office.row.Row.TheVariants as kinds
 use Rattle.office_rules.specs.declared.office.sale.Sale.{Sale}
 use Rattle.office_rules.proofs.DecisionLemmas.NewSaleLemmas.{LowerLaws}
 use Rattle.vend_core.proofs.LawLemmas.AnswerLemmas.{sells_one}
-use Rattle.vend_core.proofs.LawLemmas.EffectLemmas.{KeysStay, keys_by, keys_same, step_by_edit}
+use Rattle.vend_core.proofs.LawLemmas.LeaveLemmas.{step_stays}
+use Rattle.vend_core.proofs.LawLemmas.FoldLemmas.{step_grows}
 use Rattle.vend_core.proofs.LifeLemmas.{led_office}
 use Rattle.vend_core.proofs.LifeLemmas.AlongLemmas.{StepKeepsBy, after_keeps_by, led_keeps}
 use Rattle.vend_core.proofs.LawLemmas.MeterLemmas.{SoldTo, from_one_made, rising_made, stand_made}
@@ -48,15 +54,26 @@ all_written forward o have =
     ]) o.sales have
 
 module _ (laws : LowerLaws) where
-  written_stays : (forward : ℕ → ℕ → ℕ) (o p : Office) (s : Sale) → KeysStay o p
-      → IsWrittenBy forward o s → IsWrittenBy forward p s
-  written_stays forward o p s stay was =
-      let m = stay s.meter was.meter was.meter_is in
+  -- a sale that stands was written with the key that its meter has for good
+  written_stays : (forward : ℕ → ℕ → ℕ) (o p : Office) (s : Sale) → HasGrown o p
+      → Contains o.sales s → IsWrittenBy forward o s → IsWrittenBy forward p s
+  written_stays forward o p s grown there was =
+      let m = grown.meters s.meter was.meter was.meter_is in
+      let key = grown.keys s.meter was.meter m.0 (s, there, refl) was.meter_is m.1 in
       record {
         meter = m.0;
         meter_is = m.1;
-        token = subst (λ key. IsToken forward key (fields_of s) s.digits) (sym m.2) was.token;
+        token = subst (λ key. IsToken forward key (fields_of s) s.digits) (sym key) was.token;
       }
+
+  -- the meter of a new sale is as it was
+  meter_of_new : (forward : ℕ → ℕ → ℕ) (o : Office) (at : Stamped) (order : Order) (s : Sale)
+      → at.request ≡ requests.Sell order → (new : IsNewSale forward o at order s)
+      → (step forward o at).meters s.meter ≡ Some new.to_meter
+  meter_of_new forward o at order s asks new =
+      step_stays forward o at (kinds.Meter s.meter new.to_meter)
+      (subst (λ request. LeavesRow request (kinds.Meter s.meter new.to_meter)) (sym asks) tt)
+      (ap o.meters new.meter ∙ new.meter_is)
 
   -- if each sale but those of the start has the token of its fields, it has it after a request too
   step_writes_since : (start : Office) (forward : ℕ → ℕ → ℕ) (o : Office) (at : Stamped)
@@ -64,24 +81,23 @@ module _ (laws : LowerLaws) where
       → HasTokensSince start forward (step forward o at)
   step_writes_since start forward o at office is range have =
       let p = step forward o at in
-      let keys = step_by_edit laws (KeysStay o) forward o at office is range (keys_same o)
-      (keys_by o) in
-      let stay = All-weaker (IsOldOrWritten start forward o) (IsOldOrWritten start forward p)
-      (λ s was. elim was [
+      let grown = step_grows forward o at office in
+      let stay = all_from_contains (IsOldOrWritten start forward p) o.sales (λ s there.
+      elim (All-contains (IsOldOrWritten start forward o) o.sales s have there) [
         | inl old ↦ inl old
-        | inr written ↦ inr (written_stays forward o p s keys written)
-      ]) o.sales have in
+        | inr written ↦ inr (written_stays forward o p s grown there written)
+      ]) in
       elim (sells_one laws forward o at office range) [
         | inl same ↦
             subst (λ (sales : List Sale). All (IsOldOrWritten start forward p) sales) (sym same) stay
         | inr (s, (order, asks, new), pushed, answered) ↦
             subst (λ (sales : List Sale). All (IsOldOrWritten start forward p) sales) (sym pushed)
             (All-push (IsOldOrWritten start forward p) o.sales s stay
-            (inr (written_stays forward o p s keys (record {
+            (inr (record {
               meter = new.to_meter;
-              meter_is = ap o.meters new.meter ∙ new.meter_is;
+              meter_is = meter_of_new forward o at order s asks new;
               token = new.digits;
-            }))))
+            })))
       ]
 
   writes_by : (start : Office) (forward other : ℕ → ℕ → ℕ) → other ≡ forward

@@ -1,11 +1,10 @@
--- An import that a life granted and that comes again later, with no SetTariff and no MoveBase in
--- between, changes nothing.
+-- An import that a life granted and that comes again later, where all that was asked in between
+-- leaves its rows, changes nothing.
 use Rattle.std.proofs.Common.{◌≡◌, ℕ, inl, inr, Bool, false, cond, List, [], ◌∷◌, ◌++◌, Result, Ok, Err, refl, sym, ◌∙◌, ap, subst}
 use Rattle.std.specs.Prelude.{All, Contains, filter, map}
 use Rattle.std.proofs.lemmas.List.Elements.{All-contains, All-filter, All-head, All-map, All-tail, filter-append}
 use Rattle.office_rules.specs.Decision.Fold.{after, replies_to, reply, step}
-use Rattle.office_rules.specs.Law.Growth.{HaveStayed}
-use Rattle.vend_core.specs.Law.Imports.{AsksNoMeterChange, ImportsNothing, ChangesNoMeter}
+use Rattle.vend_core.specs.Law.Imports.{AsksNoChange, ImportsNothing, LeavesRows}
 use Rattle.vend_core.specs.Law.Life.{Exchange, IsLife, LeadTo, Life, MayLeave, StopsAtDoubt, acknowledged, acknowledges, doubts, in_doubt, present}
 use Rattle.office_rules.specs.Office.{Office}
 use Rattle.office_rules.specs.declared.decision.answer.Answer.{Answer}
@@ -15,9 +14,8 @@ use Rattle.office_rules.specs.declared.decision.refusal.Refusal.TheVariants.{Sto
 use Rattle.office_rules.specs.declared.decision.request.Request.TheVariants as requests
 use Rattle.office_rules.specs.declared.decision.request.Stamped.{Stamped}
 use Rattle.office_rules.specs.declared.office.row.Row.{Row}
-use Rattle.vend_core.proofs.LawLemmas.AgainLemmas.{Stands, after_stays, all_stand_still, imports_nothing, rows_stand, step_stays}
+use Rattle.vend_core.proofs.LawLemmas.AgainLemmas.{Stands, after_stand, imports_nothing, rows_stand, step_stand}
 use Rattle.office_rules.proofs.OfficeLemmas.RowLemmas.{contains_first, contains_further}
-use Rattle.office_rules.proofs.DecisionLemmas.StayLemmas.{stayed_none, stayed_twice}
 
 abbrev request_of : Exchange → Stamped
 request_of e = e.request
@@ -88,32 +86,34 @@ doubted_at before e between answer granted stops =
     ∙ ap (λ (es : List Exchange). es ++ filter is_doubted (e ∷ between)) (none_doubted_before before e between answer granted stops)
     ∙ ap (λ (r : Result Answer Refusal). cond (doubts r) (e ∷ filter is_doubted between) (filter is_doubted between)) granted
 
--- requests other than SetTariff and MoveBase stay such among those acknowledged and in doubt
-others_among : (p : Exchange → Bool) (es : List Exchange) → All AsksNoMeterChange es → All ChangesNoMeter (map request_of (filter p es))
-others_among p es others = All-map ChangesNoMeter request_of (filter p es) (All-filter p AsksNoMeterChange es others)
+-- requests that leave rows are such among those acknowledged and in doubt
+others_among : (rows : List Row) (p : Exchange → Bool) (es : List Exchange) → All (AsksNoChange rows) es → All (LeavesRows rows) (map request_of (filter p es))
+others_among rows p es others = All-map (LeavesRows rows) request_of (filter p es) (All-filter p (AsksNoChange rows) es others)
 
--- over a life without SetTariff and MoveBase the tariffs and meters stand
-left_stays : (life : Life) (left : Office) → All AsksNoMeterChange life.exchanges → MayLeave life left → HaveStayed life.opening left
-left_stays life left others (inl e) =
-    subst (HaveStayed life.opening) (sym e) (after_stays life.forward life.opening (acknowledged life) (others_among is_passed life.exchanges others))
-left_stays life left others (inr (at, there, e)) =
-    subst (HaveStayed life.opening) (sym e)
-    (stayed_twice life.opening (present life) (step life.forward (present life) at)
-    (after_stays life.forward life.opening (acknowledged life) (others_among is_passed life.exchanges others))
-    (step_stays life.forward (present life) at (All-contains ChangesNoMeter (in_doubt life) at (others_among is_doubted life.exchanges others) there)))
+-- rows that stand in what a life opened stand in what it leaves, where all that it was asked leaves them
+left_stand : (life : Life) (left : Office) (rows : List Row) → All (AsksNoChange rows) life.exchanges → MayLeave life left
+    → All (Stands life.opening) rows → All (Stands left) rows
+left_stand life left rows others (inl e) stand =
+    subst (λ (q : Office). All (Stands q) rows) (sym e)
+    (after_stand life.forward life.opening (acknowledged life) rows (others_among rows is_passed life.exchanges others) stand)
+left_stand life left rows others (inr (at, there, e)) stand =
+    subst (λ (q : Office). All (Stands q) rows) (sym e)
+    (step_stand life.forward (present life) at rows
+    (All-contains (LeavesRows rows) (in_doubt life) at (others_among rows is_doubted life.exchanges others) there)
+    (after_stand life.forward life.opening (acknowledged life) rows (others_among rows is_passed life.exchanges others) stand))
 
-led_stays : (start : Office) (lives : List Life) (o : Office) → LeadTo start lives o
-    → All (λ (l : Life). All AsksNoMeterChange l.exchanges) lives → HaveStayed start o
-led_stays start [] o e others = subst (HaveStayed start) (sym e) (stayed_none start)
-led_stays start (life ∷ lives) o (is, opens, (left, may, leads)) others =
-    stayed_twice start left o (subst (λ (p : Office). HaveStayed p left) opens
-    (left_stays life left (All-head (λ (l : Life). All AsksNoMeterChange l.exchanges) life lives others) may))
-    (led_stays left lives o leads (All-tail (λ (l : Life). All AsksNoMeterChange l.exchanges) life lives others))
+led_stand_on : (rows : List Row) (start : Office) (lives : List Life) (o : Office) → LeadTo start lives o
+    → All (λ (l : Life). All (AsksNoChange rows) l.exchanges) lives → All (Stands start) rows → All (Stands o) rows
+led_stand_on rows start [] o e others stand = subst (λ (q : Office). All (Stands q) rows) (sym e) stand
+led_stand_on rows start (life ∷ lives) o (is, opens, (left, may, leads)) others stand =
+    led_stand_on rows left lives o leads (All-tail (λ (l : Life). All (AsksNoChange rows) l.exchanges) life lives others)
+    (left_stand life left rows (All-head (λ (l : Life). All (AsksNoChange rows) l.exchanges) life lives others) may
+    (subst (λ (q : Office). All (Stands q) rows) (sym opens) stand))
 
 -- the rows of an import that a life granted stand in what it leaves
 module _ (life : Life) (before : List Exchange) (e : Exchange) (between : List Exchange) (rows : List Row) (new : ℕ) (is : IsLife life)
     (exchanges : life.exchanges ≡ before ++ e ∷ between)
-    (asks : e.request.request ≡ requests.Import rows) (granted : e.reply ≡ Ok (answers.Imported new)) (others : All AsksNoMeterChange between) where
+    (asks : e.request.request ≡ requests.Import rows) (granted : e.reply ≡ Ok (answers.Imported new)) (others : All (AsksNoChange rows) between) where
   passed : filter is_passed life.exchanges ≡ filter is_passed before ++ e ∷ filter is_passed between
   passed = ap (λ (es : List Exchange). filter is_passed es) exchanges ∙ passed_at before e between (answers.Imported new) granted
 
@@ -134,7 +134,7 @@ module _ (life : Life) (before : List Exchange) (e : Exchange) (between : List E
       let p = step life.forward office_before e.request in
       let ats = map request_of (filter is_passed between) in
       subst (λ (q : Office). All (Stands q) rows) (sym present_is)
-      (all_stand_still p (after life.forward p ats) rows (after_stays life.forward p ats (others_among is_passed between others))
+      (after_stand life.forward p ats rows (others_among rows is_passed between others)
       (rows_stand life.forward office_before e.request rows new asks answered))
 
   doubted : in_doubt life ≡ map request_of (filter is_doubted between)
@@ -145,28 +145,27 @@ module _ (life : Life) (before : List Exchange) (e : Exchange) (between : List E
   stand_left : (left : Office) → MayLeave life left → All (Stands left) rows
   stand_left left (inl same) = subst (λ (q : Office). All (Stands q) rows) (sym same) stand_present
   stand_left left (inr (at, there, same)) =
-      let other = All-contains ChangesNoMeter (map request_of (filter is_doubted between)) at (others_among is_doubted between others)
+      let other = All-contains (LeavesRows rows) (map request_of (filter is_doubted between)) at (others_among rows is_doubted between others)
       (subst (λ (ats : List Stamped). Contains ats at) doubted there) in
       subst (λ (q : Office). All (Stands q) rows) (sym same)
-      (all_stand_still (present life) (step life.forward (present life) at) rows (step_stays life.forward (present life) at other) stand_present)
+      (step_stand life.forward (present life) at rows other stand_present)
 
 -- so they stand after all later lives
 led_stand : (start : Office) (earlier later : List Life) (life : Life) (o : Office) (before between : List Exchange) (e : Exchange) (rows : List Row) (new : ℕ)
     → LeadTo start (earlier ++ life ∷ later) o → life.exchanges ≡ before ++ e ∷ between
     → e.request.request ≡ requests.Import rows → e.reply ≡ Ok (answers.Imported new)
-    → All AsksNoMeterChange between → All (λ (l : Life). All AsksNoMeterChange l.exchanges) later → All (Stands o) rows
+    → All (AsksNoChange rows) between → All (λ (l : Life). All (AsksNoChange rows) l.exchanges) later → All (Stands o) rows
 led_stand start [] later life o before between e rows new (is, opens, (left, may, leads)) exchanges asks granted others later_others =
-    all_stand_still left o rows (led_stays left later o leads later_others)
-    (stand_left life before e between rows new is exchanges asks granted others left may)
+    led_stand_on rows left later o leads later_others (stand_left life before e between rows new is exchanges asks granted others left may)
 led_stand start (first ∷ earlier) later life o before between e rows new (is, opens, (left, may, leads)) exchanges asks granted others later_others =
     led_stand left earlier later life o before between e rows new leads exchanges asks granted others later_others
 
--- the same over lives, where no exchange after the import asks to change a meter
+-- the same over lives, where each exchange after the import leaves its rows
 pub imported_again_in_lives : (start : Office) (earlier later : List Life) (life : Life) (o : Office) (before between : List Exchange) (e : Exchange)
     (rows : List Row) (new : ℕ) (forward : ℕ → ℕ → ℕ) (again : Stamped)
     → LeadTo start (earlier ++ life ∷ later) o → life.exchanges ≡ before ++ e ∷ between
     → e.request.request ≡ requests.Import rows → e.reply ≡ Ok (answers.Imported new)
-    → All AsksNoMeterChange between → All (λ (l : Life). All AsksNoMeterChange l.exchanges) later
+    → All (AsksNoChange rows) between → All (λ (l : Life). All (AsksNoChange rows) l.exchanges) later
     → again.request ≡ requests.Import rows → ImportsNothing forward o again
 imported_again_in_lives start earlier later life o before between e rows new forward again lead exchanges asks granted others later_others asks_again =
     imports_nothing forward o again rows asks_again (led_stand start earlier later life o before between e rows new lead exchanges

@@ -1,6 +1,6 @@
 -- The edit of a granted request fits the office: its meter's tariff is there, its identifier is in
 -- range, and there is room.
-use Rattle.std.proofs.Common.{◌≡◌, ℕ, ◌<◌, ◌≤◌, Bool, true, false, List, [], ◌∷◌, Option, Some, None, Result, Ok, Err, IsSome, bytes_eq, is_some, length, nat_lt, refl, sym, subst, inl, inr, if◌then◌else◌, arith, ◌⊎◌}
+use Rattle.std.proofs.Common.{◌≡◌, ℕ, ◌<◌, ◌≤◌, Bool, true, false, List, [], ◌∷◌, Option, Some, None, Result, Ok, Err, IsSome, bytes_eq, is_some, length, nat_lt, not, ◌&&◌, ◌==◌, refl, sym, subst, inl, inr, if◌then◌else◌, arith, ◌⊎◌}
 use Rattle.std.proofs.lemmas.Bool.Decides.{nat_tests}
 use Rattle.std.proofs.lemmas.Option.{none-some, same_Some}
 use Rattle.std.specs.Option.{ok_or}
@@ -10,11 +10,11 @@ use Rattle.sts_fields.specs.Day.{day_at}
 use Rattle.sts_fields.specs.declared.base.Base.{Base}
 use Rattle.tariff.specs.Purchase.{purchase_of}
 use Rattle.tariff.specs.declared.step.Step.{Step}
-use Rattle.office_rules.specs.Decision.{◌>>=◌, MeterAccount, add_meter, add_rows, add_steps, add_tariff, changed, close_shift, decision, decision_of, import, is_earlier, is_new, meter_eq, move_base, new_rows, account_of, next_number, open_a_shift, or_refusal, report, reprint, sell, sell_again, sell_once, set_tariff, steps_eq, unchanged}
+use Rattle.office_rules.specs.Decision.{◌>>=◌, MeterAccount, add_meter, add_rows, add_steps, add_tariff, changed, close_shift, decision, decision_of, import, is_earlier, is_new, meter_eq, move_base, new_rows, account_of, next_number, open_a_shift, or_refusal, report, reprint, sell, sell_again, sell_once, set_key, set_tariff, steps_eq, unchanged, withdraw_steps}
 use Rattle.office_rules.specs.Decision.Facts.{IsUnlessMemory, TakesMemory}
 use Rattle.vend_core.specs.Lists.{AddsRow, CopiesList, Fits, sets_only}
 use Rattle.office_rules.specs.Decision.Edits.{RowsFit}
-use Rattle.office_rules.specs.Office.Lookup.{open_shift, sale_numbered, sale_of_ref, sales_of_shift, shift_numbered}
+use Rattle.office_rules.specs.Office.Lookup.{has_sales, open_shift, sale_numbered, sale_of_ref, sales_of_shift, shift_numbered, sold_since}
 use Rattle.office_rules.specs.Office.{Office, greatest_count}
 use Rattle.office_rules.specs.declared.decision.answer.Answer.{Answer}
 use Rattle.office_rules.specs.declared.decision.change.Change.{Change}
@@ -24,7 +24,7 @@ use Rattle.office_rules.specs.declared.decision.refusal.Refusal.{Refusal}
 use Rattle.office_rules.specs.declared.decision.refusal.Refusal.TheVariants as refusals
 use Rattle.office_rules.specs.declared.decision.request.Order.{Order}
 use Rattle.office_rules.specs.declared.decision.request.Request.{Request}
-use Rattle.office_rules.specs.declared.decision.request.Request.TheVariants.{AddTariff, AddSteps, AddMeter, Import, SetTariff, MoveBase, OpenShift, CloseShift, Sell, Reprint, ShiftReport}
+use Rattle.office_rules.specs.declared.decision.request.Request.TheVariants.{AddTariff, AddSteps, WithdrawSteps, AddMeter, Import, SetTariff, MoveBase, SetKey, OpenShift, CloseShift, Sell, Reprint, ShiftReport}
 use Rattle.office_rules.specs.declared.decision.request.Stamped.{Stamped}
 use Rattle.office_rules.specs.declared.decision.answer.Answer.TheVariants as answers
 use Rattle.office_rules.specs.declared.decision.change.Edit.TheVariants as edits
@@ -68,6 +68,17 @@ if_add_steps o name day today steps false there = tt
 if_add_steps o name day today steps true (Some there) = if_tested o (steps_eq there steps) _ _
 if_add_steps o name day today steps true None = if_day o name day steps (nat_lt today day)
 
+if_withdrawing : (o : Office) (name : List ℕ) (day : ℕ) (b : Bool)
+    → EditFits o (if b then changed (edits.WithdrawSteps name day) (answers.Withdrawn 1) else Err refusals.DayPast)
+if_withdrawing o name day true = if_changed o _ tt
+if_withdrawing o name day false = tt
+
+if_withdraw : (o : Office) (name : List ℕ) (day today : ℕ) (has : Bool) (there : Option (List Step)) (sold : Bool)
+    → EditFits o (withdraw_steps name day today has there sold)
+if_withdraw o name day today false there sold = tt
+if_withdraw o name day today true None sold = if_unchanged o
+if_withdraw o name day today true (Some there) sold = if_withdrawing o name day (nat_lt today day && not sold)
+
 if_add_meter : (o : Office) (number : List ℕ) (m : Meter) (there : Option Meter) (has : Bool)
     → is_some (o.tariffs m.tariff) ≡ has → EditFits o (add_meter number m there has)
 if_add_meter o number m (Some there) has is = if_tested o (meter_eq there m) _ _
@@ -103,6 +114,16 @@ if_later o number base false false false = if_changed o _ tt
 if_move_base : (o : Office) (number : List ℕ) (base : Base) (moment : ℕ) (there : Option Meter) → EditFits o (move_base number base moment there)
 if_move_base o number base moment None = tt
 if_move_base o number base moment (Some m) = if_later o number base (base_eq m.base base) (is_earlier base m.base) (nat_lt moment (base_date base))
+
+if_key : (o : Office) (number : List ℕ) (key : ℕ) (same sold : Bool)
+    → EditFits o (if same then unchanged answers.Done else (if sold then Err refusals.HasSales else changed (edits.SetKey number key) answers.Done))
+if_key o number key true sold = if_unchanged o
+if_key o number key false true = tt
+if_key o number key false false = if_changed o _ tt
+
+if_set_key : (o : Office) (number : List ℕ) (key : ℕ) (there : Option Meter) (sold : Bool) → EditFits o (set_key number key there sold)
+if_set_key o number key None sold = tt
+if_set_key o number key (Some m) sold = if_key o number key (m.key == key) sold
 
 if_open_shift : (o : Office) (moment : ℕ) (operator : List ℕ) (there : Option Shift) (count : ℕ) → EditFits o (open_a_shift moment operator there count)
 if_open_shift o moment operator (Some there) count = tt
@@ -151,10 +172,13 @@ pub decision_fits : (forward : ℕ → ℕ → ℕ) (o : Office) (moment nibble 
 decision_fits forward o moment nibble (AddTariff name steps) = if_add_tariff o name steps (o.tariffs name)
 decision_fits forward o moment nibble (AddSteps name day steps) =
     if_add_steps o name day (day_at moment) steps (is_some (o.tariffs name)) (o.dated_steps name day)
+decision_fits forward o moment nibble (WithdrawSteps name day) =
+    if_withdraw o name day (day_at moment) (is_some (o.tariffs name)) (o.dated_steps name day) (sold_since o day)
 decision_fits forward o moment nibble (AddMeter number m) = if_add_meter o number m (o.meters number) (is_some (o.tariffs m.tariff)) refl
 decision_fits forward o moment nibble (Import rows) = if_import o (day_at moment) rows
 decision_fits forward o moment nibble (SetTariff number name) = if_set_tariff o number name (o.meters number) (is_some (o.tariffs name)) refl
 decision_fits forward o moment nibble (MoveBase number base) = if_move_base o number base moment (o.meters number)
+decision_fits forward o moment nibble (SetKey number key) = if_set_key o number key (o.meters number) (has_sales o number)
 decision_fits forward o moment nibble (OpenShift operator) = if_open_shift o moment operator (open_shift o operator) (length o.shifts)
 decision_fits forward o moment nibble (CloseShift operator) = if_close_shift o moment (open_shift o operator)
 decision_fits forward o moment nibble (Sell order) =
@@ -207,10 +231,12 @@ pub room_if_taken : (forward : ℕ → ℕ → ℕ) (o : Office) (moment nibble 
 room_if_taken forward o moment nibble (AddTariff name steps) takes = room_for_tariff name steps (o.tariffs name) takes
 room_if_taken forward o moment nibble (AddSteps name day steps) takes =
     room_for_steps name day steps (day_at moment) (o.tariffs name) (o.dated_steps name day) takes
+room_if_taken forward o moment nibble (WithdrawSteps name day) takes = absurd takes
 room_if_taken forward o moment nibble (AddMeter number m) takes = absurd takes
 room_if_taken forward o moment nibble (Import rows) takes = inl tt
 room_if_taken forward o moment nibble (SetTariff number name) takes = absurd takes
 room_if_taken forward o moment nibble (MoveBase number base) takes = absurd takes
+room_if_taken forward o moment nibble (SetKey number key) takes = absurd takes
 room_if_taken forward o moment nibble (OpenShift operator) takes = absurd takes
 room_if_taken forward o moment nibble (CloseShift operator) takes = absurd takes
 room_if_taken forward o moment nibble (Sell order) takes = absurd takes

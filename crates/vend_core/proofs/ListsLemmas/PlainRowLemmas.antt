@@ -1,19 +1,21 @@
 -- The rows of an office in plain lists, after a meter is set or rows are added: what is looked up,
 -- and that each meter's tariff is there.
-use Rattle.std.proofs.Common.{◌≡◌, ℕ, inl, inr, Bool, true, false, cond, List, [], ◌∷◌, ◌++◌, append_assoc, Option, Some, None, IsSome, map, refl, sym, ◌∙◌, ap, subst, bytes_eq, if◌then◌else◌, option_map}
+use Rattle.std.proofs.Common.{◌≡◌, ℕ, inl, inr, Bool, true, false, cond, List, [], ◌∷◌, ◌++◌, append_assoc, Option, Some, None, IsSome, map, refl, sym, ◌∙◌, ap, subst, bytes_eq, if◌then◌else◌, not, option_map, ◌&&◌, ◌==◌}
 use Rattle.std.proofs.lemmas.List.{append-nil, map-append}
 use Rattle.std.proofs.lemmas.Option.{same_Some, none-some}
+use Rattle.std.proofs.lemmas.Bool.Decides.{Decides-eqb}
 use Rattle.std.proofs.lemmas.Slice.Eq.{bytes_eq-Decides}
 use Rattle.sts_fields.specs.declared.base.Base.{Base}
 use Rattle.tariff.specs.declared.step.Step.{Step}
 use Rattle.office_rules.specs.Decision.Edits.{RowsFit, set_meter, with_rows}
-use Rattle.vend_core.specs.Lists.PlainRows.{HaveTariffs, base_row, bases_of, dated_steps_of, meters_of, office_of_rows, row_of, tariffs_of}
+use Rattle.vend_core.specs.Lists.PlainRows.{HaveTariffs, base_row, bases_of, dated_steps_of, meters_of, office_of_rows, row_of, rows_without, steps_from, tariffs_of}
 use Rattle.office_rules.specs.declared.office.meter.Meter.{Meter}
 use Rattle.office_rules.specs.declared.office.row.Row.{Row}
 use Rattle.office_rules.specs.declared.office.row.Row.TheVariants as kinds
 use Rattle.office_rules.specs.declared.office.sale.Sale.{Sale}
 use Rattle.office_rules.specs.declared.office.shift.Shift.{Shift}
 use Rattle.office_rules.proofs.DecisionLemmas.EditLemmas.{put_cases, some_put}
+use Rattle.office_rules.proofs.OfficeLemmas.RowLemmas.{parts_true}
 
 -- a meter's row that is set, where it has this number
 abbrev pub row_set : List ℕ → (Meter → Meter) → (List ℕ × Meter) → (List ℕ × Meter)
@@ -93,6 +95,48 @@ pub have_tariffs-set : (number : List ℕ) (f : Meter → Meter) (ts : List (Lis
 have_tariffs-set number f ts ms there have q m is =
     found_set (bytes_eq q number) f (row_of ms q) m (sym (row_of-set number f q ms) ∙ is) (λ n. IsSome (row_of ts n))
     (λ same k at. there k (sym (ap (row_of ms) ((bytes_eq-Decides q number).0 same)) ∙ at)) (λ k at. have q k at)
+
+-- the tests at one row: q and d are asked for (x), the row has the name and day that are taken away
+-- (y), and these are those that are asked for (z)
+without_at : (x y z : Bool) (steps : List Step) (kept rest : Option (List Step)) → (y ≡ true → x ≡ z) → (z ≡ true → x ≡ y)
+    → kept ≡ (if z then None else rest) → cond y kept (cond x (Some steps) kept) ≡ (if z then None else cond x (Some steps) rest)
+without_at x true true steps kept rest taken asked is = is
+without_at true true false steps kept rest taken asked is = cc (taken refl)
+without_at false true false steps kept rest taken asked is = is
+without_at true false true steps kept rest taken asked is = cc (asked refl)
+without_at false false true steps kept rest taken asked is = is
+without_at true false false steps kept rest taken asked is = refl
+without_at false false false steps kept rest taken asked is = is
+
+filtered_at : (b : Bool) (row : (List ℕ × ℕ) × List Step) (rest : List ((List ℕ × ℕ) × List Step)) (q : List ℕ) (d : ℕ)
+    → steps_from (cond (not b) (row ∷ rest) rest) q d ≡ cond b (steps_from rest q d) (steps_from (row ∷ rest) q d)
+filtered_at true row rest q d = refl
+filtered_at false row rest q d = refl
+
+same_key : (q name other : List ℕ) (d day at : ℕ) → (bytes_eq q name && (d == day)) ≡ true
+    → (bytes_eq q other && (d == at)) ≡ (bytes_eq name other && (day == at))
+same_key q name other d day at both =
+    let parts = parts_true (bytes_eq q name) (d == day) both in
+    ap (λ (n : List ℕ). bytes_eq n other && (d == at)) ((bytes_eq-Decides q name).0 parts.0)
+    ∙ ap (λ (k : ℕ). bytes_eq name other && (k == at)) ((Decides-eqb d day).0 parts.1)
+
+key_of_row : (q name other : List ℕ) (d day at : ℕ) → (bytes_eq name other && (day == at)) ≡ true
+    → (bytes_eq q other && (d == at)) ≡ (bytes_eq q name && (d == day))
+key_of_row q name other d day at both =
+    let parts = parts_true (bytes_eq name other) (day == at) both in
+    ap (λ (n : List ℕ). bytes_eq q n && (d == at)) (sym ((bytes_eq-Decides name other).0 parts.0))
+    ∙ ap (λ (k : ℕ). bytes_eq q name && (d == k)) (sym ((Decides-eqb day at).0 parts.1))
+
+-- a look-up of further steps where those of a name and a day were taken away
+pub steps_from-without : (name : List ℕ) (day : ℕ) (q : List ℕ) (d : ℕ) (rows : List ((List ℕ × ℕ) × List Step))
+    → steps_from (rows_without name day rows) q d ≡ (if bytes_eq q name && (d == day) then None else steps_from rows q d)
+steps_from-without name day q d [] =
+    elim (bytes_eq q name && (d == day)) as (λ b. ◌≡◌ {A = Option (List Step)} None (if b then None else None)) [ true ↦ refl | false ↦ refl ]
+steps_from-without name day q d (row ∷ rest) =
+    filtered_at (bytes_eq name row.0.0 && (day == row.0.1)) row (rows_without name day rest) q d
+    ∙ without_at (bytes_eq q row.0.0 && (d == row.0.1)) (bytes_eq name row.0.0 && (day == row.0.1)) (bytes_eq q name && (d == day)) row.1
+    (steps_from (rows_without name day rest) q d) (steps_from rest q d) (key_of_row q name row.0.0 d day row.0.1)
+    (same_key q name row.0.0 d day row.0.1) (steps_from-without name day q d rest)
 
 -- the last of some rows goes in front
 pub tariffs_of-push : (rows : List Row) (row : Row) → tariffs_of (rows ++ row ∷ []) ≡ tariffs_of (row ∷ []) ++ tariffs_of rows

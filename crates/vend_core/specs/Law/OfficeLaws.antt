@@ -1,5 +1,6 @@
 -- What the office's laws say of single requests, of the bases of meters and of the steps of days.
-use Rattle.std.specs.Prelude.{◌≡◌, ◌⊎◌, ◌++◌, ◌∷◌, [], ℕ, ◌≤◌, true, List, Some, Ok, Contains}
+use Rattle.std.specs.Prelude.{◌≡◌, ◌≢◌, ◌⊎◌, ◌++◌, ◌∷◌, [], ℕ, ◌≤◌, true, List, Some, None, Ok}
+use Rattle.std.specs.Prelude.{Contains}
 use Rattle.sts_fields.specs.Base.{year_of}
 use Rattle.sts_fields.specs.Calendar.{month_at}
 use Rattle.sts_fields.specs.Day.{day_at}
@@ -47,6 +48,15 @@ pub record IsMoved (forward : BlockFunction) (o : Office) (at : Stamped) (number
   pub answered : reply forward o at ≡ Ok answers.Done
   pub present : (step forward o at).meters number ≡ Some (with_base base m)
   pub had : (step forward o at).bases number base ≡ true
+
+-- the request is granted, and takes the further steps of a tariff from a day on back: there are none
+-- any more, and all others stand
+pub record IsWithdrawn (forward : BlockFunction) (o : Office) (at : Stamped) (name : List ℕ)
+    (day : ℕ) : Type 0 where
+  pub answered : reply forward o at ≡ Ok (answers.Withdrawn 1)
+  pub gone : (step forward o at).dated_steps name day ≡ None
+  pub others : (q : List ℕ) (d : ℕ) → (q ≢ name) ⊎ (d ≢ day)
+      → (step forward o at).dated_steps q d ≡ o.dated_steps q d
 
 -- the steps of a tariff on a day, in a rule: the latest that have begun, or the first ones where
 -- none have

@@ -1,6 +1,6 @@
 -- An office in plain lists of rows, and what the rows keep so that each can be looked up.
 use Rattle.std.specs.Prelude.{◌≡◌, ℕ, ◌≤◌, ◌&&◌, ◌==◌, Bool, List, [], ◌∷◌, ◌++◌, Option, Some}
-use Rattle.std.specs.Prelude.{IsSome, All, length, map, bytes_eq, if◌then◌else◌}
+use Rattle.std.specs.Prelude.{IsSome, All, filter, length, map, not, bytes_eq, if◌then◌else◌}
 use Rattle.std.specs.List.{list_any}
 use Rattle.std.specs.Map.{lookup}
 use Rattle.sts_fields.specs.Base.{base_eq}
@@ -25,6 +25,12 @@ has_base rows number base = list_any (λ row. bytes_eq number row.0 && base_eq b
 -- the steps of the first row under a name and a first day
 abbrev pub steps_from : List ((List ℕ × ℕ) × List Step) → List ℕ → ℕ → Option (List Step)
 steps_from rows name day = lookup (λ k. bytes_eq name k.0 && (day == k.1)) rows
+
+-- the rows that are not those of a name and a first day
+abbrev pub rows_without : List ℕ → ℕ → List ((List ℕ × ℕ) × List Step)
+    → List ((List ℕ × ℕ) × List Step)
+rows_without name day rows =
+    filter (λ row. not (bytes_eq name row.0.0 && (day == row.0.1))) rows
 
 -- the office that the rows stand for
 abbrev pub office_of_rows : List (List ℕ × List Step) → List (List ℕ × Meter)

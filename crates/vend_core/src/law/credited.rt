@@ -17,8 +17,8 @@ use tariff::purchase_law;
 
 /// What a simulated meter credits that has the transform of the lives and the key of the office.
 ///
-/// A meter keeps its key as long as the office has it; so its tokens were all written with the key
-/// that the office has for it in the end (`AreMadeFor`).
+/// A meter keeps its key from its first sale on; so its tokens were all written with the key that
+/// the office has for it in the end (`AreMadeFor`).
 pub fn credited_law()
     ensures written { (start : Office) (lives : List Life) (o : Office) (m : SimMeter)
         (sales : List Sale)

@@ -5,7 +5,7 @@ ghost use Rattle.sts_token.specs.Meter.{Accepts, WasAccepted, credit_of};
 ghost use Rattle.sts_token.specs.Token.{BlockFunction};
 ghost use Rattle.office_rules.specs.Law.Cash.{AskForReports, cash_of, cash_of_reports};
 ghost use Rattle.office_rules.specs.Law.Growth.{HasGrown};
-ghost use Rattle.vend_core.specs.Law.Imports.{AsksNoMeterChange, ImportsNothing};
+ghost use Rattle.vend_core.specs.Law.Imports.{AsksNoChange, ImportsNothing};
 ghost use Rattle.vend_core.specs.Law.Life.{Answered, Exchange, IsHanded, IsLife, LeadTo, Life};
 ghost use Rattle.vend_core.specs.Law.Life.{MayLeave, WasMadeSince};
 ghost use Rattle.office_rules.specs.Law.NewSale.{fields_of};
@@ -76,15 +76,15 @@ pub fn lives_law()
     ensures written { (start : Office) (lives : List Life) (o : Office) (s : Sale)
         → IsOffice start → LeadTo start lives o → WasMadeSince start o s → WasWritten lives s }
 
-    // An import that a life granted and that comes again, later in it or in a later one, with no
-    // SetTariff and no MoveBase in between, changes nothing and has no new row, whatever transform
-    // is there then.
+    // An import that a life granted and that comes again, later in it or in a later one, changes
+    // nothing and has no new row, whatever transform is there then, if there was in between no
+    // SetTariff, MoveBase or SetKey of one of its meters and no WithdrawSteps of its steps.
     ensures imported_again { (start : Office) (earlier later : List Life) (life : Life) (o : Office)
         (before between : List Exchange) (e : Exchange) (rows : List Row) (new : ℕ)
         (forward : BlockFunction) (again : Stamped)
         → LeadTo start (earlier ++ life ∷ later) o → life.exchanges ≡ before ++ e ∷ between
         → e.request.request ≡ Request.Import rows → e.reply ≡ Ok (Answer.Imported new)
-        → All AsksNoMeterChange between → All (λ l. All AsksNoMeterChange l.exchanges) later
+        → All (AsksNoChange rows) between → All (λ l. All (AsksNoChange rows) l.exchanges) later
         → again.request ≡ Request.Import rows → ImportsNothing forward o again }
 
     // The tokens of sales that they made to one meter under one base come to a new meter in any

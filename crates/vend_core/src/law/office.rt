@@ -1,5 +1,5 @@
-ghost use Rattle.std.specs.Prelude.{◌≡◌, ◌≢◌, ◌<◌, ◌≤◌, ◌↔◌, ◌++◌, ◌∷◌, [], ℕ, true, List, None};
-ghost use Rattle.std.specs.Prelude.{Some, IsSome, Ok, Err, All, AllPairs, Contains};
+ghost use Rattle.std.specs.Prelude.{◌≡◌, ◌≢◌, ◌<◌, ◌≤◌, ◌↔◌, ◌⊎◌, ◌++◌, ◌∷◌, [], ℕ, true, List};
+ghost use Rattle.std.specs.Prelude.{None, Some, IsSome, Ok, Err, All, AllPairs, Contains};
 ghost use Rattle.sts_fields.specs.Base.{base_date, year_of};
 ghost use Rattle.sts_fields.specs.Day.{day_at};
 ghost use Rattle.sts_fields.specs.Tid.{FreshOutcome, IsLast, fresh_after};
@@ -7,16 +7,17 @@ ghost use Rattle.sts_fields.specs.declared.base.Base.{Base};
 ghost use Rattle.sts_token.specs.Token.{KeepsRange, BlockFunction};
 ghost use Rattle.tariff.specs.declared.step.Step.{Step};
 ghost use Rattle.office_rules.specs.Law.Cash.{AskForReports, cash_of, cash_of_reports};
-ghost use Rattle.office_rules.specs.Decision.Fold.{after, reply, step};
-ghost use Rattle.office_rules.specs.Law.Growth.{HasGrown, HaveStayed};
+ghost use Rattle.office_rules.specs.Decision.Fold.{after, reply, step, with_key};
+ghost use Rattle.office_rules.specs.Law.Growth.{HasGrown};
 ghost use Rattle.office_rules.specs.Law.Handed.{sales_of};
-ghost use Rattle.vend_core.specs.Law.Imports.{ImportsNothing, ChangesNoMeter};
-ghost use Rattle.office_rules.specs.Office.Lookup.{greatest_of, sale_of_ref, sales_of_shift};
-ghost use Rattle.office_rules.specs.Office.Lookup.{steps_on, used};
+ghost use Rattle.vend_core.specs.Law.Imports.{HasRow, ImportsNothing, LeavesRow, LeavesRows};
+ghost use Rattle.office_rules.specs.Office.Lookup.{WasSoldSince, WasSoldTo, greatest_of};
+ghost use Rattle.office_rules.specs.Office.Lookup.{sale_of_ref, sales_of_shift, steps_on, used};
 ghost use Rattle.office_rules.specs.Law.NewSale.{IsNewSale};
 ghost use Rattle.office_rules.specs.Office.{IsOffice, Office, Rises, empty_office};
 ghost use Rattle.vend_core.specs.Law.OfficeLaws.{AreStepsOn, IsGreatestBase, IsMoved, IsNotBefore};
-ghost use Rattle.vend_core.specs.Law.OfficeLaws.{IsSameOrder, KeepsPrice, SellsOne, WasSold};
+ghost use Rattle.vend_core.specs.Law.OfficeLaws.{IsSameOrder, IsWithdrawn, KeepsPrice};
+ghost use Rattle.vend_core.specs.Law.OfficeLaws.{SellsOne, WasSold};
 ghost use Rattle.office_rules.specs.Decision.Requests.{IsStamped};
 ghost use Rattle.office_rules.specs.declared.decision.answer.Answer.{Answer};
 ghost use Rattle.office_rules.specs.declared.office.meter.Meter.{Meter};
@@ -88,20 +89,23 @@ pub fn office_law()
     ensures answers_stand { (forward : BlockFunction) (o : Office) (at : Stamped)
         → All (Contains (step forward o at).sales) (sales_of (reply forward o at)) }
 
-    // Tariffs and meters stand as they are, whatever is asked but SetTariff and MoveBase. So an
-    // import that was granted and comes again, on whatever day and with none of these two in
-    // between, changes nothing and has no new row.
-    ensures stays { (forward : BlockFunction) (o : Office) (at : Stamped)
-        → ChangesNoMeter at → HaveStayed o (step forward o at) }
+    // A tariff stands as it is, and so do further steps but for WithdrawSteps of them, and a meter
+    // but for SetTariff, MoveBase and SetKey of it. So an import that was granted and comes again,
+    // on whatever day and with none of these of its rows in between, changes nothing and has no new
+    // row.
+    ensures stays { (forward : BlockFunction) (o : Office) (at : Stamped) (row : Row)
+        → LeavesRow at.request row → HasRow o row → HasRow (step forward o at) row }
     ensures imported_again { (forward : BlockFunction) (o : Office) (at again : Stamped)
         (between : List Stamped)
         (rows : List Row) (new : ℕ)
         → at.request ≡ Request.Import rows → again.request ≡ Request.Import rows
-        → reply forward o at ≡ Ok (Answer.Imported new) → All ChangesNoMeter between
+        → reply forward o at ≡ Ok (Answer.Imported new) → All (LeavesRows rows) between
         → ImportsNothing forward (after forward (step forward o at) between) again }
 
-    // Rows only come at the end, and a sale stays as it was made. Steps of a tariff stay too, a
-    // meter's base never goes back, and a base that it had it had for good.
+    // Rows only come at the end, and a sale stays as it was made. A tariff's first steps stay too,
+    // and of its further ones those on whose day or later a sale was made, whatever the clock. A
+    // meter's base never goes back, a base that it had it had for good, and from its first sale on
+    // it keeps its key.
     ensures grows { (forward : BlockFunction) (o : Office) (ats : List Stamped)
         → IsOffice o → All IsStamped ats → KeepsRange forward → HasGrown o (after forward o ats) }
 
@@ -160,6 +164,48 @@ pub fn office_law()
         → o.dated_steps name day ≡ None → day ≤ day_at at.moment
         → reply forward o at ≡ Err Refusal.DayPast }
 
+    // Steps are withdrawn before their day, where no sale was made on it or later. Where there are
+    // none, also for a day that has passed, nothing changes.
+    ensures withdrawn { (forward : BlockFunction) (o : Office) (at : Stamped) (name : List ℕ)
+        (day : ℕ) (steps : List Step)
+        → IsSome (o.tariffs name) → at.request ≡ Request.WithdrawSteps name day
+        → o.dated_steps name day ≡ Some steps → day_at at.moment < day → ¬ WasSoldSince o day
+        → IsWithdrawn forward o at name day }
+    ensures withdrawn_once { (forward : BlockFunction) (o : Office) (at : Stamped)
+        (name : List ℕ) (day : ℕ)
+        → IsSome (o.tariffs name) → at.request ≡ Request.WithdrawSteps name day
+        → o.dated_steps name day ≡ None
+        → (reply forward o at ≡ Ok (Answer.Withdrawn 0)) × (step forward o at ≡ o) }
+    ensures not_withdrawn { (forward : BlockFunction) (o : Office) (at : Stamped)
+        (name : List ℕ) (day : ℕ) (steps : List Step)
+        → IsSome (o.tariffs name) → at.request ≡ Request.WithdrawSteps name day
+        → o.dated_steps name day ≡ Some steps
+        → (day ≤ day_at at.moment) ⊎ WasSoldSince o day
+        → reply forward o at ≡ Err Refusal.DayPast }
+
+    // So for a day that has begun no further steps come and none go.
+    ensures begun_steps { (forward : BlockFunction) (o : Office) (ats : List Stamped)
+        (name : List ℕ) (day : ℕ)
+        → All (IsNotBefore day) ats
+        → (after forward o ats).dated_steps name day ≡ o.dated_steps name day }
+
+    // A meter that has no sale, under whatever base, is given another key. The key that it has
+    // changes nothing.
+    ensures key_set { (forward : BlockFunction) (o : Office) (at : Stamped) (number : List ℕ)
+        (key : ℕ) (m : Meter)
+        → o.meters number ≡ Some m → at.request ≡ Request.SetKey number key
+        → m.key ≢ key → ¬ WasSoldTo o number
+        → (reply forward o at ≡ Ok Answer.Done)
+        × ((step forward o at).meters number ≡ Some (with_key key m)) }
+    ensures key_set_once { (forward : BlockFunction) (o : Office) (at : Stamped)
+        (number : List ℕ) (key : ℕ) (m : Meter)
+        → o.meters number ≡ Some m → at.request ≡ Request.SetKey number key → m.key ≡ key
+        → (reply forward o at ≡ Ok Answer.Done) × (step forward o at ≡ o) }
+    ensures no_key_set { (forward : BlockFunction) (o : Office) (at : Stamped)
+        (number : List ℕ) (key : ℕ) (m : Meter)
+        → o.meters number ≡ Some m → at.request ≡ Request.SetKey number key
+        → m.key ≢ key → WasSoldTo o number → reply forward o at ≡ Err Refusal.HasSales }
+
     // A tariff has on each day exactly one list of steps, the latest that have begun or else the
     // first, and requests of the day and of later ones leave it.
     ensures steps_of_day { (o : Office) (name : List ℕ) (day : ℕ) (steps : List Step)
@@ -173,8 +219,9 @@ pub fn office_law()
 
     // So a sale keeps its price whatever steps come: it stands as it was, and costs what the steps
     // of its own day ask, in each office that requests of that day and of later ones lead to.
-    // (Where a clock is set back, steps may come from a day on that had passed; of the sales of
-    // such a day `grows` says still that they stand as they were, with their prices.)
+    // (Where a clock is set back, steps may come from a day on that had passed, but none go that a
+    // sale may be priced by; and of the sales of such a day `grows` says still that they stand as
+    // they were, with their prices.)
     ensures keeps_price { (forward : BlockFunction) (o : Office) (at : Stamped) (order : Order)
         (s : Sale) (later : List Stamped)
         → IsOffice o → KeepsRange forward → IsStamped at → All IsStamped later

@@ -6,7 +6,7 @@ ghost use Rattle.office_rules.specs.Decision.Fold.{applied, closed_at};
 ghost use Rattle.vend_core.specs.Lists.{Fits, AppliesEdit, recorded, sets_only};
 ghost use Rattle.office_rules.specs.Office.{greatest_count};
 ghost use Rattle.vend_core.specs.Lists.PlainRows.{base_row, dated_steps_of, meters_of, row_put};
-ghost use Rattle.vend_core.specs.Lists.PlainRows.{tariffs_of};
+ghost use Rattle.vend_core.specs.Lists.PlainRows.{rows_without, tariffs_of};
 
 use crate::lists::look_up;
 use crate::lists::records::Records;
@@ -24,6 +24,10 @@ pub(crate) fn apply(alloc: Global, records: &mut Records, edit: Edit) -> Result<
     match edit {
         Edit::AddTariff(name, steps) => add_tariff(records, name, steps),
         Edit::AddSteps(name, day, steps) => add_steps(records, name, day, steps),
+        Edit::WithdrawSteps(name, day) => {
+            withdraw_steps(records, name, day);
+            Ok(())
+        }
         Edit::AddMeter(number, meter) => add_meter(records, number, meter),
         Edit::AddRows(rows) => add_rows(alloc, records, rows),
         Edit::SetTariff(number, name) => {
@@ -31,6 +35,10 @@ pub(crate) fn apply(alloc: Global, records: &mut Records, edit: Edit) -> Result<
             Ok(())
         }
         Edit::MoveBase(number, base) => move_base(records, number, base),
+        Edit::SetKey(number, key) => {
+            set_key(records, number, key);
+            Ok(())
+        }
         Edit::OpenShift(shift) => open_shift(records, shift),
         Edit::CloseShift(number, moment) => {
             close_shift(records, number, moment);
@@ -59,6 +67,18 @@ fn add_steps(
 {
     records.dated_steps.insert(0, ((name, day), steps))?;
     Ok(())
+}
+
+fn withdraw_steps(records: &mut Records, name: TariffName, day: Day)
+    ensures { recorded records.new ≡ applied (Edit.WithdrawSteps name day) (recorded records.old) }
+{
+    take_away(&mut records.dated_steps, name, day);
+}
+
+fn take_away(rows: &mut Vec<((TariffName, Day), Steps)>, name: TariffName, day: Day)
+    ensures { rows.new.items ≡ rows_without name day rows.old.items }
+{
+    rows.retain(|row| !look_up::is_from(row, &name, day.days()));
 }
 
 // Room is made first, so that both rows are added or none.
@@ -162,6 +182,15 @@ fn set_base(records: &mut Records, number: MeterNo, base: Base)
 {
     match look_up::meter_under(&records.meters, &number) {
         Some(meter) => put_meter(&mut records.meters, number, Meter { base, ..meter }),
+        None => {}
+    }
+}
+
+fn set_key(records: &mut Records, number: MeterNo, key: u64)
+    ensures { recorded records.new ≡ applied (Edit.SetKey number key) (recorded records.old) }
+{
+    match look_up::meter_under(&records.meters, &number) {
+        Some(meter) => put_meter(&mut records.meters, number, Meter { key, ..meter }),
         None => {}
     }
 }

@@ -2,10 +2,11 @@ ghost use Rattle.std.specs.Prelude.{◌≡◌, ℕ, IfOk, IsNone, IsSome, List, 
 ghost use Rattle.std.specs.Prelude.{true};
 ghost use Rattle.std.specs.Option.{option_copied};
 ghost use Rattle.office_rules.specs.Decision.{account_of, row_decision};
-ghost use Rattle.office_rules.specs.Decision.Facts.{AreDatedFacts, AreFacts, AreMeterFacts};
-ghost use Rattle.office_rules.specs.Decision.Facts.{AreNewSaleFacts, AreOpeningFacts, AreRowsFacts};
-ghost use Rattle.office_rules.specs.Decision.Facts.{AreSaleFacts, AreSettingFacts, report_of};
-ghost use Rattle.office_rules.specs.Decision.Facts.{row_facts};
+ghost use Rattle.office_rules.specs.Decision.Facts.{AreDatedFacts, AreFacts, AreKeyFacts};
+ghost use Rattle.office_rules.specs.Decision.Facts.{AreMeterFacts, AreNewSaleFacts};
+ghost use Rattle.office_rules.specs.Decision.Facts.{AreOpeningFacts, AreRowsFacts, AreSaleFacts};
+ghost use Rattle.office_rules.specs.Decision.Facts.{AreSettingFacts, AreWithdrawalFacts};
+ghost use Rattle.office_rules.specs.Decision.Facts.{report_of, row_facts};
 ghost use Rattle.vend_core.specs.Lists.{CopiesList, recorded};
 ghost use Rattle.office_rules.specs.Office.Lookup.{open_shift, sale_of_ref, steps_on};
 ghost use Rattle.office_rules.specs.Office.{Office};
@@ -31,6 +32,7 @@ pub(crate) fn facts(alloc: Global, records: &Records, at: &Stamped) -> Result<Fa
     match &at.request {
         Request::AddTariff(name, _) => tariff_facts(records, name),
         Request::AddSteps(name, day, _) => dated_facts(records, name, *day),
+        Request::WithdrawSteps(name, day) => withdrawal_facts(records, name, *day),
         Request::AddMeter(number, meter) => Ok(meter_facts(records, number, meter)),
         Request::Import(rows) => import_facts(alloc, records, rows),
         Request::SetTariff(number, name) => Ok(setting_facts(records, number, name)),
@@ -38,6 +40,7 @@ pub(crate) fn facts(alloc: Global, records: &Records, at: &Stamped) -> Result<Fa
             meter: look_up::meter_under(&records.meters, number),
             ..Facts::none()
         }),
+        Request::SetKey(number, _) => Ok(key_facts(records, number)),
         Request::OpenShift(operator) => Ok(opening_facts(records, operator)),
         Request::CloseShift(operator) => Ok(Facts {
             open_shift: look_up::open_shift(&records.shifts, operator),
@@ -94,6 +97,18 @@ fn dated_facts(records: &Records, name: &TariffName, day: Day) -> Result<Facts, 
     })
 }
 
+fn withdrawal_facts(records: &Records, name: &TariffName, day: Day) -> Result<Facts, AllocError>
+    ensures facts { IfOk result (AreWithdrawalFacts (recorded records.now) name.now day) }
+    ensures has_tariff { OnErr result (IsSome ((recorded records.now).tariffs name.now)) }
+    ensures has_steps { OnErr result (IsSome ((recorded records.now).dated_steps name.now day)) }
+{
+    let facts = dated_facts(records, name, day)?;
+    Ok(Facts {
+        sold_since: look_up::sold_since(&records.sales, day),
+        ..facts
+    })
+}
+
 fn meter_facts(records: &Records, number: &MeterNo, meter: &Meter) -> Facts
     ensures { AreMeterFacts (recorded records.now) number.now meter.now result }
 {
@@ -112,6 +127,16 @@ fn setting_facts(records: &Records, number: &MeterNo, name: &TariffName) -> Fact
     Facts {
         meter,
         has_tariff: meter.is_some() && has_tariff(records, name),
+        ..Facts::none()
+    }
+}
+
+fn key_facts(records: &Records, number: &MeterNo) -> Facts
+    ensures { AreKeyFacts (recorded records.now) number.now result }
+{
+    Facts {
+        meter: look_up::meter_under(&records.meters, number),
+        has_sales: look_up::has_sales(&records.sales, number),
         ..Facts::none()
     }
 }

@@ -1,7 +1,9 @@
 ghost use Rattle.std.specs.Prelude.{◌≡◌, ◌≤◌, ◌^◌, ◌&&◌, ◌==◌, All, IfOk, filter, find, is_none};
-ghost use Rattle.std.specs.Prelude.{length, map, sum_by, bytes_eq};
+ghost use Rattle.std.specs.Prelude.{length, map, nat_le, sum_by, bytes_eq};
+ghost use Rattle.std.specs.List.{list_any};
 ghost use Rattle.std.specs.Option.{ForSome, option_copied};
 ghost use Rattle.sts_fields.specs.Calendar.{month_at};
+ghost use Rattle.sts_fields.specs.Day.{day_at};
 ghost use Rattle.sts_fields.specs.Tid.{last_tid};
 ghost use Rattle.sts_fields.specs.Base.{base_eq};
 ghost use Rattle.office_rules.specs.Office.Lookup.{greatest_of, latest};
@@ -10,7 +12,7 @@ ghost use Rattle.vend_core.specs.Lists.PlainRows.{row_of, steps_from};
 
 use office_rules::{Meter, MeterNo, Operator, Ref, Sale, Sales, Shift, TariffName};
 use std::alloc::{AllocError, Global};
-use sts_fields::{Base, Day, amount_law, month_of};
+use sts_fields::{Base, Day, amount_law, day_of, month_of};
 use tariff::Steps;
 
 /// The steps under a name.
@@ -28,8 +30,8 @@ pub(crate) fn steps_under<'a>(
     None
 }
 
-// Whether a row has this name and this first day.
-fn is_from(row: &((TariffName, Day), Steps), name: &TariffName, day: u32) -> bool
+/// Whether a row has this name and this first day.
+pub(crate) fn is_from(row: &((TariffName, Day), Steps), name: &TariffName, day: u32) -> bool
     ensures { result ≡ (bytes_eq name.now row.now.0.0 && (day == row.now.0.1)) }
 {
     name.as_bytes() == row.0.0.as_bytes() && day == row.0.1.days()
@@ -68,6 +70,29 @@ pub(crate) fn latest_steps<'a>(
         }
     }
     steps_from(rows, name, first)
+}
+
+/// Whether there is a sale to a meter, under any base.
+pub(crate) fn has_sales(sales: &[Sale], meter: &MeterNo) -> bool
+    ensures { result ≡ list_any (λ s. bytes_eq s.meter meter.now) sales.now }
+{
+    sales
+        .iter()
+        .any(|sale| sale.meter.as_bytes() == meter.as_bytes())
+}
+
+/// Whether a sale was made on a day or later, to whichever meter.
+pub(crate) fn sold_since(sales: &[Sale], day: Day) -> bool
+    ensures { result ≡ list_any (λ s. nat_le day (day_at s.moment)) sales.now }
+{
+    sales.iter().any(|sale| is_since(day, day_of(sale.moment)))
+}
+
+// Whether the other day is this one or later.
+fn is_since(day: Day, other: Day) -> bool
+    ensures { result ≡ nat_le day other }
+{
+    day.days() <= other.days()
 }
 
 /// The meter of a number.

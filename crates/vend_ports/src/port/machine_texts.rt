@@ -10,7 +10,6 @@ use crate::port::file_fault::FileFault;
 use crate::port::text_files::TextFiles;
 use std::fs;
 use std::io::{self, ErrorKind};
-use std::rt::Files;
 
 /// Files that are read whole, by one call of the system. That the computer's does what is said here
 /// no contract knows.
@@ -27,7 +26,7 @@ pub trait WholeFiles {
         ensures fails { IfErr result (λ error. fails self.now path.now (error_kind error)) };
 }
 
-impl<F: Files + AllocGlobal> WholeFiles for F {
+impl WholeFiles for HostRuntime {
     ghost holds = { λ _ _ _. ⊤ };
 
     ghost fails = { λ _ _ _. ⊤ };

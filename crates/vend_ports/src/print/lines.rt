@@ -8,6 +8,7 @@ ghost use Rattle.vend_ports.specs.print.Printed.{opened_line, pair_text, progres
 ghost use Rattle.vend_ports.specs.print.Printed.{read_fault_line, refusal_line, table_row_of};
 ghost use Rattle.vend_ports.specs.print.Printed.{shift_line};
 ghost use Rattle.vend_ports.specs.print.Printed.{stopped_line, token_line, waiting_line};
+ghost use Rattle.vend_ports.specs.print.Printed.{withdrawn_line};
 ghost use Rattle.vend_ports.specs.print.Told.{IsPutOn, Takes};
 
 use crate::port::file_fault::FileFault;
@@ -126,6 +127,14 @@ pub fn put_added<W: Write>(count: u32, out: &mut Watched<'_, W>)
     put_line(&[b"added", number.format(count).as_bytes()], out);
 }
 
+/// Prints how many lists of steps were withdrawn.
+pub fn put_withdrawn<W: Write>(count: u32, out: &mut Watched<'_, W>)
+    ensures { Takes out.old out.new (withdrawn_line count) }
+{
+    let mut number = Buffer::new();
+    put_line(&[b"withdrawn", number.format(count).as_bytes()], out);
+}
+
 /// Prints how far an export is.
 pub fn put_progress<W: Write>(printed: u64, all: u64, out: &mut Watched<'_, W>)
     ensures { Takes out.old out.new (progress_line printed all) }
@@ -160,6 +169,9 @@ pub fn put_shift<W: Write>(shift: u32, out: &mut Watched<'_, W>)
 }
 
 /// The text of an address, at this port.
+///
+/// # Errors
+/// `AllocError` if there is no memory.
 pub fn address_text(alloc: Global, address: Address, port: u16) -> Result<String, AllocError>
     ensures { IfOk result (λ text. string_bytes text ≡ address_text address port) }
 {

@@ -2,6 +2,7 @@ use Rattle.std.proofs.Common.{Err, refl, subst, sym}
 use Rattle.sqlite.specs.Held.{state}
 use Rattle.one_table.proofs.ReadsOnlyLemmas.{fail_as, read_on, stop_on}
 use Rattle.audit.specs.Fails.{Denies, IsNoOffices, StopsBy, by_rows, given_by}
+use Rattle.audit.proofs.PassedLemmas.{reached_passed}
 use Rattle.audit.proofs.SoundLemmas.{forged_stops, sound_rows}
 use Rattle.audit.proofs.ToldLemmas.{stops_more}
 use Rattle.audit.proofs.auditing.audit_format.Goals as goal
@@ -28,3 +29,18 @@ returns-clause-reads g c =
     subst (StopsBy (Denies given) old new) (sym c.fault_of.ensures)
     (forged_stops given c.args.format c.in-Ok.rows c.in-Err-test_forged.fault c.in-Err-test_forged.ensures.found
     (c.in-Ok.ensures.given clean has) c.honest_law.ensures.none c.tokens_law.ensures.none (c.in-Ok.ensures.reads.same clean has)))
+
+pub returns-in-Err-clause-told : goal.returns-in-Err-clause-told
+returns-in-Err-clause-told g c clean has = (c.in-Err.ensures.told clean has).0
+
+pub returns-in-Ok-test_forged-clause-told : goal.returns-in-Ok-test_forged-clause-told
+returns-in-Ok-test_forged-clause-told g c clean has =
+    reached_passed g.F.Follows.told c.args.follower.now c.followed_rows.new.follower c.test_forged.new.follower
+    (state g.S.Store c.args.conn.now).now c.args.format c.in-Ok.rows (c.in-Ok.ensures.told clean has).1 (c.in-Ok.ensures.given clean has)
+    c.in-Ok-test_forged.ensures.told
+
+pub returns-clause-told : goal.returns-clause-told
+returns-clause-told g c clean has =
+    reached_passed g.F.Follows.told c.args.follower.now c.followed_rows.new.follower c.test_forged.new.follower
+    (state g.S.Store c.args.conn.now).now c.args.format c.in-Ok.rows (c.in-Ok.ensures.told clean has).1 (c.in-Ok.ensures.given clean has)
+    c.in-Err-test_forged.ensures.told

@@ -1,4 +1,4 @@
-use Rattle.std.proofs.Common.{inl}
+use Rattle.std.proofs.Common.{inl, inr, refl}
 use Rattle.one_table.proofs.ChangeLemmas.{told_as}
 use Rattle.audit.specs.Fails.{TellsForged, given_by}
 use Rattle.audit.proofs.SoundLemmas.{passed_by, passed_without, told_by}
@@ -25,3 +25,12 @@ returns-in-Some-clause-found g c =
 pub returns-in-None-clause-passes : goal.returns-in-None-clause-passes
 returns-in-None-clause-passes g c =
     passed_without g.T.BlockTransform.forwards c.args.transform c.args.rows.now c.in_ok-test_reached.ensures.passes c.in-None.is
+
+pub returns-in_err-test_reached-clause-told : goal.returns-in_err-test_reached-clause-told
+returns-in_err-test_reached-clause-told g c = inl refl
+
+pub returns-in-Some-clause-told : goal.returns-in-Some-clause-told
+returns-in-Some-clause-told g c = inr (c.passed.ensures, c.in_ok-test_reached.ensures.passes)
+
+pub returns-in-None-clause-told : goal.returns-in-None-clause-told
+returns-in-None-clause-told g c = inr (c.passed.ensures, c.in_ok-test_reached.ensures.passes)

@@ -50,3 +50,11 @@ pub returns-in-ShiftReport : goal.returns-in-ShiftReport
 returns-in-ShiftReport g c = looks_weaker (λ o f is counted. rw c.in-ShiftReport.is is) (λ db f seen. rw c.in-ShiftReport.is seen)
     (λ db spoilt. rw c.in-ShiftReport.is spoilt)
     (looks_same c.report_facts.ensures)
+
+pub returns-in-WithdrawSteps : goal.returns-in-WithdrawSteps
+returns-in-WithdrawSteps g c = looks_weaker (λ o f is counted. rw c.in-WithdrawSteps.is is) (λ db f seen. rw c.in-WithdrawSteps.is seen)
+    (λ db spoilt. rw c.in-WithdrawSteps.is spoilt) (looks_same c.withdrawal_facts.ensures)
+
+pub returns-in-SetKey : goal.returns-in-SetKey
+returns-in-SetKey g c = looks_weaker (λ o f is counted. rw c.in-SetKey.is is) (λ db f seen. rw c.in-SetKey.is seen)
+    (λ db spoilt. rw c.in-SetKey.is spoilt) (looks_same c.key_facts.ensures)

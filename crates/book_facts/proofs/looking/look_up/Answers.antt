@@ -1,4 +1,4 @@
-use Rattle.std.proofs.Common.{rules, IsTrue, ap, inl, inr, Err, refl}
+use Rattle.std.proofs.Common.{rules, IsTrue, ap, inl, inr, Err}
 use Rattle.sqlite.specs.Held.{state}
 use Rattle.book_facts.proofs.TellsLemmas.{tells_failed, tells_read}
 use Rattle.book_facts.proofs.looking.look_up.Goals as goal
@@ -15,7 +15,7 @@ returns-in-Ok-clause-tells g c =
     let old = state g.S.Store c.args.conn.now in
     tells_read c.in-Ok.found old (state g.S.Store c.found_of.new.conn) c.in-Ok.ensures.finds.looks.reads (λ same. same)
     (g.met.S.Store.shut_if_dirty c.args.conn.now.store) c.requires
-    (λ clean has. inl (c.in-Ok.ensures.finds.looks.shown clean has)) c.in-Ok.ensures.finds.rules (λ own. own.not_stopped refl)
+    (λ clean has. inl (c.in-Ok.ensures.finds.looks.shown clean has)) c.in-Ok.ensures.finds.rules
 
 pub returns-in-Err-clause-tells : goal.returns-in-Err-clause-tells
 returns-in-Err-clause-tells g c =

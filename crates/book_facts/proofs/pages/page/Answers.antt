@@ -19,7 +19,7 @@ returns-in-Ok-clause-tells g c =
     let new = state g.S.Store c.sales_after.new.conn in
     tells_read (Ok c.in-Ok.sales) old new (read_in_office sales_in c.in-Ok.ensures.reads) (unchanged_same old new)
     (g.met.S.Store.shut_if_dirty c.args.conn.now.store) c.requires
-    (λ clean has. first_shown sales_in c.in-Ok.ensures.sees clean has) tt (λ none. none)
+    (λ clean has. first_shown sales_in c.in-Ok.ensures.sees clean has) tt
 
 pub returns-in-Err-clause-tells : goal.returns-in-Err-clause-tells
 returns-in-Err-clause-tells g c =

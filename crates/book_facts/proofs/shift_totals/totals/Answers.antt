@@ -12,7 +12,7 @@ returns-in-Ok-Some-clause-tells g c =
     let new = state g.S.Store c.totals_of.new.conn in
     let it = c.in-Ok-Some in
     tells_read (Ok it.totals) old new it.ensures.reads (unchanged_same old new) (g.met.S.Store.shut_if_dirty c.args.conn.now.store) c.requires
-    (λ clean has. subst (AreTotalsSeen c.args.number old.now) it.field-0-is (it.ensures.shown clean has)) tt (λ is. absurd cc)
+    (λ clean has. subst (AreTotalsSeen c.args.number old.now) it.field-0-is (it.ensures.shown clean has)) tt
 
 pub returns-in-Ok-None-clause-tells : goal.returns-in-Ok-None-clause-tells
 returns-in-Ok-None-clause-tells g c =
@@ -20,7 +20,7 @@ returns-in-Ok-None-clause-tells g c =
     let new = state g.S.Store c.totals_of.new.conn in
     let it = c.in-Ok-None in
     tells_read (Err NoSuchShift) old new it.ensures.reads (unchanged_same old new) (g.met.S.Store.shut_if_dirty c.args.conn.now.store) c.requires
-    (λ clean has. subst (AreTotalsSeen c.args.number old.now) it.field-0-is (it.ensures.shown clean has)) refl (λ is. absurd cc)
+    (λ clean has. subst (AreTotalsSeen c.args.number old.now) it.field-0-is (it.ensures.shown clean has)) refl
 
 pub returns-in-Err-clause-tells : goal.returns-in-Err-clause-tells
 returns-in-Err-clause-tells g c =

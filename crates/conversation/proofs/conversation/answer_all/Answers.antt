@@ -1,4 +1,4 @@
-use Rattle.std.proofs.Common.{◌≡◌, ◌∙◌, Ok, Err, false, List, ℕ, [], ◌+◌, ◌++◌, drop, ap, subst, sym, arith, append_assoc, append-nil}
+use Rattle.std.proofs.Common.{◌≡◌, ◌∙◌, Ok, Err, false, true, List, ℕ, [], ◌+◌, ◌++◌, drop, ap, subst, sym, arith, append_assoc, append-nil}
 use Rattle.std.proofs.Math.ListN.{drop_of_length-le}
 use Rattle.std.proofs.lemmas.List.{drop-drop, length-drop, take_rest}
 use Rattle.conversation.specs.message.Heads.{longest_head}
@@ -7,15 +7,16 @@ use Rattle.conversation.specs.declared.wants.Wants.TheVariants.{Head}
 use Rattle.conversation.specs.declared.end.End.TheVariants.{Closed}
 use Rattle.conversation.specs.Conversation.{interim_for, text_of}
 use Rattle.conversation.specs.Exchanges.{clocked, timed}
-use Rattle.conversation.specs.message.Messages.{BeginsMessage, IsTold}
+use Rattle.conversation.specs.message.Messages.{BeginsExpecting, BeginsMessage, IsTold}
 use Rattle.conversation.specs.message.Next.{message_of}
-use Rattle.conversation.specs.Parts.{is_due}
+use Rattle.conversation.specs.Parts.{MayOfferBehind, is_due}
 use Rattle.conversation.proofs.EndLemmas.{answered_end, closed_end, end_after, interim_end, told_end}
-use Rattle.conversation.proofs.InterimLemmas.{nothing_untold, refused_untold, told_due, told_lack, told_message, told_text}
+use Rattle.conversation.proofs.InterimLemmas.{lack_told, nothing_untold, refused_untold, told_due, told_lack, told_message, told_text}
 use Rattle.conversation.proofs.ProgressLemmas.{progress_none, progress_one, progress_trans}
 use Rattle.conversation.proofs.ReadingLemmas.{message_takes}
 use Rattle.conversation.proofs.RunLemmas.{awaits_nothing}
-use Rattle.conversation.proofs.UsesLemmas.{whole_after, whole_none}
+use Rattle.conversation.proofs.OfferLemmas.{offers_interim, offers_on, offers_reply}
+use Rattle.conversation.proofs.UsesLemmas.{last_wider, whole_after, whole_none, whole_wider}
 use Rattle.conversation.proofs.WiderLemmas.{clocked_wider, reply_wider}
 use Rattle.conversation.proofs.conversation.answer_all.Goals as goal
 
@@ -64,9 +65,11 @@ returns-then-message-clause-written g c =
     let m = message_of c.in-Whole.message in
     let wider = clocked_wider one (reads c.messages.clock) (reads c.args.clock.now) inv.stays in
     let x = reply_wider (clocked (reads c.messages.clock) one) step wider _ _ _ _ _ m (Ok c.in_default.field-0) c.in_default.ensures.written in
+    let may = offers_reply step refusal c.messages.was_told _ _ (drop len input) m _ x.0 inv.was whole.begins x.1 x.2 in
     end_after step refusal _ _ _ _ _ _ input (drop len input) _ inv.text inv.whole _ Closed inv.wrote inv.progress inv.said (
       interim_for (is_due m.expects c.messages.was_told) ++ x.0.reply,
-      record { writes = x.3.writes; ends = x.3.open_still },
+      last_wider Closed _ (MayOfferBehind step refusal (interim_for c.messages.was_told) _ (drop len input)) _ _ _ may
+          (record { writes = x.3.writes; ends = x.3.open_still }),
       closed_end step refusal c.messages.was_told _ _ (drop len input) m _ x.0 inv.was whole.begins c.if-message.true x.1 x.2,
     )
 
@@ -98,11 +101,16 @@ messages-preserved g c =
     let last = interim_for (is_due m.expects c.messages.was_told) ++ x.0.reply in
     let text : before ++ last ≡ text_of x.0 =
     told_text x.0 (message_of m) c.messages.was_told x.1 (told_message (drop len input) (message_of m) _ c.messages.was_told inv.was whole.begins) in
+    let refusal = g.S.Service.refusal in
+    let was = c.messages.was_told in
+    let may = offers_reply step refusal was _ _ (drop len input) (message_of m) _ x.0 inv.was whole.begins x.1 x.2 in
+    let wrote = whole_wider _ (MayOfferBehind step refusal before _ (drop len input)) _ _ last may x.3 in
     record {
       within = omega (arith, whole.len, length-drop len input, inv.within);
       text = inv.text ++ last;
       whole = inv.whole ++ text_of x.0;
-      wrote = whole_after _ _ _ inv.text last inv.wrote x.3;
+      wrote = whole_after _ _ _ _ _ inv.text last
+          (offers_on step refusal _ _ input (drop len input) front inv.text inv.whole before inv.progress inv.said) inv.wrote wrote;
       stays = λ given gives. inv.stays given (c.in_default.ensures.stays given gives);
       progress = progress_trans (timed step) input (drop len input) _ _ _ _ inv.whole (text_of x.0) inv.progress
           (progress_one (timed step) (drop len input) (message_of m) _ x.0 _ _ begins c.if-message.false x.1 x.2);
@@ -139,6 +147,8 @@ returns-in-Err-tell-clause-written g c =
 
 pub returns-in-NeedBody-clause-written : goal.returns-in-NeedBody-clause-written
 returns-in-NeedBody-clause-written g c =
+    let step = clocked (g.C.Clock.reads c.args.clock.now) g.S.Service.step in
+    let refusal = g.S.Service.refusal in
     let input = c.args.input.now in
     let len = c.messages.len in
     let inv = c.messages.invariant in
@@ -150,10 +160,15 @@ returns-in-NeedBody-clause-written g c =
     let before = interim_for was_told in
     let last = interim_for (is_due expects was_told) in
     let text : before ++ last ≡ interim_for expects =
-    told_due expects was_told (told_lack (drop len input) c.in-NeedBody.missing expects was_told inv.was lacks) in (
+    told_due expects was_told (told_lack (drop len input) c.in-NeedBody.missing expects was_told inv.was lacks) in
+    let may : expects ≡ true → BeginsExpecting (drop len input) =
+    λ is. subst (IsTold (drop len input)) is (lack_told (drop len input) c.in-NeedBody.missing expects lacks) in (
       inv.text ++ last,
       inv.whole,
-      whole_after _ _ _ inv.text last inv.wrote told,
+      whole_after _ _ _ _ _ inv.text last
+          (offers_on step refusal _ _ input (drop len input) front inv.text inv.whole before inv.progress inv.said) inv.wrote
+          (whole_wider _ (MayOfferBehind step refusal before _ (drop len input)) _ _ last
+          (offers_interim step refusal _ (drop len input) expects was_told may) told),
       inv.within,
       inv.progress,
       lacks,

@@ -3,6 +3,7 @@ use Rattle.conversation.specs.Conversation.{Progress, interim_for}
 use Rattle.conversation.specs.Ends.{WritesWhole}
 use Rattle.conversation.specs.Exchanges.{clocked, timed}
 use Rattle.conversation.specs.message.Messages.{IsTold}
+use Rattle.conversation.specs.Parts.{MayOfferBehind}
 use Rattle.conversation.proofs.conversation.answer_all.Given as goal
 
 -- the messages before the place were answered, and this was written for them and for the next one
@@ -11,7 +12,8 @@ invariant-messages g l = record {
   within : l.len ≤ length l.input;
   text : List ℕ;
   whole : List ℕ;
-  wrote : WritesWhole (g.W.Write.contents l.fn.writer, g.L.Line.uses l.fn.line)
+  wrote : WritesWhole (MayOfferBehind (clocked (g.C.Clock.reads l.fn.clock) g.S.Service.step) g.S.Service.refusal (interim_for l.told)
+      (l.fn.office, g.C.Clock.answers l.fn.clock) l.input) (g.W.Write.contents l.fn.writer, g.L.Line.uses l.fn.line)
       (g.W.Write.contents l.writer, g.L.Line.uses l.line) text;
   stays : (given : ℤ) → g.C.Clock.reads l.clock given → g.C.Clock.reads l.fn.clock given;
   progress : Progress (timed (clocked (g.C.Clock.reads l.fn.clock) g.S.Service.step)) l.input (drop l.len l.input)

@@ -18,7 +18,7 @@ reads-init g c =
     record {
       uses = [];
       stays = λ given gives. gives;
-      used = used_none (clocked (g.C.Clock.reads c.args.clock.now) g.S.Service.step) _ _ _ _;
+      used = used_none (clocked (g.C.Clock.reads c.args.clock.now) g.S.Service.step) g.S.Service.refusal _ _ _ _;
       still_open = tt;
       answered = rw (← none) (record {
         whole = [];
@@ -54,7 +54,7 @@ returns-in-Ok-Some-eq0-clause-run g c =
     run_here step refusal _ _ _ _ _ _ _ c.finish.result now.0 (read.4 c.in-Ok-Some-eq0.field-0-0-test)
     (bytes_here_after step refusal _ _ _ _ _ _ _ rest _ inv.answered.whole (interim_for (told_of c.reads.wants)) c.finish.result
     inv.used.paced.writes now.1 inv.answered.said
-    (bytes_of c.finish.result _ _ _ (over_end step refusal (told_of c.reads.wants) _ _ _ rest c.finish.result over)))
+    (bytes_of c.finish.result _ _ _ _ (over_end step refusal (told_of c.reads.wants) _ _ _ rest c.finish.result over)))
 
 pub returns-in-Ok-Some-eq0-clause-paced : goal.returns-in-Ok-Some-eq0-clause-paced
 returns-in-Ok-Some-eq0-clause-paced g c =
@@ -62,7 +62,7 @@ returns-in-Ok-Some-eq0-clause-paced g c =
     let inv = c.reads.invariant in
     let over = rw c.as_slice.ensures at c.finish.ensures in
     let said = over_end step g.S.Service.refusal (told_of c.reads.wants) (c.reads.office, g.C.Clock.answers c.reads.clock) _ _ _ c.finish.result over in
-    paced_after step _ _ _ _ _ _ _ _ _ _ inv.uses c.reads.unanswered.bytes.items _ c.reads.wants _ c.in-Ok-Some-eq0.field-0-0 (may_want c.count.result c.reads.unanswered.window c.reads.wants inv.uses c.count.ensures inv.window)
+    paced_after step g.S.Service.refusal _ _ _ _ _ _ _ _ _ _ inv.uses c.reads.unanswered.bytes.items _ c.reads.wants _ c.in-Ok-Some-eq0.field-0-0 (may_want c.count.result c.reads.unanswered.window c.reads.wants inv.uses c.count.ensures inv.window)
     inv.used inv.still_open inv.answered (rw c.in-Ok-Some-eq0.field-0-is at c.in-Ok-Some-eq0.ensures.read) c.finish.result _ _ said.0 said.1
 
 pub returns-in-Err-clause-run : goal.returns-in-Err-clause-run
@@ -75,7 +75,7 @@ returns-in-Err-clause-run g c =
 pub returns-in-Err-clause-paced : goal.returns-in-Err-clause-paced
 returns-in-Err-clause-paced g c =
     let inv = c.reads.invariant in
-    paced_read (clocked (g.C.Clock.reads c.args.clock.now) g.S.Service.step) _ _ _ _ _ _ _ _ _ _ inv.uses c.reads.unanswered.bytes.items _
+    paced_read (clocked (g.C.Clock.reads c.args.clock.now) g.S.Service.step) g.S.Service.refusal _ _ _ _ _ _ _ _ _ _ inv.uses c.reads.unanswered.bytes.items _
     c.reads.wants _ c.in-Err.end (may_want c.count.result c.reads.unanswered.window c.reads.wants inv.uses c.count.ensures inv.window)
     inv.used inv.still_open inv.answered c.in-Err.ensures.read
 
@@ -95,7 +95,7 @@ returns-in-Err-answer_all-clause-run g c =
     let ends = rw c.told.ensures at (rw c.as_slice-in-reads.ensures at written) in
     run_early step refusal _ _ _ _ _ _ _ c.in-Err-answer_all.end now.0
     (bytes_after step refusal _ _ _ _ _ _ _ rest _ inv.answered.whole (interim_for (told_of c.reads.wants)) c.in-Err-answer_all.end
-    inv.used.paced.writes now.1 inv.answered.said (bytes_of c.in-Err-answer_all.end _ _ _ ends))
+    inv.used.paced.writes now.1 inv.answered.said (bytes_of c.in-Err-answer_all.end _ _ _ _ ends))
 
 pub returns-in-Err-answer_all-clause-paced : goal.returns-in-Err-answer_all-clause-paced
 returns-in-Err-answer_all-clause-paced g c =
@@ -107,7 +107,7 @@ returns-in-Err-answer_all-clause-paced g c =
     let written = replies_wider (clocked (reads c.reads.clock) one) step wider g.S.Service.refusal _ _ _ _ _ _ (Err c.in-Err-answer_all.end)
     c.in-Err-answer_all.ensures.written in
     let ends = rw c.told.ensures at (rw c.as_slice-in-reads.ensures at written) in
-    paced_after step _ _ _ _ _ _ _ _ _ _ inv.uses c.reads.unanswered.bytes.items _ c.reads.wants _ c.in-Ok-Some.count (may_want c.count.result c.reads.unanswered.window c.reads.wants inv.uses c.count.ensures inv.window)
+    paced_after step g.S.Service.refusal _ _ _ _ _ _ _ _ _ _ inv.uses c.reads.unanswered.bytes.items _ c.reads.wants _ c.in-Ok-Some.count (may_want c.count.result c.reads.unanswered.window c.reads.wants inv.uses c.count.ensures inv.window)
     inv.used inv.still_open inv.answered (rw c.in-Ok-Some.field-0-is at c.in-Ok-Some.ensures.read) c.in-Err-answer_all.end _ _ ends.0 ends.1
 
 pub reads-preserved : goal.reads-preserved
@@ -119,7 +119,7 @@ reads-preserved g c =
     let wider = clocked_wider one (reads c.reads.clock) (reads c.args.clock.now) inv.stays in
     let written = replies_wider (clocked (reads c.reads.clock) one) step wider g.S.Service.refusal _ _ _ _ _ _ (Ok c.in-Ok.awaiting) c.in-Ok.ensures.written in
     let more = rw c.told.ensures at (rw c.as_slice-in-reads.ensures at written) in
-    let on = went_on step _ _ _ _ _ _ _ _ _ _ inv.uses c.reads.unanswered.bytes.items _ c.reads.wants _ c.in-Ok-Some.count (may_want c.count.result c.reads.unanswered.window c.reads.wants inv.uses c.count.ensures inv.window)
+    let on = went_on step g.S.Service.refusal _ _ _ _ _ _ _ _ _ _ inv.uses c.reads.unanswered.bytes.items _ c.reads.wants _ c.in-Ok-Some.count (may_want c.count.result c.reads.unanswered.window c.reads.wants inv.uses c.count.ensures inv.window)
     inv.used inv.still_open inv.answered (rw c.in-Ok-Some.field-0-is at c.in-Ok-Some.ensures.read) _ _ more.0 more.1 _ _ _
     c.in-Ok.awaiting.wants c.drop_front.ensures.bytes c.in-Ok-Some.count-test.1 more.2 more.4 more.5 more.6 in
     record {
@@ -138,7 +138,7 @@ reads-preserved-in-Some g c =
     let inv = c.reads.invariant in
     let read = rw c.in-Ok-Some.field-0-is at c.in-Ok-Some.ensures.read in
     let stays = c.in-Some.ensures.stays c.reads.unanswered.bytes.items read.0 inv.answered.awaited read.1 in
-    let on = went_on step _ _ _ _ _ _ _ _ _ _ inv.uses c.reads.unanswered.bytes.items _ c.reads.wants _ c.in-Ok-Some.count (may_want c.count.result c.reads.unanswered.window c.reads.wants inv.uses c.count.ensures inv.window)
+    let on = went_on step g.S.Service.refusal _ _ _ _ _ _ _ _ _ _ inv.uses c.reads.unanswered.bytes.items _ c.reads.wants _ c.in-Ok-Some.count (may_want c.count.result c.reads.unanswered.window c.reads.wants inv.uses c.count.ensures inv.window)
     inv.used inv.still_open inv.answered read _ _ [] [] _ _ _ c.in-Some.left refl c.in-Ok-Some.count-test.1 (whole_none _)
     (progress_none (timed step) c.read_more.new.self.bytes.items _) (subst (λ rest. IsAwaited rest c.in-Some.left) (sym read.2) stays)
     (append-nil (interim_for (told_of c.reads.wants)) ∙ ap interim_for (sym c.in-Some.ensures.told)) in
@@ -162,14 +162,14 @@ returns-clause-run g c =
 pub returns-clause-paced : goal.returns-clause-paced
 returns-clause-paced g c =
     let inv = c.reads.invariant in
-    paced (clocked (g.C.Clock.reads c.args.clock.now) g.S.Service.step) _ _ _ _ _ _ _ ReadFault inv.uses inv.used
+    paced (clocked (g.C.Clock.reads c.args.clock.now) g.S.Service.step) g.S.Service.refusal _ _ _ _ _ _ _ ReadFault inv.uses inv.used
     (inr (inv.still_open, omega (arith, inv.counted)))
 
 pub reads-preserved-in-Ok-None : goal.reads-preserved-in-Ok-None
 reads-preserved-in-Ok-None g c =
     let inv = c.reads.invariant in
     let read = rw c.in-Ok-None.field-0-is at c.in-Ok-None.ensures.read in
-    let on = interrupted_read (clocked (g.C.Clock.reads c.args.clock.now) g.S.Service.step) _ _ _ _ _ _ _ _ _ _ inv.uses
+    let on = interrupted_read (clocked (g.C.Clock.reads c.args.clock.now) g.S.Service.step) g.S.Service.refusal _ _ _ _ _ _ _ _ _ _ inv.uses
     c.reads.unanswered.bytes.items _ c.reads.wants _ (may_want c.count.result c.reads.unanswered.window c.reads.wants inv.uses c.count.ensures inv.window)
     inv.used inv.still_open inv.answered read in
     record {

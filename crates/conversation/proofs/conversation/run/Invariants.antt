@@ -9,7 +9,7 @@ abbrev pub invariant-reads : goal.invariant-reads
 invariant-reads g l = record {
   uses : List Use;
   stays : (given : ℤ) → g.C.Clock.reads l.clock given → g.C.Clock.reads l.fn.clock given;
-  used : Used (clocked (g.C.Clock.reads l.fn.clock) g.S.Service.step) (l.fn.office, g.C.Clock.answers l.fn.clock) (g.L.Line.uses l.fn.line)
+  used : Used (clocked (g.C.Clock.reads l.fn.clock) g.S.Service.step) g.S.Service.refusal (l.fn.office, g.C.Clock.answers l.fn.clock) (g.L.Line.uses l.fn.line)
       (g.L.Line.uses l.line)
       (g.R.Read.remaining l.fn.reader) (g.R.Read.remaining l.reader) (g.W.Write.contents l.fn.writer) (g.W.Write.contents l.writer) uses;
   still_open : AreOpen uses;

@@ -11,11 +11,12 @@ loop-rest-preserved g c =
     let inv = c.loop-rest.invariant in
     let taken = c.in-Ok.taken in
     let left = ap length inv.2 ∙ length-drop inv.0 c.args.text.now in
-    let within : inv.0 + taken ≤ length c.args.text.now = omega (arith, c.in-Ok.ensures.1, left, inv.1) in (
+    let within : inv.0 + taken ≤ length c.args.text.now = omega (arith, c.in-Ok.ensures.1, left, inv.1) in
+    let short : inv.0 < length c.args.text.now = omega (arith, c.in-Ok.ensures.0, c.in-Ok.ensures.1, left, inv.1) in (
       inv.0 + taken,
       within,
       take_rest c.loop-rest.rest.now taken ∙ ap (λ bytes. drop taken bytes) inv.2 ∙ drop-drop taken inv.0 c.args.text.now,
-      whole_part _ _ _ c.args.text.now c.loop-rest.rest.now inv.0 taken inv.2 inv.3 c.in-Ok.ensures.2,
+      whole_part _ _ _ c.args.text.now c.loop-rest.rest.now inv.0 taken short inv.2 inv.3 c.in-Ok.ensures.2,
     )
 
 pub returns-in-Err : goal.returns-in-Err
@@ -24,7 +25,7 @@ returns-in-Err g c =
     let left = ap length inv.2 ∙ length-drop inv.0 c.args.text.now in
     let some : 0 < length c.loop-rest.rest.now = grind arith in
     let short : inv.0 < length c.args.text.now = omega (arith, left, some, inv.1) in
-    sent_before (Unit {0}) _ _ _ c.args.text.now c.loop-rest.rest.now inv.0 c.in-Err.end short inv.3 c.in-Err.ensures
+    sent_before (Unit {0}) _ _ _ c.args.text.now c.loop-rest.rest.now inv.0 c.in-Err.end short inv.2 inv.3 c.in-Err.ensures
 
 pub returns : goal.returns
 returns g c =

@@ -1,4 +1,4 @@
-use Rattle.std.proofs.Common.{arith}
+use Rattle.std.proofs.Common.{arith, refl}
 use Rattle.desk_client.proofs.HeadLemmas.{head_within, reply_lengths, reply_now}
 use Rattle.desk_client.proofs.reply.body_in.Goals as goal
 
@@ -28,6 +28,18 @@ returns-then-have-head-2 c = λ dated is. (
         c.if-have-head-2.true,
         c.if-head-gt-MAX_BODY.false,
       ),
+  let h = c.args.head.now in
+      record {
+        start = h.start;
+        len = h.len;
+        dated = dated;
+        rest = h.rest.now;
+        is_start = c.requires.start;
+        is_dated = is;
+        front = refl;
+        lacks = omega (arith, c.if-have-head-2.true);
+        few = omega (arith, c.if-head-gt-MAX_BODY.false);
+      },
 )
 
 pub returns-in-None : goal.returns-in-None

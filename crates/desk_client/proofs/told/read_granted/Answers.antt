@@ -11,6 +11,7 @@ no_totals : (text : List ℕ) → ((found : ℕ × Totals) → ¬ (IsToldTotals 
     → (g : Granted) → wanted_of g ≡ wanted.Totals → ¬ (IsAnswer g × (text ≡ granted_text g))
 no_totals text none granted.Done is h = cc
 no_totals text none (granted.Imported n) is h = cc
+no_totals text none (granted.Withdrawn n) is h = cc
 no_totals text none (granted.Shift n) is h = cc
 no_totals text none (granted.Sale s) is h = cc
 no_totals text none (granted.Meter m) is h = cc

@@ -15,7 +15,9 @@ answered_once : (texts : Texts) (calls : Calls) (uncalled : Type 0) (desk : Addr
     → IsAnswered texts calls uncalled desk question o end
 answered_once texts calls uncalled desk (asks.Import kind csv) o end none it = it
 answered_once texts calls uncalled desk (asks.SetTariff meter tariff) o end none it = it
+answered_once texts calls uncalled desk (asks.WithdrawSteps tariff from) o end none it = it
 answered_once texts calls uncalled desk (asks.MoveBase meter base) o end none it = it
+answered_once texts calls uncalled desk (asks.SetKey meter key) o end none it = it
 answered_once texts calls uncalled desk (asks.OpenShift operator) o end none it = it
 answered_once texts calls uncalled desk (asks.CloseShift operator) o end none it = it
 answered_once texts calls uncalled desk (asks.Sell order) o end none it = it

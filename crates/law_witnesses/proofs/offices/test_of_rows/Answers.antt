@@ -25,5 +25,5 @@ returns-in-Ok c =
     let read = c.in-Ok.ensures {u = tt} in
     let was_open = (read.reads.same after tables).0.was_open in
     memory_alone (Says (BreaksOffice 4 c.in-Ok.rows)) c.test_office.result c.test_office.ensures.found
-    (λ f breaks. c.office_law.ensures 4 s.now c.in-Ok.rows f (present life) (omega arith) (omega arith) (tables was_open)
+    (λ f breaks. c.office_law.ensures.none 4 s.now c.in-Ok.rows f (present life) (omega arith) (omega arith) (tables was_open)
     (read.given after tables) breaks (holds.now was_open))

@@ -1,10 +1,11 @@
-use Rattle.std.proofs.Common.{ap, get_or, rules, slice_get, subst, sym, ◌∙◌}
+use Rattle.std.proofs.Common.{ap, arith, get_or, rules, slice_get, subst, sym, ◌∙◌}
 use Rattle.sqlite.specs.State.{Shown}
 use Rattle.sqlite.specs.Values.{bound}
 use Rattle.sqlite.specs.Held.{state}
 use Rattle.one_table.specs.declared.read_fault.ReadFault.TheVariants.{Database}
 use Rattle.one_table.proofs.ChangeLemmas.{all_ok, if_err, if_ok, told_as, transaction_into, transaction_off}
-use Rattle.one_table.proofs.TouchLemmas.{carried, fails_to_touch, touched, touched_unread}
+use Rattle.one_table.specs.InTransaction.{BeginsWith}
+use Rattle.one_table.proofs.TouchLemmas.{begins_with, fails_to_touch, none_first, showed, touched, touched_unread}
 use Rattle.one_table.proofs.UpsertLemmas.{fails_to_upsert, fails_unread, upserted}
 use Rattle.one_table.proofs.upserting.upsert.Goals as goal
 
@@ -55,7 +56,7 @@ pub returns-in_err-rows-clause-failed : goal.returns-in_err-rows-clause-failed
 returns-in_err-rows-clause-failed g c clean way t at m is whole stands =
     told_as _ c.from_residual.result (Database c.in_err-rows.field-0.0) c.from_residual.ensures.1
     (fails_to_touch c.args.sql.now (bound c.args.params.now) (state g.S.Store c.args.tx.now.conn.now)
-    (state g.S.Store c.show.new.tx.conn.now) t at m is stands whole c.in_err-rows.field-0.0
+    (state g.S.Store c.show.new.tx.conn.now) t at m is stands g.X.FromRow.is_readable whole c.in_err-rows.field-0.0
     (c.in_err-rows.ensures.refused clean))
 
 pub returns-in-Some-clause-touched : goal.returns-in-Some-clause-touched
@@ -66,15 +67,26 @@ returns-in-Some-clause-touched g c clean way t at m is stands =
 
 pub returns-in-Some-clause-failed : goal.returns-in-Some-clause-failed
 returns-in-Some-clause-failed g c clean way t at m is whole stands =
+    let sql = c.args.sql.now in
+    let params = bound c.args.params.now in
     let old = state g.S.Store c.args.tx.now.conn.now in
     let new = state g.S.Store c.show.new.tx.conn.now in
-    let done = touched c.args.sql.now (bound c.args.params.now) old new t at m is stands _ (c.in_ok-rows.ensures.shown.says clean) way in
-    if_err c.from_row.result (λ why only. touched_unread c.args.sql.now (bound c.args.params.now) old new t at m is stands why done only) c.from_row.ensures.err
+    let shown = subst (Shown sql params old new) (sym c.deref.ensures.value) (c.in_ok-rows.ensures.shown.says clean) in
+    let done = touched sql params old new t at m is stands _ shown way in
+    if_err c.from_row.result (λ why only. touched_unread sql params old new t at m is stands g.X.FromRow.is_readable _ c.in-Some.row.now why shown done
+    c.in-Some.ensures.item.1 only) c.from_row.ensures.err
 
 pub returns-clause-failed : goal.returns-clause-failed
 returns-clause-failed g c clean way t at m is whole stands =
-    touched c.args.sql.now (bound c.args.params.now) (state g.S.Store c.args.tx.now.conn.now) (state g.S.Store c.show.new.tx.conn.now) t at
-    m is stands _ (c.in_ok-rows.ensures.shown.says clean) way
+    let sql = c.args.sql.now in
+    let params = bound c.args.params.now in
+    let old = state g.S.Store c.args.tx.now.conn.now in
+    let new = state g.S.Store c.show.new.tx.conn.now in
+    let shown = subst (Shown sql params old new) (sym c.deref.ensures.value) (c.in_ok-rows.ensures.shown.says clean) in (
+      touched sql params old new t at m is stands _ shown way,
+      showed sql params old new t at m is stands _ shown (λ l. ¬ BeginsWith g.X.FromRow.is_readable l)
+          (none_first g.X.FromRow.is_readable _ c.in-None.ensures.value),
+    )
 
 pub returns-clause-refused : goal.returns-clause-refused
 returns-clause-refused g c clean way t at m is whole takes =
@@ -86,6 +98,11 @@ returns-clause-refused g c clean way t at m is whole takes =
 
 pub returns-in-Some-clause-ran : goal.returns-in-Some-clause-ran
 returns-in-Some-clause-ran g c clean t at m is stands =
+    let sql = c.args.sql.now in
+    let params = bound c.args.params.now in
     let old = state g.S.Store c.args.tx.now.conn.now in
     let new = state g.S.Store c.show.new.tx.conn.now in
-    all_ok c.from_row.result (carried c.args.sql.now (bound c.args.params.now) old new t at m is stands _ (c.in_ok-rows.ensures.shown.says clean))
+    let item = c.in-Some.ensures.item in
+    let shown = subst (Shown sql params old new) (sym c.deref.ensures.value) (c.in_ok-rows.ensures.shown.says clean) in
+    if_ok c.from_row.result (λ x reads. showed sql params old new t at m is stands _ shown (BeginsWith (λ row. g.X.FromRow.reads_as row x))
+    (begins_with (λ row. g.X.FromRow.reads_as row x) c.in-Some.row.now c.deref.result.now (omega arith) item.1 reads)) c.from_row.ensures.ok

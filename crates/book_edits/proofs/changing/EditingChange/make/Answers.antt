@@ -7,10 +7,10 @@ use Rattle.office_rules.specs.declared.office.row.Row.{Row}
 use Rattle.one_table.proofs.ChangeLemmas.{if_err}
 use Rattle.book_tables.proofs.WritingLemmas.CauseLemmas.{came_here, of_store}
 use Rattle.book_tables.specs.writing.Failing.{FailsToWriteAll}
-use Rattle.book_tables.specs.writing.Writes.{AreCarriedOut, new_shift, row_writes, shift_ended, steps_writes, tariff_set, tariff_writes}
+use Rattle.book_tables.specs.writing.Writes.{AreCarriedOut, key_set, new_shift, row_writes, shift_ended, steps_withdrawn, steps_writes, tariff_set, tariff_writes}
 use Rattle.book_tables.specs.writing.Writing.{AddsSteps, AddsTariff}
 use Rattle.book_states.specs.Changing.{MakesRows}
-use Rattle.book_edits.proofs.ChangeLemmas.{edit_refused, told_where, refused_by, rows_refused, made_by, makes_closing, makes_import, makes_meter, makes_moving, makes_sale, makes_setting, makes_shift, makes_steps, makes_tariff}
+use Rattle.book_edits.proofs.ChangeLemmas.{edit_refused, told_where, refused_by, rows_refused, made_by, makes_closing, makes_import, makes_key, makes_meter, makes_moving, makes_sale, makes_setting, makes_shift, makes_steps, makes_tariff, makes_withdrawal}
 use Rattle.book_edits.proofs.changing.EditingChange.make.Goals as goal
 
 pub returns-in-AddTariff-clause-made : goal.returns-in-AddTariff-clause-made
@@ -73,6 +73,34 @@ returns-in-SetTariff-clause-made g c = record {
       made_by c.set_tariff.result c.args.self.now.edit.now (edits.SetTariff number name) c.args.self.now.prior old new c.in-SetTariff.is
       (c.set_tariff.ensures.writes.says.made clean) (λ has. (c.set_tariff.ensures.writes.says.ends clean has).0)
       (λ has sets carried. (makes_setting c.members_law.ensures.edited old new number name carried sets, tt));
+}
+
+pub returns-in-SetKey-clause-made : goal.returns-in-SetKey-clause-made
+returns-in-SetKey-clause-made g c = record {
+  same_reference = c.set_key.ensures.writes.same_reference;
+  transaction = c.set_key.ensures.writes.transaction;
+  says = λ clean way.
+      let old = state g.S.Store c.args.tx.now.conn.now in
+      let new = state g.S.Store c.set_key.new.tx.conn.now in
+      let number = c.in-SetKey.number in
+      let key = c.in-SetKey.key in
+      made_by c.set_key.result c.args.self.now.edit.now (edits.SetKey number key) c.args.self.now.prior old new c.in-SetKey.is
+      (c.set_key.ensures.writes.says.made clean) (λ has. (c.set_key.ensures.writes.says.ends clean has).0)
+      (λ has sets carried. (makes_key c.members_law.ensures.edited old new number key carried sets, tt));
+}
+
+pub returns-in-WithdrawSteps-clause-made : goal.returns-in-WithdrawSteps-clause-made
+returns-in-WithdrawSteps-clause-made g c = record {
+  same_reference = c.withdraw_steps.ensures.writes.same_reference;
+  transaction = c.withdraw_steps.ensures.writes.transaction;
+  says = λ clean way.
+      let old = state g.S.Store c.args.tx.now.conn.now in
+      let new = state g.S.Store c.withdraw_steps.new.tx.conn.now in
+      let name = c.in-WithdrawSteps.name in
+      let day = c.in-WithdrawSteps.day in
+      made_by c.withdraw_steps.result c.args.self.now.edit.now (edits.WithdrawSteps name day) c.args.self.now.prior old new c.in-WithdrawSteps.is
+      (c.withdraw_steps.ensures.writes.says.made clean) (λ has. (c.withdraw_steps.ensures.writes.says.ends clean has).0)
+      (λ has withdraws carried. (makes_withdrawal c.members_law.ensures.edited old new name day carried withdraws, tt));
 }
 
 pub returns-in-OpenShift-clause-made : goal.returns-in-OpenShift-clause-made
@@ -147,7 +175,14 @@ returns-in-AddSale-clause-made g c = record {
       let sale = c.in-AddSale.sale in
       made_by c.add_counted.result c.args.self.now.edit.now (edits.AddSale sale) c.args.self.now.prior old new c.in-AddSale.is
       (c.add_counted.ensures.added.says clean way) (c.add_counted.ensures.carried clean way)
-      (λ has adds carried. (makes_sale c.members_law.ensures.edited old new sale carried adds.tells.adds, (adds.shown, adds.tells.tells, adds.month)));
+      (λ has adds carried. (
+        makes_sale c.members_law.ensures.edited old new sale carried adds.tells.adds,
+        (
+          adds.shown,
+          record { limit = old.step_limit; told = adds.told; of_office = adds.tells.tells },
+          adds.month,
+        ),
+      ));
 }
 
 pub returns-in-AddTariff-clause-refused : goal.returns-in-AddTariff-clause-refused
@@ -193,6 +228,24 @@ returns-in-SetTariff-clause-refused g c clean way =
     edit_refused c.set_tariff.result c.args.self.now.edit.now (edits.SetTariff it.number it.name) c.args.self.now.prior old new it.is
     (λ has. if_err c.set_tariff.result (of_store [] old old new (came_here old way) (tariff_set it.number it.name) [])
     (c.set_tariff.ensures.writes.says.ends clean has).1)
+
+pub returns-in-SetKey-clause-refused : goal.returns-in-SetKey-clause-refused
+returns-in-SetKey-clause-refused g c clean way =
+    let old = state g.S.Store c.args.tx.now.conn.now in
+    let new = state g.S.Store c.set_key.new.tx.conn.now in
+    let it = c.in-SetKey in
+    edit_refused c.set_key.result c.args.self.now.edit.now (edits.SetKey it.number it.key) c.args.self.now.prior old new it.is
+    (λ has. if_err c.set_key.result (of_store [] old old new (came_here old way) (key_set it.number it.key) [])
+    (c.set_key.ensures.writes.says.ends clean has).1)
+
+pub returns-in-WithdrawSteps-clause-refused : goal.returns-in-WithdrawSteps-clause-refused
+returns-in-WithdrawSteps-clause-refused g c clean way =
+    let old = state g.S.Store c.args.tx.now.conn.now in
+    let new = state g.S.Store c.withdraw_steps.new.tx.conn.now in
+    let it = c.in-WithdrawSteps in
+    edit_refused c.withdraw_steps.result c.args.self.now.edit.now (edits.WithdrawSteps it.name it.day) c.args.self.now.prior old new it.is
+    (λ has. if_err c.withdraw_steps.result (of_store [] old old new (came_here old way) (steps_withdrawn it.name it.day) [])
+    (c.withdraw_steps.ensures.writes.says.ends clean has).1)
 
 pub returns-in-OpenShift-clause-refused : goal.returns-in-OpenShift-clause-refused
 returns-in-OpenShift-clause-refused g c clean way =

@@ -27,7 +27,11 @@ returns-in_err-totals-clause-added g c = record {
 pub returns-then-totals-tenths-clause-refused : goal.returns-then-totals-tenths-clause-refused
 returns-then-totals-tenths-clause-refused g c clean way has =
     let told = c.in_ok-totals.ensures.adds.says clean way has in
-    inr (inr (c.in_ok-totals.totals, told.tells, λ same. omega (arith, c.if-totals-tenths.true, same, c.tenths.ensures.value, c.from-tenths.ensures)))
+    inr (inr (
+      c.in_ok-totals.totals,
+      record { limit = (state g.S.Store c.args.tx.now.conn.now).step_limit; told = c.in_ok-totals.ensures.told clean way has; of_office = told.tells },
+      λ same. omega (arith, c.if-totals-tenths.true, same, c.tenths.ensures.value, c.from-tenths.ensures),
+    ))
 
 -- they are not those before it and the sale's
 pub returns-then-totals-tenths-2-clause-refused : goal.returns-then-totals-tenths-2-clause-refused
@@ -35,7 +39,7 @@ returns-then-totals-tenths-2-clause-refused g c clean way has =
     let told = c.in_ok-totals.ensures.adds.says clean way has in
     inr (inr (
       c.in_ok-totals.totals,
-      told.tells,
+      record { limit = (state g.S.Store c.args.tx.now.conn.now).step_limit; told = c.in_ok-totals.ensures.told clean way has; of_office = told.tells },
       λ same. omega
           (arith, c.if-totals-tenths.false, c.if-totals-tenths-2.true, same, c.tenths.ensures.value, c.from-tenths.ensures),
     ))

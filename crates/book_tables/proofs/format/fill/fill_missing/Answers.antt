@@ -1,20 +1,23 @@
-use Rattle.std.proofs.Common.{arith, ℕ, ◌≡◌, inl, inr, refl, subst, Err, Ok}
+use Rattle.std.proofs.Common.{arith, ℕ, ◌≡◌, List, [], ◌++◌, ap, refl, sym, subst, Ok}
 use Rattle.sqlite.specs.Held.{state}
-use Rattle.book_tables.specs.format.Filling.{Fills, IsFilling}
+use Rattle.book_tables.specs.format.Filling.{AreFilling, Fills, bases_from}
 use Rattle.book_tables.specs.format.Making.{FillsMissing}
+use Rattle.book_tables.specs.writing.Writes.{Write}
 use Rattle.book_tables.specs.writing.Writing.{totals_names}
-use Rattle.book_tables.proofs.FormatLemmas.BringingLemmas.{missing_first, missing_second, missing_third}
-use Rattle.book_tables.proofs.FormatLemmas.FillingLemmas.{fills_as, fills_by, fills_none, fills_off, fills_then}
+use Rattle.book_tables.proofs.FormatLemmas.BringingLemmas.{lacks_nothing, missing_first, missing_second, missing_third}
+use Rattle.book_tables.proofs.FormatLemmas.FillingLemmas.{fills_as, fills_before, fills_by, fills_none, fills_then}
 use Rattle.book_tables.proofs.format.fill.fill_missing.Goals as goal
 
 pub returns-in_err-fill_totals-in-1-clause-fills : goal.returns-in_err-fill_totals-in-1-clause-fills
 returns-in_err-fill_totals-in-1-clause-fills g c =
     let old = state g.S.Store c.args.tx.now.conn.now in
     let new = state g.S.Store c.fill_totals.new.tx.conn.now in
-    let e = c.in_err-fill_totals-in-1.field-0.0 in
-    let one : c.args.from ≡ 1 = omega (arith, c.in-1.is) in
-    fills_off old new e c.from_residual.result c.from_residual.ensures.1
-    (fills_by old new (Err e) (λ w is. inl (one, is)) c.in_err-fill_totals-in-1.ensures.fills)
+    let meters = c.args.meters.now in
+    let sales = c.args.sales.now in
+    let one : 1 ≡ c.args.from = omega (arith, c.in-1.is) in
+    subst (λ (n : ℕ). Fills (AreFilling n meters sales) (FillsMissing n meters sales) old new c.from_residual.result) one
+    (fills_before old new c.in_err-fill_totals-in-1.field-0.0 c.from_residual.result c.from_residual.ensures.1
+    (λ vs totals. (bases_from 1 meters, (vs, totals, refl))) c.in_err-fill_totals-in-1.ensures.fills)
 
 pub returns-in_ok-fill_totals-in-1-clause-fills : goal.returns-in_ok-fill_totals-in-1-clause-fills
 returns-in_ok-fill_totals-in-1-clause-fills g c =
@@ -24,10 +27,9 @@ returns-in_ok-fill_totals-in-1-clause-fills g c =
     let meters = c.args.meters.now in
     let sales = c.args.sales.now in
     let one : 1 ≡ c.args.from = omega (arith, c.in-1.is) in
-    subst (λ (n : ℕ). Fills (IsFilling n meters sales) (FillsMissing n meters sales) old new c.fill_bases.result) one
+    subst (λ (n : ℕ). Fills (AreFilling n meters sales) (FillsMissing n meters sales) old new c.fill_bases.result) one
     (fills_then old mid new totals_names c.fill_bases.result (λ totals. totals.only) (missing_first meters sales old mid new)
-    (fills_by old mid (Ok tt) (λ w is. inl (refl, is)) c.in_ok-fill_totals-in-1.ensures.fills)
-    (fills_by mid new c.fill_bases.result (λ w is. inr (omega arith, omega arith, is)) c.fill_bases.ensures.fills))
+    (λ vs ws totals is. (vs, totals, ap (λ (l : List Write). vs ++ l) is)) c.in_ok-fill_totals-in-1.ensures.fills c.fill_bases.ensures.fills)
 
 pub returns-in-2-clause-fills : goal.returns-in-2-clause-fills
 returns-in-2-clause-fills g c =
@@ -36,12 +38,16 @@ returns-in-2-clause-fills g c =
     let meters = c.args.meters.now in
     let sales = c.args.sales.now in
     let two : 2 ≡ c.args.from = omega (arith, c.in-2.is) in
-    subst (λ (n : ℕ). Fills (IsFilling n meters sales) (FillsMissing n meters sales) old new c.fill_bases-in-2.result) two
+    subst (λ (n : ℕ). Fills (AreFilling n meters sales) (FillsMissing n meters sales) old new c.fill_bases-in-2.result) two
     (fills_as old new c.fill_bases-in-2.result (missing_second meters sales old new)
-    (fills_by old new c.fill_bases-in-2.result (λ w is. inr (omega arith, omega arith, is)) c.fill_bases-in-2.ensures.fills))
+    (fills_by old new c.fill_bases-in-2.result (λ ws is. ([], refl, is)) c.fill_bases-in-2.ensures.fills))
 
 pub returns-in_default-clause-fills : goal.returns-in_default-clause-fills
 returns-in_default-clause-fills g c =
     let old = state g.S.Store c.args.tx.now.conn.now in
-    fills_none old (missing_third c.args.meters.now c.args.sales.now c.args.from c.requires (λ one. omega (arith, c.in_default, one))
-    (λ two. omega (arith, c.in_default, two)) old)
+    let meters = c.args.meters.now in
+    let sales = c.args.sales.now in
+    let nothing = lacks_nothing c.args.from meters sales (λ one. omega (arith, c.in_default, one)) (λ two. omega (arith, c.in_default, two)) in
+    fills_by old old (Ok tt) (λ ws is. subst (AreFilling c.args.from meters sales) (sym is) nothing)
+    (fills_none old (missing_third meters sales c.args.from c.requires (λ one. omega (arith, c.in_default, one))
+    (λ two. omega (arith, c.in_default, two)) old))

@@ -1,8 +1,7 @@
 use Rattle.std.proofs.Common.{◌≡◌, ◌++◌, List, Ok}
-use Rattle.std.specs.Prelude.{Contains}
 use Rattle.std.specs.BTreeMap.{values}
 use Rattle.sqlite.specs.Held.{state}
-use Rattle.book_tables.specs.format.Filling.{Fills, PutsFirst}
+use Rattle.book_tables.specs.format.Filling.{ArePut, Fills, PutsFirst}
 use Rattle.book_tables.proofs.format.fill.put_all.Given as goal
 
 abbrev pub invariant-rows : goal.invariant-rows
@@ -13,6 +12,5 @@ invariant-rows g l =
       same : l.tx.conn.ghost_name ≡ l.fn.tx.conn.ghost_name;
       before : List _;
       split : before ++ l.row-iterator ≡ values l.rows;
-      puts : Fills (λ w. (row : _) × Contains (values l.rows) row × g.T.TotalRow.puts row w)
-          (PutsFirst g.T.TotalRow.in_table g.T.TotalRow.are before) old now (Ok tt);
+      puts : Fills (ArePut g.T.TotalRow.puts before) (PutsFirst g.T.TotalRow.in_table g.T.TotalRow.are before) old now (Ok tt);
     }

@@ -19,14 +19,14 @@ pub returns-in_err-shown-clause-ends : goal.returns-in_err-shown-clause-ends
 returns-in_err-shown-clause-ends g c clean way t at m is whole stands =
     let old = state g.S.Store c.args.tx.now.conn.now in
     let new = state g.S.Store c.upsert.new.tx.conn.now in
-    fails_to_merge old new (record { sql = c.args.sql.now; params = bound c.args.params.now }) t m at c.in_err-shown.field-0.0
+    fails_to_merge old new (ShowsRecord g.T.Record.shown g.T.Record.keeps) (record { sql = c.args.sql.now; params = bound c.args.params.now }) t m at c.in_err-shown.field-0.0
     c.from_residual.result c.from_residual.ensures.1 (λ runs. means_merging c.args.sql.now old.now.schema t at m is (stands runs))
     (c.in_err-shown.ensures.failed clean way t at m is whole stands)
 
 pub returns-clause-ends : goal.returns-clause-ends
 returns-clause-ends g c clean way t at m is whole stands = (
   one_written (record { sql = c.args.sql.now; params = bound c.args.params.now }) (state g.S.Store c.args.tx.now.conn.now)
-      (state g.S.Store c.upsert.new.tx.conn.now) (c.in_ok-shown.ensures.ran clean t at m is stands),
+      (state g.S.Store c.upsert.new.tx.conn.now) (c.in_ok-shown.ensures.ran clean t at m is stands).0,
   tt,
 )
 

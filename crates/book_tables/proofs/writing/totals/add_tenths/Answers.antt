@@ -3,13 +3,19 @@ use Rattle.sqlite.specs.Held.{state}
 use Rattle.sqlite.specs.Order.{Row as Values}
 use Rattle.sqlite.specs.Values.{bound}
 use Rattle.one_table.proofs.ChangeLemmas.{transaction_off, transaction_on}
+use Rattle.one_table.specs.InTransaction.{BeginsWith, ShowsInside}
 use Rattle.one_table.specs.Reading.{is_whole}
 use Rattle.book_tables.specs.Kept.{month_tenths_kept}
 use Rattle.book_tables.specs.declared.error.TableError.TheVariants.{RowOfNoOffice}
+use Rattle.book_tables.specs.reading.Reading.{ShowsRecord}
+use Rattle.book_tables.specs.row.Rows.{shown_number}
+use Rattle.book_tables.specs.row.Values.{IsTotal}
+use Rattle.book_tables.specs.declared.row.total_records.Tenths.{Tenths}
 use Rattle.book_tables.specs.writing.Failing.{FailsToMerge}
+use Rattle.book_tables.specs.writing.Telling.{ShowsSum}
 use Rattle.book_tables.specs.writing.Writes.{AreCarriedOut, tenths_added_text}
 use Rattle.book_tables.proofs.OfficeTableLemmas.{month_tenths_in}
-use Rattle.book_tables.proofs.WritingLemmas.RefusalLemmas.{handed_on, merge_off}
+use Rattle.book_tables.proofs.WritingLemmas.RefusalLemmas.{handed_on, merge_as, merge_off}
 use Rattle.book_tables.proofs.WritingLemmas.TotallingLemmas.{adds_tenths, month_tenths, month_tenths_at, stands_for, total_fits, takes_tenths, sum_is_shown}
 use Rattle.book_tables.proofs.WritingLemmas.TotalsTexts.{tenths_merging, tenths_added_means, tenths_added_whole}
 use Rattle.book_tables.proofs.writing.totals.add_tenths.Goals as goal
@@ -25,10 +31,11 @@ returns-in_err-all-clause-merges g c =
       transaction = transaction_off e c.from_residual.result c.from_residual.ensures.1 failed.merged.transaction.kept
           failed.merged.transaction.survives;
       says = merge_off e c.from_residual.result c.from_residual.ensures.1
-          (λ clean way has. subst (λ (ps : Values). FailsToMerge (record { sql = tenths_added_text; params = ps }) old new e) c.tenths_values.ensures
+          (λ clean way has. merge_as _ old new (λ row says. (record { sum = says.0 }, says.1)) e (subst (λ (ps : Values). FailsToMerge (ShowsRecord {T = Tenths} (λ x. shown_number x.sum) (λ x. IsTotal x.sum)) (record { sql = tenths_added_text; params = ps }) old new e)
+          c.tenths_values.ensures
           (failed.ends clean way (month_tenths old new) (month_tenths_at old new) tenths_merging (tenths_added_means (month_tenths old new).tree)
           (subst (λ ps. is_whole tenths_added_text (length ps) ≡ true) (sym c.tenths_values.ensures) tenths_added_whole)
-          (λ runs. stands_for month_tenths_kept old.now.schema (month_tenths_in.there old.now.schema (has runs)))).1);
+          (λ runs. stands_for month_tenths_kept old.now.schema (month_tenths_in.there old.now.schema (has runs)))).1));
     }
 
 pub returns-clause-merges : goal.returns-clause-merges
@@ -54,6 +61,10 @@ returns-clause-merges g c =
               (λ runs. stands_for month_tenths_kept old.now.schema (month_tenths_in.there old.now.schema (has runs)))).0,
           tt,
         );
+        told = λ clean way has.
+            subst (λ (ps : Values). ShowsInside (BeginsWith (ShowsSum c.in_ok-all.all.sum)) tenths_added_text ps old new) c.tenths_values.ensures
+            (done.told clean (month_tenths old new) (month_tenths_at old new) tenths_merging (tenths_added_means (month_tenths old new).tree)
+            (λ runs. stands_for month_tenths_kept old.now.schema (month_tenths_in.there old.now.schema (has runs))));
       };
     }
 

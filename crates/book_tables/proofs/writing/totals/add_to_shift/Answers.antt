@@ -3,13 +3,19 @@ use Rattle.sqlite.specs.Held.{state}
 use Rattle.sqlite.specs.Order.{Row as Values}
 use Rattle.sqlite.specs.Values.{bound}
 use Rattle.one_table.proofs.ChangeLemmas.{transaction_off, transaction_on}
+use Rattle.one_table.specs.InTransaction.{BeginsWith, ShowsInside}
 use Rattle.one_table.specs.Reading.{is_whole}
 use Rattle.book_tables.specs.Kept.{shift_totals_kept}
 use Rattle.book_tables.specs.declared.error.TableError.TheVariants.{RowOfNoOffice}
+use Rattle.book_tables.specs.reading.Reading.{ShowsRecord}
+use Rattle.book_tables.specs.row.Rows.{shown_totals}
+use Rattle.book_tables.specs.row.Values.{AreTotalsValues}
+use Rattle.book_tables.specs.declared.row.totals.Totals.{Totals}
 use Rattle.book_tables.specs.writing.Failing.{FailsToMerge}
+use Rattle.book_tables.specs.writing.Telling.{ShowsTotals}
 use Rattle.book_tables.specs.writing.Writes.{AreCarriedOut, sale_counted_text}
 use Rattle.book_tables.proofs.OfficeTableLemmas.{shift_totals_in}
-use Rattle.book_tables.proofs.WritingLemmas.RefusalLemmas.{handed_on, merge_off}
+use Rattle.book_tables.proofs.WritingLemmas.RefusalLemmas.{handed_on, merge_as, merge_off}
 use Rattle.book_tables.proofs.WritingLemmas.TotallingLemmas.{adds_to_shift, shift_totals, shift_totals_at, stands_for, totals_fit, takes_totals, totals_are_shown}
 use Rattle.book_tables.proofs.WritingLemmas.TotalsTexts.{totals_merging, sale_counted_means, sale_counted_whole}
 use Rattle.book_tables.proofs.writing.totals.add_to_shift.Goals as goal
@@ -25,10 +31,11 @@ returns-in_err-all-clause-merges g c =
       transaction = transaction_off e c.from_residual.result c.from_residual.ensures.1 failed.merged.transaction.kept
           failed.merged.transaction.survives;
       says = merge_off e c.from_residual.result c.from_residual.ensures.1
-          (λ clean way has. subst (λ (ps : Values). FailsToMerge (record { sql = sale_counted_text; params = ps }) old new e) c.sale_total_values.ensures
+          (λ clean way has. merge_as _ old new (λ row says. says) e (subst (λ (ps : Values). FailsToMerge (ShowsRecord {T = Totals} shown_totals AreTotalsValues) (record { sql = sale_counted_text; params = ps }) old new e)
+          c.sale_total_values.ensures
           (failed.ends clean way (shift_totals old new) (shift_totals_at old new) totals_merging (sale_counted_means (shift_totals old new).tree)
           (subst (λ ps. is_whole sale_counted_text (length ps) ≡ true) (sym c.sale_total_values.ensures) sale_counted_whole)
-          (λ runs. stands_for shift_totals_kept old.now.schema (shift_totals_in.there old.now.schema (has runs)))).1);
+          (λ runs. stands_for shift_totals_kept old.now.schema (shift_totals_in.there old.now.schema (has runs)))).1));
     }
 
 pub returns-clause-merges : goal.returns-clause-merges
@@ -54,6 +61,10 @@ returns-clause-merges g c =
               (λ runs. stands_for shift_totals_kept old.now.schema (shift_totals_in.there old.now.schema (has runs)))).0,
           tt,
         );
+        told = λ clean way has.
+            subst (λ (ps : Values). ShowsInside (BeginsWith (ShowsTotals c.in_ok-all.all)) sale_counted_text ps old new) c.sale_total_values.ensures
+            (done.told clean (shift_totals old new) (shift_totals_at old new) totals_merging (sale_counted_means (shift_totals old new).tree)
+            (λ runs. stands_for shift_totals_kept old.now.schema (shift_totals_in.there old.now.schema (has runs))));
       };
     }
 

@@ -40,6 +40,7 @@ returns g c =
             found_here life old c.args.moment lookup found (kept.running c.if-self.false)
             (λ o at health. told.found clean o at (subst (IsHealthOf o) (sym known) health));
         reads = was_read found old new c.if-self.false refl (record { next = refl; last = refl; writes = refl })
+            (λ own. own.not_stopped refl)
             (subst (λ health. TellsTables IsOfRules (IsFoundSeen health c.args.moment lookup) (LookupSpoilt c.args.moment lookup) old.state new.state found)
             known told.tells) c.has_failed-self.ensures;
       };

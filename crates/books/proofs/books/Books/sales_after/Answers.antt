@@ -22,7 +22,7 @@ returns g c =
       says = record {
         of_life = λ clean life keeps. of_present (λ o. IfOk sales (λ sales. sales.items ≡ sales_above o c.args.number c.args.limit)) life old new
             c.if-self.false told.tells.clean told.given clean keeps;
-        reads = was_read sales old new c.if-self.false refl (record { next = refl; last = refl; writes = refl }) told.tells c.has_failed-self.ensures;
+        reads = was_read sales old new c.if-self.false refl (record { next = refl; last = refl; writes = refl }) (λ none. none) told.tells c.has_failed-self.ensures;
       };
       idle = λ was. absurd (false≢true (sym c.if-self.false ∙ was));
     }

@@ -26,7 +26,8 @@ returns g c =
       says = record {
         of_life = λ clean life keeps. of_present (λ o. AreTotalsIn o c.args.number totals) life old new c.if-self.false told.tells.clean told.given
             clean keeps;
-        reads = was_read totals old new c.if-self.false refl (record { next = refl; last = refl; writes = refl }) told.tells c.has_failed-self.ensures;
+        reads = was_read totals old new c.if-self.false refl (record { next = refl; last = refl; writes = refl }) (λ is. absurd cc) told.tells
+            c.has_failed-self.ensures;
       };
       idle = λ was. absurd (false≢true (sym c.if-self.false ∙ was));
     }

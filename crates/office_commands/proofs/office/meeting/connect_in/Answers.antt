@@ -4,7 +4,7 @@ use Rattle.office_commands.specs.port.Places.IsUnopenedIn.{refused, unsalted}
 use Rattle.office_commands.proofs.office.meeting.connect_in.Goals as goal
 
 pub returns-in_default-clause-refused : goal.returns-in_default-clause-refused
-returns-in_default-clause-refused g c = unsalted c.args.salts.now c.in_default.ensures.lacks refl (c.let_go_looked.ensures, refl)
+returns-in_default-clause-refused g c = unsalted c.args.salts.now c.in_default.ensures.lacks refl c.let_go_looked.ensures
 
 pub returns-in-Ok-clause-connected : goal.returns-in-Ok-clause-connected
 returns-in-Ok-clause-connected g c = record {
@@ -29,4 +29,4 @@ returns-in-Err-clause-refused g c = refused c.into_files-files.result (Unconnect
   answered = c.fault_of.ensures.value;
   fails = c.in-Err.ensures.cause;
   kept = c.in-Err.ensures.unharmed;
-}) c.into_files-files.ensures (c.let_go_looked-in-Err.ensures, refl)
+}) c.into_files-files.ensures c.let_go_looked-in-Err.ensures

@@ -1,4 +1,4 @@
-use Rattle.std.proofs.Common.{None, sym, subst}
+use Rattle.std.proofs.Common.{None, inr, sym, subst}
 use Rattle.sqlite_wal.specs.Recovery.{Image}
 use Rattle.books.specs.Path.{RefusesConnection}
 use Rattle.books.specs.declared.refused_files.RefusedFiles.TheVariants.{Connected}
@@ -31,4 +31,4 @@ returns-in-Err-open_from-clause-refuses g c =
     let left = c.let_refused_go.ensures in
     let refuses = refused_over image c.in-Ok-There.conn there.made c.found_law.ensures.opens last fault c.in-Err-open_from.ensures.refused in
     unopened there.files there.measured
-    (refused left.0 (Connected last) (subst (λ (i : Image). RefusesConnection i fault last) (sym there.seen) refuses) left.1 left.2)
+    (refused left.0 (Connected last) (subst (λ (i : Image). RefusesConnection i fault last) (sym there.seen) refuses) left.1 (inr left.2.0, left.2.1))

@@ -68,6 +68,7 @@ returns-in-Err-open_from-clause-refused g c =
         same = told.same clean;
         kept = told.refused clean;
       };
+      fails = told.fails;
       rests = told.rests;
       survives = told.survives;
     }

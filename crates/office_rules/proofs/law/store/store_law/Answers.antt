@@ -4,6 +4,7 @@ use Rattle.office_rules.proofs.StoreLemmas.LatestLemmas.{latest_steps_are, no_la
 use Rattle.office_rules.proofs.StoreLemmas.MeetsLemmas.{closes_the_open, decided_meets}
 use Rattle.office_rules.proofs.DecisionLemmas.NewSaleLemmas.{LowerLaws}
 use Rattle.office_rules.proofs.StoreLemmas.OrderLemmas.{sales_above_are, sales_of_shift_are}
+use Rattle.office_rules.proofs.StoreLemmas.SoldLemmas.{not_sold_since_is, not_sold_to_is, sold_since_is, sold_to_is}
 use Rattle.office_rules.proofs.StoreLemmas.SumLemmas.{last_grows_by, last_rises_to, prior_grows_by, prior_in_range, totals_added, totals_grow, used_in_range}
 use Rattle.office_rules.proofs.StoreLemmas.{last_is_greatest, last_is_of_a_sale, last_sale_is, no_last_sale_is, no_number_is, no_open_shift_is, no_sale_of_ref_is, numbered_is, open_shift_is, row_at, sale_of_ref_is}
 use Rattle.office_rules.proofs.law.store.store_law.Goals as goal
@@ -92,3 +93,15 @@ returns-clause-totals_added c = totals_added
 
 pub returns-clause-of_last_sale : goal.returns-clause-of_last_sale
 returns-clause-of_last_sale c = last_is_of_a_sale
+
+pub returns-clause-has_sales : goal.returns-clause-has_sales
+returns-clause-has_sales c = sold_to_is
+
+pub returns-clause-has_no_sales : goal.returns-clause-has_no_sales
+returns-clause-has_no_sales c = not_sold_to_is
+
+pub returns-clause-sold_since : goal.returns-clause-sold_since
+returns-clause-sold_since c = sold_since_is
+
+pub returns-clause-not_sold_since : goal.returns-clause-not_sold_since
+returns-clause-not_sold_since c = not_sold_since_is

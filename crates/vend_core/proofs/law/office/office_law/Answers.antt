@@ -1,11 +1,12 @@
-use Rattle.std.proofs.Common.{refl}
+use Rattle.std.proofs.Common.{arith, refl}
 use Rattle.office_rules.specs.Office.Lookup.{used}
 use Rattle.office_rules.specs.declared.decision.refusal.Refusal.TheVariants.{Memory, Store, Stopped}
-use Rattle.vend_core.proofs.LawLemmas.AgainLemmas.{imported_again, step_stays}
+use Rattle.vend_core.proofs.LawLemmas.AgainLemmas.{imported_again}
+use Rattle.vend_core.proofs.LawLemmas.LeaveLemmas.{step_stays}
 use Rattle.vend_core.proofs.LawLemmas.AnswerLemmas.{answered_stand, sells_one}
 use Rattle.vend_core.proofs.LawLemmas.BaseLemmas.{moves, moves_not_back, moves_not_before, moves_once, present_is_greatest, sales_have_bases}
 use Rattle.vend_core.proofs.LawLemmas.CashLemmas.{cash_adds_up}
-use Rattle.vend_core.proofs.LawLemmas.DatedLemmas.{adds_no_passed_steps, adds_steps, adds_steps_once, passed_steps_stay, steps_on_are}
+use Rattle.vend_core.proofs.LawLemmas.DatedLemmas.{adds_no_passed_steps, adds_steps, adds_steps_once, after_same, passed_steps_stay, steps_on_are}
 use Rattle.vend_core.proofs.LawLemmas.FoldLemmas.{after_grows, after_keeps_office}
 use Rattle.vend_core.proofs.LawLemmas.{new_sale_is, reports_the_shift, reprints_the_sale, sold_again}
 use Rattle.office_rules.proofs.OfficeLemmas.RowLemmas.{one_of_tid}
@@ -14,6 +15,7 @@ use Rattle.office_rules.proofs.OfficeLemmas.{step_keeps_office}
 use Rattle.vend_core.proofs.LawLemmas.PriceLemmas.{keeps_price}
 use Rattle.vend_core.proofs.LawLemmas.RefusalLemmas.{never_answers}
 use Rattle.vend_core.proofs.LawLemmas.RiseLemmas.{after_rises, after_sells_some}
+use Rattle.vend_core.proofs.LawLemmas.TakeBackLemmas.{sets_key, sets_key_once, sets_no_key, withdraws, withdraws_none, withdraws_not}
 use Rattle.vend_core.proofs.law.office.office_law.Goals as goal
 
 -- the laws that the body calls
@@ -113,3 +115,24 @@ returns-clause-steps_added_once c = adds_steps_once
 
 pub returns-clause-day_past : goal.returns-clause-day_past
 returns-clause-day_past c = adds_no_passed_steps
+
+pub returns-clause-withdrawn : goal.returns-clause-withdrawn
+returns-clause-withdrawn c = λ forward o at name day steps some asks. withdraws forward o at name day some asks steps
+
+pub returns-clause-withdrawn_once : goal.returns-clause-withdrawn_once
+returns-clause-withdrawn_once c = withdraws_none
+
+pub returns-clause-not_withdrawn : goal.returns-clause-not_withdrawn
+returns-clause-not_withdrawn c = λ forward o at name day steps some asks. withdraws_not forward o at name day some asks steps
+
+pub returns-clause-begun_steps : goal.returns-clause-begun_steps
+returns-clause-begun_steps c = λ forward o ats name day past. after_same day forward o ats past name day (omega arith)
+
+pub returns-clause-key_set : goal.returns-clause-key_set
+returns-clause-key_set c = sets_key
+
+pub returns-clause-key_set_once : goal.returns-clause-key_set_once
+returns-clause-key_set_once c = sets_key_once
+
+pub returns-clause-no_key_set : goal.returns-clause-no_key_set
+returns-clause-no_key_set c = sets_no_key

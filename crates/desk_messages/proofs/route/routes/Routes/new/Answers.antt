@@ -15,5 +15,5 @@ unfolding table
 invariant_of-result c = record {
   is_table =
       c.loop-endpoint.invariant
-      ∙ ap (λ i. fold with_endpoint [] (take i endpoints)) (let e : c.loop-endpoint.endpoint-index ≡ 25 = omega arith in e);
+      ∙ ap (λ i. fold with_endpoint [] (take i endpoints)) (let e : c.loop-endpoint.endpoint-index ≡ 27 = omega arith in e);
 }
