@@ -1,27 +1,31 @@
-"""A row that is no office's, under every command that may read it: a part of tools/check_program. It is no
-script of its own.
+"""A row that is no office's, under every command that may read it: a part of tools/check_program and
+tools/check_at_desk. It is no script of its own.
 
 Each row of an office is spoilt by itself. A command that reads it (`commands`, from docs/OFFICE.md: what each
 request and each look-up looks at) is refused with 16, prints nothing and changes nothing; every other
-prints what it prints where no row is spoilt. Of the last sale it is the opening that is refused. A list
-whose second page has such a row prints the first one, and is refused behind it."""
+prints what it prints where no row is spoilt. Of the last sale it is the opening that is refused. What changes
+nothing is asked of a desk too. A list whose second page has such a row prints the first one, and is refused
+behind it."""
 import shutil
 
+from clocked_desk import Clocked, run
 from no_offices import NO_OFFICE, rows_of
 from program import METER, OTHER_METER, SPENT as MOVED_METER, change, expect, vend
-from shared import wrong
+from shared import luhn, wrong
 
 AT = "1388534430"  # 2014-01-01
 LATER = "1391126430"  # thirty days later
 IN_2035 = "2051308800"  # 2035-01-02
-NEW_METER = "20000000008"
+NEW_METER, UNSOLD_METER = "20000000008", "40000000006"
+KEY, OTHER_KEY = "0000000000000000", "0000000000000001"
 PAGE = 100  # members of a list
 TARIFFS = {
-    # `flat` has other steps from a day on; `later` has them from a day that has not come; `plain` has none.
-    "tariffs": "name,steps,from\nflat,:100,\nflat,:200,2014-01-15\nlater,:100,\nlater,:300,2014-03-01\nplain,:50,\n",
-    "meters": f"meter,base,tariff,key\n{METER},2014,flat,0000000000000000\n"
-              f"{OTHER_METER},2014,later,0000000000000000\n"
-              f"{MOVED_METER},2014,plain,0000000000000000\n",
+    # `flat` has other steps from a day on; `later` has them from a day that has not come; `plain` has them from
+    # one behind all sales.
+    "tariffs": "name,steps,from\nflat,:100,\nflat,:200,2014-01-15\nlater,:100,\nlater,:300,2014-03-01\n"
+               "plain,:50,\nplain,:60,2036-01-01\n",
+    "meters": f"meter,base,tariff,key\n{METER},2014,flat,{KEY}\n{OTHER_METER},2014,later,{KEY}\n"
+              f"{MOVED_METER},2014,plain,{KEY}\n{UNSOLD_METER},2014,plain,{KEY}\n",
     "new-tariff": "name,steps,from\nfresh,:100,\n",
     "new-meter": f"meter,base,tariff,key\n{NEW_METER},2014,plain,0000000000000000\n",
     "known-meter": f"meter,base,tariff,key\n{OTHER_METER},2014,later,0000000000000000\n",
@@ -43,6 +47,7 @@ SPOILT = {
     "later-steps": "UPDATE tariff_steps SET price = 0 WHERE tariff = 'later';",
     "later-later": "UPDATE dated_steps SET price = 0 WHERE tariff = 'later';",
     "plain-steps": "UPDATE tariff_steps SET price = 0 WHERE tariff = 'plain';",
+    "plain-later": "UPDATE dated_steps SET price = 0 WHERE tariff = 'plain';",
     "last-id": f"UPDATE last_ids SET tid = 16777216 WHERE meter = '{METER}';",
     "month": f"UPDATE month_tenths SET tenths = -1 WHERE meter = '{METER}';",
     # Of a meter that was moved: its base that it left, and the one that it has.
@@ -62,7 +67,10 @@ SPOILT = {
 }
 SALES = {"sale", "other-sale", "left-sale"}
 # The steps of a day are the latest that have begun.
-STEPS = {"flat-later", "later-steps", "later-later", "plain-steps"}
+PLAIN = {"plain-steps", "plain-later"}
+STEPS = {"flat-later", "later-steps", "later-later"} | PLAIN
+# What is asked of a desk as well.
+READING = {"offer", "report", "show", "list"}
 
 
 def commands(file, texts):
@@ -102,6 +110,16 @@ def commands(file, texts):
     yield ["tariff", *now, "--meter", NEW_METER, "--tariff", "flat"], set()
     yield ["base", *now, "--meter", METER, "--base", "2014"], {"meter"}
     yield ["base", *now, "--meter", NEW_METER, "--base", "2014"], set()
+    # Steps behind all sales, of a day that has none, of a day before a sale, and of no tariff.
+    yield ["withdraw", *now, "--tariff", "plain", "--from", "2036-01-01"], {"plain-later"}
+    yield ["withdraw", *now, "--tariff", "later", "--from", "2036-01-01"], set()
+    yield ["withdraw", *now, "--tariff", "later", "--from", "2014-03-01"], {"later-later"}
+    yield ["withdraw", *now, "--tariff", "none", "--from", "2014-03-01"], set()
+    yield ["key", *old, "--meter", METER, "--key", OTHER_KEY], {"meter", "last-id"}
+    yield ["key", *old, "--meter", METER, "--key", KEY], {"meter"}
+    yield ["key", *old, "--meter", MOVED_METER, "--key", OTHER_KEY], {"moved-id"}
+    yield ["key", *old, "--meter", UNSOLD_METER, "--key", OTHER_KEY], set()
+    yield ["key", *old, "--meter", NEW_METER, "--key", OTHER_KEY], set()
     yield [*report, "shift", "--number", "1"], {"shift", "sale", "left-sale"}
     yield [*report, "shift", "--number", "2"], {"closed-shift", "other-sale"}
     yield [*report, "totals", "--number", "1"], {"shift", "totals"}
@@ -128,9 +146,9 @@ def commands(file, texts):
     yield ["show", *now, "--operator", "ann", "--ref", "A-3", "sale"], {"left-sale"}
     yield ["list", *now, "tariffs"], STEPS
     yield ["list", *now, "--after", "flat", "tariffs"], STEPS - {"flat-later"}
-    yield ["list", *now, "--after", "later", "tariffs"], {"plain-steps"}
+    yield ["list", *now, "--after", "later", "tariffs"], PLAIN
     # The latest steps have begun by then, and no others begin later.
-    yield ["list", *late, "--after", "flat", "tariffs"], {"later-later", "plain-steps"}
+    yield ["list", *late, "--after", "flat", "tariffs"], {"later-later"} | PLAIN
     yield ["list", *now, "meters"], {"meter", "other-meter"}
     yield ["list", *now, "--after", OTHER_METER, "meters"], {"meter"}
     yield ["list", *now, "shifts"], {"shift", "closed-shift", "totals", "closed-totals"}
@@ -169,19 +187,81 @@ def end_of(words):
     return ran.returncode, ran.stdout, ran.stderr
 
 
-def check_second_page(folder):
-    """A list of two pages, of which each has a spoilt row."""
-    file, texts = folder / "pages.db", folder / "many.csv"
-    texts.write_text("name,steps,from\n" + "".join(f"t{number:03},:100,\n" for number in range(PAGE + 1)))
-    expect(vend("import", "--file", str(file), "--at", AT, "tariffs", str(texts)), 0, None, b"")
+def fill(file, texts):
+    """An office whose lists have a member more than a page, of sales two more."""
+    meters = sorted(luhn(1_000_000_000 + it) for it in range(PAGE + 1))
+    texts["page-tariffs"].write_text("name,steps,from\n" + "".join(f"t{it:03},:100,\n" for it in range(PAGE + 1)))
+    texts["page-meters"].write_text(
+        "meter,base,tariff,key\n" + "".join(f"{it},2014,t000,{KEY}\n" for it in meters))
+    given = ["--file", str(file), "--at", AT]
+    for kind in ("tariffs", "meters"):
+        expect(vend("import", *given, kind, str(texts[f"page-{kind}"])), 0, None, b"")
+    for number in range(PAGE + 1):
+        expect(vend("shift", *given, "--operator", f"o{number}", "open"), 0, None, b"")
+    for number in range(PAGE + 2):
+        expect(vend("sell", *given, "--operator", "o0", "--ref", f"R-{number}", "--meter", meters[0],
+                    "--tender", "1000"), 0, None, b"")
     change(file, "PRAGMA wal_checkpoint(TRUNCATE);")
+    return meters
+
+
+def check_second_pages(folder):
+    """Each list, of two pages, of which each has a spoilt row in turn."""
+    whole, file = folder / "pages.db", folder / "page.db"
+    meters = fill(whole, {f"page-{kind}": folder / f"page-{kind}.csv" for kind in ("tariffs", "meters")})
+    lists = {
+        "tariffs": (lambda place: f"UPDATE tariff_steps SET price = 0 WHERE tariff = 't{place:03}';", f"t{PAGE:03}"),
+        "meters": (lambda place: f"UPDATE meters SET base = 2015 WHERE meter = '{meters[place]}';", meters[PAGE]),
+        "shifts": (lambda place: f"UPDATE shifts SET opened = -1 WHERE number = {place + 1};", f"{PAGE + 1}"),
+        "sales": (lambda place: f"UPDATE sales SET rnd = 16 WHERE number = {place + 1};", f"{PAGE + 1}"),
+    }
     words = ["list", "--file", str(file), "--at", AT]
-    whole = end_of([*words, "tariffs"])
-    first = b"".join(whole[1].splitlines(True)[:PAGE + 1])  # behind the names of the columns
-    for number, printed in ((PAGE, first), (PAGE - 1, b"")):
-        change(file, f"UPDATE tariff_steps SET price = 0 WHERE tariff = 't{number:03}';")
-        expect(vend(*words, "tariffs"), 1, printed, b"refused 16 Store\n")
-    expect(vend(*words, "--after", f"t{PAGE:03}", "tariffs"), 0, None, b"")
+    for kind, (spoil, last) in lists.items():
+        shutil.copy(whole, file)
+        listed = end_of([*words, kind])[1].splitlines(True)
+        behind = end_of([*words, "--after", last, kind])
+        # The first page stands behind the names of the columns; sales have none.
+        first = b"".join(listed[:PAGE + (kind != "sales")])
+        for place, printed in ((PAGE, first), (PAGE - 1, b"")):
+            change(file, spoil(place))
+            expect(vend(*words, kind), 1, printed, b"refused 16 Store\n")
+        ended = end_of([*words, "--after", last, kind])
+        if ended != behind or ended[0] != 0:
+            wrong(f"{kind} behind a page with a spoilt row: {ended}\nexpected {behind}")
+
+
+def at_desk(desk, words):
+    """Asks a desk what a command asks a file, at its moment."""
+    name, _, _, *more = words
+    if more[:1] == ["--at"]:
+        desk.set(more[1])
+        more = more[2:]
+    return run([name, "--desk", desk.address, *more])
+
+
+def check_spoilt_rows_at_desk(folder, library):
+    """Each spoilt row under each command that changes nothing, asked of a desk. Whatever it could not read, it answers
+    the next one."""
+    folder = folder / "spoilt"
+    folder.mkdir()
+    whole, texts = office_in(folder)
+    asked = [(words, reads, end_of(words)) for words, reads in commands(str(whole), texts) if words[0] in READING]
+    refused = 0
+    for row, text in SPOILT.items():
+        if row == "last-sale":
+            continue
+        here = folder / row
+        here.mkdir()
+        shutil.copy(whole, here / "office.db")
+        change(here / "office.db", text)
+        with Clocked(here, here / "office.db", library) as desk:
+            for words, reads, sound in asked:
+                expected = REFUSED if row in reads else sound
+                refused += expected is REFUSED
+                ended = tuple(at_desk(desk, words))
+                if ended != expected:
+                    wrong(f"{row}: {words} at a desk ended with {ended}\nexpected {expected}")
+    print(f"spoilt rows at a desk: {len(SPOILT) - 1} under {len(asked)} commands each, {refused} refused")
 
 
 def check_spoilt_rows(folder):
@@ -211,5 +291,5 @@ def check_spoilt_rows(folder):
                 refused += 1
                 if rows_of(file) != before[row]:
                     wrong(f"{row}: {words} was refused, and has changed the file")
-    check_second_page(folder)
+    check_second_pages(folder)
     print(f"spoilt rows: {len(SPOILT)} under {place + 1} commands each, {refused} refused")
