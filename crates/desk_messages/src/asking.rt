@@ -21,14 +21,14 @@ use tariff::steps_text_law;
 pub fn request_of(alloc: Global, route: Route, body: &[u8]) -> Result<Request, BodyFault>
     ensures { BodyAsks route body.now result }
 {
-    match route {
+    match &route {
         Route::Object(JsonKind::Sell) => sale_by(alloc, body),
-        Route::Object(kind) => said_by(alloc, kind, body),
+        Route::Object(kind) => said_by(alloc, *kind, body),
         Route::Import(FileKind::Meters) => import_of(read_meters(alloc, body)),
         Route::Import(FileKind::Tariffs) => import_of(read_tariffs(alloc, body)),
-        Route::WithdrawSteps(name, day) => Ok(Request::WithdrawSteps(name, day)),
-        Route::ShiftReport(number) => Ok(Request::ShiftReport(number)),
-        Route::Reprint(number) | Route::Receipt(number) => Ok(Request::Reprint(number)),
+        Route::WithdrawSteps(name, day) => Ok(Request::WithdrawSteps(*name, *day)),
+        Route::ShiftReport(number) => Ok(Request::ShiftReport(*number)),
+        Route::Reprint(number) | Route::Receipt(number) => Ok(Request::Reprint(*number)),
         Route::LookUp(_) => Err(BodyFault::OutsideRule),
     }
 }

@@ -12,3 +12,6 @@ returns-in-Err-dated_steps c =
 
 pub returns-in-None : goal.returns-in-None
 returns-in-None c = rw c.in-AddMeter.is (λ request says. c.in-None.ensures (says.0, says.1) says.3)
+
+pub returns-in-None-key : goal.returns-in-None-key
+returns-in-None-key c = rw c.in-SetKey.is (λ request says. c.in-None-key.ensures says.0 says.2)
