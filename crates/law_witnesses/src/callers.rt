@@ -2,7 +2,7 @@
 ghost use Rattle.std.specs.Prelude.{◌≡◌, ⊤, false, true};
 
 use command_line::Address;
-use conversation::End;
+use conversation::{End, Untold};
 use std::alloc::Global;
 use vend_commands::Door;
 
@@ -32,16 +32,18 @@ impl<'a> Door for OneCaller<'a> {
 
     type Writer = Vec<u8>;
 
+    type Line = Untold;
+
     ghost listens = { λ _ _ _ _. ⊤ };
 
     ghost fails = { λ _ _ _. ⊤ };
 
-    ghost accepts = { λ old reader _ new. (reader.now ≡ old.text.now)
+    ghost accepts = { λ old reader _ _ new. (reader.now ≡ old.text.now)
         × (old.has_come ≡ false) × (new.has_come ≡ true) };
 
     ghost refuses = { λ _ _. ⊤ };
 
-    ghost ends = { λ _ _ _ _ _. ⊤ };
+    ghost ends = { λ _ _ _ _ _ _. ⊤ };
 
     ghost leaves = { λ _ _. ⊤ };
 
@@ -49,15 +51,15 @@ impl<'a> Door for OneCaller<'a> {
         None
     }
 
-    fn accept(&mut self) -> Option<(&'a [u8], Vec<u8>)> {
+    fn accept(&mut self) -> Option<(&'a [u8], Vec<u8>, Untold)> {
         if self.has_come {
             return None;
         }
         self.has_come = true;
-        Some((self.text, Vec::new(self.alloc)))
+        Some((self.text, Vec::new(self.alloc), Untold))
     }
 
-    fn end(&mut self, reader: Self::Reader, writer: Self::Writer, _end: End)
+    fn end(&mut self, reader: Self::Reader, writer: Self::Writer, _line: Untold, _end: End)
         ensures { ⊤ }
     {
         drop(reader);
