@@ -175,8 +175,9 @@ module _ {D R W : Type 0} (way : Way D R W) (sent came : List ℕ) where
   -- Where two connections come in by the door, one after another, the conversation of the first was said whole, over all that it sent, and
   -- wrote what carries that.
   pub record SeesFirst (door : D) : Type 0 where
-    pub sees : (reader : R) (writer : W) (holding : D) (read : R) (written : W) (end : End) (between : D) (next : R) (other : W) (last : D)
-        → way.accepts door reader writer holding → way.ends holding read written end between → way.accepts between next other last
+    pub sees : (reader : R) (writer : W) (line : way.Line) (holding : D) (read : R) (written : W) (used : way.Line) (end : End) (between : D)
+        (next : R) (other : W) (second : way.Line) (last : D)
+        → way.accepts door reader writer line holding → way.ends holding read written used end between → way.accepts between next other second last
         → (end ≡ Closed) × (way.contents writer ≡ Some [])
         × ((all wrote : List ℕ) × (way.remaining reader ≡ Some all) × (way.contents written ≡ Some wrote) × HasCarried all wrote sent came)
 
@@ -185,9 +186,9 @@ module _ {D R W : Type 0} (way : Way D R W) (sent came : List ℕ) where
       → CarriesSo (many_lives way forward 2 door answers last_door left) before lives lived sent came
   two_carry forward door answers last_door left first before lives
       (office, last, next, (mid, (start, same, (one, is, goes)), (two, is_two, later)), follows, all) =
-      let Accepts : Service D Course → Type 0 = λ s. way.accepts s.door goes.reader goes.writer goes.held in
-      let seen = first.sees goes.reader goes.writer goes.held goes.read goes.written goes.end mid.door later.reader later.writer later.held
-      (subst Accepts same goes.accepted) goes.ended later.accepted in
+      let Accepts : Service D Course → Type 0 = λ s. way.accepts s.door goes.reader goes.writer goes.line goes.held in
+      let seen = first.sees goes.reader goes.writer goes.line goes.held goes.read goes.written goes.used goes.end mid.door later.reader later.writer later.line
+      later.held (subst Accepts same goes.accepted) goes.ended later.accepted in
       inl (inr (closed_carries (one.life, start.answers) (mid.books.life, mid.answers) _ _ _ _ goes.end goes.run seen.2.0 seen.2.1 sent came seen.0 seen.2.2
       seen.1 seen.2.3 seen.2.4))
 

@@ -4,6 +4,7 @@ pub mod Offices
 pub mod Older
 pub mod Printed
 pub mod Readings
+pub mod Recorded
 pub mod Runs
 pub mod Sold
 pub mod Talks

@@ -11,7 +11,7 @@ use crate::older::copied;
 use crate::runs::{Later, Then, WORDS, back_of, order_said, ports_on, ran, sold_on_files};
 use books::Books;
 use command_line::{Address, Asked, meant, parse};
-use conversation::{End, Script};
+use conversation::{End, Script, Untold};
 use desk::Desk;
 use desk_client::Question;
 use office_lines::values::{FIRST_DAY, METER, moment, order};
@@ -62,17 +62,19 @@ impl<'a> Door for WaitingDoor<'a> {
 
     type Writer = Vec<u8>;
 
+    type Line = Untold;
+
     ghost listens = { λ old _ _ new. new ≡ old };
 
     ghost fails = { λ _ _ _. ⊤ };
 
-    ghost accepts = { λ old reader writer new. (reader.now ≡ old.text.now)
+    ghost accepts = { λ old reader writer _ new. (reader.now ≡ old.text.now)
         × (writer.items ≡ []) × (new.has_come ≡ true) × (new.wanted.now ≡ old.wanted.now)
         × (old.has_come ≡ true → old.is_written ≡ true) };
 
     ghost refuses = { λ _ _. ⊤ };
 
-    ghost ends = { λ old _ writer end new. (new.has_come ≡ old.has_come)
+    ghost ends = { λ old _ writer _ end new. (new.has_come ≡ old.has_come)
         × (new.is_written ≡ true
         → (end ≡ HowItEnds.Closed) × (writer.items ≡ old.wanted.now)) };
 
@@ -86,15 +88,15 @@ impl<'a> Door for WaitingDoor<'a> {
         }
     }
 
-    fn accept(&mut self) -> Option<(&'a [u8], Vec<u8>)> {
+    fn accept(&mut self) -> Option<(&'a [u8], Vec<u8>, Untold)> {
         if self.has_come && !self.is_written {
             return None;
         }
         self.has_come = true;
-        Some((self.text, Vec::new(self.alloc)))
+        Some((self.text, Vec::new(self.alloc), Untold))
     }
 
-    fn end(&mut self, _reader: &'a [u8], writer: Vec<u8>, end: End) {
+    fn end(&mut self, _reader: &'a [u8], writer: Vec<u8>, _line: Untold, end: End) {
         self.is_written = match end {
             End::Closed => writer.as_slice() == self.wanted,
             _ => false,

@@ -7,7 +7,7 @@ use crate::kept::{Kept, KeptFile, Nothing};
 use crate::offices::day;
 use crate::runs::{Later, Then, WORDS, back_of, order_said, ports_on, ran, sold_on_files};
 use command_line::Address;
-use conversation::{End, Script};
+use conversation::{End, Script, Untold};
 use desk_client::Question;
 use office_lines::values::{FIRST_DAY, METER, moment, order};
 use office_rules::{Moment, Request, Sale, Stamped};
@@ -53,15 +53,17 @@ impl<'a> Door for BreakingDoor<'a> {
 
     type Writer = Breaking;
 
+    type Line = Untold;
+
     ghost listens = { λ _ _ _ _. ⊤ };
 
     ghost fails = { λ _ _ _. ⊤ };
 
-    ghost accepts = { λ _ _ _ _. ⊤ };
+    ghost accepts = { λ _ _ _ _ _. ⊤ };
 
     ghost refuses = { λ _ _. ⊤ };
 
-    ghost ends = { λ _ _ _ _ _. ⊤ };
+    ghost ends = { λ _ _ _ _ _ _. ⊤ };
 
     ghost leaves = { λ _ _. ⊤ };
 
@@ -73,15 +75,15 @@ impl<'a> Door for BreakingDoor<'a> {
         }
     }
 
-    fn accept(&mut self) -> Option<(&'a [u8], Breaking)> {
+    fn accept(&mut self) -> Option<(&'a [u8], Breaking, Untold)> {
         if self.has_come {
             return None;
         }
         self.has_come = true;
-        Some((self.text, Breaking { room: self.room }))
+        Some((self.text, Breaking { room: self.room }, Untold))
     }
 
-    fn end(&mut self, reader: Self::Reader, writer: Self::Writer, _end: End)
+    fn end(&mut self, reader: Self::Reader, writer: Self::Writer, _line: Untold, _end: End)
         ensures { ⊤ }
     {
         drop(reader);

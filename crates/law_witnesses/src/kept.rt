@@ -4,7 +4,7 @@ ghost use Rattle.sqlite_disk.specs.Memory.{memory_bytes, memory_is_usable};
 
 use books::OpenFault;
 use command_line::Address;
-use conversation::{End, Script};
+use conversation::{End, Script, Untold};
 use sqlite::Files;
 use sqlite_disk::Memory;
 use std::io::{self, ErrorKind, Read, Write};
@@ -177,15 +177,17 @@ impl Door for Nothing {
 
     type Writer = Nothing;
 
+    type Line = Untold;
+
     ghost listens = { λ _ _ _ _. ⊤ };
 
     ghost fails = { λ _ _ _. ⊤ };
 
-    ghost accepts = { λ _ _ _ _. ⊤ };
+    ghost accepts = { λ _ _ _ _ _. ⊤ };
 
     ghost refuses = { λ _ _. ⊤ };
 
-    ghost ends = { λ _ _ _ _ _. ⊤ };
+    ghost ends = { λ _ _ _ _ _ _. ⊤ };
 
     ghost leaves = { λ _ _. ⊤ };
 
@@ -193,11 +195,11 @@ impl Door for Nothing {
         None
     }
 
-    fn accept(&mut self) -> Option<(Nothing, Nothing)> {
+    fn accept(&mut self) -> Option<(Nothing, Nothing, Untold)> {
         None
     }
 
-    fn end(&mut self, reader: Self::Reader, writer: Self::Writer, _end: End)
+    fn end(&mut self, reader: Self::Reader, writer: Self::Writer, _line: Untold, _end: End)
         ensures { ⊤ }
     {
         drop(reader);

@@ -35,6 +35,8 @@ mod programs;
 #[cfg(test)]
 mod questions;
 #[cfg(test)]
+mod recorded;
+#[cfg(test)]
 mod routes;
 #[cfg(test)]
 mod runs;

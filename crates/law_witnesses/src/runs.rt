@@ -74,7 +74,7 @@ pub(crate) fn ran<M: Machine>(
 ) -> Option<(Ended<<M::Office as OfficeFile>::Medium>, Vec<u8>)>
     ensures { IfSome result (λ it. IsRunOf (here_of M.Office.Medium.Disk
         M.Office.Salts.SaltSource M.Office.OfficeFile M.Texts.TextFiles M.Clock.Clock
-        (way M.Door.Door M.Door.Reader.remaining M.Door.Writer.contents)
+        (way M.Door.Door M.Door.Reader.remaining M.Door.Writer.contents M.Door.Line.uses)
         (loop_of M.Loopback.Loopback M.Loopback.Stream.remaining M.Loopback.Stream.contents))
         (ports.office, ports.texts, ports.clock, ports.door, ports.loopback)
         (map (λ w. w.now) words.now) it.0.end it.0.back it.1.items) }

@@ -1,10 +1,12 @@
 //! The law of connections that a desk serves on the file of an office.
 ghost use Rattle.std.specs.Prelude.{◌≡◌, true, IfSome, Ok};
+ghost use Rattle.law_witnesses.specs.Recorded.{BeginWithRead, uses_in};
 
 use crate::callers::OneCaller;
 use crate::commands::is_sale_for;
 use crate::kept::{KeptFile, Nothing};
 use crate::offices::{day, sale_of};
+use crate::recorded::Recorded;
 use crate::runs::sold_on_files;
 use book_states::Lookup;
 use books::{Books, OpenFault};
@@ -52,15 +54,17 @@ fn all_served(
 }
 
 // Books sell an order, and a desk on their files serves a connection that sends this: the sale that
-// is found under the order's ref behind it is that sale, whatever was sent.
+// is found under the order's ref behind it is that sale, whatever was sent. The uses that the
+// connection's line recorded begin with a read, if there are any.
 fn found_behind_desk(
     alloc: Global,
     ats: &[Stamped],
     moment: Moment,
     order: &Order,
     sent: &[u8],
-) -> Option<(Sale, Sale)>
-    ensures { IfSome result (λ both. both.1 ≡ both.0) }
+) -> Option<(Sale, Sale, Recorded)>
+    ensures sale { IfSome result (λ found. found.1 ≡ found.0) }
+    ensures uses { IfSome result (λ found. BeginWithRead (uses_in found.2.made)) }
 {
     history_law();
     lives_law();
@@ -96,12 +100,15 @@ fn found_behind_desk(
     let Some(mut left) = all_served(served) else {
         return None;
     };
+    let Some(line) = door.used.take() else {
+        return None;
+    };
     let by_ref = Lookup::SaleOfRef(order.operator, order.order_ref);
     let Ok(found) = left.look_up(moment, &by_ref) else {
         return None;
     };
     match sale_of(&found) {
-        Some(again) => Some((sale, again)),
+        Some(again) => Some((sale, again, line)),
         None => None,
     }
 }
@@ -117,7 +124,8 @@ fn a_sale_stands_behind_a_desk(rt: HostRuntime) -> Result<(), Fail> {
         return Err("no order".into());
     };
     let sent = Question::Sell(other).message(rt.alloc())?;
-    let (sale, again) = found_behind_desk(rt.alloc(), &ats, now, &first, &sent).ok_or("no sale")?;
+    let found = found_behind_desk(rt.alloc(), &ats, now, &first, &sent).ok_or("no sale")?;
+    let (sale, again, _line) = found;
     assert_eq!(rt; sale.number, 2);
     assert_eq!(rt; again, sale);
     Ok(())

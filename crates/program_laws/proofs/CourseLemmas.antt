@@ -116,8 +116,10 @@ module _ {D R W B : Type 0} (way : Way D R W) (gives : ℤ → Type 0) (forward 
             record {
               reader = one.reader;
               writer = one.writer;
+              line = one.line;
               read = one.read;
               written = one.written;
+              used = one.used;
               end = one.end;
               held = one.held;
               accepted = one.accepted;

@@ -33,15 +33,17 @@ module _ {D R W : Type 0} (way : Way D R W) where
   pub record GoesOnBy (old new : Service D Course) : Type 0 where
     pub reader : R
     pub writer : W
+    pub line : way.Line
     pub read : R
     pub written : W
+    pub used : way.Line
     pub end : conversation.End
     pub held : D
-    pub accepted : way.accepts old.door reader writer held
+    pub accepted : way.accepts old.door reader writer line held
     pub run : IsRun (answers_by life_serves) message_refusal_of (old.books.life, old.answers)
         (new.books.life, new.answers) (way.remaining reader) (way.remaining read)
         (way.contents writer) (way.contents written) end
-    pub ended : way.ends held read written end new.door
+    pub ended : way.ends held read written used end new.door
     pub over : new.books.over ≡ old.books.over
 
   -- by so many connections, one after another

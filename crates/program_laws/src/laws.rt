@@ -205,11 +205,11 @@ pub fn serve_law<H: OfficeFile, C: Clock, D: Door>()
     ensures { (first : Office) (clock : C) (forward : BlockFunction) (count : ℕ)
         (old new : Service D (Books (Files H.Medium H.Medium.Disk) Shipped
         ⟦<FileStore<H::Medium> as Store>⟧ shipped)) (printed : Text) (start : Course)
-        → AreHeld (way D.Door D.Reader.remaining D.Writer.contents)
+        → AreHeld (way D.Door D.Reader.remaining D.Writer.contents D.Line.uses)
         (C.reads clock) forward seen_in count old new printed
         → HasCleanDisk (seen_in new.books).state
         → KeepsLast first start.over start.life (seen_in old.books)
-        → ∥ LiveOn first (way D.Door D.Reader.remaining D.Writer.contents)
+        → ∥ LiveOn first (way D.Door D.Reader.remaining D.Writer.contents D.Line.uses)
         forward seen_in count (service old.door start old.answers) new ∥₁ }
 {
     lives_law();
@@ -229,7 +229,7 @@ pub fn serve_law<H: OfficeFile, C: Clock, D: Door>()
 pub fn run_law<M: Machine>()
     ensures { KeepsEachRun (here_of M.Office.Medium.Disk M.Office.Salts.SaltSource
         M.Office.OfficeFile M.Texts.TextFiles M.Clock.Clock
-        (way M.Door.Door M.Door.Reader.remaining M.Door.Writer.contents)
+        (way M.Door.Door M.Door.Reader.remaining M.Door.Writer.contents M.Door.Line.uses)
         (loop_of M.Loopback.Loopback M.Loopback.Stream.remaining M.Loopback.Stream.contents)) }
 {
     lives_law();
@@ -251,11 +251,11 @@ pub fn run_law<M: Machine>()
 pub fn program_law<M: Machine, N: Machine>()
     ensures { KeepsPromise (here_of M.Office.Medium.Disk M.Office.Salts.SaltSource
         M.Office.OfficeFile M.Texts.TextFiles M.Clock.Clock
-        (way M.Door.Door M.Door.Reader.remaining M.Door.Writer.contents)
+        (way M.Door.Door M.Door.Reader.remaining M.Door.Writer.contents M.Door.Line.uses)
         (loop_of M.Loopback.Loopback M.Loopback.Stream.remaining M.Loopback.Stream.contents))
         (here_of N.Office.Medium.Disk N.Office.Salts.SaltSource
         N.Office.OfficeFile N.Texts.TextFiles N.Clock.Clock
-        (way N.Door.Door N.Door.Reader.remaining N.Door.Writer.contents)
+        (way N.Door.Door N.Door.Reader.remaining N.Door.Writer.contents N.Door.Line.uses)
         (loop_of N.Loopback.Loopback N.Loopback.Stream.remaining N.Loopback.Stream.contents)) }
 {
     lives_law();

@@ -43,7 +43,7 @@ pub fn serve<H: OfficeFile, D: Door, C: Clock, E: Write>(
     err: &mut Watched<'_, E>,
 ) -> Result<(Books<FileStore<H::Medium>, Shipped>, bool), OpenFault>
     ensures { (printed : Text) × AreServed
-        (way D.Door D.Reader.remaining D.Writer.contents) (C.reads clock.old)
+        (way D.Door D.Reader.remaining D.Writer.contents D.Line.uses) (C.reads clock.old)
         (forward_of words.now.transform) seen_in
         (IsUnreopened H.Medium.Disk H.Salts.SaltSource (lets_go_giving H.OfficeFile None false))
         words.now.connections
@@ -146,8 +146,8 @@ fn tell_stop<S: Alter, E: Write>(books: &Books<S, Shipped>, err: &mut Watched<'_
     }
 }
 
-// Takes the next connection, holds its conversation and lets it go. Answers whether one could be
-// had.
+// Takes the next connection, holds its conversation, each use of it by its line, and lets it go.
+// Answers whether one could be had.
 fn hold<S: Alter, D: Door, C: Clock>(
     alloc: Global,
     desk: &Desk,
@@ -156,18 +156,19 @@ fn hold<S: Alter, D: Door, C: Clock>(
     clock: &mut C,
 ) -> bool
     ensures held { MatchBool result
-        (IsHeld (way D.Door D.Reader.remaining D.Writer.contents) (C.reads clock.old) seen_in
+        (IsHeld (way D.Door D.Reader.remaining D.Writer.contents D.Line.uses)
+        (C.reads clock.old) seen_in
         (service door.old books.old (C.answers clock.old))
         (service door.new books.new (C.answers clock.new)))
-        (IsUnheld (way D.Door D.Reader.remaining D.Writer.contents) seen_in
+        (IsUnheld (way D.Door D.Reader.remaining D.Writer.contents D.Line.uses) seen_in
         (service door.old books.old (C.answers clock.old))
         (service door.new books.new (C.answers clock.new))) }
     ensures stays { (given : ℤ) → C.reads clock.new given → C.reads clock.old given }
 {
-    let Some((mut reader, mut writer)) = door.accept() else {
+    let Some((mut reader, mut writer, mut line)) = door.accept() else {
         return false;
     };
-    let end = desk.run(alloc, &mut reader, &mut writer, books, clock);
-    door.end(reader, writer, end);
+    let end = desk.run_over(alloc, &mut line, &mut reader, &mut writer, books, clock);
+    door.end(reader, writer, line, end);
     true
 }

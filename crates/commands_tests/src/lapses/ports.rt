@@ -3,7 +3,7 @@ ghost use Rattle.std.specs.Prelude.{◌≡◌, ⊤, [], IfSome};
 
 use books::OpenFault;
 use command_line::Address;
-use desk::{End, Script};
+use desk::{End, Script, Untold};
 use disk_testing::{Faults, Lapse, NO_FAULTS};
 use sqlite_disk::Memory;
 use std::alloc::Global;
@@ -213,15 +213,17 @@ impl<'a> Door for Texts<'a> {
 
     type Writer = Replies<'a>;
 
+    type Line = Untold;
+
     ghost listens = { λ _ _ _ _. ⊤ };
 
     ghost fails = { λ _ _ _. ⊤ };
 
-    ghost accepts = { λ _ _ _ _. ⊤ };
+    ghost accepts = { λ _ _ _ _ _. ⊤ };
 
     ghost refuses = { λ _ _. ⊤ };
 
-    ghost ends = { λ _ _ _ _ _. ⊤ };
+    ghost ends = { λ _ _ _ _ _ _. ⊤ };
 
     ghost leaves = { λ _ _. ⊤ };
 
@@ -232,16 +234,16 @@ impl<'a> Door for Texts<'a> {
         Some(address.port)
     }
 
-    fn accept(&mut self) -> Option<(Sent<'a>, Replies<'a>)> {
+    fn accept(&mut self) -> Option<(Sent<'a>, Replies<'a>, Untold)> {
         let text = self.texts.get(self.next)?;
         self.next += 1;
         let reader = Sent {
             left: text.as_bytes(),
         };
-        Some((reader, Replies { rt: self.rt }))
+        Some((reader, Replies { rt: self.rt }, Untold))
     }
 
-    fn end(&mut self, reader: Self::Reader, writer: Self::Writer, _end: End)
+    fn end(&mut self, reader: Self::Reader, writer: Self::Writer, _line: Untold, _end: End)
         ensures { ⊤ }
     {
         drop(reader);

@@ -1,5 +1,5 @@
 -- What a command has of the machine beside its outputs.
-use Rattle.std.specs.Prelude.{ℕ, Option}
+use Rattle.std.specs.Prelude.{ℕ, List, Option}
 use Rattle.std.specs.declared.io.Read as reads
 use Rattle.std.specs.declared.io.Write as writes
 use Rattle.sqlite.specs.Steps.{over_memory}
@@ -10,6 +10,8 @@ use Rattle.command_line.specs.declared.address.Address.{Address}
 use Rattle.command_line.specs.declared.transform.Shipped.{Shipped}
 use Rattle.conversation.specs.declared.clock.Clock as clocks
 use Rattle.conversation.specs.declared.end.End as conversation
+use Rattle.conversation.specs.declared.line.Line as lines
+use Rattle.conversation.specs.Uses.{Use}
 use Rattle.desk_commands.specs.Exchanged.{Calls, calls_of}
 use Rattle.office_commands.specs.port.Back.{is_untouched}
 use Rattle.office_commands.specs.port.Places.{Places, places_of}
@@ -26,20 +28,24 @@ use Rattle.vend_commands.specs.commands.Selfchecked.{AgreesOver, Disagrees}
 use Rattle.vend_commands.specs.declared.selfcheck.fault.SelfcheckFault.{SelfcheckFault}
 
 -- What a door tells: where it listens or that it could not, which connection came in or that none
--- could be had, that it was let go and how its conversation ended, and that the door was left; and
--- what is known of the bytes of its halves.
+-- could be had, that it was let go and how its conversation ended, and that the door was left; what
+-- is known of the bytes of its halves; and which uses of them its line tells.
 pub record Way (D R W : Type 0) : Type 1 where
+  pub Line : Type 0
   pub listens : D → Address → ℕ → D → Type 0
   pub fails : D → Address → D → Type 0
-  pub accepts : D → R → W → D → Type 0
+  pub accepts : D → R → W → Line → D → Type 0
   pub refuses : D → D → Type 0
-  pub ends : D → R → W → conversation.End → D → Type 0
+  pub ends : D → R → W → Line → conversation.End → D → Type 0
   pub leaves : D → Type 0
   pub remaining : R → Held
   pub contents : W → Held
+  pub uses : Line → Option (List Use)
 
-abbrev pub way : {D R W : Type 0} → doors.Ghosts D R W → (R → Held) → (W → Held) → Way D R W
-way {D} {R} {W} of remaining contents = record {
+abbrev pub way : {D R W I : Type 0} → doors.Ghosts D R W I → (R → Held) → (W → Held)
+    → (I → Option (List Use)) → Way D R W
+way {D} {R} {W} {I} of remaining contents uses = record {
+  Line = I;
   listens = of.listens;
   fails = of.fails;
   accepts = of.accepts;
@@ -48,6 +54,7 @@ way {D} {R} {W} of remaining contents = record {
   leaves = of.leaves D;
   remaining = remaining;
   contents = contents;
+  uses = uses;
 }
 
 -- What the connection that a command makes tells: that none was made; of the machine with itself,
@@ -108,19 +115,19 @@ machine at untouched texts clock way door loop = record {
 }
 
 -- the machine that these are the ports of, to which this was given back
-abbrev pub machine_of : {M H F C D L P K S R W N : Type 0} → {office : file.Ghosts H K S}
+abbrev pub machine_of : {M H F C D L P K S R W I N : Type 0} → {office : file.Ghosts H K S}
     → {disk : disk.Ghosts K} → {salts : source.Ghosts S} → {texts : files.Ghosts F}
-    → {clock : clocks.Ghosts C} → {door : doors.Ghosts D R W} → {reader : reads.Ghosts R}
-    → {writer : writes.Ghosts W} → {net : loopback.Ghosts L N} → {end_reads : reads.Ghosts N}
-    → {end_writes : writes.Ghosts N}
-    → Ports M H F C D L P K S R W N office disk salts texts clock door reader writer net end_reads
-    end_writes
+    → {clock : clocks.Ghosts C} → {door : doors.Ghosts D R W I} → {reader : reads.Ghosts R}
+    → {writer : writes.Ghosts W} → {line : lines.Ghosts I R W} → {net : loopback.Ghosts L N}
+    → {end_reads : reads.Ghosts N} → {end_writes : writes.Ghosts N}
+    → Ports M H F C D L P K S R W I N office disk salts texts clock door reader writer line net
+    end_reads end_writes
     → (back : Option (K × K)) → Machine D R W
 machine_of {office = office} {disk = disk} {salts = salts} {texts = texts} {clock = clock}
-    {door = door} {reader = reader} {writer = writer} {net = net} {end_reads = end_reads}
-    {end_writes = end_writes} ports back =
+    {door = door} {reader = reader} {writer = writer} {line = line} {net = net}
+    {end_reads = end_reads} {end_writes = end_writes} ports back =
     machine (places_of disk salts office ports.office back)
     (is_untouched office ports.office back)
     (texts_of texts ports.texts) (dial_of clock ports.clock)
-    (way door reader.remaining writer.contents) ports.door
+    (way door reader.remaining writer.contents line.uses) ports.door
     (loop_of net end_reads.remaining end_writes.contents ports.loopback)

@@ -8,7 +8,7 @@ use Rattle.book_opening.specs.declared.fault.OpenFault.{OpenFault}
 use Rattle.desk.specs.Answering.{answers_by, books_serve, life_serves, message_refusal_of}
 use Rattle.conversation.specs.Exchanges.{clocked}
 use Rattle.conversation.specs.Run.{IsRun}
-use Rattle.conversation.specs.Uses.{EndsBy, IsPaced, Use}
+use Rattle.conversation.specs.Uses.{EndsBy, Grows, IsPaced, Use}
 use Rattle.conversation.specs.declared.end.End as conversation
 use Rattle.sts_fields.specs.Text.{Text}
 use Rattle.sts_token.specs.Token.{BlockFunction}
@@ -34,29 +34,33 @@ GoOn old new Goes = HasCleanDisk new.state → (life : Life) → Represents life
 module _ {D R W B : Type 0} (way : Way D R W) (gives : ℤ → Type 0) (see : B → Seen) where
   -- A connection came in, the desk held its conversation over what it sends and what it is sent,
   -- at moments that the clock gives, and it was let go as the conversation left it, by a door that
-  -- knew how that had ended. No more was read than the desk may ask for, nor before the replies to
-  -- what came before it were written, and its last read or write is why it ended so. Every life that
-  -- the books kept goes on by that, and by nothing beside.
+  -- knew how that had ended. Each read and each write went through the connection's line. No more
+  -- was read than the desk may ask for, nor before the replies to what came before it were written,
+  -- and the last read or write is why the conversation ended so. Every life that the books kept
+  -- goes on by that, and by nothing beside.
   pub record IsHeld (old new : Service D B) : Type 0 where
     pub reader : R
     pub writer : W
+    pub line : way.Line
     pub read : R
     pub written : W
+    pub used : way.Line
     pub end : conversation.End
     pub held : D
-    pub accepted : way.accepts old.door reader writer held
+    pub accepted : way.accepts old.door reader writer line held
     pub run : IsRun (clocked gives (answers_by (books_serve see))) message_refusal_of
         (old.books, old.answers) (new.books, new.answers) (way.remaining reader)
         (way.remaining read) (way.contents writer) (way.contents written) end
-    pub paced : (uses : List Use) × IsPaced (clocked gives (answers_by (books_serve see)))
-        message_refusal_of (old.books, old.answers) (way.remaining reader) (way.remaining read)
+    pub paced : (uses : List Use) × Grows (way.uses line) (way.uses used) uses
+        × IsPaced (clocked gives (answers_by (books_serve see))) message_refusal_of
+        (old.books, old.answers) (way.remaining reader) (way.remaining read)
         (way.contents writer) (way.contents written) uses × EndsBy end uses
     pub clean : HasCleanDisk (see new.books).state → HasCleanDisk (see old.books).state
     pub lives : GoOn (see old.books) (see new.books) (λ life after.
         IsRun (clocked gives (answers_by life_serves)) message_refusal_of (life, old.answers)
         (after, new.answers) (way.remaining reader) (way.remaining read) (way.contents writer)
         (way.contents written) end)
-    pub ended : way.ends held read written end new.door
+    pub ended : way.ends held read written used end new.door
 
 module _ {D R W B : Type 0} (way : Way D R W) (see : B → Seen) where
   -- no connection could be had, and nothing else has changed

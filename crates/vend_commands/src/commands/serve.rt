@@ -32,7 +32,7 @@ pub(crate) fn run<H: OfficeFile, D: Door, C: Clock, E: Write>(
     err: &mut Watched<'_, E>,
 ) -> Ended<H::Medium>
     ensures { IsServing ⟦<FileStore<H::Medium> as Store>⟧
-        (way D.Door D.Reader.remaining D.Writer.contents)
+        (way D.Door D.Reader.remaining D.Writer.contents D.Line.uses)
         (places_of H.Medium.Disk H.Salts.SaltSource H.OfficeFile office result.back)
         door (dial_of C.Clock clock.old) words.now
         err.old err.new result.end }
@@ -84,9 +84,9 @@ fn listen<D: Door, E: Write>(
     err: &mut Watched<'_, E>,
 ) -> Option<Desk>
     ensures { MatchOption result
-        (IsDeaf (way D.Door D.Reader.remaining D.Writer.contents)
+        (IsDeaf (way D.Door D.Reader.remaining D.Writer.contents D.Line.uses)
         address door.old door.new err.old err.new)
-        (λ _. Listens (way D.Door D.Reader.remaining D.Writer.contents)
+        (λ _. Listens (way D.Door D.Reader.remaining D.Writer.contents D.Line.uses)
         address door.old door.new err.old err.new) }
 {
     let Ok(desk) = Desk::new(alloc) else {

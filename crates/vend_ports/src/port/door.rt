@@ -6,7 +6,7 @@ ghost use Rattle.conversation.specs.declared.end.End.{End};
 ghost use Rattle.vend_ports.specs.port.Port.{IsPortFor};
 
 use command_line::Address;
-use conversation::End;
+use conversation::{End, Line};
 use std::io::{Read, Write};
 
 /// Where connections come in, one after another. Each has a half that is read and one that is
@@ -19,21 +19,24 @@ pub trait Door: Drop {
     /// What a connection is sent is written to this.
     type Writer: Write + Drop;
 
+    /// Each use of a connection goes through this, which may tell which uses were made, in order.
+    type Line: Line<Self::Reader, Self::Writer> + Drop;
+
     /// The door listens at an address, at this port, and is another one then.
     ghost listens: { Self → Address → ℕ → Self → Type 0 };
 
     /// The door could not listen at an address, and is another one then.
     ghost fails: { Self → Address → Self → Type 0 };
 
-    /// A connection of these halves came in, and the door is another one then.
-    ghost accepts: { Self → Self.Reader → Self.Writer → Self → Type 0 };
+    /// A connection of these halves and this line came in, and the door is another one then.
+    ghost accepts: { Self → Self.Reader → Self.Writer → Self.Line → Self → Type 0 };
 
     /// No connection could be had, and the door is another one then.
     ghost refuses: { Self → Self → Type 0 };
 
-    /// The connection of these halves was let go, as a conversation that ended so left them, and
-    /// the door is another one then.
-    ghost ends: { Self → Self.Reader → Self.Writer → End → Self → Type 0 };
+    /// The connection of these halves and this line was let go, as a conversation that ended so
+    /// left them, and the door is another one then.
+    ghost ends: { Self → Self.Reader → Self.Writer → Self.Line → End → Self → Type 0 };
 
     /// The door was left: nobody comes in by it any more.
     ghost leaves: { (T : Type 0) → T → Type 0 };
@@ -45,13 +48,13 @@ pub trait Door: Drop {
         ensures fails { IfNone result (fails self.old address self.new) };
 
     /// The next connection, where one can be had.
-    fn accept(&mut self) -> Option<(Self::Reader, Self::Writer)>
-        ensures accepts { IfSome result (λ ends. accepts self.old ends.0 ends.1 self.new) }
+    fn accept(&mut self) -> Option<(Self::Reader, Self::Writer, Self::Line)>
+        ensures accepts { IfSome result (λ ends. accepts self.old ends.0 ends.1 ends.2 self.new) }
         ensures refuses { IfNone result (refuses self.old self.new) };
 
-    /// Lets the halves of a connection go, as a conversation that ended so left them.
-    fn end(&mut self, reader: Self::Reader, writer: Self::Writer, end: End)
-        ensures { ends self.old reader writer end self.new };
+    /// Lets the halves of a connection and its line go, as a conversation that ended so left them.
+    fn end(&mut self, reader: Self::Reader, writer: Self::Writer, line: Self::Line, end: End)
+        ensures { ends self.old reader writer line end self.new };
 
     /// Leaves the door, which may never have listened. Whatever this is given, it can do nothing
     /// else with it.

@@ -9,7 +9,7 @@ use crate::port::patient::PatientReader;
 use crate::port::patient_writer::PatientWriter;
 use crate::port::queue::Listening;
 use command_line::Address;
-use conversation::End;
+use conversation::{End, Untold};
 use std::alloc::Global;
 use std::rc::Rc;
 use std::time::Clock;
@@ -40,6 +40,9 @@ impl<'a, N: Network, K: Clock> Door for MachineDoor<'a, N, K> {
 
     type Writer = PatientWriter<'a, K, Rc<Listening<N::Listener>>, N::Stream>;
 
+    // No clause of a socket says which uses were made of it.
+    type Line = Untold;
+
     // At just the address that was asked for, and no wider one.
     ghost listens = { λ old address port new. IsSomeAnd new.listening (λ listening.
         ListensAt N.listens N.Listener.has_port old.net.now listening.value.listener address port) };
@@ -48,12 +51,12 @@ impl<'a, N: Network, K: Clock> Door for MachineDoor<'a, N, K> {
 
     // What is read and what is written are of one connection, and each use of it waits for so long
     // at the most (`PatientReader`, `PatientWriter`).
-    ghost accepts = { λ old reader writer new. (new ≡ old)
+    ghost accepts = { λ old reader writer _ new. (new ≡ old)
         × N.Stream.are_one writer.inner reader.inner };
 
     ghost refuses = { λ old new. new ≡ old };
 
-    ghost ends = { λ old _ _ _ new. new ≡ old };
+    ghost ends = { λ old _ _ _ _ new. new ≡ old };
 
     ghost leaves = { λ _ _. ⊤ };
 
@@ -66,7 +69,7 @@ impl<'a, N: Network, K: Clock> Door for MachineDoor<'a, N, K> {
     }
 
     // A connection that cannot be had twice counts as one that cannot be had.
-    fn accept(&mut self) -> Option<(Self::Reader, Self::Writer)> {
+    fn accept(&mut self) -> Option<(Self::Reader, Self::Writer, Untold)> {
         let listening = self.listening.as_ref()?;
         let stream = listening.accept()?;
         // Else a reply may wait until the peer acknowledges the one before. A connection that
@@ -75,10 +78,10 @@ impl<'a, N: Network, K: Clock> Door for MachineDoor<'a, N, K> {
         let again = stream.again().ok()?;
         let reader = PatientReader::new(self.clock, listening.clone().ok()?, again);
         let writer = PatientWriter::new(self.clock, listening.clone().ok()?, stream);
-        Some((reader, writer))
+        Some((reader, writer, Untold))
     }
 
-    fn end(&mut self, reader: Self::Reader, writer: Self::Writer, _end: End) {
+    fn end(&mut self, reader: Self::Reader, writer: Self::Writer, _line: Untold, _end: End) {
         drop(reader);
         drop(writer);
     }

@@ -60,7 +60,7 @@ returns-in-Done-end-2 c =
           (λ line called. called ∙ c.calling_ports.ensures ∙ c.deref-4.ensures.value) in
           let carried = carries_first _ it (question_text question ++ []) (replied.came ++ [])
           (λ address port door heard. record {
-            sees = λ reader writer holding read written end between next other last accepts ends after.
+            sees = λ reader writer line holding read written used end between next other second last accepts ends after.
                 let whole = ends.1 (after.4 (ends.0 ∙ accepts.2)) in (
                   whole.0,
                   ap Some accepts.1,

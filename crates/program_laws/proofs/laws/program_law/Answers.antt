@@ -10,10 +10,10 @@ use Rattle.program_laws.proofs.laws.program_law.Goals as goal
 pub returns : goal.returns
 returns g c =
     let here = here_of g.M.Office.Medium.Disk g.M.Office.Salts.SaltSource g.M.Office.OfficeFile g.M.Texts.TextFiles g.M.Clock.Clock
-    (way g.M.Door.Door g.M.Door.Reader.Read.remaining g.M.Door.Writer.Write.contents)
+    (way g.M.Door.Door g.M.Door.Reader.Read.remaining g.M.Door.Writer.Write.contents g.M.Door.Line.Line.uses)
     (loop_of g.M.Loopback.Loopback g.M.Loopback.Stream.Read.remaining g.M.Loopback.Stream.Write.contents) in
     let there = here_of g.N.Office.Medium.Disk g.N.Office.Salts.SaltSource g.N.Office.OfficeFile g.N.Texts.TextFiles g.N.Clock.Clock
-    (way g.N.Door.Door g.N.Door.Reader.Read.remaining g.N.Door.Writer.Write.contents)
+    (way g.N.Door.Door g.N.Door.Reader.Read.remaining g.N.Door.Writer.Write.contents g.N.Door.Line.Line.uses)
     (loop_of g.N.Loopback.Loopback g.N.Loopback.Stream.Read.remaining g.N.Loopback.Stream.Write.contents) in
     let lives = c.lives_law.ensures in
     let credited = c.credited_law.ensures in

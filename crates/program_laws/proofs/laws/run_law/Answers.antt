@@ -10,7 +10,7 @@ use Rattle.program_laws.proofs.laws.run_law.Goals as goal
 pub returns : goal.returns
 returns g c =
     let here = here_of g.M.Office.Medium.Disk g.M.Office.Salts.SaltSource g.M.Office.OfficeFile g.M.Texts.TextFiles g.M.Clock.Clock
-    (way g.M.Door.Door g.M.Door.Reader.Read.remaining g.M.Door.Writer.Write.contents)
+    (way g.M.Door.Door g.M.Door.Reader.Read.remaining g.M.Door.Writer.Write.contents g.M.Door.Line.Line.uses)
     (loop_of g.M.Loopback.Loopback g.M.Loopback.Stream.Read.remaining g.M.Loopback.Stream.Write.contents) in
     let lives = c.lives_law.ensures in
     let leading : LeadingLaws = record { offices = lives.offices; stands = lives.stands; one_ref = lives.one_ref } in

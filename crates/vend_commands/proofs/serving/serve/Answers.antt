@@ -16,7 +16,7 @@ loop-connection-preserved g c =
     let D = g.D.Door in
     let H = g.H.OfficeFile in
     let C = g.C.Clock in
-    let ways = way D g.D.Reader.Read.remaining g.D.Writer.Write.contents in
+    let ways = way D g.D.Reader.Read.remaining g.D.Writer.Write.contents g.D.Line.Line.uses in
     let before = c.loop-connection in
     let one = one_more ways (C.reads c.args.clock.now) (forward_of c.args.words.now.transform) seen_in (C.reads before.clock) before._connection
     (service c.args.door.now c.args.books (C.answers c.args.clock.now)) (service before.door before.books (C.answers before.clock))
@@ -64,7 +64,7 @@ returns g c =
     let D = g.D.Door in
     let H = g.H.OfficeFile in
     let C = g.C.Clock in
-    let ways = way D g.D.Reader.Read.remaining g.D.Writer.Write.contents in
+    let ways = way D g.D.Reader.Read.remaining g.D.Writer.Write.contents g.D.Line.Line.uses in
     let last = c.loop-connection in
     all_held ways (C.reads c.args.clock.now) (forward_of c.args.words.now.transform) seen_in last._connection c.args.words.now.connections
     (service c.args.door.now c.args.books (C.answers c.args.clock.now)) (service last.door last.books (C.answers last.clock)) _ _ last.invariant.0 (omega arith)

@@ -12,7 +12,7 @@ invariant-loop-connection g l =
     let D = g.D.Door in
     let H = g.H.OfficeFile in
     let C = g.C.Clock in
-    let ways = way D g.D.Reader.Read.remaining g.D.Writer.Write.contents in
+    let ways = way D g.D.Reader.Read.remaining g.D.Writer.Write.contents g.D.Line.Line.uses in
     AreHeldTelling ways (C.reads l.fn.clock) (forward_of l.words.transform) seen_in l._connection
     (service l.fn.door l.fn.books (C.answers l.fn.clock)) (service l.door l.books (C.answers l.clock))
     l.fn.err l.err
