@@ -67,8 +67,8 @@ held_wider way few more see old new wider one =
           (new.books, new.answers) _ _ _ _ one.end one.run;
       paced = (
         one.paced.0,
-        paced_wider (clocked few books) (clocked more books) on_books message_refusal_of (old.books, old.answers) _ _ _ _ one.paced.0 one.paced.1.0,
-        one.paced.1.1,
+        paced_wider (clocked few books) (clocked more books) on_books message_refusal_of (old.books, old.answers) _ _ _ _ one.paced.0 one.paced.1,
+        one.paced.2,
       );
       clean = one.clean;
       lives = λ clean life keeps.

@@ -4,6 +4,7 @@ use Rattle.std.specs.declared.io.Read as reads
 use Rattle.std.specs.declared.io.Write as writes
 use Rattle.sqlite.specs.Steps.{over_memory}
 use Rattle.sqlite_disk.specs.declared.Disk as disk
+use Rattle.audit.specs.declared.following.Follows as follows
 use Rattle.books.specs.Keeps.{seen}
 use Rattle.command_line.specs.Transform.{forward_of, shipped}
 use Rattle.command_line.specs.declared.address.Address.{Address}
@@ -112,9 +113,9 @@ abbrev pub machine_of : {M H F C D L P K S R W N : Type 0} → {office : file.Gh
     → {disk : disk.Ghosts K} → {salts : source.Ghosts S} → {texts : files.Ghosts F}
     → {clock : clocks.Ghosts C} → {door : doors.Ghosts D R W} → {reader : reads.Ghosts R}
     → {writer : writes.Ghosts W} → {net : loopback.Ghosts L N} → {end_reads : reads.Ghosts N}
-    → {end_writes : writes.Ghosts N}
+    → {end_writes : writes.Ghosts N} → {progress : follows.Ghosts P}
     → Ports M H F C D L P K S R W N office disk salts texts clock door reader writer net end_reads
-    end_writes
+    end_writes progress
     → (back : Option (K × K)) → Machine D R W
 machine_of {office = office} {disk = disk} {salts = salts} {texts = texts} {clock = clock}
     {door = door} {reader = reader} {writer = writer} {net = net} {end_reads = end_reads}
