@@ -13,7 +13,7 @@ from program import METER, TOP
 from servers import CASHIER, MANAGER, WAIT, until
 from shared import same, wrong
 
-MOST_LINES = 1450  # of HTML, CSS and JavaScript together
+MOST_LINES = 1500  # of HTML, CSS and JavaScript together
 
 
 def check_files(counter):
