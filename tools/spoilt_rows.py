@@ -118,7 +118,7 @@ def commands(file, texts):
     yield ["key", *old, "--meter", METER, "--key", OTHER_KEY], {"meter", "last-id"}
     # Whether it has sales is looked at for the same key too.
     yield ["key", *old, "--meter", METER, "--key", KEY], {"meter", "last-id"}
-    yield ["key", *old, "--meter", MOVED_METER, "--key", OTHER_KEY], {"moved-id"}
+    yield ["key", *old, "--meter", MOVED_METER, "--key", OTHER_KEY], {"left-id", "moved-id"}
     yield ["key", *old, "--meter", UNSOLD_METER, "--key", OTHER_KEY], set()
     yield ["key", *old, "--meter", NEW_METER, "--key", OTHER_KEY], set()
     yield [*report, "shift", "--number", "1"], {"shift", "sale", "left-sale"}
