@@ -221,8 +221,7 @@ def check_second_pages(folder):
         shutil.copy(whole, file)
         listed = end_of([*words, kind])[1].splitlines(True)
         behind = end_of([*words, "--after", last, kind])
-        # The first page stands behind the names of the columns; sales have none.
-        first = b"".join(listed[:PAGE + (kind != "sales")])
+        first = b"".join(listed[:PAGE + 1])  # behind the names of the columns
         for place, printed in ((PAGE, first), (PAGE - 1, b"")):
             change(file, spoil(place))
             expect(vend(*words, kind), 1, printed, b"refused 16 Store\n")
