@@ -28,7 +28,7 @@ def check_files(counter):
     causes = re.search(r'pattern: "\^\((Header\|[^)]*)\)\$"', described)[1].split("|")
     script = (TOP / "page" / "desk.js").read_text()
     words, reasons = (set(re.findall(r"(?m)^  (\w+): \"", part)) for part in script.split("CAUSES", 1))
-    same((len(names), sorted({*names} - words)), (19, []), "page/desk.js: refusals without words")
+    same((len(names), sorted({*names} - words)), (20, []), "page/desk.js: refusals without words")
     same(sorted({cause.split()[0] for cause in causes} - reasons), [], "page/desk.js: causes without words")
     tried = ["nginx -t"]
     if shutil.which("systemd-analyze"):
