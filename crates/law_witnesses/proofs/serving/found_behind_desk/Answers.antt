@@ -66,4 +66,4 @@ returns-in-Some-sale_of-clause-uses c =
     (c.in-Some-all_served.ensures {u = tt}) were.1 in
     recorded_read _ _ _ seen_in _ (service _ c.in-Some-all_served.left _) were.0 (uses_in c.in-Some-take.line.made)
     (λ door held reader writer line accepts. ap Some accepts.3)
-    (λ held read written line end ends. ap told (sym ends ∙ sym c.take.ensures ∙ c.in-Some-take.is)) held
+    (λ held read written line end ends. ap told (sym ends ∙ sym c.take.ensures.value ∙ c.in-Some-take.is)) held
