@@ -211,7 +211,7 @@ def check_lists(counter):
 
     same(shows("tariffs", "2 tariffs."),
          [["block", "today", "1.00 up to 50.0 kWh, 1.50 up to 100.5 kWh, then 2.00"],
-          ["block", "2099-01-01", "1.10 up to 50.0 kWh, then 2.20"], ["flat", "today", "1.00"]], "the tariffs")
+          ["block", "2099-01-01", "1.10 up to 50.0 kWh, then 2.20 Withdraw"], ["flat", "today", "1.00"]], "the tariffs")
     # More than a page of each, and exactly two. What is added now is in its place where a list is shown again.
     numbers = [meter_of(f"{number:010}") for number in range(10**9 + 1, 10**9 + 240)]
     meters = "meter,base,tariff,key\n" + "".join(f"{number},2014,flat,{KEY}\n" for number in numbers)
