@@ -195,7 +195,7 @@ def check_lists(counter):
         return browser.run(ROWS, f"#{kind}-form tbody tr")
 
     def button(kind):
-        return browser.run("return document.querySelector(`#${arguments[0]}-form button`).innerText", kind)
+        return browser.run("return document.querySelector(`#${arguments[0]}-form > button`).innerText", kind)
 
     def pages(kind, wanted):
         """The list page by page, until one that is not full; then its first page again."""
