@@ -1,9 +1,7 @@
 pub mod Alike
 pub mod Answers
 pub mod Asks
-pub mod Items
-pub mod ListedMeter
-pub mod ListedShift
+pub mod Columns
 pub mod Message
 pub mod Meter
 pub mod Page

@@ -1,5 +1,8 @@
 -- What replies tell, and their bodies.
-use Rattle.std.specs.Prelude.{◌≡◌, ℕ, ◌≤◌, List, ◌++◌, codes, decimal, ⊤}
+use Rattle.std.specs.Prelude.{◌≡◌, ℕ, ◌≤◌, List, codes, ⊤}
+use Rattle.desk_messages.specs.reply.Body.{done_text, refusal_text}
+use Rattle.desk_messages.specs.reply.Records.{count_text, fault_text, meter_text, quote_text}
+use Rattle.desk_messages.specs.reply.Records.{sale_text, totals_text}
 use Rattle.desk_messages.specs.route.Route.{IsTargetNumber}
 use Rattle.office_rules.specs.Decision.Refusals.{refusal_category}
 use Rattle.office_rules.specs.Office.Rows.{greatest_rows}
@@ -8,12 +11,12 @@ use Rattle.office_rules.specs.declared.decision.category.Category.TheVariants.{M
 use Rattle.office_rules.specs.declared.decision.category.Category.TheVariants.{Unfit, UnfitRow}
 use Rattle.office_rules.specs.declared.decision.category.Category.TheVariants.{Unable}
 use Rattle.office_rules.specs.declared.decision.refusal.Refusal.{Refusal}
-use Rattle.desk_client.specs.Meter.{IsToldMeter, meter_text}
-use Rattle.desk_client.specs.Quote.{IsToldQuote, quote_as_read}
-use Rattle.desk_client.specs.Refusal.{IsRowCause, plain_text, row_text}
-use Rattle.desk_client.specs.Sale.{IsSaleTold, sale_as_read}
+use Rattle.desk_client.specs.Meter.{IsToldMeter}
+use Rattle.desk_client.specs.Quote.{IsToldQuote}
+use Rattle.desk_client.specs.Refusal.{IsRowCause}
+use Rattle.desk_client.specs.Sale.{IsSaleTold}
 use Rattle.desk_client.specs.Start.{category_start}
-use Rattle.desk_client.specs.Totals.{IsToldTotals, totals_as_read}
+use Rattle.desk_client.specs.Totals.{IsToldTotals}
 use Rattle.desk_client.specs.declared.start.Start.{Start}
 use Rattle.desk_client.specs.declared.start.Start.TheVariants as starts
 use Rattle.desk_client.specs.declared.told.Granted.{Granted}
@@ -53,14 +56,14 @@ IsAnswer (Page text) = ⊤
 
 -- the body that tells what is granted
 abbrev pub granted_text : Granted → List ℕ
-granted_text Done = codes "{\"done\":true}"
-granted_text (Imported count) = codes "{\"added\":" ++ (decimal count ++ codes "}")
-granted_text (Withdrawn count) = codes "{\"withdrawn\":" ++ (decimal count ++ codes "}")
-granted_text (Shift number) = codes "{\"shift\":" ++ (decimal number ++ codes "}")
-granted_text (Sale sale) = sale_as_read sale
+granted_text Done = done_text
+granted_text (Imported count) = count_text (codes "added") count
+granted_text (Withdrawn count) = count_text (codes "withdrawn") count
+granted_text (Shift number) = count_text (codes "shift") number
+granted_text (Sale sale) = sale_text sale
 granted_text (Meter meter) = meter_text meter
-granted_text (Quote quote) = quote_as_read quote
-granted_text (Totals number totals) = totals_as_read number totals
+granted_text (Quote quote) = quote_text quote
+granted_text (Totals number totals) = totals_text number totals
 granted_text (Paper text) = text.now
 granted_text (Page text) = text.now
 
@@ -76,17 +79,6 @@ granted_start wanted.Quote = starts.Json
 granted_start wanted.Totals = starts.Json
 granted_start wanted.Paper = starts.Paper
 granted_start wanted.Page = starts.Json
-
--- the body that tells a refusal of this category
-abbrev pub text_by : Refusal → Category → List ℕ
-text_by refusal (UnfitRow row cause) = row_text row cause
-text_by refusal Missing = plain_text refusal
-text_by refusal Forbidden = plain_text refusal
-text_by refusal Unfit = plain_text refusal
-text_by refusal Unable = plain_text refusal
-
-abbrev pub refusal_text : Refusal → List ℕ
-refusal_text refusal = text_by refusal (refusal_category refusal)
 
 -- a row's number has 32 bits
 abbrev pub IsTellableBy : Category → Type 0
@@ -127,4 +119,4 @@ told_start told.NoMoment = starts.Unable
 abbrev pub told_text : Told → List ℕ
 told_text (told.Granted granted) = granted_text granted
 told_text (told.Refused refusal) = refusal_text refusal
-told_text told.NoMoment = codes "{\"error\":\"Clock\"}"
+told_text told.NoMoment = fault_text (codes "Clock")

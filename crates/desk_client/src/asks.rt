@@ -9,7 +9,7 @@ ghost use Rattle.desk_client.specs.Question.{question_text};
 ghost use Rattle.desk_client.specs.declared.question.Question.{Question};
 ghost use Rattle.sts_fields.specs.Moment.{IsMoment};
 
-use desk_messages::list_law;
+use desk_messages::day_text_law;
 use sts_fields::calendar_law;
 
 /// A desk reads what is sent for a question as one whole message, and this message means what the
@@ -25,5 +25,5 @@ pub fn question_law()
         → IsIdle (question_message question) (Some second) (Faulty Clock) }
 {
     calendar_law();
-    list_law();
+    day_text_law();
 }

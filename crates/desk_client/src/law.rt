@@ -11,8 +11,9 @@ ghost use Rattle.desk_client.specs.declared.reply.Reading.TheVariants.{Whole};
 ghost use Rattle.desk_client.specs.declared.told.Told.{Told};
 ghost use Rattle.desk_client.specs.declared.told.Wanted.{Wanted};
 
-use desk_messages::{date_law, reply_law};
-use sts_fields::amount_law;
+use crate::columns::{MeterColumns, QuoteColumns, SaleColumns, TotalsColumns};
+use desk_messages::date_law;
+use records::Columns;
 
 /// What a desk replies, where the conversation goes on, whatever its clock gave, is the text of what
 /// the reply tells; it is read as a whole reply; one text tells one thing, value for value; and no reply begins another.
@@ -29,7 +30,9 @@ pub fn told_law()
     ensures alone { (asked : Wanted) (text more : List ℕ) (told other : Told)
         → IsReply asked text told → IsReply asked (text ++ more) other → more ≡ [] }
 {
-    reply_law();
     date_law();
-    amount_law();
+    <SaleColumns>::columns_law();
+    <MeterColumns>::columns_law();
+    <QuoteColumns>::columns_law();
+    <TotalsColumns>::columns_law();
 }

@@ -4,6 +4,7 @@
 
 mod answers;
 mod asks;
+mod columns;
 mod count;
 mod items;
 mod law;

@@ -6,7 +6,7 @@ ghost use Rattle.desk_client.specs.Question.{body_pieces, import_target, key_pie
 ghost use Rattle.desk_client.specs.Question.{question_method, question_text, quote_pieces};
 ghost use Rattle.desk_client.specs.Question.{steps_pieces, target_pieces};
 ghost use Rattle.desk_client.specs.Question.{wanted_by};
-ghost use Rattle.desk_client.specs.Text.{now};
+ghost use Rattle.records.specs.Record.{now};
 
 use crate::sending::message;
 use crate::told::Wanted;

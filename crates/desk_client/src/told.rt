@@ -1,8 +1,9 @@
 ghost use Rattle.std.specs.Prelude.{◌≡◌};
 ghost use Rattle.desk_client.specs.Told.{IsAnswer, IsStart, IsTellable, IsTellableRefusal};
-ghost use Rattle.desk_client.specs.Told.{granted_start, granted_text, refusal_start, refusal_text};
+ghost use Rattle.desk_messages.specs.reply.Body.{refusal_text};
+ghost use Rattle.desk_client.specs.Told.{granted_start, granted_text, refusal_start};
 ghost use Rattle.desk_client.specs.Told.{told_start, told_text, wanted_of};
-ghost use Rattle.desk_client.specs.Text.{IsFound};
+ghost use Rattle.records.specs.Front.{IsFound};
 
 use crate::count::{read_added, read_shift, read_withdrawn};
 use crate::meter::read_meter;

@@ -1,12 +1,11 @@
 pub mod ArrayLemmas
 pub mod HttpDateLemmas
+pub mod JsonLemmas
 pub mod MeaningLemmas
-pub mod MemberLemmas
 pub mod PageLemmas
 pub mod PlainLemmas
 pub mod ReplyLemmas
 pub mod RouteLemmas
 pub mod RowLemmas
-pub mod SaleLemmas
 pub mod SaleTextLemmas
 pub mod WalkLemmas

@@ -4,6 +4,7 @@
 #![tactic(auto)]
 
 mod desk_fault;
+pub mod fields;
 mod meaning;
 mod named;
 mod reply;
@@ -17,7 +18,7 @@ pub use reply::body::found_json;
 pub use reply::dates::put_day;
 pub use reply::form::Form;
 pub use reply::http_date::{date_law, http_date, moment_given};
-pub use reply::law::{head_law, list_law, reply_law};
+pub use reply::law::{day_text_law, head_law, json_law};
 pub use reply::outcome::Outcome;
 pub use reply::steps_text::put_steps;
 pub use reply::text::{reply_bytes, reply_to};

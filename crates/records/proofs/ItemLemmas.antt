@@ -1,17 +1,16 @@
 -- The items of a list, one after another.
-use Rattle.std.proofs.Common.{◌≡◌, ◌≢◌, ◌∙◌, ℕ, true, false, List, [], ◌∷◌, ◌++◌, Option, Some, None, Result, Ok, Err, map, refl, ap, sym, subst, append_assoc, arith}
+use Rattle.std.proofs.Common.{◌≡◌, ◌≢◌, ◌∙◌, ℕ, true, false, List, [], ◌∷◌, ◌++◌, Option, Some, None, map, refl, ap, sym, subst, append_assoc, arith}
 use Rattle.std.specs.Borrow.{Bor}
-use Rattle.std.specs.Prelude.{All, IfOk, slice_index}
+use Rattle.std.specs.Prelude.{All, slice_index}
 use Rattle.std.specs.List.{AllByRecursion}
 use Rattle.std.proofs.lemmas.List.{append_cancel_left, map-append}
 use Rattle.std.proofs.lemmas.List.Elements.{All-push}
 use Rattle.records.specs.Cell.{Held}
 use Rattle.records.specs.Column.{AreColumns, IsNamed}
 use Rattle.records.specs.Front.{IsFrontItem}
-use Rattle.records.specs.List.{items_text, page_text}
+use Rattle.records.specs.List.{AreReadInOneWay, items_text}
 use Rattle.records.specs.Record.{record_text}
 use Rattle.records.proofs.MemberLemmas.{one_value}
-use Rattle.records.proofs.ReadLemmas.{behind_named, one_rest}
 
 -- each text with a comma behind it, and then the rest
 abbrev pub led : List (List ℕ) → List ℕ → List ℕ
@@ -87,12 +86,6 @@ module _ {A : Type 0} (text_of : A → List ℕ) where
   closed_by text rest behind after xs x pushed is so found bracket =
       so ∙ ap (led (map text_of xs)) (found ∙ ap (λ (b : List ℕ). text_of x ++ b) bracket)
       ∙ led-closed (map text_of xs) (text_of x) after ∙ ap (λ (ts : List (List ℕ)). items_text false ts ++ after) (texts-push xs x pushed is)
-
--- the items that begin one text have one text, whatever follows, and its first byte is a brace
-pub record AreReadInOneWay {A : Type 0} (is_told : A → Type 0) (text_of : A → List ℕ) : Type 0 where
-  pub one : (item other : A) (rest more : List ℕ) → is_told item → is_told other
-      → text_of item ++ rest ≡ text_of other ++ more → text_of item ≡ text_of other
-  pub braced : (item : A) → is_told item → slice_index (text_of item) 0 ≡ 123
 
 pub tails : (a b : ℕ) (x y : List ℕ) → a ∷ x ≡ b ∷ y → x ≡ y
 tails a b x y e = cc
@@ -180,19 +173,3 @@ in_one_way keep cells_of names columns = record {
       ap (λ c. record_text names (cells_of c)) (one_value keep cells_of columns names a b rest more is are e).0;
   braced = λ a is. refl;
 }
-
--- ---- what stands around a list
-
--- behind a byte, what stands at the front of a text does so in the whole text
-pub behind_byte : {A E : Type 0} (keeps : A → Type 0) (text_of : A → List ℕ) (whole inside : List ℕ) (b : ℕ) (r : Result (Option (A × Bor (List ℕ))) E)
-    → whole ≡ b ∷ inside → IfOk r (IsFrontItem keeps text_of inside) → IfOk r (IsFrontItem keeps (λ a. b ∷ text_of a) whole)
-behind_byte keeps text_of whole inside b (Err e) is h = tt
-behind_byte keeps text_of whole inside b (Ok (Some front)) is h = (h.0, is ∙ ap (λ (t : List ℕ). b ∷ t) h.1)
-behind_byte keeps text_of whole inside b (Ok None) is h = λ item rest k e.
-    h item rest k (tails b b inside (text_of item ++ rest) (sym is ∙ e))
-
--- the list of a page, and its brace
-pub page_list : (name whole members list told : List ℕ) → whole ≡ 123 ∷ members → members ≡ behind_named false name list → whole ≡ page_text name told
-    → list ≡ told ++ (125 ∷ [])
-page_list name whole members list told e f g =
-    one_rest false name list (told ++ (125 ∷ [])) (sym f ∙ tails 123 123 members (behind_named false name (told ++ (125 ∷ []))) (sym e ∙ g))

@@ -46,7 +46,8 @@ unescaped : (bytes : List ℕ) → IsPlain bytes → flat_map escape_byte bytes 
 unescaped [] plain = refl
 unescaped (b ∷ bytes) plain = rw (plain_byte b plain.0, unescaped bytes plain.1) refl
 
-quoted-is : (bytes : List ℕ) → IsPlain bytes → quoted bytes ≡ in_quotes bytes
+-- so a plain text is quoted as it is
+pub quoted-is : (bytes : List ℕ) → IsPlain bytes → quoted bytes ≡ in_quotes bytes
 quoted-is bytes plain = ap in_quotes (unescaped bytes plain)
 
 cell_text-is : (cell : Held) → IsTellable cell → written.compact_text (cell_data cell) ≡ cell_text cell
@@ -54,7 +55,8 @@ cell_text-is (number n) is = refl
 cell_text-is (text bytes) is = quoted-is bytes is
 cell_text-is nothing is = refl
 
-members_text-is : (later : Bool) (names : List (List ℕ)) (cells : List Held) → AllByRecursion IsPlain names → AllByRecursion IsTellable cells
+-- what is written for the object of a record is the record
+pub members_text-is : (later : Bool) (names : List (List ℕ)) (cells : List Held) → AllByRecursion IsPlain names → AllByRecursion IsTellable cells
     → written.members_text later (members_data names cells) ≡ members_text later names cells
 members_text-is later [] cells plain is = refl
 members_text-is later (n ∷ names) [] plain is = refl

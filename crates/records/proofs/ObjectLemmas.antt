@@ -42,20 +42,3 @@ pub one_found : (json : Data) (name : List ℕ) (a b : Held) → get name json �
 one_found json name a b e f =
     let same : Some (cell_data a) ≡ Some (cell_data b) = sym e ∙ f in
     one_data a b (cc)
-
--- no member is wanted for no cell
-pub none_wanted : (json : Data) (names : List (List ℕ)) → HasMembers json names []
-none_wanted json [] = tt
-none_wanted json (n ∷ names) = tt
-
--- the first member that is wanted
-pub first_wanted : (json : Data) (names : List (Bor (List ℕ))) (d : Bor (List ℕ)) (cell : Held) (cells : List Held) → 1 ≤ length names
-    → HasMembers json (map now names) (cell ∷ cells) → get (get_or names 0 d).now json ≡ Some (cell_data cell)
-first_wanted json [] d cell cells some has = absurd (omega (arith, some))
-first_wanted json (n ∷ ns) d cell cells some has = has.0
-
--- and the others
-pub others_wanted : (json : Data) (names : List (Bor (List ℕ))) (cell : Held) (cells : List Held)
-    → HasMembers json (map now names) (cell ∷ cells) → HasMembers json (map now (others names)) cells
-others_wanted json [] cell cells has = tt
-others_wanted json (n ∷ ns) cell cells has = subst (λ (ms : List (Bor (List ℕ))). HasMembers json (map now ms) cells) (sym (others-cons n ns)) has.1

@@ -1,5 +1,6 @@
 -- Lists of records, and the pages that have them.
-use Rattle.std.specs.Prelude.{ℕ, Bool, true, false, List, [], ◌∷◌, ◌++◌, codes, map}
+use Rattle.std.specs.Prelude.{◌≡◌, ℕ, Bool, true, false, List, [], ◌∷◌, ◌++◌, codes, map}
+use Rattle.std.specs.Prelude.{slice_index}
 use Rattle.records.specs.Cell.{Held, in_quotes}
 use Rattle.records.specs.Record.{comma_if, record_text}
 
@@ -19,3 +20,9 @@ records_text names cells_of values = list_text (map (λ value. record_text names
 -- the object whose one member is a list
 abbrev pub page_text : (name : List ℕ) → (list : List ℕ) → List ℕ
 page_text name list = 123 ∷ (in_quotes name ++ (58 ∷ (list ++ codes "}")))
+
+-- the items that begin one text have one text, whatever follows, and its first byte is a brace
+pub record AreReadInOneWay {A : Type 0} (is_told : A → Type 0) (text_of : A → List ℕ) : Type 0 where
+  pub one : (item other : A) (rest more : List ℕ) → is_told item → is_told other
+      → text_of item ++ rest ≡ text_of other ++ more → text_of item ≡ text_of other
+  pub braced : (item : A) → is_told item → slice_index (text_of item) 0 ≡ 123

@@ -15,10 +15,6 @@ pub trait Column: Sized + Drop {
     // That it keeps its rule.
     ghost keeps: { Self → Type 0 };
 
-    /// Its cell.
-    fn cell(&self) -> Cell<'_>
-        ensures { held result ≡ cell_of self.now };
-
     /// The value that keeps its rule and whose cell this is, if there is one.
     fn of_cell(told: &Cell<'_>) -> Option<Self>
         ensures { IsFound (λ value. keeps value × (cell_of value ≡ held told.now)) result };
@@ -35,13 +31,6 @@ impl<C: Column> Column for Option<C> {
     ghost cell_of = { cell_or_nothing C.cell_of };
 
     ghost keeps = { KeepsIfAny C.keeps C.cell_of };
-
-    fn cell(&self) -> Cell<'_> {
-        match self {
-            Some(value) => value.cell(),
-            None => Cell::Nothing,
-        }
-    }
 
     fn of_cell(told: &Cell<'_>) -> Option<Option<C>> {
         match told {

@@ -11,10 +11,6 @@ impl Column for u64 {
 
     ghost keeps = { λ n. n < 2 ^ 64 };
 
-    fn cell(&self) -> Cell<'_> {
-        Cell::Number(*self)
-    }
-
     fn of_cell(told: &Cell<'_>) -> Option<u64> {
         match told {
             Cell::Number(number) => Some(*number),
@@ -32,10 +28,6 @@ impl Column for u32 {
     ghost cell_of = { number };
 
     ghost keeps = { λ n. n < 2 ^ 32 };
-
-    fn cell(&self) -> Cell<'_> {
-        Cell::Number(u64::from(*self))
-    }
 
     fn of_cell(told: &Cell<'_>) -> Option<u32> {
         match told {

@@ -1,30 +1,13 @@
 //! Records in objects of JSON, whose members stand in whatever order.
 
-ghost use Rattle.std.specs.Prelude.{◌≡◌, ◌≢◌, ◌↔◌, IsTrue, MatchOption, Some, length, map};
+ghost use Rattle.std.specs.Prelude.{◌≡◌, ◌≢◌, ◌↔◌, IsTrue, MatchOption, Some};
 ghost use Rattle.serde_json.specs.Find.{get};
 ghost use Rattle.serde_json.specs.View.{view};
 ghost use Rattle.records.specs.Cell.{Held, held};
-ghost use Rattle.records.specs.Column.{IsNamed};
-ghost use Rattle.records.specs.Front.{IsFound};
-ghost use Rattle.records.specs.Json.{HasMemberCount, IsObject, cell_data};
-ghost use Rattle.records.specs.Record.{now};
+ghost use Rattle.records.specs.Json.{HasMemberCount, cell_data};
 
 use crate::cell::Cell;
-use crate::columns::Columns;
 use serde_json::Value;
-
-/// The values that an object of JSON tells: exactly where it has the members of values that keep
-/// their rules, with a name for each, and no others.
-pub fn read_object<T: Columns>(value: &Value, names: &[&str]) -> Option<T>
-    ensures { IsFound (λ values. IsNamed T.keep T.cells_of (map now names.now) values
-        × IsObject (view value.now) (map now names.now) (T.cells_of values)) result }
-{
-    if has_count(value, names.len()) {
-        T::find_members(value, names)
-    } else {
-        None
-    }
-}
 
 /// Whether a value is an object with so many members.
 pub fn has_count(value: &Value, count: usize) -> bool

@@ -1,9 +1,6 @@
 ghost use Rattle.std.specs.Prelude.{◌≡◌, IfOk, IfSome, Some};
 
-use crate::{
-    Cell, Columns, is_plain, put_list, put_record, put_values, read_front, read_list, read_page,
-    read_whole, record_law,
-};
+use crate::{Cell, Columns, is_plain, put_record, read_front, read_whole, record_law};
 use arrayvec::ArrayVec;
 use serde_json::Value;
 use std::alloc::{AllocError, Global};
@@ -29,7 +26,7 @@ fn told_back(alloc: Global, shift: u32) -> Result<Option<(u32, ())>, AllocError>
     record_law();
     <(u32, ())>::columns_law();
     let mut text = Vec::new(alloc);
-    put_values(&mut text, &SHIFT, &(shift, ()))?;
+    put_record(&mut text, &SHIFT, &[Cell::Number(u64::from(shift))])?;
     Ok(read_whole::<(u32, ())>(&text, &SHIFT))
 }
 
@@ -39,7 +36,7 @@ fn json_of(alloc: Global, shift: u32) -> Option<u64>
 {
     record_law();
     let mut text = Vec::new(alloc);
-    let Ok(()) = put_values(&mut text, &SHIFT, &(shift, ())) else {
+    let Ok(()) = put_record(&mut text, &SHIFT, &[Cell::Number(u64::from(shift))]) else {
         return None;
     };
     let Ok(value) = Value::from_slice(alloc, &text) else {
@@ -156,24 +153,5 @@ fn reads_each_kind(rt: HostRuntime) -> Result<(), Fail> {
     assert_eq!(rt; rest, b" more".as_slice());
     assert!(rt; is_plain(b"A-1"));
     assert!(rt; !is_plain(b"a\\b"));
-    Ok(())
-}
-
-#[test]
-fn reads_lists(rt: HostRuntime) -> Result<(), Fail> {
-    let mut text = Vec::new(rt.alloc());
-    put_list(&mut text, &SHIFT, &[(1u32, ()), (2u32, ())])?;
-    assert_eq!(rt;
-        text.as_slice(),
-        b"[{\"shift\":1},{\"shift\":2}]".as_slice()
-    );
-    let (items, rest) = read_list::<(u32, ())>(rt.alloc(), &text, &SHIFT)?.ok_or("a list")?;
-    assert_eq!(rt; items.as_slice(), [(1u32, ()), (2u32, ())].as_slice());
-    assert!(rt; rest.is_empty());
-    let page = b"{\"shifts\":[]}";
-    let none = read_page::<(u32, ())>(rt.alloc(), page.as_slice(), "shifts", &SHIFT)?;
-    assert_eq!(rt; none.ok_or("a page")?.len(), 0);
-    let other = read_page::<(u32, ())>(rt.alloc(), page.as_slice(), "sales", &SHIFT)?;
-    assert!(rt; other.is_none());
     Ok(())
 }

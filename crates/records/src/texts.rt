@@ -16,10 +16,6 @@ impl<const MOST: usize> Column for ArrayVec<u8, MOST> {
 
     ghost keeps = { λ value. IsPlain value.items × (length value.items ≤ MOST) };
 
-    fn cell(&self) -> Cell<'_> {
-        Cell::Text(self.as_slice())
-    }
-
     fn of_cell(told: &Cell<'_>) -> Option<ArrayVec<u8, MOST>> {
         match told {
             Cell::Text(bytes) => plain_text(bytes),

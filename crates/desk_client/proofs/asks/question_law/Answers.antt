@@ -4,12 +4,12 @@ use Rattle.desk_client.proofs.asks.question_law.Goals as goal
 
 pub returns-clause-sent : goal.returns-clause-sent
 returns-clause-sent c =
-    is_sent (record { word = day_word c.calendar_law.ensures.each_moment c.calendar_law.ensures.ranges; reads = c.list_law.ensures.days })
+    is_sent (record { word = day_word c.calendar_law.ensures.each_moment c.calendar_law.ensures.ranges; reads = c.day_text_law.ensures.days })
 
 pub returns-clause-means : goal.returns-clause-means
 returns-clause-means c =
-    means (record { word = day_word c.calendar_law.ensures.each_moment c.calendar_law.ensures.ranges; reads = c.list_law.ensures.days })
+    means (record { word = day_word c.calendar_law.ensures.each_moment c.calendar_law.ensures.ranges; reads = c.day_text_law.ensures.days })
 
 pub returns-clause-outside : goal.returns-clause-outside
 returns-clause-outside c =
-    means_none (record { word = day_word c.calendar_law.ensures.each_moment c.calendar_law.ensures.ranges; reads = c.list_law.ensures.days })
+    means_none (record { word = day_word c.calendar_law.ensures.each_moment c.calendar_law.ensures.ranges; reads = c.day_text_law.ensures.days })

@@ -1,6 +1,6 @@
 use Rattle.std.proofs.Common.{◌≡◌, map, take}
 use Rattle.std.specs.List.{concat}
-use Rattle.desk_client.specs.Text.{now}
+use Rattle.records.specs.Record.{now}
 use Rattle.desk_client.proofs.question.joined.Given as goal
 
 -- the pieces so far

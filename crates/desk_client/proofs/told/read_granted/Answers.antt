@@ -1,13 +1,14 @@
 use Rattle.std.proofs.Common.{◌≡◌, ◌∙◌, ℕ, List}
 use Rattle.book_tables.specs.declared.row.totals.Totals.{Totals}
 use Rattle.desk_client.specs.Told.{IsAnswer, granted_text, wanted_of}
-use Rattle.desk_client.specs.Totals.{IsToldTotals, totals_as_read}
+use Rattle.desk_messages.specs.reply.Records.{totals_text}
+use Rattle.desk_client.specs.Totals.{IsToldTotals}
 use Rattle.desk_client.specs.declared.told.Granted.{Granted}
 use Rattle.desk_client.specs.declared.told.Granted.TheVariants as granted
 use Rattle.desk_client.specs.declared.told.Wanted.TheVariants as wanted
 use Rattle.desk_client.proofs.told.read_granted.Goals as goal
 
-no_totals : (text : List ℕ) → ((found : ℕ × Totals) → ¬ (IsToldTotals found.0 found.1 × (text ≡ totals_as_read found.0 found.1)))
+no_totals : (text : List ℕ) → ((found : ℕ × Totals) → ¬ (IsToldTotals found.0 found.1 × (text ≡ totals_text found.0 found.1)))
     → (g : Granted) → wanted_of g ≡ wanted.Totals → ¬ (IsAnswer g × (text ≡ granted_text g))
 no_totals text none granted.Done is h = cc
 no_totals text none (granted.Imported n) is h = cc
