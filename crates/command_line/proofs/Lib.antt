@@ -3,4 +3,3 @@ pub mod DescriptionLemmas
 pub mod DeskLemmas
 pub mod LineLemmas
 pub mod SayLemmas
-pub mod SyncsLemmas

@@ -237,6 +237,7 @@ goes_on (x ∷ a) (y ∷ b) more rest e =
 pub begins_there : (start : Start) (input text : List ℕ) → text ≡ start_text start → HasFront input text → BeginsAs input start
 begins_there start input text is (rest, there) = ([], rest, append-nil input ∙ there ∙ ap (λ (t : List ℕ). t ++ rest) is)
 
+-- and so does one that the start begins with
 pub begins_within : (start : Start) (input text : List ℕ) → text ≡ start_text start → HasFront text input → BeginsAs input start
 begins_within start input text is (rest, there) = (rest, [], sym there ∙ is ∙ sym (append-nil (start_text start)))
 
