@@ -23,13 +23,13 @@ use Rattle.desk_client.specs.Alike.{GrantAlike, TellAlike}
 use Rattle.desk_client.specs.Refusal.{IsCause, IsRowCause}
 use Rattle.desk_client.specs.Reply.{IsRefusing, IsReply}
 use Rattle.desk_client.specs.Start.{category_start}
-use Rattle.desk_client.specs.Told.{IsAnswer, IsTellable, IsTellableRefusal, granted_start, granted_text, told_start, told_text, wanted_of}
+use Rattle.desk_client.specs.Told.{IsAnswer, IsGrantOf, IsTellable, IsTellableRefusal, granted_text, start_of, told_start, told_text}
 use Rattle.desk_client.specs.declared.told.Granted.{Granted}
 use Rattle.desk_client.specs.declared.told.Granted.TheVariants as granted
 use Rattle.desk_client.specs.declared.told.Told.{Told}
 use Rattle.desk_client.specs.declared.told.Told.TheVariants as told
-use Rattle.desk_client.specs.declared.told.Wanted.{Wanted}
-use Rattle.desk_client.specs.declared.told.Wanted.TheVariants as wanted
+use Rattle.asks.specs.declared.endpoint.Grants.{Grants}
+use Rattle.asks.specs.declared.endpoint.Grants.TheVariants as wanted
 use Rattle.desk_client.proofs.CellLemmas.{same_count}
 use Rattle.desk_client.proofs.HeadLemmas.{one_head}
 use Rattle.desk_client.proofs.RecordLemmas.{meter_held, meter_keep, quote_held, quote_keep, sale_held, sale_keep, totals_held, totals_keep}
@@ -45,20 +45,26 @@ pub record ColumnLaws : Type 0 where
   pub quote : AreColumns quote_keep quote_held
   pub totals : AreColumns totals_keep totals_held
 
--- what answers one question by one text is one thing
-same_granted : ColumnLaws → (g h : Granted) → IsAnswer g → IsAnswer h → wanted_of g ≡ wanted_of h
+-- two things that are granted where one thing is wanted are told by one text
+same_granted : ColumnLaws → (asked : Grants) (g h : Granted) → IsAnswer g → IsAnswer h → IsGrantOf asked g → IsGrantOf asked h
     → granted_text g ≡ granted_text h → GrantAlike g h
-same_granted laws granted.Done granted.Done is are kind e = tt
-same_granted laws (granted.Imported m) (granted.Imported n) is are kind e = same_count (codes "added") m n (omega (arith, is)) (omega (arith, are)) e
-same_granted laws (granted.Withdrawn m) (granted.Withdrawn n) is are kind e = same_count (codes "withdrawn") m n (omega (arith, is)) (omega (arith, are)) e
-same_granted laws (granted.Shift m) (granted.Shift n) is are kind e = same_count (codes "shift") m n (omega (arith, is.most)) (omega (arith, are.most)) e
-same_granted laws (granted.Sale s) (granted.Sale t) is are kind e = same_sale laws.sale s t is are e
-same_granted laws (granted.Meter m) (granted.Meter n) is are kind e = same_meter laws.meter m n is are e
-same_granted laws (granted.Quote p) (granted.Quote q) is are kind e = same_quote laws.quote p q is are e
-same_granted laws (granted.Totals m t) (granted.Totals n u) is are kind e = same_totals laws.totals m n t u is are e
-same_granted laws (granted.Paper text) (granted.Paper other) is are kind e = e
-same_granted laws (granted.Page text) (granted.Page other) is are kind e = e
-same_granted laws g h is are kind e = cc
+same_granted laws wanted.Done granted.Done granted.Done is are one other e = tt
+same_granted laws wanted.Imported (granted.Imported m) (granted.Imported n) is are one other e =
+    same_count (codes "added") m n (omega (arith, is)) (omega (arith, are)) e
+same_granted laws wanted.Withdrawn (granted.Withdrawn m) (granted.Withdrawn n) is are one other e =
+    same_count (codes "withdrawn") m n (omega (arith, is)) (omega (arith, are)) e
+same_granted laws wanted.Shift (granted.Shift m) (granted.Shift n) is are one other e =
+    same_count (codes "shift") m n (omega (arith, is.most)) (omega (arith, are.most)) e
+same_granted laws wanted.Sale (granted.Sale s) (granted.Sale t) is are one other e = same_sale laws.sale s t is are e
+same_granted laws wanted.Meter (granted.Meter m) (granted.Meter n) is are one other e = same_meter laws.meter m n is are e
+same_granted laws wanted.Quote (granted.Quote p) (granted.Quote q) is are one other e = same_quote laws.quote p q is are e
+same_granted laws wanted.Totals (granted.Totals m t) (granted.Totals n u) is are one other e = same_totals laws.totals m n t u is are e
+same_granted laws wanted.Paper (granted.Paper text) (granted.Paper paper) is are one other e = e
+same_granted laws wanted.Tariffs (granted.Page text) (granted.Page page) is are one other e = e
+same_granted laws wanted.Meters (granted.Page text) (granted.Page page) is are one other e = e
+same_granted laws wanted.Shifts (granted.Page text) (granted.Page page) is are one other e = e
+same_granted laws wanted.Sales (granted.Page text) (granted.Page page) is are one other e = e
+same_granted laws asked g h is are one other e = cc
 
 -- ---- what is refused
 
@@ -138,30 +144,30 @@ not_clock r = clock_is_no_kind r (kind_of r)
 
 -- ---- what is told
 
-grant_refuses_not : (w : Wanted) → ¬ IsRefusing (granted_start w)
-grant_refuses_not wanted.Paper h = h
-grant_refuses_not w h = h
+grant_refuses_not : (g : Granted) → ¬ IsRefusing (start_of g)
+grant_refuses_not (granted.Paper text) h = h
+grant_refuses_not g h = h
 
 refusal_refuses : (c : Category) → IsRefusing (category_start c)
 refusal_refuses (categories.UnfitRow row cause) = tt
 refusal_refuses c = tt
 
-alike_by_text : ColumnLaws → (asked : Wanted) (t u : Told) → IsTellable asked t → IsTellable asked u
+alike_by_text : ColumnLaws → (asked : Grants) (t u : Told) → IsTellable asked t → IsTellable asked u
     → told_start t ≡ told_start u → told_text t ≡ told_text u → TellAlike t u
-alike_by_text laws asked (told.Granted g) (told.Granted h) is are start text = same_granted laws g h is.0 are.0 (is.1 ∙ sym are.1) text
+alike_by_text laws asked (told.Granted g) (told.Granted h) is are start text = same_granted laws asked g h is.0 are.0 is.1 are.1 text
 alike_by_text laws asked (told.Granted g) (told.Refused r) is are start text =
-    grant_refuses_not (wanted_of g) (subst IsRefusing (sym start) (refusal_refuses (refusal_category r)))
-alike_by_text laws asked (told.Granted g) told.NoMoment is are start text = grant_refuses_not (wanted_of g) (subst IsRefusing (sym start) tt)
+    grant_refuses_not g (subst IsRefusing (sym start) (refusal_refuses (refusal_category r)))
+alike_by_text laws asked (told.Granted g) told.NoMoment is are start text = grant_refuses_not g (subst IsRefusing (sym start) tt)
 alike_by_text laws asked (told.Refused r) (told.Granted g) is are start text =
-    grant_refuses_not (wanted_of g) (subst IsRefusing start (refusal_refuses (refusal_category r)))
+    grant_refuses_not g (subst IsRefusing start (refusal_refuses (refusal_category r)))
 alike_by_text laws asked (told.Refused r) (told.Refused s) is are start text = same_refused r s is are text
 alike_by_text laws asked (told.Refused r) told.NoMoment is are start text = not_clock r text
-alike_by_text laws asked told.NoMoment (told.Granted g) is are start text = grant_refuses_not (wanted_of g) (subst IsRefusing start tt)
+alike_by_text laws asked told.NoMoment (told.Granted g) is are start text = grant_refuses_not g (subst IsRefusing start tt)
 alike_by_text laws asked told.NoMoment (told.Refused r) is are start text = not_clock r (sym text)
 alike_by_text laws asked told.NoMoment told.NoMoment is are start text = tt
 
 -- what one text tells is one thing
-pub alike : ColumnLaws → (asked : Wanted) (text : List ℕ) (t u : Told) → IsReply asked text t → IsReply asked text u
+pub alike : ColumnLaws → (asked : Grants) (text : List ℕ) (t u : Told) → IsReply asked text t → IsReply asked text u
     → TellAlike t u
 alike laws asked text t u h k =
     let same = one_head (told_start t) (told_start u) (length (told_text t)) (length (told_text u)) h.dated k.dated (told_text t) (told_text u)

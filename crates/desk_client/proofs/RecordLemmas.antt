@@ -14,7 +14,7 @@ use Rattle.records.specs.Record.{record_text}
 use Rattle.records.proofs.MemberLemmas.{one_value}
 use Rattle.desk_messages.specs.reply.Records.{some_number}
 use Rattle.desk_messages.specs.reply.Records as replies
-use Rattle.desk_messages.specs.route.Route.{IsTargetNumber}
+use Rattle.asks.specs.Value.{IsTargetNumber}
 use Rattle.sts_fields.specs.Amount.{IsRepresentable}
 use Rattle.sts_fields.specs.Base.{year_of}
 use Rattle.sts_fields.specs.Moment.{IsMoment}

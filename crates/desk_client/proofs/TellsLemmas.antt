@@ -37,7 +37,7 @@ use Rattle.desk_client.specs.declared.told.Granted.{Granted}
 use Rattle.desk_client.specs.declared.told.Granted.TheVariants as granted
 use Rattle.desk_client.specs.declared.told.Told.{Told}
 use Rattle.desk_client.specs.declared.told.Told.TheVariants as told
-use Rattle.desk_client.specs.declared.told.Wanted.{Wanted}
+use Rattle.asks.specs.declared.endpoint.Grants.{Grants}
 
 -- ---- heads
 
@@ -201,7 +201,7 @@ module _ (dated : Option ℕ) where
   says (outcomes.Found form (Err refusal)) t tellable h = refused_says refusal t h
 
 -- where a text is a reply, it is read as a whole one
-pub is_whole : (asked : Wanted) (text : List ℕ) (t : Told) (reading : Reading) → IsReply asked text t → IsReplyReading asked text reading
+pub is_whole : (asked : Grants) (text : List ℕ) (t : Told) (reading : Reading) → IsReply asked text t → IsReplyReading asked text reading
     → (read : Told) × (reading ≡ readings.Whole read) × IsReply asked text read
 is_whole asked text t (readings.Whole read) reply h = (read, refl, h)
 is_whole asked text t readings.NeedHead reply h = absurd (h.1 t reply)
@@ -228,7 +228,7 @@ given_dated dates (Some (pos n)) = by (nat_le first_moment n && nat_le n last_mo
 
 -- a reply that is not too long is one that is read
 pub is_reply : ((moment : ℕ) → IsMoment moment → IsDateAt moment (http_date moment))
-    → (asked : Wanted) (now : Option ℤ) (outcome : Outcome) (t : Told) → Tells outcome t → IsTellable asked t
+    → (asked : Grants) (now : Option ℤ) (outcome : Outcome) (t : Told) → Tells outcome t → IsTellable asked t
     → length (told_text t) ≤ longest_reply_body → IsReply asked (reply_bytes_of (moment_given now) outcome false) t
 is_reply dates asked now outcome t h tellable few =
     record {

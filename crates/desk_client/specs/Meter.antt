@@ -1,7 +1,7 @@
 -- The meters that replies tell.
 use Rattle.std.specs.Prelude.{ℕ, ◌^◌, ◌≤◌, Option, Some, None, ⊤}
 use Rattle.book_states.specs.declared.lookup.MeterSummary.{MeterSummary}
-use Rattle.desk_messages.specs.route.Route.{IsTargetNumber}
+use Rattle.asks.specs.Value.{IsTargetNumber}
 use Rattle.office_rules.specs.Name.{IsMeterNo, IsName}
 
 -- a number of a sale

@@ -1,6 +1,6 @@
 -- The sales that replies tell.
 use Rattle.std.specs.Prelude.{◌≡◌, ◌≤◌}
-use Rattle.desk_messages.specs.route.Route.{IsTargetNumber}
+use Rattle.asks.specs.Value.{IsTargetNumber}
 use Rattle.sts_fields.specs.Amount.{IsRepresentable}
 use Rattle.sts_fields.specs.Moment.{IsMoment}
 use Rattle.sts_fields.specs.Tid.{last_tid}

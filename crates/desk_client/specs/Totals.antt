@@ -1,7 +1,7 @@
 -- The running totals of shifts that replies tell.
 use Rattle.std.specs.Prelude.{ℕ, ◌*◌, ◌≤◌}
 use Rattle.book_tables.specs.declared.row.totals.Totals.{Totals}
-use Rattle.desk_messages.specs.route.Route.{IsTargetNumber}
+use Rattle.asks.specs.Value.{IsTargetNumber}
 use Rattle.sts_fields.specs.Amount.{greatest_amount}
 use Rattle.office_rules.specs.Office.{greatest_count}
 

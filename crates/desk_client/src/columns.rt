@@ -154,7 +154,7 @@ pub(crate) struct RowCell {
 
 impl Column for RowCell {
     ghost use Rattle.records.specs.Cell.{number};
-    ghost use Rattle.desk_messages.specs.route.Route.{IsTargetNumber};
+    ghost use Rattle.asks.specs.Value.{IsTargetNumber};
 
     ghost cell_of = { λ cell. number cell.of };
 

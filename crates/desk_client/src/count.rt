@@ -1,7 +1,7 @@
 ghost use Rattle.std.specs.Prelude.{◌≡◌, ◌≤◌, codes};
 ghost use Rattle.records.specs.Front.{IsFound};
 ghost use Rattle.desk_messages.specs.reply.Records.{count_text};
-ghost use Rattle.desk_messages.specs.route.Route.{IsTargetNumber};
+ghost use Rattle.asks.specs.Value.{IsTargetNumber};
 ghost use Rattle.office_rules.specs.Office.Rows.{greatest_rows};
 
 use crate::columns::RowCell;

@@ -1,7 +1,7 @@
 //! What the values of papers are: names, numbers and money.
 
 ghost use Rattle.std.specs.Prelude.{◌≡◌, decimal};
-ghost use Rattle.desk_messages.specs.route.Route.{IsTargetNumber};
+ghost use Rattle.asks.specs.Value.{IsTargetNumber};
 ghost use Rattle.records.specs.Front.{IsFound};
 ghost use Rattle.tariff.specs.Tender.{IsTender};
 ghost use Rattle.office_rules.specs.Name.{IsMeterNo, IsName, IsOperator};
