@@ -21,4 +21,4 @@ pub use law::record_law;
 pub use objects::{cell_in, has_count};
 pub use reading::read_number;
 pub use texts::is_plain;
-pub use writing::{put_name, put_record};
+pub use writing::{put_cell, put_name, put_record};

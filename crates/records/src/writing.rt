@@ -66,7 +66,7 @@ pub(crate) fn put_comma(text: &mut Vec<u8>, later: bool) -> Result<(), AllocErro
 }
 
 // Adds the text of a cell.
-pub(crate) fn put_cell(text: &mut Vec<u8>, cell: &Cell<'_>) -> Result<(), AllocError>
+pub fn put_cell(text: &mut Vec<u8>, cell: &Cell<'_>) -> Result<(), AllocError>
     ensures { OnOk result (text.new.items ≡ text.old.items ++ cell_text (held cell.now)) }
 {
     match cell {
