@@ -1,5 +1,6 @@
 pub mod AddressLemmas
-pub mod AskLemmas
 pub mod DescriptionLemmas
+pub mod DeskLemmas
 pub mod LineLemmas
 pub mod SayLemmas
+pub mod SyncsLemmas

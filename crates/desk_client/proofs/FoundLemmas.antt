@@ -3,9 +3,7 @@ use Rattle.std.proofs.Common.{◌≡◌, ◌∙◌, ℕ, zero, suc, ◌+◌, ◌
 use Rattle.std.specs.Borrow.{Bor}
 use Rattle.std.proofs.lemmas.List.{get_or-map, get_or-take, length-map, take_all}
 use Rattle.std.specs.List.{AllByRecursion}
-use Rattle.records.specs.Front.{IsFound}
-use Rattle.records.specs.Record.{now}
-use Rattle.desk_client.specs.Text.{BeginsWithStop, LackStops, woven}
+use Rattle.desk_client.specs.Text.{BeginsWithStop, IsFound, LackStops, now, woven}
 use Rattle.desk_client.proofs.ReadingLemmas.{cut_off}
 use Rattle.desk_client.proofs.WovenLemmas.{one_reading}
 

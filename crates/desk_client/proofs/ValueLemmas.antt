@@ -7,7 +7,7 @@ use Rattle.sts_fields.specs.Base.{year_of}
 use Rattle.sts_fields.specs.Moment.{IsMoment, first_moment, last_moment}
 use Rattle.sts_fields.specs.declared.base.Base.{Base}
 use Rattle.sts_fields.specs.declared.base.Base.TheVariants.{Y1993, Y2014, Y2035}
-use Rattle.records.specs.Front.{IsFound}
+use Rattle.desk_client.specs.Text.{IsFound}
 
 -- what is made of the number that a value writes, and nothing else, is what the value writes
 pub made_of : {A : Type 0} (Rule : A → Type 0) (number_of : A → ℕ) (Known : ℕ → Type 0) (value : List ℕ) (n : ℕ) (r : Option A)

@@ -1,6 +1,6 @@
 -- The text of a receipt in a reply, and what it tells.
 use Rattle.std.specs.Prelude.{◌≡◌, ℕ, ◌-◌, ◌≤◌, List, [], ◌∷◌, codes, decimal, slice_index}
-use Rattle.asks.specs.Value.{IsTargetNumber}
+use Rattle.desk_messages.specs.route.Route.{IsTargetNumber}
 use Rattle.office_rules.specs.Name.{IsMeterNo}
 use Rattle.office_rules.specs.declared.office.sale.Sale.{Sale}
 use Rattle.papers.specs.Receipt.{receipt_of}

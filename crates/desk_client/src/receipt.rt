@@ -5,14 +5,12 @@ ghost use Rattle.papers.specs.Text.{kwh_text};
 ghost use Rattle.sts_fields.specs.Amount.{IsRepresentable};
 ghost use Rattle.sts_token.specs.Token.{AreTwentyDigits};
 ghost use Rattle.desk_client.specs.Receipt.{AreMoney, AreReceiptOf, IsReceiptOf, spaced};
-ghost use Rattle.records.specs.Front.{IsFound};
-ghost use Rattle.records.specs.Record.{now};
+ghost use Rattle.desk_client.specs.Text.{IsFound, now};
 
 use crate::answers::is_of_class_zero;
-use crate::columns::are_digits;
 use crate::text::{Values, read_values, small_number};
 use crate::time::time_of;
-use crate::values::{row_number_of, tender_of};
+use crate::values::{are_digits, row_number_of, tender_of};
 use office_rules::MeterNo;
 use sts_fields::{Amount, amount_law, calendar_law};
 

@@ -3,8 +3,8 @@
 -- and has no clock.
 use Rattle.std.specs.Prelude.{◌⊎◌, ◌<◌, ◌≤◌, ℕ, Bool, false, List, [], length}
 use Rattle.std.specs.Borrow.{Bor}
-use Rattle.asks.specs.declared.lookup.Lookup.TheVariants as lookups
 use Rattle.book_states.specs.declared.lookup.Found.TheVariants as found
+use Rattle.book_states.specs.declared.lookup.Lookup.TheVariants as lookups
 use Rattle.conversation.specs.message.Framing.{longest_body}
 use Rattle.desk_client.specs.Answers.{IsReplyTo}
 use Rattle.desk_client.specs.Question.{question_text}

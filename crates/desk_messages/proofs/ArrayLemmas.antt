@@ -1,9 +1,14 @@
--- The texts of steps, step by step.
-use Rattle.std.proofs.Common.{◌≡◌, ◌∙◌, ℕ, ◌+◌, ◌<◌, ◌≤◌, Bool, true, false, List, [], ◌∷◌, ◌++◌, drop, get_or, length, refl, ap, sym, append_assoc}
+-- The texts of arrays and of steps, element by element.
+use Rattle.std.proofs.Common.{◌≡◌, ◌∙◌, ℕ, ◌+◌, ◌<◌, ◌≤◌, Bool, true, false, List, [], ◌∷◌, ◌++◌, drop, get_or, length, map, refl, ap, sym, append_assoc}
 use Rattle.std.specs.Prelude.{if◌then◌else◌}
+use Rattle.std.specs.List.{join_with_byte}
 use Rattle.std.proofs.lemmas.List.{append-nil, drop_all, drop_more}
+use Rattle.serde_json.specs.Data.{Data}
+use Rattle.serde_json.specs.Written.{comma_if, compact_text, items_text}
 use Rattle.tariff.specs.StepsText.{step_text, steps_text}
 use Rattle.tariff.specs.declared.step.Step.{Step}
+use Rattle.desk_messages.specs.reply.Lists.{comma}
+use Rattle.desk_messages.specs.reply.Members.{array_of, items_of}
 
 -- a part and its separator, between what was there and what is still to come
 between : (old separator part rest with_separator with_part whole : List ℕ) → with_separator ≡ old ++ separator → with_part ≡ with_separator ++ part
@@ -13,6 +18,36 @@ between old separator part rest with_separator with_part whole e f is =
     ∙ append_assoc (old ++ separator) part rest
     ∙ append_assoc old separator (part ++ rest)
     ∙ is
+
+-- ---- arrays
+
+-- what is still to be added to the text of an array, its bracket too
+abbrev pub elements_rest : {X : Type 0} → (X → Data) → Bool → List X → List ℕ
+elements_rest value later xs = items_text later (items_of (map value xs))
+
+-- an element is added
+pub element_more : {X : Type 0} (value : X → Data) (later : Bool) (xs : List X) (i : ℕ) (x : X) (old a b whole : List ℕ) → i < length xs
+    → x ≡ get_or xs i x → a ≡ old ++ comma_if later → b ≡ a ++ compact_text (value x)
+    → old ++ elements_rest value later (drop i xs) ≡ whole → b ++ elements_rest value true (drop (i + 1) xs) ≡ whole
+element_more value later xs i x old a b whole inside here e f is =
+    let more = drop (i + 1) xs in
+    let cut = drop_more xs i x inside ∙ ap (λ y. y ∷ more) (sym here) in
+    between old (comma_if later) (compact_text (value x)) (elements_rest value true more) a b whole e f
+    (sym (ap (λ ys. old ++ elements_rest value later ys) cut) ∙ is)
+
+-- the bracket stands in front of all of them
+pub elements_begun : {X : Type 0} (value : X → Data) (xs : List X) (old text : List ℕ) → text ≡ old ++ 91 ∷ []
+    → text ++ elements_rest value false xs ≡ old ++ compact_text (array_of (map value xs))
+elements_begun value xs old text e =
+    ap (λ front. front ++ elements_rest value false xs) e ∙ append_assoc old (91 ∷ []) (elements_rest value false xs)
+
+-- the bracket is added behind the last one
+pub elements_done : {X : Type 0} (value : X → Data) (later : Bool) (xs : List X) (i : ℕ) (old new whole : List ℕ) → length xs ≤ i
+    → new ≡ old ++ 93 ∷ [] → old ++ elements_rest value later (drop i xs) ≡ whole → new ≡ whole
+elements_done value later xs i old new whole past e is =
+    e ∙ sym (ap (λ ys. old ++ elements_rest value later ys) (drop_all i xs past)) ∙ is
+
+-- ---- steps
 
 -- what is still to be added to the text of steps
 abbrev pub steps_rest : Bool → List Step → List ℕ
@@ -52,3 +87,17 @@ pub steps_done : (later : Bool) (steps : List Step) (i : ℕ) (old whole : List 
 steps_done later steps i old whole past is =
     sym (append-nil old) ∙ ap (λ text. old ++ text) (sym (steps_rest-nil later))
     ∙ sym (ap (λ ys. old ++ steps_rest later ys) (drop_all i steps past)) ∙ is
+
+-- ---- the text of a list, written out
+
+-- the texts of the items, with commas between them, and the bracket
+items-joined : (d : Data) (ds : List Data) → items_text false (items_of (d ∷ ds)) ≡ join_with_byte comma (map compact_text (d ∷ ds)) ++ 93 ∷ []
+items-joined d [] = refl
+items-joined d (e ∷ ds) =
+    ap (λ (text : List ℕ). compact_text d ++ 44 ∷ text) (items-joined e ds)
+    ∙ sym (append_assoc (compact_text d) (44 ∷ join_with_byte comma (map compact_text (e ∷ ds))) (93 ∷ []))
+
+-- the text of an array is those of its elements, with commas between them, in brackets
+pub array-text : (ds : List Data) → compact_text (array_of ds) ≡ 91 ∷ (join_with_byte comma (map compact_text ds) ++ 93 ∷ [])
+array-text [] = refl
+array-text (d ∷ ds) = ap (λ (text : List ℕ). 91 ∷ text) (items-joined d ds)

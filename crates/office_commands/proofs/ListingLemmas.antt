@@ -8,9 +8,9 @@ use Rattle.sqlite.specs.State.{HasCleanDisk}
 use Rattle.book_facts.specs.Lookups.{Finds}
 use Rattle.book_facts.specs.LookupsSeen.{FindsSeen, IsFoundSeen}
 use Rattle.book_facts.specs.LookupsSpoilt.{LookupSpoilt}
-use Rattle.asks.specs.declared.lookup.Lookup.{Lookup}
 use Rattle.book_states.specs.declared.lookup.Found.{Found}
 use Rattle.book_states.specs.declared.lookup.Health.{Health}
+use Rattle.book_states.specs.declared.lookup.Lookup.{Lookup}
 use Rattle.books.specs.Keeps.{BooksHaveTables, Represents, Seen}
 use Rattle.books.specs.Looking.{IsFoundAt}
 use Rattle.command_line.specs.declared.commands.list.Listed.{Listed}

@@ -10,10 +10,10 @@ use Rattle.sqlite.proofs.MarkLemmas.{slice_get-take}
 use Rattle.book_tables.proofs.ListLemmas.{after_numbered}
 use Rattle.book_lists.specs.Pages.{page_size}
 use Rattle.book_facts.specs.Lookups.{Finds, listed_shift}
-use Rattle.asks.specs.declared.lookup.Lookup.TheVariants as lookups
 use Rattle.book_states.specs.declared.lookup.Found.{Found}
 use Rattle.book_states.specs.declared.lookup.Found.TheVariants as found
 use Rattle.book_states.specs.declared.lookup.ListedShift.{ListedShift}
+use Rattle.book_states.specs.declared.lookup.Lookup.TheVariants as lookups
 use Rattle.command_line.specs.declared.commands.list.Listed.{Listed}
 use Rattle.command_line.specs.declared.commands.list.Listed.TheVariants as listed
 use Rattle.papers.specs.Export.{export_of}

@@ -6,10 +6,10 @@
 use Rattle.std.specs.Prelude.{◌≡◌, ◌⊎◌, ⊤, ℕ, ℤ, pos, Bool, false, List, [], ◌∷◌, Option, Some}
 use Rattle.std.specs.Prelude.{Contains, Result, Ok, Err}
 use Rattle.std.specs.List.{flat_map}
-use Rattle.asks.specs.declared.lookup.Lookup.{Lookup}
-use Rattle.asks.specs.declared.lookup.Lookup.TheVariants as lookups
 use Rattle.book_states.specs.declared.lookup.Found.{Found}
 use Rattle.book_states.specs.declared.lookup.Found.TheVariants as found
+use Rattle.book_states.specs.declared.lookup.Lookup.{Lookup}
+use Rattle.book_states.specs.declared.lookup.Lookup.TheVariants as lookups
 use Rattle.book_tables.specs.declared.row.totals.Totals.{Totals}
 use Rattle.books.specs.Looking.{IsFoundAt}
 use Rattle.conversation.specs.Exchanges.{MessageExchange, Timed, timed}

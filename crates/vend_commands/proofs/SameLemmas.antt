@@ -8,8 +8,8 @@ use Rattle.sqlite_trees.specs.declared.store.Store.{Ghosts}
 use Rattle.audit.specs.declared.audited.Audited.{Audited}
 use Rattle.audit_rows.specs.declared.finding.AuditFault.{AuditFault}
 use Rattle.audit_rows.specs.declared.finding.AuditFault.TheVariants.{Failed, Found, NoOffice}
-use Rattle.asks.specs.declared.lookup.Lookup.{Lookup}
 use Rattle.book_states.specs.declared.lookup.Found.{Found as WhatIsFound}
+use Rattle.book_states.specs.declared.lookup.Lookup.{Lookup}
 use Rattle.books.specs.Keeps.{Seen}
 use Rattle.book_tables.specs.declared.row.totals.Totals.{Totals}
 use Rattle.sts_fields.specs.Text.{Text}

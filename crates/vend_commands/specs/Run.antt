@@ -14,7 +14,7 @@ use Rattle.command_line.specs.Transform.{forward_of}
 use Rattle.office_commands.specs.commands.Asked.{IsAskedAt}
 use Rattle.desk_commands.specs.AskedOfDesk.{IsAskedOfDesk}
 use Rattle.office_commands.specs.commands.Audited.{IsAudited}
-use Rattle.asks.specs.declared.lookup.Lookup.TheVariants as lookups
+use Rattle.book_states.specs.declared.lookup.Lookup.TheVariants as lookups
 use Rattle.office_commands.specs.commands.Imported.{IsFileImported}
 use Rattle.office_commands.specs.commands.LookedUp.{IsShown, lookup_of}
 use Rattle.vend_commands.specs.serving.Listening.{IsServedTo}

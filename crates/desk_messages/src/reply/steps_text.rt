@@ -4,8 +4,7 @@ ghost use Rattle.std.specs.Prelude.{◌≡◌, ◌++◌, OnOk};
 ghost use Rattle.tariff.specs.Steps.{IsSteps};
 ghost use Rattle.tariff.specs.StepsText.{end_text, step_text, steps_text};
 
-use crate::reply::array::put_between;
-use records::{Cell, put_cell};
+use crate::reply::array::{put_between, put_number};
 use std::alloc::AllocError;
 use tariff::{Step, Steps};
 
@@ -32,7 +31,7 @@ fn put_step(text: &mut Vec<u8>, step: &Step) -> Result<(), AllocError>
 {
     put_end(text, step.ends)?;
     text.extend_from_slice(b":")?;
-    put_cell(text, &Cell::Number(u64::from(step.price)))
+    put_number(text, u64::from(step.price))
 }
 
 // Adds an upper end, or nothing where there is none.
@@ -40,7 +39,7 @@ fn put_end(text: &mut Vec<u8>, end: Option<u32>) -> Result<(), AllocError>
     ensures { OnOk result (text.new.items ≡ text.old.items ++ end_text end) }
 {
     match end {
-        Some(end) => put_cell(text, &Cell::Number(u64::from(end))),
+        Some(end) => put_number(text, u64::from(end)),
         None => Ok(()),
     }
 }

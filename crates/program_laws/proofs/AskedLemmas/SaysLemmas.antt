@@ -22,9 +22,9 @@ use Rattle.office_rules.specs.declared.office.row.Row.{Row}
 use Rattle.office_rules.specs.declared.office.sale.Sale.{Sale}
 use Rattle.vend_core.specs.Law.Life.{IsLife, Life, present}
 use Rattle.vend_core.specs.Law.LifeLaws.{extended_by}
-use Rattle.asks.specs.declared.lookup.Lookup.{Lookup}
-use Rattle.asks.specs.declared.lookup.Lookup.TheVariants as lookups
 use Rattle.book_states.specs.declared.lookup.Found.{Found}
+use Rattle.book_states.specs.declared.lookup.Lookup.{Lookup}
+use Rattle.book_states.specs.declared.lookup.Lookup.TheVariants as lookups
 use Rattle.books.specs.Looking.{IsFoundAt}
 use Rattle.conversation.specs.Exchanges.{MessageExchange, Timed, timed}
 use Rattle.conversation.specs.message.Messages.{Message}

@@ -20,10 +20,10 @@ use Rattle.office_rules.specs.declared.office.sale.Sale.{Sale}
 use Rattle.vend_core.specs.Law.Life.{Exchange, HandsOut, IsLife, Life, acknowledged, present}
 use Rattle.vend_core.specs.Law.LifeLaws.{extended_by}
 use Rattle.book_facts.specs.Lookups.{sale_found}
-use Rattle.asks.specs.declared.lookup.Lookup.{Lookup}
-use Rattle.asks.specs.declared.lookup.Lookup.TheVariants as lookups
 use Rattle.book_states.specs.declared.lookup.Found.{Found}
 use Rattle.book_states.specs.declared.lookup.Found.TheVariants as found
+use Rattle.book_states.specs.declared.lookup.Lookup.{Lookup}
+use Rattle.book_states.specs.declared.lookup.Lookup.TheVariants as lookups
 use Rattle.books.specs.Looking.{IsFoundAt}
 use Rattle.conversation.specs.Exchanges.{Timed}
 use Rattle.desk.specs.Answering.{LifeReplies}

@@ -18,9 +18,9 @@ use Rattle.office_rules.specs.declared.decision.row_cause.RowCause.{RowCause}
 use Rattle.office_rules.specs.declared.decision.row_cause.RowCause.TheVariants as causes
 use Rattle.office_rules.specs.declared.office.row.Row.{Row}
 use Rattle.book_facts.specs.Lookups.{Finds, last_sale}
-use Rattle.asks.specs.declared.lookup.Lookup.{Lookup}
-use Rattle.asks.specs.declared.lookup.Lookup.TheVariants as lookups
 use Rattle.book_states.specs.declared.lookup.Found.{Found}
+use Rattle.book_states.specs.declared.lookup.Lookup.{Lookup}
+use Rattle.book_states.specs.declared.lookup.Lookup.TheVariants as lookups
 use Rattle.books.specs.Looking.{IsFoundAt}
 use Rattle.conversation.specs.Exchanges.{Timed}
 use Rattle.desk_messages.specs.Meaning.{MessageAsks, MessageLooks, lookup_form}

@@ -37,10 +37,10 @@ use Rattle.office_rules.specs.declared.office.sale.Sale.{Sale}
 use Rattle.office_rules.specs.declared.office.shift.Shift.{Shift}
 use Rattle.book_tables.specs.Stands.{all_totals}
 use Rattle.book_facts.specs.Lookups.{Finds, FindsMeters, FindsSales, FindsShifts, FindsTariffs, last_found, last_sale, last_under, meter_found, quote_for, sale_found, sale_of_some_tid, totals_found}
-use Rattle.asks.specs.declared.lookup.Lookup.{Lookup}
-use Rattle.asks.specs.declared.lookup.Lookup.TheVariants as lookups
 use Rattle.book_states.specs.declared.lookup.Found.{Found}
 use Rattle.book_states.specs.declared.lookup.Found.TheVariants as found
+use Rattle.book_states.specs.declared.lookup.Lookup.{Lookup}
+use Rattle.book_states.specs.declared.lookup.Lookup.TheVariants as lookups
 use Rattle.books.specs.Looking.{IsFoundAt}
 use Rattle.vend_core.specs.Law.Life.{Life, present}
 use Rattle.desk_messages.specs.Meaning.{lookup_form}

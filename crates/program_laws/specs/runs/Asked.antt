@@ -16,8 +16,8 @@ use Rattle.office_rules.specs.declared.office.sale.Sale.{Sale}
 use Rattle.vend_core.specs.Law.Life.{Life}
 use Rattle.vend_core.specs.Law.LifeLaws.{opened}
 use Rattle.book_tables.specs.declared.row.totals.Totals.{Totals}
-use Rattle.asks.specs.declared.lookup.Lookup.{Lookup}
 use Rattle.book_states.specs.declared.lookup.Found.{Found}
+use Rattle.book_states.specs.declared.lookup.Lookup.{Lookup}
 use Rattle.conversation.specs.Exchanges.{Timed}
 use Rattle.conversation.specs.Run.{IsRun}
 use Rattle.conversation.specs.declared.end.End.{End}

@@ -1,8 +1,8 @@
 -- What a run read of an office, and the sales in it.
 use Rattle.std.specs.Prelude.{◌≡◌, ℕ, true, List, [], ◌∷◌, ◌++◌, Option, Some, Result, Ok, Err, Contains}
 use Rattle.std.specs.List.{flat_map}
-use Rattle.asks.specs.declared.lookup.Lookup.{Lookup}
 use Rattle.book_states.specs.declared.lookup.Found.{Found}
+use Rattle.book_states.specs.declared.lookup.Lookup.{Lookup}
 use Rattle.books.specs.Keeps.{Seen}
 use Rattle.books.specs.Looking.{IsFoundAt}
 use Rattle.command_line.specs.declared.commands.list.Listed.{Listed}

@@ -26,7 +26,7 @@ use Rattle.office_rules.specs.declared.office.row.Row.{Row}
 use Rattle.office_rules.specs.declared.office.sale.Sale.{Sale}
 use Rattle.papers.specs.Export.{export_of}
 use Rattle.papers.specs.declared.row_fault.RowFault.{RowFault}
-use Rattle.asks.specs.declared.lookup.Lookup.TheVariants as lookups
+use Rattle.book_states.specs.declared.lookup.Lookup.TheVariants as lookups
 use Rattle.book_opening.specs.declared.fault.OpenFault.{OpenFault}
 use Rattle.books.specs.Headline.{with_last}
 use Rattle.books.specs.Keeps.{Seen}

@@ -1,7 +1,7 @@
 use Rattle.std.proofs.Common.{◌≡◌, ◌∙◌, ℕ, ℤ, pos, of_z, to_z, w64, List, [], ◌∷◌, ◌++◌, Ok, ap, append-nil, inl, inr, refl, sym, subst, arith}
 use Rattle.std.proofs.lemmas.Int.{ints, to_z-of_z}
 use Rattle.sqlite.proofs.Callers.{memory_is_clean}
-use Rattle.asks.specs.declared.lookup.Lookup.TheVariants.{SaleOfRef}
+use Rattle.book_states.specs.declared.lookup.Lookup.TheVariants.{SaleOfRef}
 use Rattle.books.specs.Keeps.{seen}
 use Rattle.desk_client.specs.Question.{question_text, wanted_by}
 use Rattle.desk_client.specs.Reply.{IsReply}

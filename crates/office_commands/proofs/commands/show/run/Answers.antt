@@ -1,6 +1,6 @@
 use Rattle.std.proofs.Common.{subst}
 use Rattle.sqlite.specs.Files.{over_files}
-use Rattle.asks.specs.declared.lookup.Lookup.{Lookup}
+use Rattle.book_states.specs.declared.lookup.Lookup.{Lookup}
 use Rattle.office_commands.specs.port.Back.{is_untouched}
 use Rattle.office_commands.specs.commands.LookedUp.{IsShown}
 use Rattle.office_commands.specs.port.Places.{places_of}

@@ -2,7 +2,7 @@ use Rattle.std.proofs.Common.{Ok, Err, inl, refl, subst}
 use Rattle.book_facts.specs.Lookups.{IsOfRules}
 use Rattle.book_facts.specs.LookupsSeen.{IsFoundSeen}
 use Rattle.book_facts.specs.LookupsSpoilt.{LookupSpoilt}
-use Rattle.asks.specs.declared.lookup.Lookup.{Lookup}
+use Rattle.book_states.specs.declared.lookup.Lookup.{Lookup}
 use Rattle.books.specs.Keeps.{health_of, seen}
 use Rattle.books.specs.Looking.{IsFoundAt}
 use Rattle.desk_commands.specs.print.Pages.{page_lookup}
