@@ -12,6 +12,7 @@ use Rattle.one_table.proofs.ReadsOnlyLemmas.{fail_on}
 use Rattle.sts_fields.specs.Day.{day_at}
 use Rattle.tariff.specs.declared.step.Step.{Step}
 use Rattle.office_rules.specs.Decision.{MeterAccount}
+use Rattle.office_rules.specs.Decision.Facts.{has_other_key}
 use Rattle.office_rules.specs.Office.{Office}
 use Rattle.office_rules.specs.declared.decision.refusal.Refusal.{Refusal}
 use Rattle.office_rules.specs.declared.decision.row_facts.RowFacts.{RowFacts}
@@ -157,6 +158,12 @@ by_rules_same this = record { looks = looks_same this.looks; rules = this.rules 
 pub there_is_one : {X : Type 0} (found : Option X) → is_none found ≡ false → (P : Option X → Type 0) → P found → (x : X) × P (Some x)
 there_is_one None some P seen = absurd (false≢true (sym some))
 there_is_one (Some x) some P seen = (x, seen)
+
+-- a meter that has another key
+pub there_is_other : (key : ℕ) (found : Option Meter) → has_other_key key found ≡ true → (P : Option Meter → Type 0) → P found
+    → (m : Meter) × P (Some m) × (has_other_key key (Some m) ≡ true)
+there_is_other key None other P seen = absurd (false≢true other)
+there_is_other key (Some m) other P seen = (m, seen, other)
 
 -- nothing that is there
 pub there_is_none : {X : Type 0} (found : Option X) → is_some found ≡ false → (P : Option X → Type 0) → P found → P None

@@ -45,7 +45,7 @@ pub(crate) fn facts_of<S: Alter>(
         Request::Import(rows) => imports::import_facts(alloc, conn, rows),
         Request::SetTariff(number, name) => meters::setting_facts(conn, number, name),
         Request::MoveBase(number, _) => meters::moving_facts(conn, number),
-        Request::SetKey(number, _) => meters::key_facts(conn, number),
+        Request::SetKey(number, key) => meters::key_facts(conn, number, *key),
         Request::OpenShift(operator) => shifts::opening_facts(conn, operator),
         Request::CloseShift(operator) => shifts::closing_facts(conn, operator),
         Request::Sell(order) => { sales::sale_facts(alloc, conn, at.moment, order, sale_count) },

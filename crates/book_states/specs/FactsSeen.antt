@@ -7,7 +7,7 @@ use Rattle.sts_fields.specs.Calendar.{month_at}
 use Rattle.sts_fields.specs.Day.{day_at}
 use Rattle.tariff.specs.declared.step.Step.{Step}
 use Rattle.office_rules.specs.Decision.{MeterAccount, row_decision}
-use Rattle.office_rules.specs.Decision.Facts.{row_facts}
+use Rattle.office_rules.specs.Decision.Facts.{has_other_key, row_facts}
 use Rattle.office_rules.specs.Office.{Office}
 use Rattle.office_rules.specs.declared.decision.facts.Facts.{Facts}
 use Rattle.office_rules.specs.declared.decision.refusal.Refusal.TheVariants.{Differs}
@@ -78,10 +78,11 @@ pub record AreWithdrawalFactsSeen (name : List ℕ) (day : ℕ) (db : Database) 
     pub sold_since : f.has_tariff ≡ true → IsSome f.dated_steps
         → ShowsMade (the_sale_since day) is_some db f.sold_since
 
--- SetKey looks at the sales to the meter only where it stands
-pub record AreKeyFactsSeen (number : List ℕ) (db : Database) (f : Facts) : Type 0 where
+-- SetKey looks at the sales to the meter only where it stands and has another key
+pub record AreKeyFactsSeen (number : List ℕ) (key : ℕ) (db : Database) (f : Facts) : Type 0 where
   pub meter : ShowsFirst (the_meter number) db f.meter
-  pub has_sales : IsSome f.meter → ShowsMade (the_last_id_of number) is_some db f.has_sales
+  pub has_sales : has_other_key key f.meter ≡ true
+      → ShowsMade (the_last_id_of number) is_some db f.has_sales
 
 -- OpenShift counts the shifts only where the operator has no open one: the last number counts them
 pub record AreOpeningFactsSeen (operator : List ℕ) (db : Database) (f : Facts) : Type 0 where
@@ -166,7 +167,7 @@ AreFactsSeenOf count moment (Import rows) db f =
     (fs : List RowFacts) × (f.rows ≡ Some fs) × AreRowsSeen rows db fs
 AreFactsSeenOf count moment (SetTariff number name) db f = AreSettingFactsSeen number name db f
 AreFactsSeenOf count moment (MoveBase number base) db f = ShowsFirst (the_meter number) db f.meter
-AreFactsSeenOf count moment (SetKey number key) db f = AreKeyFactsSeen number db f
+AreFactsSeenOf count moment (SetKey number key) db f = AreKeyFactsSeen number key db f
 AreFactsSeenOf count moment (OpenShift operator) db f = AreOpeningFactsSeen operator db f
 AreFactsSeenOf count moment (CloseShift operator) db f =
     ShowsFirst (the_open_shift operator) db f.open_shift

@@ -10,6 +10,7 @@ use Rattle.sts_fields.specs.Tid.{last_tid}
 use Rattle.sts_fields.specs.declared.base.Base.{Base}
 use Rattle.tariff.specs.Cost.{greatest_prior}
 use Rattle.tariff.specs.declared.step.Step.{Step}
+use Rattle.office_rules.specs.Decision.Facts.{has_other_key}
 use Rattle.office_rules.specs.declared.decision.request.Order.{Order}
 use Rattle.office_rules.specs.declared.decision.request.Request.{Request}
 use Rattle.office_rules.specs.declared.decision.request.Request.TheVariants.{AddTariff, AddSteps}
@@ -71,9 +72,11 @@ IsWithdrawalSpoilt name day db =
     × ((steps : List Step) × AreStepsSeen (the_steps_from name day) db (Some steps))
     × HasSpoilt (the_sale_since day) db)
 
--- SetKey asks for the sales to the meter only where it stands
-abbrev pub IsKeySpoilt : List ℕ → Database → Type 0
-IsKeySpoilt number = SpoiltThen (the_meter number) (λ m. HasSpoilt (the_last_id_of number))
+-- SetKey asks for the sales to the meter only where it stands and has another key
+abbrev pub IsKeySpoilt : List ℕ → ℕ → Database → Type 0
+IsKeySpoilt number key =
+    SpoiltThen (the_meter number)
+    (λ m db. (has_other_key key (Some m) ≡ true) × HasSpoilt (the_last_id_of number) db)
 
 -- OpenShift asks for the last number only where the operator has no open shift
 abbrev pub IsOpeningSpoilt : List ℕ → Database → Type 0
@@ -153,7 +156,7 @@ IsRequestSpoilt moment (AddMeter number m) = IsMeterSpoilt number m
 IsRequestSpoilt moment (Import rows) = AreRowsSpoilt rows
 IsRequestSpoilt moment (SetTariff number name) = IsSettingSpoilt number name
 IsRequestSpoilt moment (MoveBase number base) = HasSpoilt (the_meter number)
-IsRequestSpoilt moment (SetKey number key) = IsKeySpoilt number
+IsRequestSpoilt moment (SetKey number key) = IsKeySpoilt number key
 IsRequestSpoilt moment (OpenShift operator) = IsOpeningSpoilt operator
 IsRequestSpoilt moment (CloseShift operator) = HasSpoilt (the_open_shift operator)
 IsRequestSpoilt moment (Sell order) = IsSaleSpoilt moment order

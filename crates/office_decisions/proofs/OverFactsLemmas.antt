@@ -7,13 +7,15 @@ use Rattle.std.proofs.lemmas.Option.{slice_get-get_or}
 use Rattle.sts_fields.specs.Day.{day_at}
 use Rattle.sts_token.specs.Token.{BlockFunction}
 use Rattle.tariff.specs.declared.step.Step.{Step}
-use Rattle.office_rules.specs.Decision.{◌>>=◌, MeterAccount, account_of, add_meter, add_rows, add_steps, add_tariff, at_row, close_shift, decision_of, move_base, new_rows, open_a_shift, report, reprint, row_decision, sell, sell_once, set_key, set_tariff, withdraw_steps}
+use Rattle.office_rules.specs.Decision.{◌>>=◌, MeterAccount, account_of, add_meter, add_rows, add_steps, add_tariff, at_row, changed, close_shift, decision_of, move_base, new_rows, open_a_shift, report, reprint, row_decision, sell, sell_once, set_key, set_tariff, unchanged, withdraw_steps}
 use Rattle.office_rules.specs.Decision.Edits.{with_row, with_rows}
-use Rattle.office_rules.specs.Decision.Facts.{AreFactsOf, AreNewSaleFacts, AreRowsFacts, meter_found, report_found, row_facts}
+use Rattle.office_rules.specs.Decision.Facts.{AreFactsOf, AreNewSaleFacts, AreRowsFacts, has_other_key, meter_found, report_found, row_facts}
 use Rattle.office_rules.specs.Law.Growth.{HaveStayed}
 use Rattle.office_rules.specs.Office.{Office}
 use Rattle.office_rules.specs.Office.Lookup.{has_sales, open_shift, sale_of_ref, sales_of_shift, shift_numbered, sold_since}
+use Rattle.office_rules.specs.declared.decision.answer.Answer.TheVariants as answers
 use Rattle.office_rules.specs.declared.decision.change.Change.{Change}
+use Rattle.office_rules.specs.declared.decision.change.Edit.TheVariants as edits
 use Rattle.office_rules.specs.declared.decision.facts.Facts.{Facts}
 use Rattle.office_rules.specs.declared.decision.refusal.Refusal.{Refusal}
 use Rattle.office_rules.specs.declared.decision.refusal.Refusal.TheVariants as refusals
@@ -209,11 +211,19 @@ withdrawal_decided name day today has true sold told there (Some k) is steps sal
     ∙ ap (λ (k : Option (List Step)). withdraw_steps name day today true k sold) (sym (steps refl))
     ∙ ap (withdraw_steps name day today true (Some k)) (sym (sales refl refl))
 
-key_decided : (number : List ℕ) (key : ℕ) (there known : Option Meter) (sold told : Bool) → known ≡ there → (IsSome known → told ≡ sold)
-    → set_key number key there sold ≡ set_key number key known told
+-- whether there are sales decides only where the key is another one
+by_other_key : (number : List ℕ) (key : ℕ) (same sold told : Bool) → ((if same then false else true) ≡ true → told ≡ sold)
+    → (if same then unchanged answers.Done else (if sold then Err refusals.HasSales else changed (edits.SetKey number key) answers.Done))
+    ≡ (if same then unchanged answers.Done else (if told then Err refusals.HasSales else changed (edits.SetKey number key) answers.Done))
+by_other_key number key true sold told sales = refl
+by_other_key number key false sold told sales =
+    ap (λ (b : Bool). if b then Err refusals.HasSales else changed (edits.SetKey number key) answers.Done) (sym (sales refl))
+
+key_decided : (number : List ℕ) (key : ℕ) (there known : Option Meter) (sold told : Bool) → known ≡ there
+    → (has_other_key key known ≡ true → told ≡ sold) → set_key number key there sold ≡ set_key number key known told
 key_decided number key there None sold told is sales = ap (λ (k : Option Meter). set_key number key k sold) (sym is)
 key_decided number key there (Some k) sold told is sales =
-    ap (λ (k : Option Meter). set_key number key k sold) (sym is) ∙ ap (set_key number key (Some k)) (sym (sales refl))
+    ap (λ (k : Option Meter). set_key number key k sold) (sym is) ∙ by_other_key number key (k.key == key) sold told sales
 
 added_decided : (number : List ℕ) (m : Meter) (there known : Option Meter) (has has_tariff : Bool) → known ≡ there → (IsNone known → has_tariff ≡ has)
     → add_meter number m there has ≡ add_meter number m known has_tariff

@@ -4,6 +4,7 @@ ghost use Rattle.std.specs.Prelude.{◌≡◌};
 ghost use Rattle.sqlite.specs.State.{IsUnchanged};
 ghost use Rattle.one_table.specs.Over.{Over};
 ghost use Rattle.office_rules.specs.Decision.Facts.{AreKeyFacts, AreMeterFacts, AreSettingFacts};
+ghost use Rattle.office_rules.specs.Decision.Facts.{has_other_key};
 ghost use Rattle.book_tables.specs.reading.Questions.{the_meter, the_steps};
 ghost use Rattle.book_tables.specs.reading.Seen.{AreStepsSeen, HasSpoilt, HasSpoiltSteps};
 ghost use Rattle.book_tables.specs.reading.Seen.{ShowsFirst};
@@ -101,18 +102,24 @@ pub(crate) fn setting_facts<S: Alter>(
     })
 }
 
-/// What SetKey looks at: the sales to the meter of its number only where there is one.
+/// What SetKey looks at: the sales to the meter of its number only where there is one that has
+/// another key.
 pub(crate) fn key_facts<S: Alter>(
     conn: &mut Connection<S>,
     number: &MeterNo,
+    key: u64,
 ) -> Result<Facts, TableError>
-    ensures { Over S.Store conn (λ old new. LooksUp IsUnchanged (λ o. AreKeyFacts o number.now)
-        (AreKeyFactsSeen number.now) (IsKeySpoilt number.now) old new result) }
+    ensures { Over S.Store conn (λ old new. LooksUp IsUnchanged
+        (λ o. AreKeyFacts o number.now key) (AreKeyFactsSeen number.now key)
+        (IsKeySpoilt number.now key) old new result) }
 {
     members_law();
     let there = meters::meter_numbered(conn, number)?;
-    if there.is_none() {
-        return Ok(Facts::none());
+    if !has_other_key(&there, key) {
+        return Ok(Facts {
+            meter: there,
+            ..Facts::none()
+        });
     }
     let has_sales = totals::has_sales(conn, number)?;
     Ok(Facts {
@@ -120,4 +127,14 @@ pub(crate) fn key_facts<S: Alter>(
         has_sales,
         ..Facts::none()
     })
+}
+
+// Whether there is a meter, and it has another key.
+fn has_other_key(meter: &Option<Meter>, key: u64) -> bool
+    ensures { result ≡ has_other_key key meter.now }
+{
+    match meter {
+        Some(meter) => meter.key != key,
+        None => false,
+    }
 }

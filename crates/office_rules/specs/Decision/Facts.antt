@@ -1,6 +1,7 @@
 -- What the tests of a request look at, and how an answer may fall short of the decision.
 use Rattle.std.specs.Prelude.{◌≡◌, ◌⊎◌, ℕ, Bool, true, false, List, [], ◌∷◌, Option, Some, None}
-use Rattle.std.specs.Prelude.{IsNone, IsSome, Result, Ok, Err, is_some, length, option_map}
+use Rattle.std.specs.Prelude.{◌==◌, IsNone, IsSome, Result, Ok, Err, if◌then◌else◌, is_some}
+use Rattle.std.specs.Prelude.{length, option_map}
 use Rattle.sts_fields.specs.Day.{day_at}
 use Rattle.office_rules.specs.Decision.{account_of, add_steps, add_tariff, is_new, row_decision}
 use Rattle.office_rules.specs.Decision.{unchanged}
@@ -73,10 +74,15 @@ pub record AreWithdrawalFacts (o : Office) (name : List ℕ) (day : ℕ) (f : Fa
   pub dated_steps : f.has_tariff ≡ true → f.dated_steps ≡ o.dated_steps name day
   pub sold_since : f.has_tariff ≡ true → IsSome f.dated_steps → f.sold_since ≡ sold_since o day
 
--- SetKey looks at the sales to the meter only where the meter stands
-pub record AreKeyFacts (o : Office) (number : List ℕ) (f : Facts) : Type 0 where
+-- whether a meter stands and has another key than this one
+abbrev pub has_other_key : ℕ → Option Meter → Bool
+has_other_key key None = false
+has_other_key key (Some m) = if m.key == key then false else true
+
+-- SetKey looks at the sales to the meter only where the meter stands and has another key
+pub record AreKeyFacts (o : Office) (number : List ℕ) (key : ℕ) (f : Facts) : Type 0 where
   pub meter : f.meter ≡ o.meters number
-  pub has_sales : IsSome f.meter → f.has_sales ≡ has_sales o number
+  pub has_sales : has_other_key key f.meter ≡ true → f.has_sales ≡ has_sales o number
 
 -- OpenShift counts the shifts only where the operator has no open one
 pub record AreOpeningFacts (o : Office) (operator : List ℕ) (f : Facts) : Type 0 where
@@ -129,7 +135,7 @@ AreFactsOf o moment (Import rows) f =
     (fs : List RowFacts) × (f.rows ≡ Some fs) × AreRowsFacts o (day_at moment) rows fs
 AreFactsOf o moment (SetTariff number name) f = AreSettingFacts o number name f
 AreFactsOf o moment (MoveBase number base) f = f.meter ≡ o.meters number
-AreFactsOf o moment (SetKey number key) f = AreKeyFacts o number f
+AreFactsOf o moment (SetKey number key) f = AreKeyFacts o number key f
 AreFactsOf o moment (OpenShift operator) f = AreOpeningFacts o operator f
 AreFactsOf o moment (CloseShift operator) f = f.open_shift ≡ open_shift o operator
 AreFactsOf o moment (Sell order) f = AreSaleFacts o moment order f

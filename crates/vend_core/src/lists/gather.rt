@@ -132,7 +132,7 @@ fn setting_facts(records: &Records, number: &MeterNo, name: &TariffName) -> Fact
 }
 
 fn key_facts(records: &Records, number: &MeterNo) -> Facts
-    ensures { AreKeyFacts (recorded records.now) number.now result }
+    ensures { (key : ℕ) → AreKeyFacts (recorded records.now) number.now key result }
 {
     Facts {
         meter: look_up::meter_under(&records.meters, number),
