@@ -1,7 +1,7 @@
 -- What stops a request at a database that has the office's tables: a row of an answer to one of the
 -- questions that it asks shows no record. A later question counts only where what the earlier ones
 -- showed lets the request ask it.
-use Rattle.std.specs.Prelude.{◌⊎◌, ◌<◌, ℕ, true, List, [], ◌∷◌, Option, None, Some}
+use Rattle.std.specs.Prelude.{◌≡◌, ◌⊎◌, ◌<◌, ℕ, true, List, [], ◌∷◌, Option, None, Some}
 use Rattle.std.specs.Prelude.{unwrap_or}
 use Rattle.sqlite.specs.Effect.{Database}
 use Rattle.sts_fields.specs.Calendar.{month_at}
