@@ -30,13 +30,10 @@ returns-then-not-has_other_key g c =
             meter = search (rules, meter_is);
             has_sales = search rules;
           };
-      shown = λ clean has.
-          let same : c.in_ok-there.there ≡ c.none.result.meter = search rules in
-          record {
-            meter = subst (ShowsFirst (the_meter c.args.number.now) old.now) same
-                (first_shown meters_in c.in_ok-there.ensures.sees clean has);
-            has_sales = search rules;
-          };
+      shown = λ clean has. record {
+        meter = first_shown meters_in c.in_ok-there.ensures.sees clean has;
+        has_sales = search rules;
+      };
       spoilt = λ _ _. tt;
       reads = read_on (read_in_office meters_in c.in_ok-there.ensures.reads);
     }
@@ -52,7 +49,7 @@ returns-in_err-has_sales g c =
     let was = clean_before first read_2.survives has clean in
     let there = there_is_other c.args.key c.in_ok-there.there other (ShowsFirst (the_meter c.args.number.now) old.now)
     (first_shown meters_in c.in_ok-there.ensures.sees was has) in
-    inr (there.0, there.1, there.2, table_spoilt first last_ids_in c.in_err-has_sales.ensures.reads c.in_err-has_sales.ensures.sees clean has row))
+    inr (there.0, there.1, (there.2, table_spoilt first last_ids_in c.in_err-has_sales.ensures.reads c.in_err-has_sales.ensures.sees clean has row)))
 
 pub returns : goal.returns
 returns g c =
