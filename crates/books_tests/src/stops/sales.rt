@@ -135,6 +135,52 @@ from night 7701 0 - 60
 ",
 };
 
+// A mistake in a price of a later day, and one in a key, each taken back before the sales that they
+// would have spoilt.
+const CORRECTED: Sending = Sending {
+    name: "corrections",
+    begin: &[],
+    script: "
+> 1388534430 add-tariff flat :100
+  done
+> 1388534430 add-meter 12345678903 2014 flat 0000000000000000
+  done
+  refused 6 Differs
+> 1388534430 add-steps flat 2014-02-01 :2000
+  done
+  refused 6 Differs
+> 1388534430 withdraw-steps flat 2014-02-01
+  withdrawn 1
+  refused 19 DayPast
+> 1388534430 add-steps flat 2014-02-01 :200
+  done
+> 1388534430 set-key 12345678903 0000000000000002
+  done
+> 1388534430 open-shift ann
+  opened 1
+  refused 3 ShiftOpen
+> 1388534430 sell ann A-1 12345678903 10
+  sold 1 1388534430 1 ann A-1 12345678903 2014 2 1 1 10 10 00072057602627981690
+> 1391212800 sell ann C-1 12345678903 100
+  sold 2 1391212800 1 ann C-1 12345678903 2014 44640 2 5 100 100 00144306915416283130
+",
+    end: "\
+about 1 4
+tariff flat
+step flat 0 - 100
+meter 12345678903 2014 flat 0000000000000002
+shift 1 ann 1388534430 -
+sale 1 1388534430 252 1 ann A-1 12345678903 2014 2 1 1 10 10 00072057602627981690
+sale 2 1391212800 253 1 ann C-1 12345678903 2014 44640 2 5 100 100 00144306915416283130
+last 12345678903 2014 44640
+month 12345678903 252 1
+month 12345678903 253 5
+totals 1 2 6 110
+base 12345678903 2014
+from flat 7701 0 - 200
+",
+};
+
 // The file of the first life.
 fn begun(alloc: Global, begin: &[&str]) -> Result<Kept, Fail> {
     if begin.is_empty() {
@@ -347,6 +393,36 @@ static LATER_BY_DATABASE: [Sweep; 2] = [
     },
 ];
 
+const CORRECTIONS: Sweep = Sweep {
+    sending: CORRECTED,
+    stopping: Stopping::Log(Room::Ample),
+    stride: 9,
+    pairs: 0,
+};
+
+static CORRECTIONS_BY_LOG: [Sweep; 2] = [
+    CORRECTIONS,
+    Sweep {
+        stopping: Stopping::Log(Room::Little),
+        stride: 25,
+        pairs: 0,
+        ..CORRECTIONS
+    },
+];
+
+static CORRECTIONS_BY_DATABASE: [Sweep; 2] = [
+    Sweep {
+        stopping: Stopping::Database(Room::Ample),
+        pairs: 0,
+        ..CORRECTIONS
+    },
+    Sweep {
+        stopping: Stopping::Database(Room::Little),
+        pairs: 0,
+        ..CORRECTIONS
+    },
+];
+
 // These have no clause, so that no proof reads the sweeps.
 fn sales_by_log() -> &'static [Sweep] {
     &SALES_BY_LOG
@@ -370,6 +446,14 @@ fn later_by_crowded_log() -> &'static [Sweep] {
 
 fn later_by_database() -> &'static [Sweep] {
     &LATER_BY_DATABASE
+}
+
+fn corrections_by_log() -> &'static [Sweep] {
+    &CORRECTIONS_BY_LOG
+}
+
+fn corrections_by_database() -> &'static [Sweep] {
+    &CORRECTIONS_BY_DATABASE
 }
 
 fn all(rt: &(impl Abort + AllocGlobal + Print), sweeps: &[Sweep]) -> Result<(), Fail> {
@@ -410,4 +494,14 @@ fn later_requests_that_a_crowded_log_stops(rt: HostRuntime) -> Result<(), Fail> 
 #[test]
 fn later_requests_that_the_database_stops(rt: HostRuntime) -> Result<(), Fail> {
     all(&rt, later_by_database())
+}
+
+#[test]
+fn corrections_that_the_log_stops(rt: HostRuntime) -> Result<(), Fail> {
+    all(&rt, corrections_by_log())
+}
+
+#[test]
+fn corrections_that_the_database_stops(rt: HostRuntime) -> Result<(), Fail> {
+    all(&rt, corrections_by_database())
 }
