@@ -1,4 +1,4 @@
-"""What shuts an office and what opens it again, row by row as docs/COMMANDS.md says: a part of tools/check_pages. It
+"""What shuts an office and what opens it again, row by row as docs/OPENING.md says: a part of tools/check_pages. It
 is no script of its own."""
 import contextlib
 import os
@@ -121,7 +121,7 @@ def check_shut(folder):
         "`office.db-journal`, which a killed `sqlite3` left": try_journal,
         "the file was made of a dump without `STRICT`": try_dump,
     }
-    for line, what, cure in rows_of_page("COMMANDS.md", *COLUMNS):
+    for line, what, cure in rows_of_page("OPENING.md", *COLUMNS):
         line = quoted(line)[0]
         if what in STATEMENTS:
             for text in STATEMENTS[what]:
@@ -144,7 +144,7 @@ def check_shut(folder):
             expect(vend("report", "--file", str(trial.file), "--kind", "totals"), 1, b"", f"{line}\n".encode())
             trial.count += 1
         elif what != "the user cannot write the file or its folder":  # root always can
-            wrong(f"docs/COMMANDS.md has a row that is not tried: {what}")
+            wrong(f"docs/OPENING.md has a row that is not tried: {what}")
     for text in LEAVE_OPEN:
         trial.renew()
         change(trial.file, text)
