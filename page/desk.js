@@ -19,7 +19,7 @@ export const WORDS = {
   ImportRow: "A row of the file was refused, and nothing was added.",
   Memory: "The office's computer is out of memory. Nothing was done. Try again later.",
   Store: "The office's disk failed, or a row is damaged. Make room and try the same again, or audit the file.",
-  Stopped: "The office has stopped after its disk failed. Have somebody look whether it is full, and try again.",
+  Stopped: "The office has stopped after its disk failed or a row was found damaged. Have somebody look whether the disk is full, and try again.",
   NotLater: "This meter has a later base date already, and sells under it. There is nothing to do.",
   DayPast: "That day has begun (UTC), or something was sold on it or later. Take a later day. Steps that have begun stay.",
   HasSales: "Tokens were sold to this meter with the key that it has. Correct the number. The key of a meter with sales stays.",

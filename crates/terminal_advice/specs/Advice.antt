@@ -80,7 +80,7 @@ reason_of Memory =
 reason_of Store =
     codes "The office's disk failed, or a row is damaged."
 reason_of Stopped =
-    codes "The office has stopped after its disk failed."
+    codes "The office has stopped after its disk failed or a row was found damaged."
 reason_of NotLater =
     codes "This meter has a later base date already, and sells under it."
 reason_of DayPast =
@@ -106,7 +106,7 @@ reason_of OpenStore =
 reason_of OpenMemory =
     codes "The office's computer is out of memory. Nothing was done."
 reason_of DeskStopped =
-    codes "The office's disk failed or is full, so the desk stopped."
+    codes "The office's disk failed or is full, or a row is damaged, so the desk stopped."
 reason_of RowHeader =
     codes "The first line has to be the names of the columns."
 reason_of RowColumns =
@@ -275,7 +275,7 @@ remedy_of Memory =
 remedy_of Store =
     codes "Make room and try the same again, or audit the file."
 remedy_of Stopped =
-    codes "Have somebody look whether it is full, and try again."
+    codes "Have somebody look whether the disk is full, and try again."
 remedy_of NotLater =
     codes "There is nothing to do."
 remedy_of DayPast =
@@ -301,7 +301,7 @@ remedy_of OpenStore =
 remedy_of OpenMemory =
     codes "Try again later."
 remedy_of DeskStopped =
-    codes "Make room. The next connection, or the next start, opens the file again."
+    codes "Make room, or audit the file. The next connection, or the next start, opens the file again."
 remedy_of RowHeader =
     codes "Correct it, and send the file again."
 remedy_of RowColumns =

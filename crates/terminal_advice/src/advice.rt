@@ -127,7 +127,8 @@ impl Advice {
             Advice::NoSuchShift => "There is no shift of this number.",
             Advice::Memory => "The office's computer is out of memory. Nothing was done.",
             Advice::Store => { "The office's disk failed, or a row is damaged." }
-            Advice::Stopped => "The office has stopped after its disk failed.",
+            Advice::Stopped =>
+                "The office has stopped after its disk failed or a row was found damaged.",
             Advice::NotLater => "This meter has a later base date already, and sells under it.",
             Advice::DayPast => { "That day has begun (UTC), or something was sold on it or later." }
             Advice::HasSales => "Tokens were sold to this meter with the key that it has.",
@@ -144,7 +145,8 @@ impl Advice {
                 "The file is no database, is in use, cannot be read or written, or was changed from outside."
             }
             Advice::OpenMemory => "The office's computer is out of memory. Nothing was done.",
-            Advice::DeskStopped => "The office's disk failed or is full, so the desk stopped.",
+            Advice::DeskStopped =>
+                "The office's disk failed or is full, or a row is damaged, so the desk stopped.",
             Advice::RowHeader => "The first line has to be the names of the columns.",
             Advice::RowColumns => "The row has too many fields or too few.",
             Advice::RowField => "A field of the row is outside its rule.",
@@ -264,7 +266,7 @@ impl Advice {
             Advice::NoSuchShift => "Correct the number.",
             Advice::Memory => "Try again later.",
             Advice::Store => "Make room and try the same again, or audit the file.",
-            Advice::Stopped => "Have somebody look whether it is full, and try again.",
+            Advice::Stopped => "Have somebody look whether the disk is full, and try again.",
             Advice::NotLater => "There is nothing to do.",
             Advice::DayPast => "Take a later day. Steps that have begun stay.",
             Advice::HasSales => "Correct the number. The key of a meter with sales stays.",
@@ -278,7 +280,7 @@ impl Advice {
             Advice::OpenStore => "Correct the name or the rights, undo the change, or try again.",
             Advice::OpenMemory => "Try again later.",
             Advice::DeskStopped =>
-                "Make room. The next connection, or the next start, opens the file again.",
+                "Make room, or audit the file. The next connection, or the next start, opens the file again.",
             Advice::RowHeader => "Correct it, and send the file again.",
             Advice::RowColumns => "Correct it, and send the file again.",
             Advice::RowField => "Correct it, and send the file again.",
