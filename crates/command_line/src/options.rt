@@ -35,6 +35,13 @@ pub(crate) fn read_transform(matches: &ArgMatches) -> Option<Shipped>
     }
 }
 
+/// `--transform`, of a command that makes and compares no token.
+pub(crate) const IGNORED_TRANSFORM: Argument = Argument {
+    name: "transform",
+    kind: ArgumentKind::Optional("NAME"),
+    help: "Ignored, since this command makes no token: plain or demo",
+};
+
 /// `--transform`, of a command that tests tokens only where it is given.
 pub(crate) const TESTED_TRANSFORM: Argument = Argument {
     name: "transform",

@@ -17,7 +17,7 @@ pub(crate) const COMMAND: Description = Description {
     about: ABOUT,
     example: "Example: vend base --file office.db --meter 12345678903 --base 2035",
     arguments: &[
-        options::TRANSFORM,
+        options::IGNORED_TRANSFORM,
         options::FILE_OR_DESK,
         options::DESK,
         options::WAIT,

@@ -36,7 +36,7 @@ pub(crate) const COMMAND: Description = Description {
     about: ABOUT,
     example: "Example: vend import --file office.db tariffs tariffs.csv",
     arguments: &[
-        options::TRANSFORM,
+        options::IGNORED_TRANSFORM,
         options::FILE_OR_DESK,
         options::DESK,
         options::WAIT,

@@ -30,7 +30,7 @@ pub(crate) const COMMAND: Description = Description {
     name: "quote",
     about: "Prints what a tender buys: tenths of a kWh, price and change in cents",
     example: "Example: vend quote '500:100;:200' 490 200",
-    arguments: &[options::TRANSFORM, STEPS, PRIOR, TENDER],
+    arguments: &[options::IGNORED_TRANSFORM, STEPS, PRIOR, TENDER],
 };
 
 const STEPS: Argument = Argument {

@@ -16,7 +16,7 @@ pub(crate) const COMMAND: Description = Description {
     about: ABOUT,
     example: "Example: vend tariff --file office.db --meter 12345678903 --tariff night",
     arguments: &[
-        options::TRANSFORM,
+        options::IGNORED_TRANSFORM,
         options::FILE_OR_DESK,
         options::DESK,
         options::WAIT,

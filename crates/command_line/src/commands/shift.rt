@@ -17,7 +17,7 @@ pub(crate) const COMMAND: Description = Description {
     about: ABOUT,
     example: "Example: vend shift --file office.db --operator ann open",
     arguments: &[
-        options::TRANSFORM,
+        options::IGNORED_TRANSFORM,
         options::FILE_OR_DESK,
         options::DESK,
         options::WAIT,

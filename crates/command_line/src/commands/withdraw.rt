@@ -17,7 +17,7 @@ pub(crate) const COMMAND: Description = Description {
     about: ABOUT,
     example: "Example: vend withdraw --file office.db --tariff night --from 2030-01-01",
     arguments: &[
-        options::TRANSFORM,
+        options::IGNORED_TRANSFORM,
         options::FILE_OR_DESK,
         options::DESK,
         options::WAIT,
