@@ -77,6 +77,9 @@ class Trial:
 
 def try_use(trial, line):
     with contextlib.closing(sqlite3.connect(trial.file, isolation_level=None)) as base:
+        base.executescript("PRAGMA journal_mode=WAL;")
+        base.execute("SELECT count(*) FROM sales").fetchall()
+        trial.is_shut(line)
         for text in ("BEGIN; SELECT * FROM sales;", "BEGIN IMMEDIATE;"):
             base.executescript("PRAGMA journal_mode=WAL;")
             begun = [base.execute(it) for it in text.split(";") if it]
@@ -116,7 +119,7 @@ def check_shut(folder):
     folder.mkdir()
     trial = Trial(folder)
     ways = {
-        "a desk, a command, or `sqlite3` in a transaction has the file": try_use,
+        "a desk, a command, or a `sqlite3` that is still open has the file": try_use,
         "the file has a second hard link": try_link,
         "`office.db-journal`, which a killed `sqlite3` left": try_journal,
         "the file was made of a dump without `STRICT`": try_dump,
