@@ -116,8 +116,8 @@ def commands(file, texts):
     yield ["withdraw", *now, "--tariff", "later", "--from", "2014-03-01"], {"later-later"}
     yield ["withdraw", *now, "--tariff", "none", "--from", "2014-03-01"], set()
     yield ["key", *old, "--meter", METER, "--key", OTHER_KEY], {"meter", "last-id"}
-    # Whether it has sales is looked at for the same key too.
-    yield ["key", *old, "--meter", METER, "--key", KEY], {"meter", "last-id"}
+    # With the key that it has nothing changes, whatever was sold to it.
+    yield ["key", *old, "--meter", METER, "--key", KEY], {"meter"}
     yield ["key", *old, "--meter", MOVED_METER, "--key", OTHER_KEY], {"left-id", "moved-id"}
     yield ["key", *old, "--meter", UNSOLD_METER, "--key", OTHER_KEY], set()
     yield ["key", *old, "--meter", NEW_METER, "--key", OTHER_KEY], set()

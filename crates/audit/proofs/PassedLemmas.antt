@@ -35,6 +35,7 @@ module _ {F : Type 0} (told : F → Part → F → Type 0) where
     record { later = part.Requests ∷ []; first = refl; each = ((n, rows, are.told), ((n, rows, are), tt)) },
   )
 
+  -- and so it did where the test of the requests was told of besides, or nothing more
   pub reached_passed : (before mid after : F) (db : Database) (n : ℕ) (rows : OfficeRows) → AreTold told before (part.Rows ∷ part.Ties ∷ []) mid
       → AreOfficeRows n db rows → TellsReached told mid after rows → TellsPassed told before after db
   reached_passed before mid after db n rows tells are (inl same) =

@@ -29,12 +29,6 @@ contains_cases x y xs there = elim (Contains-append_cases (x ∷ []) xs y there)
   | inr further ↦ inr further
 ]
 
--- what stands after some of a list stands in it
-pub listed_at : {X : Type 0} (before rest : List X) (x : X) (after all : List X) → rest ≡ x ∷ after → before ++ rest ≡ all → Contains all x
-listed_at before rest x after all step split =
-    subst (λ (l : List _). Contains l x) (ap (λ (l : List _). before ++ l) (sym step) ∙ split)
-    (Contains-append_right before (x ∷ after) x (contains_first x after))
-
 -- what stands in a changed list comes from a row, and each row is there, changed
 pub contains_map : {X Y : Type 0} (f : X → Y) (xs : List X) (x : X) → Contains xs x → Contains (map f xs) (f x)
 contains_map f xs x there =

@@ -180,13 +180,16 @@ module _ (greatest : (t : ℕ) → IsRepresentable t → t ≤ 18201624) (sales 
   abbrev pub ArePutTwo : List Write → Type 0
   ArePutTwo ws = (a : List Write) × (b : List Write) × ArePut PutsLastId ids a × ArePut PutsMonth months b × (ws ≡ a ++ b)
 
+  -- writes of identifiers and then of months are such
   pub two_written : (a b : List Write) → ArePut PutsLastId ids a → ArePut PutsMonth months b → ArePutTwo (a ++ b)
   two_written a b put_a put_b = (a, b, put_a, put_b, refl)
 
+  -- with those of shifts behind them they are all writes of totals
   pub three_written : (ws c : List Write) → ArePutTwo ws → ArePut PutsTotals shifts c → AreTotalsWrites sales (ws ++ c)
   three_written ws c (a, b, put_a, put_b, is) put_c =
       subst (AreTotalsWrites sales) (sym (append_assoc a b c) ∙ ap (λ (l : List Write). l ++ c) (sym is)) (all_written a b c put_a put_b put_c)
 
+  -- and there are some of shifts to follow them
   pub shifts_follow : (ws : List Write) → ArePutTwo ws → (rest : List Write) × AreTotalsWrites sales (ws ++ rest)
   shifts_follow ws two =
       let c = may_be_put PutsTotals (λ r. (new_totals r, λ room. refl)) shifts in

@@ -260,9 +260,6 @@ module _ (p : Row → Bool) where
     abbrev test_of : Row → Bool
     test_of r = list_all (holds (params ∷ r ∷ [])) tests
 
-    abbrev id_shown : Row → Row
-    id_shown r = eval_all (col 1 0 ∷ []) (params ∷ r ∷ [])
-
     -- where the rows that pass are one's own, and they are taken out, the others stay
     pub remove_keeps : IsInOrder rows_before → RemovesRows t (removal_query t.tree tests) params old new
         → ((r : Row) → test_of r ≡ true → p r ≡ true)

@@ -1,11 +1,12 @@
 -- Why the office refuses a request: the numbers, names and categories of the refusals.
-use Rattle.std.specs.Prelude.{ℕ, codes}
+use Rattle.std.specs.Prelude.{◌≢◌, ℕ, codes}
 use Rattle.sts_fields.specs.Text.{Text}
 use Rattle.office_rules.specs.declared.decision.category.Category.{Category}
 use Rattle.office_rules.specs.declared.decision.category.Category.TheVariants.{Missing, Forbidden}
 use Rattle.office_rules.specs.declared.decision.category.Category.TheVariants.{Unfit, UnfitRow}
 use Rattle.office_rules.specs.declared.decision.category.Category.TheVariants.{Unable}
 use Rattle.office_rules.specs.declared.decision.refusal.Refusal.{Refusal}
+use Rattle.office_rules.specs.declared.decision.row_cause.RowCause.{RowCause}
 use Rattle.office_rules.specs.declared.decision.refusal.Refusal.TheVariants.{RefReused, NoShift}
 use Rattle.office_rules.specs.declared.decision.refusal.Refusal.TheVariants.{ShiftOpen, NoMeter}
 use Rattle.office_rules.specs.declared.decision.refusal.Refusal.TheVariants.{NoTariff, Differs}
@@ -88,3 +89,7 @@ refusal_category Stopped = Unable
 refusal_category NotLater = Forbidden
 refusal_category DayPast = Forbidden
 refusal_category HasSales = Forbidden
+
+-- the refusal of no row
+abbrev pub IsOfNoRow : Refusal → Type 0
+IsOfNoRow refusal = (row : ℕ) (cause : RowCause) → refusal ≢ ImportRow row cause

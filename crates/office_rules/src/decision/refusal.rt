@@ -1,6 +1,7 @@
-ghost use Rattle.std.specs.Prelude.{◌≡◌};
-ghost use Rattle.office_rules.specs.Decision.Refusals.{refusal_category, refusal_name};
+ghost use Rattle.std.specs.Prelude.{◌≡◌, MatchOption};
+ghost use Rattle.office_rules.specs.Decision.Refusals.{IsOfNoRow, refusal_category, refusal_name};
 ghost use Rattle.office_rules.specs.Decision.Refusals.{refusal_number};
+ghost use Rattle.office_rules.specs.declared.decision.refusal.Refusal.{Refusal as WhyRefused};
 
 use crate::decision::{Category, RowCause};
 use std::alloc::AllocError;
@@ -79,6 +80,36 @@ impl Refusal {
             Refusal::NotLater => 18,
             Refusal::DayPast => 19,
             Refusal::HasSales => 20,
+        }
+    }
+
+    /// The refusal of no row that has this number: the other way of `number`.
+    pub fn of_number(number: u32) -> Option<Refusal>
+        ensures { MatchOption result
+            ((refusal : WhyRefused) → ¬ (IsOfNoRow refusal × (refusal_number refusal ≡ number)))
+            (λ refusal. IsOfNoRow refusal × (refusal_number refusal ≡ number)) }
+    {
+        match number {
+            1 => Some(Refusal::RefReused),
+            2 => Some(Refusal::NoShift),
+            3 => Some(Refusal::ShiftOpen),
+            4 => Some(Refusal::NoMeter),
+            5 => Some(Refusal::NoTariff),
+            6 => Some(Refusal::Differs),
+            7 => Some(Refusal::BeforeBase),
+            8 => Some(Refusal::IdentifiersSpent),
+            9 => Some(Refusal::IdentifierAhead),
+            10 => Some(Refusal::TooLittle),
+            11 => Some(Refusal::OfficeFull),
+            12 => Some(Refusal::NoSale),
+            13 => Some(Refusal::NoSuchShift),
+            15 => Some(Refusal::Memory),
+            16 => Some(Refusal::Store),
+            17 => Some(Refusal::Stopped),
+            18 => Some(Refusal::NotLater),
+            19 => Some(Refusal::DayPast),
+            20 => Some(Refusal::HasSales),
+            _ => None,
         }
     }
 

@@ -84,6 +84,7 @@ step_stand forward o at rows leaves stand = all_from_contains (Stands (step forw
     stands_still o (step forward o at) row (step_leaves forward o at row (All-contains (LeavesRow at.request) rows row leaves there))
     (All-contains (Stands o) rows row stand there))
 
+-- and so they do after many
 pub after_stand : (forward : ℕ → ℕ → ℕ) (o : Office) (ats : List Stamped) (rows : List Row) → All (LeavesRows rows) ats → All (Stands o) rows
     → All (Stands (after forward o ats)) rows
 unfolding after

@@ -28,6 +28,7 @@ abbrev pub SoldKeysStay : Office → Office → Type 0
 SoldKeysStay o p =
     (number : List ℕ) (m n : Meter) → WasSoldTo o number → o.meters number ≡ Some m → p.meters number ≡ Some n → n.key ≡ m.key
 
+-- they do where meters stay as they are
 pub keys_stay : (o p : Office) → ((number : List ℕ) (m : Meter) → o.meters number ≡ Some m → p.meters number ≡ Some m) → SoldKeysStay o p
 keys_stay o p stay number m n sold at now = ap (λ (k : Meter). k.key) (same_Some n m (sym now ∙ stay number m at))
 
@@ -39,6 +40,7 @@ pub record NamesGrow (o p : Office) : Type 0 where
   pub keys : SoldKeysStay o p
   pub bases : (number : List ℕ) (base : Base) → o.bases number base ≡ true → p.bases number base ≡ true
 
+-- an office with the same names keeps all of that
 pub names_same : (o p : Office) → p.tariffs ≡ o.tariffs → p.dated_steps ≡ o.dated_steps → p.meters ≡ o.meters → p.bases ≡ o.bases → NamesGrow o p
 names_same o p tariffs dated meters bases = record {
   tariffs = record {
@@ -82,6 +84,7 @@ stands_in sales more s begins there = subst (λ (l : List Sale). Contains l s) (
 pub sold_to_on : (o p : Office) (number : List ℕ) → HasGrown o p → WasSoldTo o number → WasSoldTo p number
 sold_to_on o p number grown (s, there, is) = (s, stands_in o.sales p.sales s grown.sales there, is)
 
+-- and so it was since a day
 pub sold_since_on : (o p : Office) (day : ℕ) → HasGrown o p → WasSoldSince o day → WasSoldSince p day
 sold_since_on o p day grown (s, there, is) = (s, stands_in o.sales p.sales s grown.sales there, is)
 
