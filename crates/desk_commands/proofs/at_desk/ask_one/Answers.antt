@@ -1,7 +1,7 @@
 use Rattle.std.proofs.Common.{◌∙◌, refl}
 use Rattle.desk_commands.specs.AskedOfDesk.IsAsked.{broken, replied, unsent}
 use Rattle.vend_ports.proofs.TakeLemmas.{takes_none}
-use Rattle.desk_commands.proofs.at_desk.ask.Goals as goal
+use Rattle.desk_commands.proofs.at_desk.ask_one.Goals as goal
 
 pub returns-in-Some-answer_in : goal.returns-in-Some-answer_in
 returns-in-Some-answer_in g c =
