@@ -1,4 +1,3 @@
 pub mod AlongLemmas
-pub mod AskLemmas
 pub mod OneLemmas
 pub mod ServingLemmas

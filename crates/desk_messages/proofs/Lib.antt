@@ -1,10 +1,13 @@
+pub mod ArrayLemmas
+pub mod AskingLemmas
+pub mod BodyLemmas
 pub mod HttpDateLemmas
-pub mod JsonLemmas
-pub mod MeaningLemmas
+pub mod MemberLemmas
 pub mod PageLemmas
+pub mod ParameterLemmas
 pub mod PlainLemmas
 pub mod ReplyLemmas
 pub mod RouteLemmas
-pub mod RowLemmas
+pub mod SaleLemmas
 pub mod SaleTextLemmas
-pub mod WalkLemmas
+pub mod TableLemmas

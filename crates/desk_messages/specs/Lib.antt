@@ -1,4 +1,7 @@
+pub mod Asking
 pub mod DeskFault
 pub mod Meaning
-pub mod Routes
+pub mod Reads
+pub mod json_body
 pub mod reply
+pub mod route

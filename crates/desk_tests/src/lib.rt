@@ -35,5 +35,3 @@ mod sentences;
 mod streams;
 #[cfg(test)]
 mod texts;
-#[cfg(test)]
-mod words;

@@ -1,5 +1,4 @@
 pub mod Asked
-pub mod AtFile
 pub mod Audited
 pub mod Imported
 pub mod LookedUp

@@ -1,8 +1,10 @@
 //! The commands: what each does.
 
-pub mod at_file;
 pub mod file_audit;
-mod import;
+pub mod import;
+pub mod list;
 mod look_up;
-mod report;
-mod request;
+pub mod offer;
+pub mod report;
+pub mod request;
+pub mod show;

@@ -9,8 +9,7 @@ ghost use Rattle.vend_ports.specs.print.Told.{Takes};
 ghost use Rattle.book_states.specs.declared.lookup.Found.TheVariants.{Sale as FoundSale};
 
 use crate::print::page::json_line;
-use asks::Lookup;
-use book_states::{Found, MeterSummary, Quote};
+use book_states::{Found, Lookup, MeterSummary, Quote};
 use itoa::Buffer;
 use office_rules::Sale;
 use papers::{export, receipt_in_place};

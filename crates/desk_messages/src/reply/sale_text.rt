@@ -1,9 +1,12 @@
-//! A sale as JSON, written as it stands in room of its own: it takes no memory.
+//! A sale as JSON, written as it stands in room of its own: it takes no memory, and no object of
+//! its members is made.
 
 ghost use Rattle.std.specs.Prelude.{◌≡◌, ◌+◌, ◌≤◌, ◌++◌, length, decimal};
 ghost use Rattle.arrayvec.specs.ArrayVec.{array_vec_len};
 ghost use Rattle.papers.specs.Text.{change_of};
-ghost use Rattle.desk_messages.specs.reply.Records.{sale_text};
+ghost use Rattle.sts_token.specs.Token.{AreTwentyDigits};
+ghost use Rattle.desk_messages.specs.reply.Members.{json_text};
+ghost use Rattle.desk_messages.specs.reply.Body.{sale_members};
 
 use arrayvec::ArrayVec;
 use itoa::Buffer;
@@ -12,9 +15,10 @@ use office_rules::{Moment, Sale};
 // The text of a sale has this room, and needs less.
 pub(crate) const SALE_ROOM: usize = 400;
 
-// The text of a sale.
+// The text of a sale whose token is digits: no byte of it has to be escaped.
 pub(crate) fn sale_text(sale: &Sale) -> ArrayVec<u8, SALE_ROOM>
-    ensures { result.items ≡ sale_text sale.now }
+    requires { AreTwentyDigits sale.now.digits }
+    ensures { result.items ≡ json_text (sale_members sale.now) }
 {
     let mut text = ArrayVec::new();
     put(&mut text, b"{\"base\":");

@@ -1,0 +1,55 @@
+ghost use Rattle.std.specs.Prelude.{◌≡◌};
+ghost use Rattle.office_commands.specs.commands.LookedUp.{IsShown, lookup_of};
+ghost use Rattle.vend_ports.specs.port.Dial.{dial_of};
+ghost use Rattle.office_commands.specs.port.Places.{places_of};
+ghost use Rattle.office_commands.specs.port.Back.{is_untouched};
+ghost use Rattle.vend_ports.specs.print.Told.{outputs};
+
+use crate::commands::look_up::{self, FileLookup};
+use crate::office::wanted::Wanted;
+use crate::port::ended::Ended;
+use crate::port::ports::OfficeFile;
+use books::Lookup;
+use command_line::{ShowWords, Shown};
+use conversation::Clock;
+use sqlite::FileStore;
+use sqlite_trees::store::Store;
+use std::alloc::Global;
+use std::io::Write;
+use vend_ports::Watched;
+
+/// Prints a meter, a sale or the receipt of a meter's last sale, as the office of a file has it.
+pub fn run<H: OfficeFile, C: Clock, O: Write, E: Write>(
+    words: &ShowWords,
+    alloc: Global,
+    office: H,
+    clock: &mut C,
+    out: &mut Watched<'_, O>,
+    err: &mut Watched<'_, E>,
+) -> Ended<H::Medium>
+    ensures { IsShown ⟦<FileStore<H::Medium> as Store>⟧
+        (places_of H.Medium.Disk H.Salts.SaltSource H.OfficeFile office result.back)
+        (is_untouched H.OfficeFile office result.back) (dial_of C.Clock clock.old)
+        words.now.at words.now.file.now words.now.wait
+        (Wanted.One (lookup_of words.now.shown) words.now.json)
+        (outputs out.old out.new err.old err.new) result.end }
+{
+    let asked = FileLookup {
+        file: words.file,
+        wait: words.wait,
+        at: words.at,
+        wanted: Wanted::One(lookup_of(words.shown), words.json),
+    };
+    look_up::run(&asked, alloc, office, clock, out, err)
+}
+
+// What is looked up where this is to be shown.
+fn lookup_of(shown: Shown) -> Lookup
+    ensures { result ≡ lookup_of shown }
+{
+    match shown {
+        Shown::Meter(number) => Lookup::Meter(number),
+        Shown::Last(number) => Lookup::LastSale(number),
+        Shown::Sale(operator, order_ref) => Lookup::SaleOfRef(operator, order_ref),
+    }
+}
