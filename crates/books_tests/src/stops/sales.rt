@@ -397,31 +397,16 @@ const CORRECTIONS: Sweep = Sweep {
     sending: CORRECTED,
     stopping: Stopping::Log(Room::Ample),
     stride: 9,
-    pairs: 0,
+    pairs: 2654,
 };
 
-static CORRECTIONS_BY_LOG: [Sweep; 2] = [
-    CORRECTIONS,
-    Sweep {
-        stopping: Stopping::Log(Room::Little),
-        stride: 25,
-        pairs: 0,
-        ..CORRECTIONS
-    },
-];
+static CORRECTIONS_BY_LOG: [Sweep; 1] = [CORRECTIONS];
 
-static CORRECTIONS_BY_DATABASE: [Sweep; 2] = [
-    Sweep {
-        stopping: Stopping::Database(Room::Ample),
-        pairs: 0,
-        ..CORRECTIONS
-    },
-    Sweep {
-        stopping: Stopping::Database(Room::Little),
-        pairs: 0,
-        ..CORRECTIONS
-    },
-];
+static CORRECTIONS_BY_DATABASE: [Sweep; 1] = [Sweep {
+    stopping: Stopping::Database(Room::Ample),
+    pairs: 165,
+    ..CORRECTIONS
+}];
 
 // These have no clause, so that no proof reads the sweeps.
 fn sales_by_log() -> &'static [Sweep] {
