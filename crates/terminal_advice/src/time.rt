@@ -1,4 +1,4 @@
-//! A moment as the papers write it.
+//! A moment as receipts and reports write it.
 
 ghost use Rattle.std.specs.Prelude.{◌≡◌, ◌+◌, ◌≤◌, ◌++◌, length};
 ghost use Rattle.arrayvec.specs.ArrayVec.{array_vec_len};
