@@ -41,7 +41,8 @@ REFUSED = {"import": {14}, "tariff": {4, 5}, "withdraw": {5, 19}, "base": {4, 7,
            "sell": {1, 2, 4, 7, 8, 9, 10, 11}, "show sale": {12}, "receipt": {12}, "totals": {13}, "report": {13},
            "show last": {4, 12}, "show meter": {4}, "quote": {4, 7, 8, 9, 10, 11}, "list": set()}
 UNABLE = {15, 16, 17}
-OF_A_SALE = {"sell", "show sale", "receipt"}
+OF_A_SALE = {"sell", "show sale"}
+ON_PAPER = {"receipt", "show last"}
 # Their replies say no more than that it is done.
 DONE = {"tariff", "base", "key"}
 
@@ -102,7 +103,7 @@ def granted():
         "shift": (("shift", "--operator", "ann", "open"), b'{"shift":1}', json_type, b"shift 1\n"),
         "sell": (SELL, in_json(SALE), json_type, RECEIPT),
         "show sale": (("show", "sale", "--operator", "ann", "--ref", "A-1"), in_json(SALE), json_type, ROW),
-        "receipt": (("report", "--kind", "receipt"), in_json(SALE), json_type, RECEIPT),
+        "receipt": (("report", "--kind", "receipt"), RECEIPT, "text/plain", RECEIPT),
         "report": (("report", "--kind", "shift"), REPORT, "text/plain", REPORT),
         "show last": (("show", "last", "--meter", METER), RECEIPT, "text/plain", RECEIPT),
         "totals": (("report", "--kind", "totals"), in_json(totals), json_type, b"shift 1 sales 1 tenths 1 cash 10\n"),
@@ -131,11 +132,12 @@ def statuses_of():
 
 def check_told():
     """What a desk grants and refuses is printed, each refusal under its status alone, and only of a command that it is had
-    for; and one command's reply is no other's, but that all that tell a sale tell the same one, and that three are done."""
+    for; and one command's reply is no other's, but that those that tell a sale, in JSON or on paper, tell the same one, and
+    that three are done."""
     kinds, count = granted(), 0
     for name, (words, _, _, printed) in kinds.items():
         for other, (_, body, media, _) in kinds.items():
-            alike = {name, other} <= OF_A_SALE or {name, other} <= DONE or name == other
+            alike = name == other or any({name, other} <= those for those in (OF_A_SALE, ON_PAPER, DONE))
             same(asked_of(reply(200, body, media), *words), Ran(0, printed, b"") if alike else NET,
                  f"the reply to {other} after {name}")
         for date in DATES:
@@ -188,7 +190,6 @@ def other_answers():
     yield words("sell"), in_json({**SALE, "tender": 11, "change": 1})
     yield words("show sale"), in_json({**SALE, "operator": "bob"})
     yield words("show sale"), in_json({**SALE, "ref": "A-2"})
-    yield words("receipt"), in_json({**SALE, "number": 2})
     yield from ((words("shift"), b'{"shift":%d}' % number) for number in (0, LAST_NUMBER + 1, 2**32 - 1))
     yield from ((words("import"), b'{"added":%d}' % count) for count in (10001, 2**32 - 1))
     yield from ((words("withdraw"), b'{"withdrawn":%d}' % count) for count in (2, 2**32 - 1))
@@ -219,7 +220,7 @@ def other_answers():
 
 
 def check_other_answers():
-    """Another order's sale, another number's receipt, another meter, another shift, or a page before what was asked for:
+    """Another order's sale, another meter, another shift, or a page before what was asked for:
     nothing is printed but that no reply came."""
     pairs = [*other_answers()]
     for words, body in pairs:
@@ -271,11 +272,11 @@ def spoilt_reports():
 
 
 def spoilt_receipts():
-    """Texts that no desk writes as the receipt of a sale to the meter that was asked for."""
+    """Texts that no desk writes as the receipt of a sale."""
     token = RECEIPT.splitlines()[-1]
     groups = lambda digits: b"TOKEN " + b" ".join(digits[at:at + 4].encode() for at in range(0, 20, 4))
     yield from spoilt(RECEIPT, (
-        (METER.encode(), meter_of("0000000001").encode()), (b"SALE 1\n", b"SALE 0\n"), (b"SALE 1\n", b"SALE 01\n"),
+        (b"SALE 1\n", b"SALE 0\n"), (b"SALE 1\n", b"SALE 01\n"),
         (b"SALE 1\n", b"SALE 1000000001\n"), (b"SALE 1\n", b"SALE 1\x1b[2J\n"), (b"SALE 1\n", b"SALE 1\r\n"),
         (b"KWH 0.1", b"KWH 0.10"), (b"KWH 0.1", b"KWH .1"), (b"KWH 0.1", b"KWH 0,1"), (b"KWH 0.1", b"KWH 1638.5"),
         (b"KWH 0.1", b"KWH 00.1"), (b"KWH 0.1", b"KWH 1"), (b"PRICE 10", b"PRICE 11"), (b"PRICE 10", b"PRICE 9"),
@@ -290,7 +291,10 @@ def spoilt_receipts():
 def check_papers():
     """A report or a receipt that no desk writes of what was asked is not printed."""
     texts = [(("report", "--kind", "shift"), text) for text in spoilt_reports()]
-    texts += [(("show", "last", "--meter", METER), text) for text in spoilt_receipts()]
+    last, first = ("show", "last", "--meter", METER), ("report", "--kind", "receipt")
+    texts += [(words, text) for words in (last, first) for text in spoilt_receipts()]
+    texts += [(last, RECEIPT.replace(METER.encode(), meter_of("0000000001").encode())),
+              (first, RECEIPT.replace(b"SALE 1\n", b"SALE 2\n"))]
     for words, text in texts:
         same(asked_of(reply(200, text, "text/plain"), *words), NET, f"{words} got {text}")
     return len(texts)

@@ -288,7 +288,7 @@ def begin_waits(folder):
     sides = [
         Side(frozen_desk, folder), Side(full_queue), Side(reads_nothing, folder),
         *(Side(given_up_behind, sale[:cut], SELL) for cut in (0, 1, 40, len(sale) - 1)),
-        Side(given_up_behind, sale[:-1], receipt), Side(given_up_behind, paper[:-1], ["show", "last", "--meter", METER]),
+        Side(given_up_behind, paper[:-1], receipt), Side(given_up_behind, paper[:-1], ["show", "last", "--meter", METER]),
         Side(given_up_behind, pages[0], listed, head + lines[0]),
         Side(given_up_behind, pages[0] + pages[0][:99], listed, head + lines[0]), Side(given_up_behind, b"", listed),
         Side(pages_late, pages, 0.45 * WHOLE, head + lines[0] + lines[1]),

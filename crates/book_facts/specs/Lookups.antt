@@ -26,6 +26,8 @@ use Rattle.book_lists.specs.Pages.{AreFirstAfter, page_size}
 use Rattle.book_tables.specs.Stands.{all_totals}
 use Rattle.book_tables.specs.declared.row.totals.Totals.{Totals}
 use Rattle.book_facts.specs.Totals.{shift_totals}
+use Rattle.asks.specs.declared.lookup.Lookup.{Lookup}
+use Rattle.asks.specs.declared.lookup.Lookup.TheVariants as lookups
 use Rattle.book_states.specs.Health.{IsHealthOf}
 use Rattle.book_states.specs.declared.lookup.LaterSteps.{LaterSteps}
 use Rattle.book_states.specs.declared.lookup.ListedMeter.{ListedMeter}
@@ -33,8 +35,6 @@ use Rattle.book_states.specs.declared.lookup.ListedShift.{ListedShift}
 use Rattle.book_states.specs.declared.lookup.ListedTariff.{ListedTariff}
 use Rattle.book_states.specs.declared.lookup.Found.{Found}
 use Rattle.book_states.specs.declared.lookup.Found.TheVariants as found
-use Rattle.book_states.specs.declared.lookup.Lookup.{Lookup}
-use Rattle.book_states.specs.declared.lookup.Lookup.TheVariants as lookups
 
 -- the sale of an identifier of a meter under a base
 abbrev pub sale_of_tid : Office → List ℕ → Base → ℕ → Option Sale

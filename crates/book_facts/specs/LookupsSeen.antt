@@ -27,6 +27,8 @@ use Rattle.book_states.specs.FactsSeen.{AreStepsSeenOn, IsAccountSeen, OrElse}
 use Rattle.book_facts.specs.Listing.{listed_meter}
 use Rattle.book_facts.specs.Lookups.{last_found, meter_found, quote_for, sale_found, totals_found}
 use Rattle.book_facts.specs.Totals.{AreTotalsSeen, AreTotalsShown}
+use Rattle.asks.specs.declared.lookup.Lookup.{Lookup}
+use Rattle.asks.specs.declared.lookup.Lookup.TheVariants as lookups
 use Rattle.book_states.specs.declared.lookup.Found.{Found}
 use Rattle.book_states.specs.declared.lookup.Found.TheVariants as found
 use Rattle.book_states.specs.declared.lookup.Health.{Health}
@@ -34,8 +36,6 @@ use Rattle.book_states.specs.declared.lookup.LaterSteps.{LaterSteps}
 use Rattle.book_states.specs.declared.lookup.ListedMeter.{ListedMeter}
 use Rattle.book_states.specs.declared.lookup.ListedShift.{ListedShift}
 use Rattle.book_states.specs.declared.lookup.ListedTariff.{ListedTariff}
-use Rattle.book_states.specs.declared.lookup.Lookup.{Lookup}
-use Rattle.book_states.specs.declared.lookup.Lookup.TheVariants as lookups
 
 -- ---- the last sale to a meter
 

@@ -22,9 +22,9 @@ use Rattle.book_states.specs.FactsSeen.{AreStepsSeenOn}
 use Rattle.book_states.specs.Spoilt.{AreStepsSpoiltOn, IsAccountSpoilt, SpoiltThen}
 use Rattle.book_facts.specs.LookupsSeen.{IsLastUnderSeen}
 use Rattle.book_facts.specs.Totals.{AreTotalsSpoilt}
+use Rattle.asks.specs.declared.lookup.Lookup.{Lookup}
+use Rattle.asks.specs.declared.lookup.Lookup.TheVariants as lookups
 use Rattle.book_states.specs.declared.lookup.LaterSteps.{LaterSteps}
-use Rattle.book_states.specs.declared.lookup.Lookup.{Lookup}
-use Rattle.book_states.specs.declared.lookup.Lookup.TheVariants as lookups
 
 -- ---- the last sale to a meter
 

@@ -10,8 +10,8 @@ use Rattle.office_rules.specs.declared.decision.refusal.Refusal.{Refusal}
 use Rattle.office_rules.specs.declared.decision.refusal.Refusal.TheVariants.{Memory, Store, Stopped}
 use Rattle.book_facts.specs.Looking.{TellsTables}
 use Rattle.book_facts.specs.Lookups.{Finds, IsFoundIn}
+use Rattle.asks.specs.declared.lookup.Lookup.{Lookup}
 use Rattle.book_states.specs.declared.lookup.Found.{Found}
-use Rattle.book_states.specs.declared.lookup.Lookup.{Lookup}
 use Rattle.book_states.specs.Health.{IsHealthOf}
 use Rattle.book_states.specs.Stores.{Stores}
 use Rattle.book_states.proofs.OthersLemmas.{nothing_others, others_same, tables_stay}

@@ -11,10 +11,10 @@ use Rattle.office_rules.specs.declared.office.sale.Sale.{Sale}
 use Rattle.book_facts.specs.Lookups.{Finds, IsOfRules}
 use Rattle.book_facts.specs.LookupsSeen.{IsFoundSeen}
 use Rattle.book_facts.specs.LookupsSpoilt.{LookupSpoilt}
+use Rattle.asks.specs.declared.lookup.Lookup.{Lookup}
+use Rattle.asks.specs.declared.lookup.Lookup.TheVariants as lookups
 use Rattle.book_states.specs.declared.lookup.Found.{Found}
 use Rattle.book_states.specs.declared.lookup.Found.TheVariants as found
-use Rattle.book_states.specs.declared.lookup.Lookup.{Lookup}
-use Rattle.book_states.specs.declared.lookup.Lookup.TheVariants as lookups
 use Rattle.books.specs.Keeps.{Across, Seen, health_of, seen}
 use Rattle.books.specs.Reads.{ReadsBooks, ReadsOfLife}
 use Rattle.books.specs.declared.books.Books.{Books}

@@ -1,6 +1,4 @@
 pub mod AddressLemmas
 pub mod DescriptionLemmas
-pub mod DeskLemmas
 pub mod LineLemmas
 pub mod SayLemmas
-pub mod SyncsLemmas

@@ -3,17 +3,13 @@ use Rattle.std.specs.Prelude.{◌≡◌, ⊤, true, false, List, [], Option, Som
 use Rattle.std.specs.Prelude.{codes}
 use Rattle.clap.specs.Walk.{Row}
 use Rattle.sts_fields.specs.Text.{Text}
-use Rattle.command_line.specs.Commands.{SaysAudit, SaysDeskWords, SaysImport, SaysList}
-use Rattle.command_line.specs.Commands.{SaysMeterCommand, SaysOffer, SaysQuote, SaysReport}
-use Rattle.command_line.specs.Commands.{SaysRequestWords, SaysSelfcheck, SaysServe, SaysShow}
-use Rattle.command_line.specs.Commands.{SaysTrial}
+use Rattle.command_line.specs.Commands.{SaysAudit, SaysMeterCommand, SaysOffice, SaysQuote}
+use Rattle.command_line.specs.Commands.{SaysSelfcheck, SaysServe, SaysTrial}
 use Rattle.command_line.specs.Line.{command_in, faults_in}
 use Rattle.command_line.specs.Place.{command_lacks_place, lacks_place}
 use Rattle.command_line.specs.declared.asked.Asked.{Asked}
-use Rattle.command_line.specs.declared.asked.Asked.TheVariants.{Trial, Import, Request, Report}
-use Rattle.command_line.specs.declared.asked.Asked.TheVariants.{Show, Meter, Quote, Offer, Serve}
-use Rattle.command_line.specs.declared.asked.Asked.TheVariants.{Selfcheck, Audit}
-use Rattle.command_line.specs.declared.asked.Asked.TheVariants as variants
+use Rattle.command_line.specs.declared.asked.Asked.TheVariants.{Office, Trial, Meter, Quote}
+use Rattle.command_line.specs.declared.asked.Asked.TheVariants.{Serve, Selfcheck, Audit}
 use Rattle.command_line.specs.declared.words.BadWords.{BadWords}
 use Rattle.command_line.specs.declared.words.BadWords.TheVariants.{Value, Place, Memory}
 use Rattle.command_line.specs.declared.syncs.Syncs.{Syncs}
@@ -21,19 +17,13 @@ use Rattle.command_line.specs.declared.syncs.Syncs.TheVariants.{Twice}
 
 -- the command of this name asks for this, as its rows say
 abbrev pub ArgumentsSay : (name : Text) → List Row → Asked → Type 0
+ArgumentsSay name rows (Office words) = SaysOffice name rows words
 ArgumentsSay name rows (Trial words) = (name ≡ codes "trial") × SaysTrial rows words
-ArgumentsSay name rows (Import words) = (name ≡ codes "import") × SaysImport rows words
-ArgumentsSay name rows (Request words) = SaysRequestWords name rows words
-ArgumentsSay name rows (Report words) = (name ≡ codes "report") × SaysReport rows words
-ArgumentsSay name rows (Show words) = (name ≡ codes "show") × SaysShow rows words
-ArgumentsSay name rows (variants.List words) = (name ≡ codes "list") × SaysList rows words
 ArgumentsSay name rows (Meter words) = (name ≡ codes "meter") × SaysMeterCommand rows words
 ArgumentsSay name rows (Quote words) = (name ≡ codes "quote") × SaysQuote rows words
-ArgumentsSay name rows (Offer words) = (name ≡ codes "offer") × SaysOffer rows words
 ArgumentsSay name rows (Serve words) = (name ≡ codes "serve") × SaysServe rows words
 ArgumentsSay name rows (Selfcheck words) = (name ≡ codes "selfcheck") × SaysSelfcheck rows words
 ArgumentsSay name rows (Audit words) = (name ≡ codes "audit") × SaysAudit rows words
-ArgumentsSay name rows (variants.Desk words) = SaysDeskWords name rows words
 
 -- the same of a command, where there is one, which does not lack its place
 abbrev pub CommandAsks : Option (Text × List Row) → Asked → Type 0

@@ -1,11 +1,17 @@
 -- Which office the words of a command name: one in a file, or one that a running desk serves.
-use Rattle.std.specs.Prelude.{◌&&◌, ◌||◌, Bool, false, if◌then◌else◌, is_some, not, eqb, List}
+use Rattle.std.specs.Prelude.{◌≡◌, ◌||◌, Bool, false, if◌then◌else◌, is_some, not, eqb, List}
 use Rattle.std.specs.Prelude.{Option, Some, None, codes}
 use Rattle.std.specs.Cmp.Lexicographic.{pointwise}
 use Rattle.clap.specs.Walk.{Row}
 use Rattle.sts_fields.specs.Text.{Text}
+use Rattle.command_line.specs.Address.{SaysAddress}
 use Rattle.command_line.specs.Line.{command_in}
-use Rattle.command_line.specs.Said.{parsed_argument}
+use Rattle.command_line.specs.Said.{IsArgument, IsArgumentOr, IsOptionalArgument, parsed_argument}
+use Rattle.command_line.specs.Values.{SaysMoment, SaysText, SaysTransform, SaysWait}
+use Rattle.command_line.specs.Values.{default_transform, default_wait}
+use Rattle.command_line.specs.declared.place.FilePlace.{FilePlace}
+use Rattle.command_line.specs.declared.place.Place.{Place}
+use Rattle.command_line.specs.declared.place.Place.TheVariants.{File, Desk}
 
 -- the words give this argument
 abbrev pub is_given : Text → List Row → Bool
@@ -16,6 +22,22 @@ is_given id rows = is_some (parsed_argument id rows)
 abbrev pub is_of_file : List Row → Bool
 is_of_file rows = is_given (codes "file") rows || (is_given (codes "wait") rows
     || (is_given (codes "at") rows || is_given (codes "transform") rows))
+
+-- an office in a file, and how it is asked
+pub record SaysFile (rows : List Row) (place : FilePlace) : Type 0 where
+  pub path : IsArgument SaysText (parsed_argument (codes "file") rows) place.path
+  pub wait : IsArgumentOr SaysWait default_wait (parsed_argument (codes "wait") rows) place.wait
+  pub transform : IsArgumentOr SaysTransform default_transform
+      (parsed_argument (codes "transform") rows) place.transform
+  pub at : IsOptionalArgument SaysMoment (parsed_argument (codes "at") rows) place.at
+
+-- the one office that rows name: a file where there is no desk, or a desk with nothing that only a
+-- file has
+abbrev pub SaysPlace : List Row → Place → Type 0
+SaysPlace rows (File file) =
+    (parsed_argument (codes "desk") rows ≡ None) × SaysFile rows file
+SaysPlace rows (Desk address) = (is_of_file rows ≡ false)
+    × IsArgument SaysAddress (parsed_argument (codes "desk") rows) address
 
 -- the commands that change an office
 abbrev pub is_asked_to_do : (name : Text) → Bool

@@ -107,6 +107,10 @@ flag_text false = codes "false"
 abbrev pub SaysFlag : Text → Bool → Type 0
 SaysFlag text flag = text ≡ flag_text flag
 
+-- the text of a flag that a command does not have
+abbrev pub no_flag : Text
+no_flag = flag_text false
+
 -- a path, or another text that has no rule
 abbrev pub SaysText : Text → Bor Text → Type 0
 SaysText text word = word.now ≡ text

@@ -3,20 +3,14 @@ ghost use Rattle.clap.specs.Simple.{subcommand_rows_of};
 ghost use Rattle.command_line.specs.Asked.{ArgumentsSay, ReadsAsked, syncs_of};
 ghost use Rattle.command_line.specs.Said.{ReadsOrFull, argument_rows};
 
-use crate::commands::at_desk::DeskWords;
 use crate::commands::audit::AuditWords;
-use crate::commands::import::ImportWords;
-use crate::commands::list::ListWords;
 use crate::commands::meter::MeterWords;
-use crate::commands::offer::OfferWords;
 use crate::commands::quote::QuoteWords;
-use crate::commands::report::ReportWords;
 use crate::commands::selfcheck::SelfcheckWords;
 use crate::commands::serve::ServeWords;
-use crate::commands::show::ShowWords;
 use crate::commands::trial::TrialWords;
+use crate::office_words::OfficeWords;
 use crate::place::lacks_place;
-use crate::request_words::RequestWords;
 use crate::said;
 use crate::syncs::Syncs;
 use crate::words::BadWords;
@@ -26,19 +20,14 @@ use std::alloc::Global;
 /// What the words of a command ask for.
 #[derive(Drop)]
 pub enum Asked<'m, 'a> {
+    /// Something of an office, in a file or at a desk.
+    Office(OfficeWords<'a>),
     Trial(TrialWords),
-    Import(ImportWords<'a>),
-    Request(RequestWords<'a>),
-    Report(ReportWords<'a>),
-    Show(ShowWords<'a>),
-    List(ListWords<'a>),
     Meter(MeterWords<'m, 'a>),
     Quote(QuoteWords),
-    Offer(OfferWords<'a>),
     Serve(ServeWords<'a>),
     Selfcheck(SelfcheckWords),
     Audit(AuditWords<'a>),
-    Desk(DeskWords<'a>),
 }
 
 impl<'m, 'a> Asked<'m, 'a> {
@@ -70,36 +59,13 @@ impl<'m, 'a> Asked<'m, 'a> {
     ) -> Result<Asked<'m, 'a>, BadWords>
         ensures { ReadsOrFull result (ArgumentsSay name.now (argument_rows words.now)) }
     {
-        if let Some(words) = DeskWords::read(name, words) {
-            return Ok(Asked::Desk(words));
-        }
         match name {
             "trial" => Ok(Asked::Trial(TrialWords::read(alloc, words)?)),
-            "import" => match ImportWords::read(words) {
-                Some(words) => Ok(Asked::Import(words)),
-                None => Err(BadWords::Value),
-            },
-            "report" => match ReportWords::read(words) {
-                Some(words) => Ok(Asked::Report(words)),
-                None => Err(BadWords::Value),
-            },
-            "show" => match ShowWords::read(words) {
-                Some(words) => Ok(Asked::Show(words)),
-                None => Err(BadWords::Value),
-            },
-            "list" => match ListWords::read(words) {
-                Some(words) => Ok(Asked::List(words)),
-                None => Err(BadWords::Value),
-            },
             "meter" => match MeterWords::read(words) {
                 Some(words) => Ok(Asked::Meter(words)),
                 None => Err(BadWords::Value),
             },
             "quote" => Ok(Asked::Quote(QuoteWords::read(alloc, words)?)),
-            "offer" => match OfferWords::read(words) {
-                Some(words) => Ok(Asked::Offer(words)),
-                None => Err(BadWords::Value),
-            },
             "serve" => match ServeWords::read(words) {
                 Some(words) => Ok(Asked::Serve(words)),
                 None => Err(BadWords::Value),
@@ -112,8 +78,8 @@ impl<'m, 'a> Asked<'m, 'a> {
                 Some(words) => Ok(Asked::Audit(words)),
                 None => Err(BadWords::Value),
             },
-            _ => match RequestWords::read(name, words) {
-                Some(words) => Ok(Asked::Request(words)),
+            _ => match OfficeWords::read(name, words) {
+                Some(words) => Ok(Asked::Office(words)),
                 None => Err(BadWords::Value),
             },
         }

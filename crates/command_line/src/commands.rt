@@ -6,7 +6,6 @@ ghost use Rattle.command_line.specs.Line.{shop_commands};
 
 use crate::description::Description;
 
-pub mod at_desk;
 pub mod audit;
 pub mod base;
 pub mod import;

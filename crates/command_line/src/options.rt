@@ -1,14 +1,12 @@
 //! The options that commands share, each with its reader.
 ghost use Rattle.std.specs.Prelude.{codes};
-ghost use Rattle.command_line.specs.Address.{SaysAddress};
 ghost use Rattle.command_line.specs.Said.{IsArgument, IsArgumentOr, IsOptionalArgument, ReadsWhat};
 ghost use Rattle.command_line.specs.Said.{argument_rows, parsed_argument};
 ghost use Rattle.command_line.specs.Values.{SaysBase, SaysFlag, SaysKey, SaysMeterNo, SaysMoment};
 ghost use Rattle.command_line.specs.Values.{SaysDay, SaysOperator, SaysRef, SaysTariff};
 ghost use Rattle.command_line.specs.Values.{SaysTender, SaysText, SaysTransform, SaysWait};
-ghost use Rattle.command_line.specs.Values.{default_transform, default_wait};
+ghost use Rattle.command_line.specs.Values.{default_transform, default_wait, no_flag};
 
-use crate::address::Address;
 use crate::argument::{Argument, ArgumentKind};
 use crate::transform::Shipped;
 use crate::{said, values};
@@ -141,13 +139,6 @@ pub(crate) const DESK: Argument = Argument {
         127.0.0.1:8080",
 };
 
-pub(crate) fn read_desk(matches: &ArgMatches) -> Option<Address>
-    ensures { ReadsWhat result (IsArgument SaysAddress
-        (parsed_argument (codes "desk") (argument_rows matches.now))) }
-{
-    Address::read(said::text(matches, "desk")?)
-}
-
 /// `--operator`.
 pub(crate) const OPERATOR: Argument = Argument {
     name: "operator",
@@ -169,11 +160,15 @@ pub(crate) fn read_ref(matches: &ArgMatches) -> Option<Ref>
     Ref::read(said::text(matches, "ref")?.as_bytes())
 }
 
+/// Whether `--json` is among the words of a command, which need not have it.
 pub(crate) fn read_json(matches: &ArgMatches) -> Option<bool>
-    ensures { ReadsWhat result (IsArgument SaysFlag
+    ensures { ReadsWhat result (IsArgumentOr SaysFlag no_flag
         (parsed_argument (codes "json") (argument_rows matches.now))) }
 {
-    values::flag(said::text(matches, "json")?)
+    match said::text(matches, "json") {
+        Some(word) => values::flag(word),
+        None => Some(false),
+    }
 }
 
 /// `--meter`.

@@ -1,3 +1,4 @@
 pub mod AlongLemmas
+pub mod AskLemmas
 pub mod OneLemmas
 pub mod ServingLemmas

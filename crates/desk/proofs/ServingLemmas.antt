@@ -9,12 +9,14 @@ use Rattle.office_rules.specs.declared.decision.refusal.Refusal.{Refusal}
 use Rattle.office_rules.specs.declared.decision.refusal.Refusal.TheVariants.{Stopped}
 use Rattle.office_rules.specs.declared.decision.request.Request.{Request}
 use Rattle.office_rules.specs.declared.decision.request.Stamped.{Stamped}
+use Rattle.office_rules.specs.declared.decision.request.Request.TheVariants as requests
+use Rattle.papers.specs.declared.row_fault.RowFault.TheVariants.{At, Memory}
 use Rattle.books.specs.Asking.{IsAsked, Replies, ReplyAt}
 use Rattle.books.specs.Keeps.{Represents, Seen}
 use Rattle.books.specs.Others.{LeavesOthers}
 use Rattle.books.proofs.OthersLemmas.{kept_tables, others_same, others_then}
-use Rattle.book_states.specs.declared.lookup.Found.{Found}
-use Rattle.book_states.specs.declared.lookup.Lookup.{Lookup}
+use Rattle.asks.specs.declared.ask.Ask.{Ask}
+use Rattle.asks.specs.declared.ask.Ask.TheVariants as asks
 use Rattle.conversation.specs.Exchanges.{MessageExchange, GaveUp, ReadsClock, Timed, clocked, timed}
 use Rattle.conversation.specs.message.Messages.{Message}
 use Rattle.conversation.specs.Run.{IsRun}
@@ -22,53 +24,37 @@ use Rattle.conversation.specs.Uses.{EndsBy, IsPaced, Use}
 use Rattle.conversation.specs.declared.end.End.{End}
 use Rattle.conversation.specs.declared.message.message_fault.MessageFault.{MessageFault}
 use Rattle.conversation.proofs.FollowLemmas.{Follows, clocked_follows, run_along, run_well}
-use Rattle.desk.specs.Answering.{Comes, LifeReplies, Serving, answers_by, books_serve, life_serves, message_refusal_of}
+use Rattle.desk.specs.Answering.{Comes, IsReplied, IsServed, LifeReplies, Serving, answers_by, books_serve, life_serves, message_refusal_of}
 use Rattle.desk.specs.Converses.{Converses}
-use Rattle.desk_messages.specs.Meaning.{IsIdle, IsMeaning}
+use Rattle.desk_messages.specs.Meaning.{IsMeaning}
 use Rattle.desk_messages.specs.reply.HttpDate.{moment_given}
 use Rattle.desk_messages.specs.reply.Text.{reply_to}
+use Rattle.desk_messages.specs.declared.desk_fault.DeskFault.{DeskFault}
 use Rattle.desk_messages.specs.declared.reply.form.Form.{Form}
+use Rattle.desk_messages.specs.declared.reply.form.Form.TheVariants.{Json, Paper}
 use Rattle.desk_messages.specs.declared.meaning.Meaning.{Meaning}
 use Rattle.desk_messages.specs.declared.meaning.Meaning.TheVariants as meanings
 use Rattle.desk_messages.specs.declared.reply.outcome.Outcome.{Outcome}
-use Rattle.desk_messages.specs.declared.reply.outcome.Outcome.TheVariants.{Replied}
-use Rattle.desk_messages.specs.declared.reply.outcome.Outcome.TheVariants as outcomes
+use Rattle.desk_messages.specs.declared.reply.outcome.Outcome.TheVariants.{Faulty}
 
 -- a message asks something, which is served
-pub comes_asked : {O : Type 0} (serves : Serving O) (m : Message) (now : Option ℤ) (meaning : Meaning) (form : Form) (moment : ℕ)
-    (request : Request) (reply : Result Answer Refusal)
-    (outcome : Outcome) (old new office : O) → IsMeaning m now meaning → meaning ≡ meanings.Asks form moment request → outcome
-    ≡ Replied form reply → office ≡ new
-    → serves.replies moment request reply old new → Comes serves m now outcome old office
-comes_asked serves m now meaning form moment request reply outcome old new office is means told same served =
-    inr (inl (
-      form,
-      moment,
-      request,
-      reply,
-      told,
-      subst (λ x. IsMeaning m now x) means is,
-      subst (λ o. serves.replies moment request reply old o) (sym same) served,
-    ))
-
--- a message looks something up, which is found or refused
-pub comes_looked : {O : Type 0} (serves : Serving O) (m : Message) (now : Option ℤ) (meaning : Meaning) (form : Form) (moment : ℕ)
-    (lookup : Lookup) (found : Result Found Refusal)
-    (outcome : Outcome) (old new office : O) → IsMeaning m now meaning → meaning ≡ meanings.Looks form moment lookup → outcome
-    ≡ outcomes.Found form found → office ≡ new
-    → serves.finds moment lookup found old new → Comes serves m now outcome old office
-comes_looked serves m now meaning form moment lookup found outcome old new office is means told same finds =
-    inr (inr (form, moment, lookup, found, told, subst (λ x. IsMeaning m now x) means is, subst (λ o. serves.finds moment lookup found old o) (sym same) finds))
+pub comes_asked_of : {O E : Type 0} (serves : Serving O) (m : Message) (now : Option ℤ) (meaning : Meaning) (moment : ℕ) (ask : Ask)
+    (r : Result Outcome E) (old new : O) → IsMeaning m now meaning → meaning ≡ meanings.Asks moment ask
+    → IfOk r (λ outcome. IsServed serves moment ask outcome old new) → IfOk r (λ outcome. Comes serves m now outcome old new)
+comes_asked_of serves m now meaning moment ask (Ok outcome) old new is means served =
+    inr (moment, ask, subst (λ x. IsMeaning m now x) means is, served)
+comes_asked_of serves m now meaning moment ask (Err error) old new is means served = tt
 
 -- a message asks nothing, and the office is as before
-pub comes_told : {O : Type 0} (serves : Serving O) (m : Message) (now : Option ℤ) (meaning : Meaning) (told outcome : Outcome) (old office : O)
-    → IsMeaning m now meaning → meaning ≡ meanings.Told told → outcome ≡ told → office ≡ old → Comes serves m now outcome old office
-comes_told serves m now meaning told outcome old office is means same kept =
-    inl (subst (λ o. IsIdle m now o) (sym same) (subst (λ x. IsMeaning m now x) means is), kept)
+pub comes_told : {O : Type 0} (serves : Serving O) (m : Message) (now : Option ℤ) (meaning : Meaning) (fault : DeskFault) (outcome : Outcome)
+    (old office : O) → IsMeaning m now meaning → meaning ≡ meanings.Told fault → outcome ≡ Faulty fault → office ≡ old
+    → Comes serves m now outcome old office
+comes_told serves m now meaning fault outcome old office is means same kept = inl (fault, subst (λ x. IsMeaning m now x) means is, same, kept)
 
--- what a message means at the second that the clock gave
-pub means_at : (m : Message) (given second : ℤ) (meaning : Meaning) → given ≡ second → IsMeaning m (Some given) meaning → IsMeaning m (Some second) meaning
-means_at m given second meaning same is = subst (λ z. IsMeaning m (Some z) meaning) same is
+-- what comes of a message at the second that the clock gave
+pub comes_at : {O : Type 0} (serves : Serving O) (m : Message) (given second : ℤ) (outcome : Outcome) (old new : O) → given ≡ second
+    → Comes serves m (Some given) outcome old new → Comes serves m (Some second) outcome old new
+comes_at serves m given second outcome old new same comes = subst (λ z. Comes serves m (Some z) outcome old new) same comes
 
 -- and the text of its reply
 pub told_at : {A E : Type 0} (items : A → List ℕ) (m : Message) (given second : ℤ) (dated : Option ℕ) (outcome : Outcome) (r : Result A E) → given ≡ second
@@ -128,6 +114,56 @@ served_life life moment request reply old new keeps (at, asked, replies) clean =
 abbrev KeepsFrom : State → Life → Seen → Type 0
 KeepsFrom start life books = Represents life books × LeavesOthers start books.state
 
+module _ {B : Type 0} (see : B → Seen) (start : State) where
+  -- a life went on as the books were served
+  abbrev Follow : ℕ → Ask → Outcome → Life → B → Type 0
+  Follow moment ask outcome life new = (after : Life) × IsServed life_serves moment ask outcome life after × KeepsFrom start after (see new)
+
+  reply_back : (moment : ℕ) (form : Form) (request : Request) (outcome : Outcome) (old new : B)
+      → IsReplied (books_serve see) moment form request outcome old new → HasCleanDisk (see new).state → HasCleanDisk (see old).state
+  reply_back moment form request outcome old new (reply, is, (at, asked, replies)) clean = replies.clean clean
+
+  -- what is served leaves no clean disk behind an unclean one
+  served_back : (moment : ℕ) (ask : Ask) (outcome : Outcome) (old new : B) → IsServed (books_serve see) moment ask outcome old new
+      → HasCleanDisk (see new).state → HasCleanDisk (see old).state
+  served_back moment (asks.Import kind csv) outcome old new (Ok rows, read, replied) clean =
+      reply_back moment Json (requests.Import rows) outcome old new replied clean
+  served_back moment (asks.Import kind csv) outcome old new (Err (At row cause), read, (is, same)) clean =
+      subst (λ b. HasCleanDisk (see b).state) same clean
+  served_back moment (asks.Import kind csv) outcome old new (Err Memory, read, none) clean = absurd none
+  served_back moment (asks.Do request) outcome old new replied clean = reply_back moment Json request outcome old new replied clean
+  served_back moment (asks.Receipt sale) outcome old new replied clean =
+      reply_back moment Paper (requests.Reprint sale) outcome old new replied clean
+  served_back moment (asks.Look lookup) outcome old new (found, is, finds) clean = finds.0.reads.clean clean
+
+  reply_follows : (moment : ℕ) (form : Form) (request : Request) (outcome : Outcome) (life : Life) (old new : B) → KeepsFrom start life (see old)
+      → IsReplied (books_serve see) moment form request outcome old new → HasCleanDisk (see new).state
+      → (after : Life) × IsReplied life_serves moment form request outcome life after × KeepsFrom start after (see new)
+  reply_follows moment form request outcome life old new kept (reply, is, (at, asked, replies)) clean =
+      let goes = served_life life moment request reply (see old) (see new) kept.0 (at, asked, replies) clean in (
+        goes.0,
+        (reply, is, goes.1),
+        (goes.2, others_then start (see old).state (see new).state kept.1 (replies.others clean (kept_tables life (see old) kept.0))),
+      )
+
+  -- as books are served, so is the life that they keep
+  served_follows : (moment : ℕ) (ask : Ask) (outcome : Outcome) (life : Life) (old new : B) → KeepsFrom start life (see old)
+      → IsServed (books_serve see) moment ask outcome old new → HasCleanDisk (see new).state → Follow moment ask outcome life new
+  served_follows moment (asks.Import kind csv) outcome life old new kept (Ok rows, read, replied) clean =
+      let goes = reply_follows moment Json (requests.Import rows) outcome life old new kept replied clean in
+      (goes.0, (Ok rows, read, goes.1), goes.2)
+  served_follows moment (asks.Import kind csv) outcome life old new kept (Err (At row cause), read, (is, same)) clean =
+      (life, (Err (At row cause), read, (is, refl)), subst (λ b. KeepsFrom start life (see b)) (sym same) kept)
+  served_follows moment (asks.Import kind csv) outcome life old new kept (Err Memory, read, none) clean = absurd none
+  served_follows moment (asks.Do request) outcome life old new kept replied clean = reply_follows moment Json request outcome life old new kept replied clean
+  served_follows moment (asks.Receipt sale) outcome life old new kept replied clean =
+      reply_follows moment Paper (requests.Reprint sale) outcome life old new kept replied clean
+  served_follows moment (asks.Look lookup) outcome life old new kept (found, is, finds) clean = (
+    life,
+    (found, is, (finds.0.of_life clean life kept.0, refl)),
+    (finds.0.reads.keeps life kept.0, others_then start (see old).state (see new).state kept.1 (finds.0.reads.others clean (kept_tables life (see old) kept.0))),
+  )
+
 books_follow : {B : Type 0} (see : B → Seen) (start : State)
     → Follows (answers_by (books_serve see)) (answers_by life_serves) (λ life books. KeepsFrom start life (see books)) (λ books. HasCleanDisk (see books).state)
 books_follow {B} see start = record { back = back; next = next }
@@ -136,25 +172,16 @@ books_follow {B} see start = record { back = back; next = next }
     step = answers_by (books_serve see)
 
     back : (old : B) (x : MessageExchange) (new : B) → step old x new → HasCleanDisk (see new).state → HasCleanDisk (see old).state
-    back old x new (outcome, inl (idle, same), text) clean = subst (λ b. HasCleanDisk (see b).state) same clean
-    back old x new (outcome, inr (inl (form, moment, request, reply, is, asks, (at, asked, replies))), text) clean = replies.clean clean
-    back old x new (outcome, inr (inr (form, moment, lookup, found, is, looks, finds)), text) clean = finds.0.reads.clean clean
+    back old x new (outcome, inl (fault, has, is, same), text) clean = subst (λ b. HasCleanDisk (see b).state) same clean
+    back old x new (outcome, inr (moment, ask, asked, served), text) clean = served_back see start moment ask outcome old new served clean
 
     next : (life : Life) (old : B) (x : MessageExchange) (new : B) → KeepsFrom start life (see old) → step old x new → HasCleanDisk (see new).state
         → (after : Life) × answers_by life_serves life x after × KeepsFrom start after (see new)
-    next life old x new kept (outcome, inl (idle, same), text) clean =
-        (life, (outcome, inl (idle, refl), text), subst (λ b. KeepsFrom start life (see b)) (sym same) kept)
-    next life old x new kept (outcome, inr (inl (form, moment, request, reply, is, asks, (at, asked, replies))), text) clean =
-        let goes = served_life life moment request reply (see old) (see new) kept.0 (at, asked, replies) clean in (
-          goes.0,
-          (outcome, inr (inl (form, moment, request, reply, is, asks, goes.1)), text),
-          (goes.2, others_then start (see old).state (see new).state kept.1 (replies.others clean (kept_tables life (see old) kept.0))),
-        )
-    next life old x new kept (outcome, inr (inr (form, moment, lookup, found, is, looks, finds)), text) clean = (
-      life,
-      (outcome, inr (inr (form, moment, lookup, found, is, looks, (finds.0.of_life clean life kept.0, refl))), text),
-      (finds.0.reads.keeps life kept.0, others_then start (see old).state (see new).state kept.1 (finds.0.reads.others clean (kept_tables life (see old) kept.0))),
-    )
+    next life old x new kept (outcome, inl (fault, has, is, same), text) clean =
+        (life, (outcome, inl (fault, has, is, refl), text), subst (λ b. KeepsFrom start life (see b)) (sym same) kept)
+    next life old x new kept (outcome, inr (moment, ask, asked, served), text) clean =
+        let goes = served_follows see start moment ask outcome life old new kept served clean in
+        (goes.0, (outcome, inr (moment, ask, asked, goes.1), text), goes.2)
 
 module _ {B : Type 0} (see : B → Seen) (gives : ℤ → Type 0) (refusal : MessageFault → List ℕ) (old new : Timed B)
     (unread left held holds : Option (List ℕ)) (end : End)

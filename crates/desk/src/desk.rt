@@ -1,8 +1,11 @@
-ghost use Rattle.std.specs.Prelude.{ℤ, List};
+ghost use Rattle.std.specs.Prelude.{◌≡◌, ℤ, List, IfOk, OnErr, Some};
 ghost use Rattle.books.specs.Keeps.{seen};
 ghost use Rattle.conversation.specs.Uses.{Grows, Use};
+ghost use Rattle.conversation.specs.message.Next.{message_of};
+ghost use Rattle.desk.specs.Answering.{Comes, books_serve};
 ghost use Rattle.desk.specs.Converses.{Converses};
 
+use crate::serving::serve;
 use books::Books;
 use conversation::{Clock, End, Line, MessageFault, Received, Service, Untold, run};
 use desk_messages::{Meaning, Outcome, Routes, moment_given, reply_bytes, reply_to};
@@ -32,9 +35,9 @@ impl Desk {
     }
 
     /// Holds the conversation of a reader and a writer over these books: each message that is read
-    /// is answered in order, and its request served once, before more is asked for. The clock is read
-    /// once for each; a request comes at the moment that it gives, and the reply has its date. See `End` for what was written and served by the
-    /// end; `specs/Converses.antt` says what holds of it, and `specs/Answering.antt` how books and
+    /// is answered in order, and what it asks served once, before more is asked for. The clock is
+    /// read once for each; what is asked comes at the moment that it gives, and the reply has its
+    /// date. See `End` for what was written and served by the end; `specs/Converses.antt` says what holds of it, and `specs/Answering.antt` how books and
     /// their lives answer. No more is read than `specs/Uses.antt` of `conversation` allows
     /// (`paced`): while a head is awaited 8192 bytes of it in all, while a body is awaited what it
     /// lacks, and nothing after an end.
@@ -78,6 +81,28 @@ impl Desk {
     }
 }
 
+impl Desk {
+    // What comes of a message at this second, which the clock gave for it. Where there is no memory
+    // to read it nothing is asked of the office.
+    fn outcome_of<S: Alter, T: BlockTransform>(
+        &self,
+        alloc: Global,
+        office: &mut Books<S, T>,
+        second: i64,
+        message: &Received<'_>,
+    ) -> Result<Outcome, AllocError>
+        ensures comes { IfOk result (λ outcome. Comes (books_serve seen) (message_of message.now)
+            (Some second) outcome office.old office.new) }
+        ensures short { OnErr result (office.new ≡ office.old) }
+    {
+        match self.routes.meaning_of(alloc, second, message) {
+            Meaning::Asks(moment, ask) => serve(alloc, office, moment, ask),
+            Meaning::Told(fault) => Ok(Outcome::Faulty(fault)),
+            Meaning::Memory => Err(AllocError),
+        }
+    }
+}
+
 impl<S: Alter, T: BlockTransform> Service<Books<S, T>> for Desk {
     ghost use Rattle.books.specs.Keeps.{seen};
     ghost use Rattle.desk.specs.Answering.{answers_by, books_serve, message_refusal_of};
@@ -94,18 +119,13 @@ impl<S: Alter, T: BlockTransform> Service<Books<S, T>> for Desk {
         message: &Received<'_>,
     ) -> Result<Vec<u8>, AllocError> {
         let second = clock.now();
-        let outcome = match self.routes.meaning_of(alloc, second, message) {
-            Meaning::Asks(form, moment, request) => {
-                Outcome::Replied(form, office.ask(moment, request))
+        match self.outcome_of(alloc, office, second, message) {
+            Ok(outcome) => {
+                let dated = moment_given(second);
+                reply_to(alloc, message.method, dated, &outcome, message.closes)
             }
-            Meaning::Looks(form, moment, lookup) => {
-                Outcome::Found(form, office.look_up(moment, &lookup))
-            }
-            Meaning::Told(outcome) => outcome,
-            Meaning::Memory => return Err(AllocError),
-        };
-        let dated = moment_given(second);
-        reply_to(alloc, message.method, dated, &outcome, message.closes)
+            Err(error) => Err(error),
+        }
     }
 
     fn refuse(&self, alloc: Global, fault: MessageFault) -> Result<Vec<u8>, AllocError> {

@@ -5,11 +5,12 @@
 
 mod along;
 mod desk;
+mod serving;
 
 pub use along::{conversation_law, desk_law};
+pub use asks::{Ask, AskKind, Csv, Lookup};
 pub use books::{
-    Found, Health, LaterSteps, ListedMeter, ListedShift, ListedTariff, Lookup, MeterSummary, Quote,
-    Totals,
+    Found, Health, LaterSteps, ListedMeter, ListedShift, ListedTariff, MeterSummary, Quote, Totals,
 };
 pub use conversation::{
     Clock, End, Line, MachineClock, MessageFault, Method, Next, Received, Script, TimeSource,
@@ -17,7 +18,7 @@ pub use conversation::{
 };
 pub use desk::Desk;
 pub use desk_messages::{
-    BodyFault, DeskFault, Endpoint, Form, JsonKind, Outcome, Route, Routes, asking_law, date_law,
-    found_json, head_law, http_date, list_law, moment_given, put_day, put_steps, reply_bytes,
-    reply_law, reply_to, request_of, route_law,
+    DeskFault, Form, Meaning, Named, Outcome, Routes, date_law, day_text_law, found_json, head_law,
+    http_date, json_law, lookup_form, meaning_law, moment_given, put_day, put_steps, read_rows,
+    reply_bytes, reply_to,
 };

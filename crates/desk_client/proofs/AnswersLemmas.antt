@@ -1,25 +1,28 @@
--- What tells the same answers the same questions.
+-- What tells the same answers the same asks.
 use Rattle.std.proofs.Common.{◌≡◌, ℕ, List, subst}
 use Rattle.std.specs.Borrow.{Bor}
 use Rattle.desk_client.specs.Alike.{GrantAlike, TellAlike}
 use Rattle.desk_client.specs.Answers.{Answers, GrantsWhat, MayRefuse}
-use Rattle.desk_client.specs.Receipt.{IsReceiptOf}
+use Rattle.desk_client.specs.Receipt.{IsReceiptNumbered, IsReceiptOf}
 use Rattle.desk_client.specs.Report.{IsReportOf}
-use Rattle.desk_client.specs.declared.question.Question.{Question}
-use Rattle.desk_client.specs.declared.question.Question.TheVariants as questions
+use Rattle.asks.specs.declared.ask.Ask.{Ask}
+use Rattle.asks.specs.declared.ask.Ask.TheVariants.{Do, Look, Receipt}
+use Rattle.asks.specs.declared.lookup.Lookup.TheVariants as lookups
 use Rattle.desk_client.specs.declared.told.Granted.{Granted}
 use Rattle.desk_client.specs.declared.told.Granted.TheVariants as granted
 use Rattle.desk_client.specs.declared.told.Told.{Told}
 use Rattle.desk_client.specs.declared.told.Told.TheVariants as told
 use Rattle.office_rules.specs.declared.decision.refusal.Refusal.{Refusal}
+use Rattle.office_rules.specs.declared.decision.request.Request.TheVariants as requests
 
 -- of a paper nothing is looked at but its text
-alike_papers : (q : Question) (text other : Bor (List ℕ)) → text.now ≡ other.now → GrantsWhat (granted.Paper text) q → GrantsWhat (granted.Paper other) q
-alike_papers (questions.ShiftReport number) text other same is = subst (IsReportOf number) same is
-alike_papers (questions.LastSale meter) text other same is = subst (IsReceiptOf meter) same is
+alike_papers : (q : Ask) (text other : Bor (List ℕ)) → text.now ≡ other.now → GrantsWhat (granted.Paper text) q → GrantsWhat (granted.Paper other) q
+alike_papers (Do (requests.ShiftReport number)) text other same is = subst (IsReportOf number) same is
+alike_papers (Receipt number) text other same is = subst (IsReceiptNumbered number) same is
+alike_papers (Look (lookups.LastSale meter)) text other same is = subst (IsReceiptOf meter) same is
 alike_papers q text other same is = tt
 
-alike_grants : (q : Question) (g h : Granted) → GrantAlike g h → GrantsWhat g q → GrantsWhat h q
+alike_grants : (q : Ask) (g h : Granted) → GrantAlike g h → GrantsWhat g q → GrantsWhat h q
 alike_grants q granted.Done granted.Done alike is = tt
 alike_grants q (granted.Imported m) (granted.Imported n) alike is = tt
 alike_grants q (granted.Withdrawn m) (granted.Withdrawn n) alike is = tt
@@ -33,8 +36,8 @@ alike_grants q (granted.Paper text) (granted.Paper other) alike is = alike_paper
 alike_grants q (granted.Page text) (granted.Page other) alike is = tt
 alike_grants q g h alike is = absurd alike
 
--- two things that are told alike answer the same questions
-pub alike_answers : (q : Question) (t u : Told) → TellAlike t u → Answers q t → Answers q u
+-- two things that are told alike answer the same asks
+pub alike_answers : (q : Ask) (t u : Told) → TellAlike t u → Answers q t → Answers q u
 alike_answers q (told.Granted g) (told.Granted h) alike is = alike_grants q g h alike is
 alike_answers q (told.Refused r) (told.Refused s) alike is = subst (λ (r : Refusal). MayRefuse r q) alike is
 alike_answers q told.NoMoment told.NoMoment alike is = tt

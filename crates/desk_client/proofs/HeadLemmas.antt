@@ -9,13 +9,15 @@ use Rattle.office_rules.specs.declared.decision.category.Category.{Category}
 use Rattle.office_rules.specs.declared.decision.category.Category.TheVariants as categories
 use Rattle.desk_client.specs.Reply.{HasNoHead, IsRefusing, IsReply, MayBegin, head_bytes, longest_reply_body, longest_reply_head}
 use Rattle.desk_client.specs.Start.{BeginsAs, IsDated, category_start, date_end, head_end, start_text}
-use Rattle.desk_client.specs.Told.{IsStart, IsTellable, granted_start, told_start, told_text}
+use Rattle.desk_client.specs.Told.{IsGrantOf, IsStart, IsTellable, granted_start, start_of, told_start, told_text}
 use Rattle.desk_client.specs.declared.start.Start.{Start}
 use Rattle.desk_client.specs.declared.start.Start.TheVariants.{Json, Paper, Missing, Forbidden, Unfit, Unable}
+use Rattle.desk_client.specs.declared.told.Granted.{Granted}
+use Rattle.desk_client.specs.declared.told.Granted.TheVariants as granted
 use Rattle.desk_client.specs.declared.told.Told.{Told}
 use Rattle.desk_client.specs.declared.told.Told.TheVariants as told
-use Rattle.desk_client.specs.declared.told.Wanted.{Wanted}
-use Rattle.desk_client.specs.declared.told.Wanted.TheVariants as wanted
+use Rattle.asks.specs.declared.endpoint.Grants.{Grants}
+use Rattle.asks.specs.declared.endpoint.Grants.TheVariants as wanted
 use Rattle.desk_client.proofs.DateLemmas.{date_long, same_front}
 use Rattle.desk_client.proofs.NumberLemmas.{same_number}
 use Rattle.desk_client.proofs.PlainLemmas.{plain_number}
@@ -88,41 +90,50 @@ regroup : (s d e r more : List ℕ) → (s ++ (d ++ (e ++ r))) ++ more ≡ s ++ 
 regroup s d e r more = simp append_assoc
 
 -- what a whole reply says of a head that was found, and what follows it
-pub reply_behind : (asked : Wanted) (s : Start) (n : ℕ) (d : Option (List ℕ)) (r more : List ℕ) (t : Told) → n < 2 ^ 64 → IsDated d
+pub reply_behind : (asked : Grants) (s : Start) (n : ℕ) (d : Option (List ℕ)) (r more : List ℕ) (t : Told) → n < 2 ^ 64 → IsDated d
     → IsReply asked (head_bytes s n d r ++ more) t → (s ≡ told_start t) × (n ≡ length (told_text t)) × (r ++ more ≡ told_text t)
 reply_behind asked s n d r more t small is reply =
     one_head s (told_start t) n (length (told_text t)) d reply.dated (r ++ more) (told_text t) small (omega (arith, reply.short)) is reply.is_dated
     (sym (regroup (start_text s) (decimal n) (head_end d) r more) ∙ reply.is_text)
 
 -- the body of a whole reply is no longer than its head says, and that no longer than any
-pub reply_lengths : (asked : Wanted) (s : Start) (n : ℕ) (d : Option (List ℕ)) (r more : List ℕ) (t : Told) → n < 2 ^ 64 → IsDated d
+pub reply_lengths : (asked : Grants) (s : Start) (n : ℕ) (d : Option (List ℕ)) (r more : List ℕ) (t : Told) → n < 2 ^ 64 → IsDated d
     → IsReply asked (head_bytes s n d r ++ more) t → (n ≤ longest_reply_body) × (length r + length more ≡ n)
 reply_lengths asked s n d r more t small dated reply =
     let is = reply_behind asked s n d r more t small dated reply in
     (omega (arith, is.1, reply.short), omega (arith, is.1, ap length is.2, length-append r more))
 
 -- where nothing follows, the body is what is told
-pub reply_now : (asked : Wanted) (s : Start) (n : ℕ) (d : Option (List ℕ)) (r more : List ℕ) (t : Told) → n < 2 ^ 64 → IsDated d → length r ≡ n
+pub reply_now : (asked : Grants) (s : Start) (n : ℕ) (d : Option (List ℕ)) (r more : List ℕ) (t : Told) → n < 2 ^ 64 → IsDated d → length r ≡ n
     → IsReply asked (head_bytes s n d r ++ more) t → (told_start t ≡ s) × (r ≡ told_text t)
 reply_now asked s n d r more t small dated all reply =
     let is = reply_behind asked s n d r more t small dated reply in
     let none : more ≡ [] = nil_from_length more (omega (arith, all, (reply_lengths asked s n d r more t small dated reply).1)) in
     (sym is.0, sym (append-nil r) ∙ ap (λ (m : List ℕ). r ++ m) (sym none) ∙ is.2)
 
--- what a reply may begin with, by what is wanted
-granted_is : (asked : Wanted) → IsStart asked (granted_start asked)
-granted_is wanted.Done = refl
-granted_is wanted.Imported = refl
-granted_is wanted.Withdrawn = refl
-granted_is wanted.Shift = refl
-granted_is wanted.Sale = refl
-granted_is wanted.Meter = refl
-granted_is wanted.Quote = refl
-granted_is wanted.Totals = refl
-granted_is wanted.Paper = refl
-granted_is wanted.Page = refl
+-- what is granted begins as a grant of what is wanted
+pub grant_start : (asked : Grants) (g : Granted) → IsGrantOf asked g → start_of g ≡ granted_start asked
+grant_start wanted.Done granted.Done is = refl
+grant_start wanted.Imported (granted.Imported n) is = refl
+grant_start wanted.Withdrawn (granted.Withdrawn n) is = refl
+grant_start wanted.Shift (granted.Shift n) is = refl
+grant_start wanted.Sale (granted.Sale s) is = refl
+grant_start wanted.Meter (granted.Meter m) is = refl
+grant_start wanted.Quote (granted.Quote q) is = refl
+grant_start wanted.Totals (granted.Totals n t) is = refl
+grant_start wanted.Paper (granted.Paper text) is = refl
+grant_start wanted.Tariffs (granted.Page text) is = refl
+grant_start wanted.Meters (granted.Page text) is = refl
+grant_start wanted.Shifts (granted.Page text) is = refl
+grant_start wanted.Sales (granted.Page text) is = refl
+grant_start asked g is = absurd is
 
-refused_is : (asked : Wanted) (category : Category) → IsStart asked (category_start category)
+-- and that is a start where it is wanted
+granted_is : (asked : Grants) → IsStart asked (granted_start asked)
+granted_is wanted.Paper = refl
+granted_is asked = refl
+
+refused_is : (asked : Grants) (category : Category) → IsStart asked (category_start category)
 refused_is asked categories.Missing = tt
 refused_is asked categories.Forbidden = tt
 refused_is asked categories.Unfit = tt
@@ -130,13 +141,13 @@ refused_is asked (categories.UnfitRow row cause) = tt
 refused_is asked categories.Unable = tt
 
 -- the reply to what was wanted begins as a grant of that, as a refusal or as a fault
-pub start_is : (asked : Wanted) (t : Told) → IsTellable asked t → IsStart asked (told_start t)
-start_is asked (told.Granted granted) h = subst (λ w. IsStart asked (granted_start w)) (sym h.1) (granted_is asked)
+pub start_is : (asked : Grants) (t : Told) → IsTellable asked t → IsStart asked (told_start t)
+start_is asked (told.Granted g) h = subst (IsStart asked) (sym (grant_start asked g h.1)) (granted_is asked)
 start_is asked (told.Refused refusal) h = refused_is asked (refusal_category refusal)
 start_is asked told.NoMoment h = tt
 
 -- no reply begins another
-pub alone : (asked : Wanted) (text more : List ℕ) (t u : Told) → IsReply asked text t → IsReply asked (text ++ more) u → more ≡ []
+pub alone : (asked : Grants) (text more : List ℕ) (t u : Told) → IsReply asked text t → IsReply asked (text ++ more) u → more ≡ []
 alone asked text more t u one other =
     let n = length (told_text t) in
     let read : IsReply asked (head_bytes (told_start t) n one.dated (told_text t) ++ more) u =
@@ -187,7 +198,7 @@ head_within s n d r few is =
     )
 
 -- where no head is found in as many bytes as any has, no reply begins so
-pub no_reply : (asked : Wanted) (input : List ℕ) → longest_reply_head ≤ length input
+pub no_reply : (asked : Grants) (input : List ℕ) → longest_reply_head ≤ length input
     → ((s : Start) (n : ℕ) (d : Option (List ℕ)) (r : List ℕ) → IsStart asked s → n < 2 ^ 64 → IsDated d → input ≢ head_bytes s n d r)
     → (more : List ℕ) (t : Told) → ¬ IsReply asked (input ++ more) t
 no_reply asked input long none more t reply =
@@ -201,13 +212,13 @@ no_reply asked input long none more t reply =
     (there ∙ sym (behind_front (start_text s) (decimal n) (head_end d) (drop (length (front s n d)) input)))
 
 -- where no head is found, there is no whole reply yet
-pub needs_head : (asked : Wanted) (input : List ℕ) → HasNoHead asked input → (t : Told) → ¬ IsReply asked input t
+pub needs_head : (asked : Grants) (input : List ℕ) → HasNoHead asked input → (t : Told) → ¬ IsReply asked input t
 needs_head asked input none t reply =
     none (told_start t) (length (told_text t)) reply.dated (told_text t) (start_is asked t reply.tellable) (omega (arith, reply.short)) reply.is_dated
     reply.is_text
 
 -- and what begins as no reply becomes none, whatever follows
-pub begins_no_reply : (asked : Wanted) (input : List ℕ) → ¬ MayBegin asked input → (more : List ℕ) (t : Told) → ¬ IsReply asked (input ++ more) t
+pub begins_no_reply : (asked : Grants) (input : List ℕ) → ¬ MayBegin asked input → (more : List ℕ) (t : Told) → ¬ IsReply asked (input ++ more) t
 begins_no_reply asked input not more t reply =
     not (told_start t, start_is asked t reply.tellable, (more, decimal (length (told_text t)) ++ (head_end reply.dated ++ told_text t), reply.is_text))
 
@@ -237,6 +248,7 @@ goes_on (x ∷ a) (y ∷ b) more rest e =
 pub begins_there : (start : Start) (input text : List ℕ) → text ≡ start_text start → HasFront input text → BeginsAs input start
 begins_there start input text is (rest, there) = ([], rest, append-nil input ∙ there ∙ ap (λ (t : List ℕ). t ++ rest) is)
 
+-- and so does one that the start begins with
 pub begins_within : (start : Start) (input text : List ℕ) → text ≡ start_text start → HasFront text input → BeginsAs input start
 begins_within start input text is (rest, there) = (rest, [], sym there ∙ is ∙ sym (append-nil (start_text start)))
 
@@ -245,7 +257,7 @@ pub begins_either : (start : Start) (input text : List ℕ) → text ≡ start_t
 begins_either start input text is (more, rest, e) = goes_on input text more rest (e ∙ ap (λ (t : List ℕ). t ++ rest) (sym is))
 
 -- a start of a reply is that of what is granted, or one of the refusals' four: the last, if it is none of the others
-pub begins_last : (asked : Wanted) (input : List ℕ) → ¬ BeginsAs input (granted_start asked) → ¬ BeginsAs input Missing
+pub begins_last : (asked : Grants) (input : List ℕ) → ¬ BeginsAs input (granted_start asked) → ¬ BeginsAs input Missing
     → ¬ BeginsAs input Forbidden → ¬ BeginsAs input Unfit → MayBegin asked input → BeginsAs input Unable
 begins_last asked input granted missing forbidden unfit (Json, is, begins) = absurd (granted (subst (BeginsAs input) (sym is) begins))
 begins_last asked input granted missing forbidden unfit (Paper, is, begins) = absurd (granted (subst (BeginsAs input) (sym is) begins))

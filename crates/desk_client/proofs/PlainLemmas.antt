@@ -7,9 +7,6 @@ use Rattle.std.proofs.lemmas.Bool.Decides.{nat_tests}
 use Rattle.std.proofs.lemmas.Fmt.{decimal_is_IsNumeral}
 use Rattle.std.proofs.lemmas.List.Elements.{All-from_get_or, recursion_from_All}
 use Rattle.std.proofs.lemmas.Str.Parse.{digit_at}
-use Rattle.sts_fields.specs.Base.{year_of}
-use Rattle.sts_fields.specs.declared.base.Base.{Base}
-use Rattle.sts_fields.specs.declared.base.Base.TheVariants.{Y1993, Y2014, Y2035}
 use Rattle.office_rules.specs.Name.{is_name_byte}
 use Rattle.desk_client.specs.Text.{LacksStop, is_stop}
 
@@ -32,12 +29,6 @@ plain_number n small =
     recursion_from_All (λ byte. is_stop byte ≡ false) (decimal n) (All-from_get_or (λ byte. is_stop byte ≡ false) (decimal n) 0 (λ i inside.
     let is = digit_at (decimal n) i (decimal_is_IsNumeral n small).0.1 inside in
     digit (get_or (decimal n) i 0) is.0 is.1))
-
--- nor have those of the year of a base date
-pub plain_year : (base : Base) → LacksStop (decimal (year_of base))
-plain_year Y1993 = plain_number 1993 (omega arith)
-plain_year Y2014 = plain_number 2014 (omega arith)
-plain_year Y2035 = plain_number 2035 (omega arith)
 
 -- what passes a test that no stop passes
 passing : (test : ℕ → Bool) → ((b : ℕ) → test b ≡ true → is_stop b ≡ false) → (text : List ℕ) → AllPass test text → LacksStop text

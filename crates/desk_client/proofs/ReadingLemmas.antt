@@ -5,7 +5,8 @@ use Rattle.std.specs.List.{AllByRecursion}
 use Rattle.std.specs.Prelude.{All}
 use Rattle.std.proofs.lemmas.List.Elements.{All-map, recursion_from_All}
 use Rattle.std.proofs.lemmas.List.{append_cancel_left, take-append-drop, take_all, take_more, take_more_set}
-use Rattle.desk_client.specs.Text.{BeginsWithStop, LackStops, LacksStop, now, woven}
+use Rattle.records.specs.Record.{now}
+use Rattle.desk_client.specs.Text.{BeginsWithStop, LackStops, LacksStop, woven}
 use Rattle.desk_client.proofs.WovenLemmas.{left_of, woven-more}
 
 -- so many of the values were read, and the rest is left

@@ -10,7 +10,8 @@ use Rattle.sts_fields.specs.Amount.{IsRepresentable, greatest_amount}
 use Rattle.sts_fields.specs.Moment.{IsMoment}
 use Rattle.sts_token.specs.Token.{AreTwentyDigits}
 use Rattle.desk_client.specs.Receipt.{IsToldReceipt, receipt_ends, receipt_values, spaced}
-use Rattle.desk_client.specs.Text.{IsFound, LackStops, LacksStop, woven}
+use Rattle.records.specs.Front.{IsFound}
+use Rattle.desk_client.specs.Text.{LackStops, LacksStop, woven}
 use Rattle.desk_client.proofs.ColumnLemmas.{same_start}
 use Rattle.desk_client.proofs.FoundLemmas.{found_by}
 use Rattle.desk_client.proofs.NumberLemmas.{same_number}

@@ -14,7 +14,8 @@ use Rattle.sts_fields.specs.Amount.{IsRepresentable, greatest_amount}
 use Rattle.desk_client.specs.Report.{AreOfSale, AreToldLines, EndsReport, FitColumns, HasHead, HasLine, IsReportOf, IsToldLine, IsToldShift, columns_text, head_ends, head_values}
 use Rattle.sts_fields.specs.Moment.{IsMoment}
 use Rattle.desk_client.specs.Page.{IsToldEnd}
-use Rattle.desk_client.specs.Text.{LackStops, LacksStop, now, woven}
+use Rattle.records.specs.Record.{now}
+use Rattle.desk_client.specs.Text.{LackStops, LacksStop, woven}
 use Rattle.desk_client.specs.declared.report_line.Columns.{Columns}
 use Rattle.desk_client.proofs.ColumnLemmas.{line_of_sale, no_letter, of_sale_fit, read_of_sale}
 use Rattle.desk_client.proofs.PlainLemmas.{plain_letters}

@@ -1,22 +1,22 @@
 -- What tariffs of one text have in common.
-use Rattle.std.proofs.Common.{◌≡◌, ◌∙◌, ℕ, List, [], ◌++◌, codes, map, refl, ap, sym, subst}
+use Rattle.std.proofs.Common.{◌≡◌, ◌∙◌, ℕ, false, List, [], ◌++◌, codes, map, refl, ap, sym, subst}
 use Rattle.std.proofs.lemmas.List.{append-nil, map-id}
 use Rattle.std.proofs.lemmas.List.Elements.{recursion_from_All}
 use Rattle.book_states.specs.declared.lookup.LaterSteps.{LaterSteps}
 use Rattle.book_states.specs.declared.lookup.ListedTariff.{ListedTariff}
-use Rattle.desk_messages.specs.reply.Lists.{day_text, later_text, tariff_text}
+use Rattle.records.specs.List.{AreReadInOneWay, items_text}
+use Rattle.desk_messages.specs.reply.Lists.{day_text, tariff_text}
 use Rattle.sts_fields.specs.Day.{IsDay, IsDayText}
 use Rattle.sts_fields.specs.Text.{Text}
 use Rattle.tariff.specs.Steps.{IsSteps}
 use Rattle.tariff.specs.StepsText.{IsStepsText, steps_text}
 use Rattle.tariff.specs.declared.step.Step.{Step}
-use Rattle.desk_client.specs.Items.{AreReadInOneWay, closed_list_text}
 use Rattle.desk_client.specs.Page.{IsToldLater, IsToldTariff, tariff_view}
-use Rattle.desk_client.specs.TariffItem.{with_steps}
+use Rattle.desk_client.specs.TariffItem.{later_text, with_steps}
 use Rattle.desk_client.specs.Text.{LacksStop}
 use Rattle.desk_client.proofs.PageLemmas.{alike}
 use Rattle.desk_client.proofs.PlainLemmas.{plain_name}
-use Rattle.desk_client.proofs.TariffItemLemmas.{IsArray, Spells, behind_later, open_text, opened}
+use Rattle.desk_client.proofs.TariffItemLemmas.{behind_later, open_text, opened}
 use Rattle.desk_client.proofs.TariffLemmas.{one_with_steps}
 
 -- one text is of one day, and of one list of steps
@@ -50,13 +50,13 @@ one_later days steps plain l m told also e =
     ap (λ (day : ℕ). record { from = day; steps = l.steps }) from ∙ ap (λ (s : List Step). record { from = m.from; steps = s }) are
 
 -- tariffs of one text have the same name, the same steps and the same later steps
-pub one_tariff : IsArray → Spells → AreReadInOneWay IsToldLater later_text → IsOneDay → AreOneSteps → ((day : ℕ) → IsDay day → LacksStop (day_text day))
+pub one_tariff : AreReadInOneWay IsToldLater later_text → IsOneDay → AreOneSteps → ((day : ℕ) → IsDay day → LacksStop (day_text day))
     → (t u : ListedTariff) → IsToldTariff t → IsToldTariff u → tariff_text t ≡ tariff_text u → tariff_view t ≡ tariff_view u
-one_tariff array spells way days steps plain t u told also e =
-    let texts = behind_later array spells way (open_text t)
-    (closed_list_text (map later_text t.later.items) ++ with_steps (codes ",\"name\":\"") t.name t.steps)
+one_tariff way days steps plain t u told also e =
+    let texts = behind_later way (open_text t)
+    (items_text false (map later_text t.later.items) ++ with_steps (codes ",\"name\":\"") t.name t.steps)
     t.later.items (with_steps (codes ",\"name\":\"") t.name t.steps) refl told.later refl u [] also
-    (sym (opened array spells t told) ∙ e ∙ sym (append-nil (tariff_text u))) in
+    (sym (opened t) ∙ e ∙ sym (append-nil (tariff_text u))) in
     let same = one_with_steps (codes ",\"name\":\"") t.name u.name t.steps u.steps [] [] (plain_name t.name told.name.bytes) (plain_name u.name also.name.bytes)
     told.steps also.steps (append-nil (with_steps (codes ",\"name\":\"") t.name t.steps) ∙ texts.1) in
     let are = steps t.steps u.steps told.steps also.steps same.1 in

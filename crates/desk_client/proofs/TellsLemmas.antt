@@ -12,12 +12,10 @@ use Rattle.desk_messages.specs.declared.reply.form.Form.{Form}
 use Rattle.desk_messages.specs.declared.reply.form.Form.TheVariants as forms
 use Rattle.desk_messages.specs.declared.reply.outcome.Outcome.{Outcome}
 use Rattle.desk_messages.specs.declared.reply.outcome.Outcome.TheVariants as outcomes
-use Rattle.desk_messages.specs.reply.Body.{refusal_members, sale_body, sale_members}
+use Rattle.desk_messages.specs.reply.Body.{refusal_text, sale_body}
 use Rattle.desk_messages.specs.reply.Head.{category_status}
 use Rattle.desk_messages.specs.reply.HttpDate.{IsDateAt, http_date, moment_given}
-use Rattle.desk_messages.specs.reply.Members.{json_text}
-use Rattle.desk_messages.specs.reply.SaleText.{IsTellableSale}
-use Rattle.desk_messages.specs.reply.SaleText as desk_text
+use Rattle.desk_messages.specs.reply.Records.{fault_text}
 use Rattle.desk_messages.specs.reply.Text.{date_line, field_line, line_end, reply_bytes_of, reply_text, status_line}
 use Rattle.office_rules.specs.Decision.Refusals.{refusal_category}
 use Rattle.office_rules.specs.declared.decision.answer.Answer.{Answer}
@@ -29,10 +27,9 @@ use Rattle.office_rules.specs.declared.office.sale.Sale.{Sale}
 use Rattle.desk_client.specs.Page.{page_as_read}
 use Rattle.desk_client.specs.Reply.{IsReplyReading, IsReply, head_bytes, longest_reply_body}
 use Rattle.desk_client.specs.Reply as replies
-use Rattle.desk_client.specs.Sale.{sale_as_read}
 use Rattle.desk_client.specs.Start.{IsDated, category_start, head_end}
 use Rattle.desk_client.specs.Tells.{Tells, TellsReplyAnswer, TellsFault, TellsReplyFound, TellsPage, TellsPaper, TellsReplySale, as_told}
-use Rattle.desk_client.specs.Told.{IsTellable, refusal_text, told_start, told_text}
+use Rattle.desk_client.specs.Told.{IsTellable, told_start, told_text}
 use Rattle.desk_client.specs.declared.reply.Reading.{Reading}
 use Rattle.desk_client.specs.declared.reply.Reading.TheVariants as readings
 use Rattle.desk_client.specs.declared.start.Start.TheVariants.{Json, Paper}
@@ -40,8 +37,7 @@ use Rattle.desk_client.specs.declared.told.Granted.{Granted}
 use Rattle.desk_client.specs.declared.told.Granted.TheVariants as granted
 use Rattle.desk_client.specs.declared.told.Told.{Told}
 use Rattle.desk_client.specs.declared.told.Told.TheVariants as told
-use Rattle.desk_client.specs.declared.told.Wanted.{Wanted}
-use Rattle.desk_client.proofs.TextLemmas.{added-text, clock-text, done-text, meter-text, quote-text, refusal-text, shift-text, totals-text, withdrawn-text}
+use Rattle.asks.specs.declared.endpoint.Grants.{Grants}
 
 -- ---- heads
 
@@ -76,10 +72,6 @@ unfit-line = refl
 unable-line : status_line 503 ≡ codes "HTTP/1.1 503 Service Unavailable\r\n"
 unfolding status_line digits
 unable-line = refl
-
--- the text of a sale, as the desk's law has it
-abbrev pub SalesAreTexts : Type 0
-SalesAreTexts = (s : Sale) → IsTellableSale s → json_text (sale_members s) ≡ desk_text.sale_text s
 
 module _ (dated : Option ℕ) where
   -- the date of the head
@@ -124,11 +116,6 @@ module _ (dated : Option ℕ) where
       → reply_text (record { status = 200; form = forms.Json; dated = dated; allowed = None; closes = false }) body ≡ replies.reply_text date (told.Granted g)
   json_says body g start is = rw (start, sym is) (json-reply body)
 
-  refusal_says : (r : Refusal) (asked : Wanted) → IsTellable asked (told.Refused r)
-      → reply_text (record { status = category_status (refusal_category r); form = forms.Json; dated = dated; allowed = None; closes = false }) (json_text (refusal_members r))
-      ≡ replies.reply_text date (told.Refused r)
-  refusal_says r asked h = rw (refusal-text r h) (category-reply (refusal_category r) (refusal_text r))
-
   paper_says : (text : List ℕ) (t : Told) → TellsPaper text t
       → reply_text (record { status = 200; form = forms.Paper; dated = dated; allowed = None; closes = false }) text ≡ replies.reply_text date t
   paper_says text (told.Granted (granted.Paper paper)) h = rw h (paper-reply text)
@@ -160,70 +147,61 @@ module _ (dated : Option ℕ) where
   page_says page (told.Refused r) h = absurd h
   page_says page told.NoMoment h = absurd h
 
-  sale_says : SalesAreTexts → (form : Form) (sale : Sale) (asked : Wanted) (t : Told) → IsTellable asked t → TellsReplySale form sale t
+  sale_says : (form : Form) (sale : Sale) (t : Told) → TellsReplySale form sale t
       → reply_text (record { status = 200; form = form; dated = dated; allowed = None; closes = false }) (sale_body form sale) ≡ replies.reply_text date t
-  sale_says texts forms.Json sale asked t tellable h =
-      let is : IsTellable asked (told.Granted (granted.Sale (as_told sale))) = subst (IsTellable asked) h tellable in
-      let text : json_text (sale_members sale) ≡ sale_as_read (as_told sale) = texts sale (record {
-        operator = is.0.operator;
-        order_ref = is.0.order_ref;
-        meter = is.0.meter;
-        digits = is.0.digits;
-      }) in
-      json_says _ (granted.Sale (as_told sale)) refl text ∙ ap (replies.reply_text date) (sym h)
-  sale_says texts forms.Paper sale asked t tellable h = paper_says _ t h
+  sale_says forms.Json sale t h =
+      json_says _ (granted.Sale (as_told sale)) refl refl ∙ ap (replies.reply_text date) (sym h)
+  sale_says forms.Paper sale t h = paper_says _ t h
 
-  answer_says : SalesAreTexts → (form : Form) (answer : Answer) (asked : Wanted) (t : Told) → IsTellable asked t → TellsReplyAnswer form answer t
+  answer_says : (form : Form) (answer : Answer) (t : Told) → TellsReplyAnswer form answer t
       → reply_bytes_of dated (outcomes.Replied form (Ok answer)) false ≡ replies.reply_text date t
-  answer_says texts form answers.Done asked t tellable h = json_says _ granted.Done refl done-text ∙ ap (replies.reply_text date) (sym h)
-  answer_says texts form (answers.Imported n) asked t tellable h = json_says _ (granted.Imported n) refl (added-text n) ∙ ap (replies.reply_text date) (sym h)
-  answer_says texts form (answers.Withdrawn n) asked t tellable h = json_says _ (granted.Withdrawn n) refl (withdrawn-text n) ∙ ap (replies.reply_text date) (sym h)
-  answer_says texts form (answers.Opened n) asked t tellable h = json_says _ (granted.Shift n) refl (shift-text n) ∙ ap (replies.reply_text date) (sym h)
-  answer_says texts form (answers.Closed n) asked t tellable h = json_says _ (granted.Shift n) refl (shift-text n) ∙ ap (replies.reply_text date) (sym h)
-  answer_says texts form (answers.Sold sale) asked t tellable h = sale_says texts form sale asked t tellable h
-  answer_says texts form (answers.Reprinted sale) asked t tellable h = sale_says texts form sale asked t tellable h
-  answer_says texts form (answers.Report shift sales) asked t tellable h = paper_says _ t h
+  answer_says form answers.Done t h = json_says _ granted.Done refl refl ∙ ap (replies.reply_text date) (sym h)
+  answer_says form (answers.Imported n) t h = json_says _ (granted.Imported n) refl refl ∙ ap (replies.reply_text date) (sym h)
+  answer_says form (answers.Withdrawn n) t h = json_says _ (granted.Withdrawn n) refl refl ∙ ap (replies.reply_text date) (sym h)
+  answer_says form (answers.Opened n) t h = json_says _ (granted.Shift n) refl refl ∙ ap (replies.reply_text date) (sym h)
+  answer_says form (answers.Closed n) t h = json_says _ (granted.Shift n) refl refl ∙ ap (replies.reply_text date) (sym h)
+  answer_says form (answers.Sold sale) t h = sale_says form sale t h
+  answer_says form (answers.Reprinted sale) t h = sale_says form sale t h
+  answer_says form (answers.Report shift sales) t h = paper_says _ t h
 
-  found_says : SalesAreTexts → (form : Form) (it : Found) (asked : Wanted) (t : Told) → IsTellable asked t → TellsReplyFound form it t
+  found_says : (form : Form) (it : Found) (t : Told) → TellsReplyFound form it t
       → reply_bytes_of dated (outcomes.Found form (Ok it)) false ≡ replies.reply_text date t
-  found_says texts form (found.Health health) asked t tellable h = absurd h
-  found_says texts form (found.Meter m) asked t tellable h =
-      let is : IsTellable asked (told.Granted (granted.Meter m)) = subst (IsTellable asked) h tellable in
-      json_says _ (granted.Meter m) refl (meter-text m is.0) ∙ ap (replies.reply_text date) (sym h)
-  found_says texts form (found.Sale sale) asked t tellable h = sale_says texts form sale asked t tellable h
-  found_says texts form (found.Quote q) asked t tellable h =
-      let is : IsTellable asked (told.Granted (granted.Quote q)) = subst (IsTellable asked) h tellable in
-      json_says _ (granted.Quote q) refl (quote-text q is.0) ∙ ap (replies.reply_text date) (sym h)
-  found_says texts form (found.ShiftTotals n totals) asked t tellable h =
-      json_says _ (granted.Totals n totals) refl (totals-text n totals) ∙ ap (replies.reply_text date) (sym h)
-  found_says texts form (found.Tariffs page) asked t tellable h = page_says (found.Tariffs page) t h
-  found_says texts form (found.Meters page) asked t tellable h = page_says (found.Meters page) t h
-  found_says texts form (found.Shifts page) asked t tellable h = page_says (found.Shifts page) t h
-  found_says texts form (found.Sales page) asked t tellable h = page_says (found.Sales page) t h
+  found_says form (found.Health health) t h = absurd h
+  found_says form (found.Meter m) t h =
+      json_says _ (granted.Meter m) refl refl ∙ ap (replies.reply_text date) (sym h)
+  found_says form (found.Sale sale) t h = sale_says form sale t h
+  found_says form (found.Quote q) t h =
+      json_says _ (granted.Quote q) refl refl ∙ ap (replies.reply_text date) (sym h)
+  found_says form (found.ShiftTotals n totals) t h =
+      json_says _ (granted.Totals n totals) refl refl ∙ ap (replies.reply_text date) (sym h)
+  found_says form (found.Tariffs page) t h = page_says (found.Tariffs page) t h
+  found_says form (found.Meters page) t h = page_says (found.Meters page) t h
+  found_says form (found.Shifts page) t h = page_says (found.Shifts page) t h
+  found_says form (found.Sales page) t h = page_says (found.Sales page) t h
 
   fault_says : (fault : DeskFault) (t : Told) → TellsFault fault t → reply_bytes_of dated (outcomes.Faulty fault) false ≡ replies.reply_text date t
   fault_says faults.NoRoute t h = absurd h
   fault_says (faults.Method allowed) t h = absurd h
-  fault_says faults.Clock t h = rw (h, clock-text) (category-reply categories.Unable (codes "{\"error\":\"Clock\"}"))
+  fault_says faults.Clock t h = rw h (category-reply categories.Unable (fault_text (codes "Clock")))
   fault_says faults.Body t h = absurd h
 
-  refused_says : (r : Refusal) (asked : Wanted) (t : Told) → IsTellable asked t → t ≡ told.Refused r
-      → reply_text (record { status = category_status (refusal_category r); form = forms.Json; dated = dated; allowed = None; closes = false }) (json_text (refusal_members r))
+  refused_says : (r : Refusal) (t : Told) → t ≡ told.Refused r
+      → reply_text (record { status = category_status (refusal_category r); form = forms.Json; dated = dated; allowed = None; closes = false }) (refusal_text r)
       ≡ replies.reply_text date t
-  refused_says r asked t tellable h = refusal_says r asked (subst (IsTellable asked) h tellable) ∙ ap (replies.reply_text date) (sym h)
+  refused_says r t h = category-reply (refusal_category r) (refusal_text r) ∙ ap (replies.reply_text date) (sym h)
 
   -- what a desk replies is the text of what the reply tells
-  pub says : SalesAreTexts → (asked : Wanted) (outcome : Outcome) (t : Told) → IsTellable asked t → Tells outcome t
+  pub says : (outcome : Outcome) (t : Told) → Tells outcome t
       → reply_bytes_of dated outcome false ≡ replies.reply_text date t
-  says texts asked (outcomes.Refused fault) t tellable h = absurd h
-  says texts asked (outcomes.Faulty fault) t tellable h = fault_says fault t h
-  says texts asked (outcomes.Replied form (Ok answer)) t tellable h = answer_says texts form answer asked t tellable h
-  says texts asked (outcomes.Replied form (Err refusal)) t tellable h = refused_says refusal asked t tellable h
-  says texts asked (outcomes.Found form (Ok it)) t tellable h = found_says texts form it asked t tellable h
-  says texts asked (outcomes.Found form (Err refusal)) t tellable h = refused_says refusal asked t tellable h
+  says (outcomes.Refused fault) t h = absurd h
+  says (outcomes.Faulty fault) t h = fault_says fault t h
+  says (outcomes.Replied form (Ok answer)) t h = answer_says form answer t h
+  says (outcomes.Replied form (Err refusal)) t h = refused_says refusal t h
+  says (outcomes.Found form (Ok it)) t h = found_says form it t h
+  says (outcomes.Found form (Err refusal)) t h = refused_says refusal t h
 
 -- where a text is a reply, it is read as a whole one
-pub is_whole : (asked : Wanted) (text : List ℕ) (t : Told) (reading : Reading) → IsReply asked text t → IsReplyReading asked text reading
+pub is_whole : (asked : Grants) (text : List ℕ) (t : Told) (reading : Reading) → IsReply asked text t → IsReplyReading asked text reading
     → (read : Told) × (reading ≡ readings.Whole read) × IsReply asked text read
 is_whole asked text t (readings.Whole read) reply h = (read, refl, h)
 is_whole asked text t readings.NeedHead reply h = absurd (h.1 t reply)
@@ -249,14 +227,14 @@ given_dated dates (Some (pos n)) = by (nat_le first_moment n && nat_le n last_mo
     by false e = tt
 
 -- a reply that is not too long is one that is read
-pub is_reply : SalesAreTexts → ((moment : ℕ) → IsMoment moment → IsDateAt moment (http_date moment))
-    → (asked : Wanted) (now : Option ℤ) (outcome : Outcome) (t : Told) → Tells outcome t → IsTellable asked t
+pub is_reply : ((moment : ℕ) → IsMoment moment → IsDateAt moment (http_date moment))
+    → (asked : Grants) (now : Option ℤ) (outcome : Outcome) (t : Told) → Tells outcome t → IsTellable asked t
     → length (told_text t) ≤ longest_reply_body → IsReply asked (reply_bytes_of (moment_given now) outcome false) t
-is_reply texts dates asked now outcome t h tellable few =
+is_reply dates asked now outcome t h tellable few =
     record {
       tellable = tellable;
       short = few;
       dated = date_given now;
       is_dated = given_dated dates now;
-      is_text = says (moment_given now) texts asked outcome t tellable h;
+      is_text = says (moment_given now) outcome t h;
     }

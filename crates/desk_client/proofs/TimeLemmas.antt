@@ -8,7 +8,8 @@ use Rattle.sts_fields.specs.Calendar.{IsCivil, IsWithinRanges, civil_at}
 use Rattle.sts_fields.specs.Day.{HasDate, IsDay, IsDayText, day_at, iso_date, two_digits}
 use Rattle.sts_fields.specs.Moment.{IsMoment, first_moment, last_moment}
 use Rattle.sts_fields.specs.declared.calendar.date_time.Civil.{Civil}
-use Rattle.desk_client.specs.Text.{IsFound, LacksStop}
+use Rattle.records.specs.Front.{IsFound}
+use Rattle.desk_client.specs.Text.{LacksStop}
 use Rattle.desk_client.specs.Time.{clock_after}
 use Rattle.desk_client.proofs.ColumnLemmas.{same_start}
 use Rattle.desk_client.proofs.PlainLemmas.{digit, plain_append}

@@ -1,5 +1,5 @@
 -- Values between fixed words, and that a text has them in one way.
-use Rattle.std.proofs.Common.{◌≡◌, ◌≢◌, ◌∙◌, ℕ, ◌<◌, ◌≤◌, true, false, true≢false, List, [], ◌∷◌, ◌++◌, length, drop, take, refl, ap, sym, subst, append_assoc, arith, add-zero, get_or-drop, length-drop}
+use Rattle.std.proofs.Common.{◌≡◌, ◌≢◌, ◌∙◌, ℕ, ◌<◌, ◌≤◌, true, false, true≢false, List, [], ◌∷◌, ◌++◌, length, drop, take, refl, ap, sym, subst, arith, add-zero, get_or-drop, length-drop}
 use Rattle.std.specs.Prelude.{All, slice_index}
 use Rattle.std.specs.List.{AllByRecursion}
 use Rattle.std.proofs.lemmas.List.{append_cancel_left, take-append-drop, take_all}
@@ -117,13 +117,3 @@ one_front text front vs ws es r q many all begin lv lw e f =
 pub one_reading : (text front : List ℕ) (vs ws es : List (List ℕ)) → length es ≤ length vs → length ws ≡ length es → AllByRecursion BeginsWithStop es
     → LackStops vs → LackStops ws → text ≡ front ++ woven vs es [] → text ≡ front ++ woven ws es [] → take (length es) vs ≡ ws
 one_reading text front vs ws es many all begin lv lw e f = (one_front text front vs ws es [] [] many all begin lv lw e f).0
-
--- what follows values stands behind all of them
-pub woven-append : (vs es : List (List ℕ)) (r : List ℕ) → length vs ≡ length es → woven vs es r ≡ woven vs es [] ++ r
-woven-append [] [] r same = refl
-woven-append [] (e ∷ es) r same = absurd (omega (arith, same))
-woven-append (v ∷ vs) [] r same = absurd (omega (arith, same))
-woven-append (v ∷ vs) (e ∷ es) r same =
-    ap (λ (b : List ℕ). v ++ (e ++ b)) (woven-append vs es r (omega (arith, same)))
-    ∙ ap (λ (b : List ℕ). v ++ b) (sym (append_assoc e (woven vs es []) r))
-    ∙ sym (append_assoc v (e ++ woven vs es []) r)

@@ -1,19 +1,21 @@
--- Which replies answer a question: those that tell what it asks for, or why an office refuses it.
+-- Which replies answer an ask: those that tell what it asks for, or why an office refuses it.
 use Rattle.std.specs.Prelude.{◌≡◌, ⊤, ℕ, ◌+◌, ◌≤◌, List}
 use Rattle.sts_token.specs.Reading.{IsOfClassZero}
 use Rattle.office_rules.specs.Office.Rows.{greatest_rows}
 use Rattle.office_rules.specs.declared.decision.refusal.Refusal.{Refusal}
 use Rattle.office_rules.specs.declared.decision.refusal.Refusal.TheVariants as refusals
 use Rattle.office_rules.specs.declared.decision.request.Order.{Order}
+use Rattle.office_rules.specs.declared.decision.request.Request.TheVariants as requests
 use Rattle.office_rules.specs.declared.decision.row_cause.RowCause.{RowCause}
 use Rattle.office_rules.specs.declared.decision.row_cause.RowCause.TheVariants as causes
 use Rattle.office_rules.specs.declared.office.sale.Sale.{Sale}
-use Rattle.desk_client.specs.Question.{wanted_by}
-use Rattle.desk_client.specs.Receipt.{IsReceiptOf}
+use Rattle.asks.specs.declared.ask.Ask.{Ask}
+use Rattle.asks.specs.declared.ask.Ask.TheVariants.{Import, Do, Receipt, Look}
+use Rattle.asks.specs.declared.lookup.Lookup.TheVariants as lookups
+use Rattle.desk_client.specs.Receipt.{IsReceiptNumbered, IsReceiptOf}
 use Rattle.desk_client.specs.Reply.{IsReply}
 use Rattle.desk_client.specs.Report.{IsReportOf}
-use Rattle.desk_client.specs.declared.question.Question.{Question}
-use Rattle.desk_client.specs.declared.question.Question.TheVariants as questions
+use Rattle.desk_client.specs.Sent.{wanted_by}
 use Rattle.desk_client.specs.declared.told.Granted.{Granted}
 use Rattle.desk_client.specs.declared.told.Granted.TheVariants as grants
 use Rattle.desk_client.specs.declared.told.Told.{Told}
@@ -28,26 +30,27 @@ pub record IsSaleFor (order : Order) (s : Sale) : Type 0 where
   pub meter : s.meter ≡ order.meter
   pub tender : s.tender ≡ order.tender
 
--- a sale is the one that the question names: that of an order, of a number, or of an operator's ref
-abbrev pub IsNamedSale : Sale → Question → Type 0
-IsNamedSale s (questions.Sell order) = IsSaleFor order s
-IsNamedSale s (questions.Receipt number) = s.number ≡ number
-IsNamedSale s (questions.SaleOfRef operator order_ref) =
+-- a sale is the one that the ask names: that of an order, of a number, or of an operator's ref
+abbrev pub IsNamedSale : Sale → Ask → Type 0
+IsNamedSale s (Do (requests.Sell order)) = IsSaleFor order s
+IsNamedSale s (Do (requests.Reprint number)) = s.number ≡ number
+IsNamedSale s (Look (lookups.SaleOfRef operator order_ref)) =
     (s.operator ≡ operator) × (s.order_ref ≡ order_ref)
-IsNamedSale s question = ⊤
+IsNamedSale s ask = ⊤
 
--- What is granted is what the question names: the sale, whose digits can be a token's; the totals
--- or the report of the shift; the meter, or the receipt of a sale to it; or a quote for the meter
--- and the tender.
-abbrev pub GrantsWhat : Granted → Question → Type 0
-GrantsWhat (grants.Sale s) question = IsOfClassZero s.digits × IsNamedSale s question
-GrantsWhat (grants.Totals shift totals) (questions.ShiftTotals number) = shift ≡ number
-GrantsWhat (grants.Paper text) (questions.ShiftReport number) = IsReportOf number text.now
-GrantsWhat (grants.Paper text) (questions.LastSale meter) = IsReceiptOf meter text.now
-GrantsWhat (grants.Meter m) (questions.Meter meter) = m.number ≡ meter
-GrantsWhat (grants.Quote q) (questions.Quote meter tender) =
+-- What is granted is what the ask names: the sale, whose digits can be a token's, or its receipt;
+-- the totals or the report of the shift; the meter, or the receipt of a sale to it; or a quote for
+-- the meter and the tender.
+abbrev pub GrantsWhat : Granted → Ask → Type 0
+GrantsWhat (grants.Sale s) ask = IsOfClassZero s.digits × IsNamedSale s ask
+GrantsWhat (grants.Totals shift totals) (Look (lookups.ShiftTotals number)) = shift ≡ number
+GrantsWhat (grants.Paper text) (Do (requests.ShiftReport number)) = IsReportOf number text.now
+GrantsWhat (grants.Paper text) (Receipt number) = IsReceiptNumbered number text.now
+GrantsWhat (grants.Paper text) (Look (lookups.LastSale meter)) = IsReceiptOf meter text.now
+GrantsWhat (grants.Meter m) (Look (lookups.Meter meter)) = m.number ≡ meter
+GrantsWhat (grants.Quote q) (Look (lookups.Quote meter tender)) =
     (q.meter ≡ meter) × (q.tender ≡ tender)
-GrantsWhat granted question = ⊤
+GrantsWhat granted ask = ⊤
 
 -- ---- what is refused
 
@@ -66,57 +69,64 @@ IsRowRefused row causes.Differs = IsFileRow row
 IsRowRefused row causes.NoTariff = IsFileRow row
 IsRowRefused row causes.DayPast = IsFileRow row
 
--- The office has this refusal for this question. Whatever is asked, it may lack memory, its store
--- may fail, or it may have stopped.
-abbrev pub MayRefuse : Refusal → Question → Type 0
-MayRefuse refusals.RefReused (questions.Sell order) = ⊤
-MayRefuse refusals.NoShift (questions.CloseShift operator) = ⊤
-MayRefuse refusals.NoShift (questions.Sell order) = ⊤
-MayRefuse refusals.ShiftOpen (questions.OpenShift operator) = ⊤
-MayRefuse refusals.NoMeter (questions.SetTariff meter tariff) = ⊤
-MayRefuse refusals.NoMeter (questions.MoveBase meter base) = ⊤
-MayRefuse refusals.NoMeter (questions.SetKey meter key) = ⊤
-MayRefuse refusals.NoMeter (questions.Sell order) = ⊤
-MayRefuse refusals.NoMeter (questions.Meter meter) = ⊤
-MayRefuse refusals.NoMeter (questions.LastSale meter) = ⊤
-MayRefuse refusals.NoMeter (questions.Quote meter tender) = ⊤
-MayRefuse refusals.NoTariff (questions.SetTariff meter tariff) = ⊤
-MayRefuse refusals.NoTariff (questions.WithdrawSteps tariff day) = ⊤
-MayRefuse refusals.BeforeBase (questions.MoveBase meter base) = ⊤
-MayRefuse refusals.BeforeBase (questions.Sell order) = ⊤
-MayRefuse refusals.BeforeBase (questions.Quote meter tender) = ⊤
-MayRefuse refusals.IdentifiersSpent (questions.Sell order) = ⊤
-MayRefuse refusals.IdentifiersSpent (questions.Quote meter tender) = ⊤
-MayRefuse refusals.IdentifierAhead (questions.Sell order) = ⊤
-MayRefuse refusals.IdentifierAhead (questions.Quote meter tender) = ⊤
-MayRefuse refusals.TooLittle (questions.Sell order) = ⊤
-MayRefuse refusals.TooLittle (questions.Quote meter tender) = ⊤
-MayRefuse refusals.OfficeFull (questions.OpenShift operator) = ⊤
-MayRefuse refusals.OfficeFull (questions.Sell order) = ⊤
-MayRefuse refusals.OfficeFull (questions.Quote meter tender) = ⊤
-MayRefuse refusals.NoSale (questions.Receipt number) = ⊤
-MayRefuse refusals.NoSale (questions.LastSale meter) = ⊤
-MayRefuse refusals.NoSale (questions.SaleOfRef operator order_ref) = ⊤
-MayRefuse refusals.NoSuchShift (questions.ShiftReport number) = ⊤
-MayRefuse refusals.NoSuchShift (questions.ShiftTotals number) = ⊤
-MayRefuse (refusals.ImportRow row cause) (questions.Import kind csv) = IsRowRefused row cause
-MayRefuse refusals.Memory question = ⊤
-MayRefuse refusals.Store question = ⊤
-MayRefuse refusals.Stopped question = ⊤
-MayRefuse refusals.NotLater (questions.MoveBase meter base) = ⊤
-MayRefuse refusals.DayPast (questions.WithdrawSteps tariff day) = ⊤
-MayRefuse refusals.HasSales (questions.SetKey meter key) = ⊤
-MayRefuse refusal question = ⊥
+-- The office has this refusal for this ask. Whatever is asked, it may lack memory, its store may
+-- fail, or it may have stopped.
+abbrev pub MayRefuse : Refusal → Ask → Type 0
+MayRefuse refusals.RefReused (Do (requests.Sell order)) = ⊤
+MayRefuse refusals.NoShift (Do (requests.CloseShift operator)) = ⊤
+MayRefuse refusals.NoShift (Do (requests.Sell order)) = ⊤
+MayRefuse refusals.ShiftOpen (Do (requests.OpenShift operator)) = ⊤
+MayRefuse refusals.NoMeter (Do (requests.SetTariff meter tariff)) = ⊤
+MayRefuse refusals.NoMeter (Do (requests.MoveBase meter base)) = ⊤
+MayRefuse refusals.NoMeter (Do (requests.SetKey meter key)) = ⊤
+MayRefuse refusals.NoMeter (Do (requests.Sell order)) = ⊤
+MayRefuse refusals.NoMeter (Look (lookups.Meter meter)) = ⊤
+MayRefuse refusals.NoMeter (Look (lookups.LastSale meter)) = ⊤
+MayRefuse refusals.NoMeter (Look (lookups.Quote meter tender)) = ⊤
+MayRefuse refusals.NoTariff (Do (requests.AddSteps tariff day steps)) = ⊤
+MayRefuse refusals.NoTariff (Do (requests.AddMeter number meter)) = ⊤
+MayRefuse refusals.NoTariff (Do (requests.SetTariff meter tariff)) = ⊤
+MayRefuse refusals.NoTariff (Do (requests.WithdrawSteps tariff day)) = ⊤
+MayRefuse refusals.BeforeBase (Do (requests.MoveBase meter base)) = ⊤
+MayRefuse refusals.BeforeBase (Do (requests.Sell order)) = ⊤
+MayRefuse refusals.BeforeBase (Look (lookups.Quote meter tender)) = ⊤
+MayRefuse refusals.IdentifiersSpent (Do (requests.Sell order)) = ⊤
+MayRefuse refusals.IdentifiersSpent (Look (lookups.Quote meter tender)) = ⊤
+MayRefuse refusals.IdentifierAhead (Do (requests.Sell order)) = ⊤
+MayRefuse refusals.IdentifierAhead (Look (lookups.Quote meter tender)) = ⊤
+MayRefuse refusals.TooLittle (Do (requests.Sell order)) = ⊤
+MayRefuse refusals.TooLittle (Look (lookups.Quote meter tender)) = ⊤
+MayRefuse refusals.OfficeFull (Do (requests.OpenShift operator)) = ⊤
+MayRefuse refusals.OfficeFull (Do (requests.Sell order)) = ⊤
+MayRefuse refusals.OfficeFull (Look (lookups.Quote meter tender)) = ⊤
+MayRefuse refusals.NoSale (Do (requests.Reprint number)) = ⊤
+MayRefuse refusals.NoSale (Receipt number) = ⊤
+MayRefuse refusals.NoSale (Look (lookups.LastSale meter)) = ⊤
+MayRefuse refusals.NoSale (Look (lookups.SaleOfRef operator order_ref)) = ⊤
+MayRefuse refusals.NoSuchShift (Do (requests.ShiftReport number)) = ⊤
+MayRefuse refusals.NoSuchShift (Look (lookups.ShiftTotals number)) = ⊤
+MayRefuse (refusals.ImportRow row cause) (Import kind csv) = IsRowRefused row cause
+MayRefuse refusals.Memory ask = ⊤
+MayRefuse refusals.Store ask = ⊤
+MayRefuse refusals.Stopped ask = ⊤
+MayRefuse refusals.NotLater (Do (requests.MoveBase meter base)) = ⊤
+MayRefuse refusals.DayPast (Do (requests.AddSteps tariff day steps)) = ⊤
+MayRefuse refusals.DayPast (Do (requests.WithdrawSteps tariff day)) = ⊤
+MayRefuse refusals.HasSales (Do (requests.SetKey meter key)) = ⊤
+MayRefuse refusals.Differs (Do (requests.AddTariff tariff steps)) = ⊤
+MayRefuse refusals.Differs (Do (requests.AddSteps tariff day steps)) = ⊤
+MayRefuse refusals.Differs (Do (requests.AddMeter number meter)) = ⊤
+MayRefuse refusal ask = ⊥
 
 -- ---- a reply
 
--- what is told answers the question; a clock without a moment says nothing of any
-abbrev pub Answers : Question → Told → Type 0
-Answers question (tells.Granted granted) = GrantsWhat granted question
-Answers question (tells.Refused refusal) = MayRefuse refusal question
-Answers question tells.NoMoment = ⊤
+-- what is told answers the ask; a clock without a moment says nothing of any
+abbrev pub Answers : Ask → Told → Type 0
+Answers ask (tells.Granted granted) = GrantsWhat granted ask
+Answers ask (tells.Refused refusal) = MayRefuse refusal ask
+Answers ask tells.NoMoment = ⊤
 
--- the text is a whole reply to the message of a question, and what it tells answers it
-pub record IsReplyTo (question : Question) (text : List ℕ) (told : Told) : Type 0 where
-  pub reply : IsReply (wanted_by question) text told
-  pub answers : Answers question told
+-- the text is a whole reply to the message of an ask, and what it tells answers it
+pub record IsReplyTo (ask : Ask) (text : List ℕ) (told : Told) : Type 0 where
+  pub reply : IsReply (wanted_by ask) text told
+  pub answers : Answers ask told

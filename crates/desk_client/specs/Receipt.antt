@@ -1,6 +1,6 @@
 -- The text of a receipt in a reply, and what it tells.
 use Rattle.std.specs.Prelude.{◌≡◌, ℕ, ◌-◌, ◌≤◌, List, [], ◌∷◌, codes, decimal, slice_index}
-use Rattle.desk_messages.specs.route.Route.{IsTargetNumber}
+use Rattle.asks.specs.Value.{IsTargetNumber}
 use Rattle.office_rules.specs.Name.{IsMeterNo}
 use Rattle.office_rules.specs.declared.office.sale.Sale.{Sale}
 use Rattle.papers.specs.Receipt.{receipt_of}
@@ -25,6 +25,13 @@ pub record IsReceiptOf (meter : List ℕ) (text : List ℕ) : Type 0 where
   pub sale : Sale
   pub told : IsToldReceipt sale
   pub named : sale.meter ≡ meter
+  pub written : text ≡ receipt_of sale
+
+-- the same of the receipt of the sale of this number
+pub record IsReceiptNumbered (number : ℕ) (text : List ℕ) : Type 0 where
+  pub sale : Sale
+  pub told : IsToldReceipt sale
+  pub named : sale.number ≡ number
   pub written : text ≡ receipt_of sale
 
 -- ---- its parts
@@ -56,6 +63,13 @@ pub record AreReceiptOf (meter : List ℕ) (values : List (List ℕ)) : Type 0 w
   pub sale : Sale
   pub told : IsToldReceipt sale
   pub named : sale.meter ≡ meter
+  pub are : values ≡ receipt_values sale
+
+-- and of the sale of a number
+pub record AreReceiptNumbered (number : ℕ) (values : List (List ℕ)) : Type 0 where
+  pub sale : Sale
+  pub told : IsToldReceipt sale
+  pub named : sale.number ≡ number
   pub are : values ≡ receipt_values sale
 
 -- twenty digits in five groups of four, with a space between each two

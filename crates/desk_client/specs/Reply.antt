@@ -10,7 +10,7 @@ use Rattle.desk_client.specs.declared.start.Start.{Start}
 use Rattle.desk_client.specs.declared.start.Start.TheVariants.{Json, Paper, Missing, Forbidden}
 use Rattle.desk_client.specs.declared.start.Start.TheVariants.{Unfit, Unable}
 use Rattle.desk_client.specs.declared.told.Told.{Told}
-use Rattle.desk_client.specs.declared.told.Wanted.{Wanted}
+use Rattle.asks.specs.declared.endpoint.Grants.{Grants}
 
 -- a start, the length of a body, perhaps a date, an empty line and what follows
 abbrev pub head_bytes : Start → ℕ → Option (List ℕ) → List ℕ → List ℕ
@@ -38,7 +38,7 @@ IsRefusing Unfit = ⊤
 IsRefusing Unable = ⊤
 
 -- the text is a whole reply to a message that wants this, whatever its date
-pub record IsReply (asked : Wanted) (text : List ℕ) (told : Told) : Type 0 where
+pub record IsReply (asked : Grants) (text : List ℕ) (told : Told) : Type 0 where
   pub tellable : IsTellable asked told
   pub short : length (told_text told) ≤ longest_reply_body
   pub dated : Option (List ℕ)
@@ -46,19 +46,19 @@ pub record IsReply (asked : Wanted) (text : List ℕ) (told : Told) : Type 0 whe
   pub is_text : text ≡ reply_text dated told
 
 -- no head of a reply to what is asked stands at the front of the input
-abbrev pub HasNoHead : Wanted → List ℕ → Type 0
+abbrev pub HasNoHead : Grants → List ℕ → Type 0
 HasNoHead asked input =
     (start : Start) (len : ℕ) (dated : Option (List ℕ)) (rest : List ℕ)
     → IsStart asked start → len < 2 ^ 64 → IsDated dated
     → input ≢ head_bytes start len dated rest
 
 -- the input begins as a reply to what is asked may begin
-abbrev pub MayBegin : Wanted → List ℕ → Type 0
+abbrev pub MayBegin : Grants → List ℕ → Type 0
 MayBegin asked input = (start : Start) × IsStart asked start × BeginsAs input start
 
 -- a head stands at the front of the input, and of its body, which may be read, so many bytes are
 -- missing
-pub record LacksBody (asked : Wanted) (input : List ℕ) (missing : ℕ) : Type 0 where
+pub record LacksBody (asked : Grants) (input : List ℕ) (missing : ℕ) : Type 0 where
   pub start : Start
   pub len : ℕ
   pub dated : Option (List ℕ)
@@ -70,7 +70,7 @@ pub record LacksBody (asked : Wanted) (input : List ℕ) (missing : ℕ) : Type 
   pub few : len ≤ longest_reply_body
 
 -- what each answer says of the bytes that came so far
-abbrev pub IsReplyReading : Wanted → List ℕ → Reading → Type 0
+abbrev pub IsReplyReading : Grants → List ℕ → Reading → Type 0
 IsReplyReading asked input (Whole told) = IsReply asked input told
 IsReplyReading asked input NeedHead =
     (length input < longest_reply_head)

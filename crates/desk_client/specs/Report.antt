@@ -2,7 +2,7 @@
 use Rattle.std.specs.Prelude.{◌≡◌, ⊤, ℕ, ◌+◌, ◌^◌, ◌<◌, ◌≤◌, List, [], ◌∷◌, ◌++◌, length, decimal}
 use Rattle.std.specs.Prelude.{codes}
 use Rattle.std.specs.List.{flat_map}
-use Rattle.desk_messages.specs.route.Route.{IsTargetNumber}
+use Rattle.asks.specs.Value.{IsTargetNumber}
 use Rattle.office_rules.specs.Law.Cash.{cash_of}
 use Rattle.office_rules.specs.Name.{IsMeterNo, IsOperator}
 use Rattle.office_rules.specs.declared.office.sale.Sale.{Sale}

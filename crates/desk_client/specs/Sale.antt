@@ -1,34 +1,13 @@
--- The text of a sale in a reply, and the sales that it tells.
-use Rattle.std.specs.Prelude.{◌≡◌, ℕ, ◌≤◌, List, [], ◌∷◌, ◌++◌, codes, decimal}
-use Rattle.desk_messages.specs.route.Route.{IsTargetNumber}
-use Rattle.papers.specs.Text.{change_of}
+-- The sales that replies tell.
+use Rattle.std.specs.Prelude.{◌≡◌, ◌≤◌}
+use Rattle.asks.specs.Value.{IsTargetNumber}
 use Rattle.sts_fields.specs.Amount.{IsRepresentable}
-use Rattle.sts_fields.specs.Base.{year_of}
 use Rattle.sts_fields.specs.Moment.{IsMoment}
 use Rattle.sts_fields.specs.Tid.{last_tid}
 use Rattle.sts_token.specs.Token.{AreTwentyDigits}
 use Rattle.tariff.specs.Tender.{IsTender}
 use Rattle.office_rules.specs.Name.{IsMeterNo, IsName, IsOperator}
 use Rattle.office_rules.specs.declared.office.sale.Sale.{Sale}
-use Rattle.desk_client.specs.Text.{woven}
-
--- the values that stand in the text of a sale
-abbrev pub sale_values : Sale → List (List ℕ)
-sale_values s =
-    decimal (year_of s.base) ∷ decimal (change_of s) ∷ s.meter ∷ decimal s.moment ∷ decimal s.number
-    ∷ s.operator ∷ decimal s.price ∷ s.order_ref ∷ decimal s.shift ∷ decimal s.tender
-    ∷ decimal s.tenths ∷ decimal s.tid ∷ s.digits ∷ []
-
--- what stands behind each
-abbrev pub sale_ends : List (List ℕ)
-sale_ends =
-    codes ",\"change\":" ∷ codes ",\"meter\":\"" ∷ codes "\",\"moment\":" ∷ codes ",\"number\":"
-    ∷ codes ",\"operator\":\"" ∷ codes "\",\"price\":" ∷ codes ",\"ref\":\"" ∷ codes "\",\"shift\":"
-    ∷ codes ",\"tender\":" ∷ codes ",\"tenths\":" ∷ codes ",\"tid\":" ∷ codes ",\"token\":\""
-    ∷ codes "\"}" ∷ []
-
-abbrev pub sale_as_read : Sale → List ℕ
-sale_as_read s = codes "{\"base\":" ++ woven (sale_values s) sale_ends []
 
 -- a sale by its rules, whose token's nibble is not told
 pub record IsSaleTold (s : Sale) : Type 0 where

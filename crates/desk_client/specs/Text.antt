@@ -1,17 +1,6 @@
 -- Texts of values between fixed words.
-use Rattle.std.specs.Prelude.{◌≡◌, ℕ, ◌||◌, ◌==◌, Bool, false, true, List, [], ◌∷◌, ◌++◌, Option}
-use Rattle.std.specs.Prelude.{Some, None, slice_index}
-use Rattle.std.specs.Borrow.{Bor}
+use Rattle.std.specs.Prelude.{◌≡◌, ℕ, ◌||◌, ◌==◌, Bool, false, true, List, [], ◌∷◌, ◌++◌, slice_index}
 use Rattle.std.specs.List.{AllByRecursion}
-
--- a value was found of which this holds, or it holds of none
-abbrev pub IsFound : {A : Type 0} → (A → Type 0) → Option A → Type 0
-IsFound Holds (Some value) = Holds value
-IsFound {A} Holds None = (value : A) → ¬ Holds value
-
--- the text that is lent
-abbrev pub now : Bor (List ℕ) → List ℕ
-now text = text.now
 
 -- a quotation mark, a comma, a closing brace or the end of a line: none stands in a value
 abbrev pub is_stop : ℕ → Bool

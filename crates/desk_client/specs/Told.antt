@@ -1,6 +1,9 @@
 -- What replies tell, and their bodies.
-use Rattle.std.specs.Prelude.{◌≡◌, ℕ, ◌≤◌, List, ◌++◌, codes, decimal, ⊤}
-use Rattle.desk_messages.specs.route.Route.{IsTargetNumber}
+use Rattle.std.specs.Prelude.{◌≡◌, ℕ, ◌≤◌, List, codes, ⊤}
+use Rattle.desk_messages.specs.reply.Body.{done_text, refusal_text}
+use Rattle.desk_messages.specs.reply.Records.{count_text, fault_text, meter_text, quote_text}
+use Rattle.desk_messages.specs.reply.Records.{sale_text, totals_text}
+use Rattle.asks.specs.Value.{IsTargetNumber}
 use Rattle.office_rules.specs.Decision.Refusals.{refusal_category}
 use Rattle.office_rules.specs.Office.Rows.{greatest_rows}
 use Rattle.office_rules.specs.declared.decision.category.Category.{Category}
@@ -8,12 +11,12 @@ use Rattle.office_rules.specs.declared.decision.category.Category.TheVariants.{M
 use Rattle.office_rules.specs.declared.decision.category.Category.TheVariants.{Unfit, UnfitRow}
 use Rattle.office_rules.specs.declared.decision.category.Category.TheVariants.{Unable}
 use Rattle.office_rules.specs.declared.decision.refusal.Refusal.{Refusal}
-use Rattle.desk_client.specs.Meter.{IsToldMeter, meter_text}
-use Rattle.desk_client.specs.Quote.{IsToldQuote, quote_as_read}
-use Rattle.desk_client.specs.Refusal.{IsRowCause, plain_text, row_text}
-use Rattle.desk_client.specs.Sale.{IsSaleTold, sale_as_read}
+use Rattle.desk_client.specs.Meter.{IsToldMeter}
+use Rattle.desk_client.specs.Quote.{IsToldQuote}
+use Rattle.desk_client.specs.Refusal.{IsRowCause}
+use Rattle.desk_client.specs.Sale.{IsSaleTold}
 use Rattle.desk_client.specs.Start.{category_start}
-use Rattle.desk_client.specs.Totals.{IsToldTotals, totals_as_read}
+use Rattle.desk_client.specs.Totals.{IsToldTotals}
 use Rattle.desk_client.specs.declared.start.Start.{Start}
 use Rattle.desk_client.specs.declared.start.Start.TheVariants as starts
 use Rattle.desk_client.specs.declared.told.Granted.{Granted}
@@ -22,21 +25,25 @@ use Rattle.desk_client.specs.declared.told.Granted.TheVariants.{Quote, Totals, P
 use Rattle.desk_client.specs.declared.told.Granted.TheVariants.{Withdrawn}
 use Rattle.desk_client.specs.declared.told.Told.{Told}
 use Rattle.desk_client.specs.declared.told.Told.TheVariants as told
-use Rattle.desk_client.specs.declared.told.Wanted.{Wanted}
-use Rattle.desk_client.specs.declared.told.Wanted.TheVariants as wanted
+use Rattle.asks.specs.declared.endpoint.Grants.{Grants}
+use Rattle.asks.specs.declared.endpoint.Grants.TheVariants as wanted
 
--- what it answers
-abbrev pub wanted_of : Granted → Wanted
-wanted_of Done = wanted.Done
-wanted_of (Imported count) = wanted.Imported
-wanted_of (Withdrawn count) = wanted.Withdrawn
-wanted_of (Shift number) = wanted.Shift
-wanted_of (Sale sale) = wanted.Sale
-wanted_of (Meter meter) = wanted.Meter
-wanted_of (Quote quote) = wanted.Quote
-wanted_of (Totals number totals) = wanted.Totals
-wanted_of (Paper text) = wanted.Paper
-wanted_of (Page text) = wanted.Page
+-- what is told where this is granted; each page is told by its text
+abbrev pub IsGrantOf : Grants → Granted → Type 0
+IsGrantOf wanted.Done Done = ⊤
+IsGrantOf wanted.Imported (Imported count) = ⊤
+IsGrantOf wanted.Withdrawn (Withdrawn count) = ⊤
+IsGrantOf wanted.Shift (Shift number) = ⊤
+IsGrantOf wanted.Sale (Sale sale) = ⊤
+IsGrantOf wanted.Meter (Meter meter) = ⊤
+IsGrantOf wanted.Quote (Quote quote) = ⊤
+IsGrantOf wanted.Totals (Totals number totals) = ⊤
+IsGrantOf wanted.Paper (Paper text) = ⊤
+IsGrantOf wanted.Tariffs (Page text) = ⊤
+IsGrantOf wanted.Meters (Page text) = ⊤
+IsGrantOf wanted.Shifts (Page text) = ⊤
+IsGrantOf wanted.Sales (Page text) = ⊤
+IsGrantOf asked granted = ⊥
 
 -- what it tells keeps its rules
 abbrev pub IsAnswer : Granted → Type 0
@@ -53,40 +60,21 @@ IsAnswer (Page text) = ⊤
 
 -- the body that tells what is granted
 abbrev pub granted_text : Granted → List ℕ
-granted_text Done = codes "{\"done\":true}"
-granted_text (Imported count) = codes "{\"added\":" ++ (decimal count ++ codes "}")
-granted_text (Withdrawn count) = codes "{\"withdrawn\":" ++ (decimal count ++ codes "}")
-granted_text (Shift number) = codes "{\"shift\":" ++ (decimal number ++ codes "}")
-granted_text (Sale sale) = sale_as_read sale
+granted_text Done = done_text
+granted_text (Imported count) = count_text (codes "added") count
+granted_text (Withdrawn count) = count_text (codes "withdrawn") count
+granted_text (Shift number) = count_text (codes "shift") number
+granted_text (Sale sale) = sale_text sale
 granted_text (Meter meter) = meter_text meter
-granted_text (Quote quote) = quote_as_read quote
-granted_text (Totals number totals) = totals_as_read number totals
+granted_text (Quote quote) = quote_text quote
+granted_text (Totals number totals) = totals_text number totals
 granted_text (Paper text) = text.now
 granted_text (Page text) = text.now
 
 -- and what its reply begins with
-abbrev pub granted_start : Wanted → Start
-granted_start wanted.Done = starts.Json
-granted_start wanted.Imported = starts.Json
-granted_start wanted.Withdrawn = starts.Json
-granted_start wanted.Shift = starts.Json
-granted_start wanted.Sale = starts.Json
-granted_start wanted.Meter = starts.Json
-granted_start wanted.Quote = starts.Json
-granted_start wanted.Totals = starts.Json
+abbrev pub granted_start : Grants → Start
 granted_start wanted.Paper = starts.Paper
-granted_start wanted.Page = starts.Json
-
--- the body that tells a refusal of this category
-abbrev pub text_by : Refusal → Category → List ℕ
-text_by refusal (UnfitRow row cause) = row_text row cause
-text_by refusal Missing = plain_text refusal
-text_by refusal Forbidden = plain_text refusal
-text_by refusal Unfit = plain_text refusal
-text_by refusal Unable = plain_text refusal
-
-abbrev pub refusal_text : Refusal → List ℕ
-refusal_text refusal = text_by refusal (refusal_category refusal)
+granted_start asked = starts.Json
 
 -- a row's number has 32 bits
 abbrev pub IsTellableBy : Category → Type 0
@@ -103,7 +91,7 @@ abbrev pub refusal_start : Refusal → Start
 refusal_start refusal = category_start (refusal_category refusal)
 
 -- a start of a reply, where this is wanted: that of what is granted, or of a refusal
-abbrev pub IsStart : Wanted → Start → Type 0
+abbrev pub IsStart : Grants → Start → Type 0
 IsStart asked starts.Json = granted_start asked ≡ starts.Json
 IsStart asked starts.Paper = granted_start asked ≡ starts.Paper
 IsStart asked starts.Missing = ⊤
@@ -112,14 +100,19 @@ IsStart asked starts.Unfit = ⊤
 IsStart asked starts.Unable = ⊤
 
 -- what a reply may tell, where this is wanted
-abbrev pub IsTellable : Wanted → Told → Type 0
-IsTellable asked (told.Granted granted) = IsAnswer granted × (wanted_of granted ≡ asked)
+abbrev pub IsTellable : Grants → Told → Type 0
+IsTellable asked (told.Granted granted) = IsAnswer granted × IsGrantOf asked granted
 IsTellable asked (told.Refused refusal) = IsTellableRefusal refusal
 IsTellable asked told.NoMoment = ⊤
 
+-- what a reply begins with that grants this
+abbrev pub start_of : Granted → Start
+start_of (Paper text) = starts.Paper
+start_of granted = starts.Json
+
 -- the start of its reply
 abbrev pub told_start : Told → Start
-told_start (told.Granted granted) = granted_start (wanted_of granted)
+told_start (told.Granted granted) = start_of granted
 told_start (told.Refused refusal) = refusal_start refusal
 told_start told.NoMoment = starts.Unable
 
@@ -127,4 +120,4 @@ told_start told.NoMoment = starts.Unable
 abbrev pub told_text : Told → List ℕ
 told_text (told.Granted granted) = granted_text granted
 told_text (told.Refused refusal) = refusal_text refusal
-told_text told.NoMoment = codes "{\"error\":\"Clock\"}"
+told_text told.NoMoment = fault_text (codes "Clock")

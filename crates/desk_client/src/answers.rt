@@ -1,4 +1,4 @@
-//! Which replies answer a question.
+//! Which replies answer an ask.
 
 ghost use Rattle.std.specs.Prelude.{◌↔◌, IsTrue, MatchOption};
 ghost use Rattle.desk_client.specs.Answers.{Answers, GrantsWhat, IsReplyTo, IsRowRefused};
@@ -7,133 +7,148 @@ ghost use Rattle.sts_token.specs.Reading.{IsOfClassZero};
 ghost use Rattle.desk_client.specs.declared.told.Told.{Told as WhatIsTold};
 
 use crate::law::told_law;
-use crate::question::Question;
-use crate::receipt::is_receipt_of;
+use crate::receipt::{is_receipt_numbered, is_receipt_of};
 use crate::reply::{Reading, reply_in};
 use crate::report::is_report_of;
+use crate::sending::wanted_by;
 use crate::told::{Granted, Told};
-use office_rules::{Order, Refusal, RowCause, Rows, Sale};
+use asks::{Ask, Lookup};
+use office_rules::{Order, Refusal, Request, RowCause, Rows, Sale};
 use sts_token::{Plain, TokenFault, read};
 
 // The number of the last row that a file may have.
 const LAST_ROW: u32 = Rows::MAX as u32;
 
-impl Question<'_> {
-    /// Reads bytes as the whole reply to this question. `None` if they are no whole reply, have
-    /// another form than a desk writes, or answer another question: another sale, meter, quote or
-    /// shift, or by a refusal that the office does not give for this one.
-    pub fn answer_in<'b>(&self, came: &'b [u8]) -> Option<Told<'b>>
-        ensures { MatchOption result ((told : WhatIsTold) → ¬ IsReplyTo self.now came.now told)
-            (IsReplyTo self.now came.now) }
-    {
-        told_law();
-        let Reading::Whole(told) = reply_in(came, self.wanted()) else {
-            return None;
-        };
-        if self.is_answered(&told) {
-            Some(told)
-        } else {
-            None
-        }
+/// Reads bytes as the whole reply to this ask. `None` if they are no whole reply, have another form
+/// than a desk writes, or answer another ask: another sale, meter, quote or shift, or by a refusal
+/// that the office does not give for this one.
+pub fn answer_in<'b>(ask: &Ask<'_>, came: &'b [u8]) -> Option<Told<'b>>
+    ensures { MatchOption result ((told : WhatIsTold) → ¬ IsReplyTo ask.now came.now told)
+        (IsReplyTo ask.now came.now) }
+{
+    told_law();
+    let Reading::Whole(told) = reply_in(came, wanted_by(ask)) else {
+        return None;
+    };
+    if is_answered(ask, &told) {
+        Some(told)
+    } else {
+        None
     }
+}
 
-    // Whether this answers the question.
-    fn is_answered(&self, told: &Told<'_>) -> bool
-        ensures { IsTrue result ↔ Answers self.now told.now }
-    {
-        match told {
-            Told::Granted(granted) => self.is_granted(granted),
-            Told::Refused(refusal) => self.may_refuse(*refusal),
-            Told::NoMoment => true,
-        }
+// Whether this answers the ask.
+fn is_answered(ask: &Ask<'_>, told: &Told<'_>) -> bool
+    ensures { IsTrue result ↔ Answers ask.now told.now }
+{
+    match told {
+        Told::Granted(granted) => is_granted(ask, granted),
+        Told::Refused(refusal) => may_refuse(ask, *refusal),
+        Told::NoMoment => true,
     }
+}
 
-    // Whether what is granted is what the question names.
-    fn is_granted(&self, granted: &Granted<'_>) -> bool
-        ensures { IsTrue result ↔ GrantsWhat granted.now self.now }
-    {
-        match (granted, self) {
-            (Granted::Sale(sale), _) => is_of_class_zero(&sale.digits) && self.names_sale(sale),
-            (Granted::Totals(shift, _), Question::ShiftTotals(number)) => shift == number,
-            (Granted::Paper(text), Question::ShiftReport(number)) => is_report_of(*number, text),
-            (Granted::Paper(text), Question::LastSale(meter)) => is_receipt_of(meter, text),
-            (Granted::Meter(summary), Question::Meter(meter)) => {
-                summary.number.as_bytes() == meter.as_bytes()
-            }
-            (Granted::Quote(quote), Question::Quote(meter, tender)) => {
-                quote.meter.as_bytes() == meter.as_bytes() && quote.tender.cents() == tender.cents()
-            }
-            _ => true,
+// Whether what is granted is what the ask names.
+fn is_granted(ask: &Ask<'_>, granted: &Granted<'_>) -> bool
+    ensures { IsTrue result ↔ GrantsWhat granted.now ask.now }
+{
+    match (granted, ask) {
+        (Granted::Sale(sale), _) => is_of_class_zero(&sale.digits) && names_sale(ask, sale),
+        (Granted::Totals(shift, _), Ask::Look(Lookup::ShiftTotals(number))) => shift == number,
+        (Granted::Paper(text), Ask::Do(Request::ShiftReport(number))) => {
+            is_report_of(*number, text)
         }
+        (Granted::Paper(text), Ask::Receipt(number)) => is_receipt_numbered(*number, text),
+        (Granted::Paper(text), Ask::Look(Lookup::LastSale(meter))) => is_receipt_of(meter, text),
+        (Granted::Meter(summary), Ask::Look(Lookup::Meter(meter))) => {
+            summary.number.as_bytes() == meter.as_bytes()
+        }
+        (Granted::Quote(quote), Ask::Look(Lookup::Quote(meter, tender))) => {
+            quote.meter.as_bytes() == meter.as_bytes() && quote.tender.cents() == tender.cents()
+        }
+        _ => true,
     }
+}
 
-    // Whether a sale is the one that the question names.
-    fn names_sale(&self, sale: &Sale) -> bool
-        ensures { IsTrue result ↔ IsNamedSale sale.now self.now }
-    {
-        match self {
-            Question::Sell(order) => is_sale_for(order, sale),
-            Question::Receipt(number) => sale.number == *number,
-            Question::SaleOfRef(operator, order_ref) => {
-                sale.operator.as_bytes() == operator.as_bytes()
-                    && sale.order_ref.as_bytes() == order_ref.as_bytes()
-            }
-            _ => true,
+// Whether a sale is the one that the ask names.
+fn names_sale(ask: &Ask<'_>, sale: &Sale) -> bool
+    ensures { IsTrue result ↔ IsNamedSale sale.now ask.now }
+{
+    match ask {
+        Ask::Do(Request::Sell(order)) => is_sale_for(order, sale),
+        Ask::Do(Request::Reprint(number)) => sale.number == *number,
+        Ask::Look(Lookup::SaleOfRef(operator, order_ref)) => {
+            sale.operator.as_bytes() == operator.as_bytes()
+                && sale.order_ref.as_bytes() == order_ref.as_bytes()
         }
+        _ => true,
     }
+}
 
-    // Whether the office has this refusal for the question.
-    fn may_refuse(&self, refusal: Refusal) -> bool
-        ensures { IsTrue result ↔ MayRefuse refusal self.now }
-    {
-        match refusal {
-            Refusal::RefReused => matches!(self, Question::Sell(_)),
-            Refusal::NoShift => matches!(self, Question::CloseShift(_) | Question::Sell(_)),
-            Refusal::ShiftOpen => matches!(self, Question::OpenShift(_)),
-            Refusal::NoMeter => matches!(
-                self,
-                Question::SetTariff(..)
-                    | Question::MoveBase(..)
-                    | Question::SetKey(..)
-                    | Question::Sell(_)
-                    | Question::Meter(_)
-                    | Question::LastSale(_)
-                    | Question::Quote(..)
-            ),
-            Refusal::NoTariff => {
-                matches!(self, Question::SetTariff(..) | Question::WithdrawSteps(..))
-            }
-            Refusal::BeforeBase => {
-                matches!(
-                    self,
-                    Question::MoveBase(..) | Question::Sell(_) | Question::Quote(..)
-                )
-            }
-            Refusal::IdentifiersSpent | Refusal::IdentifierAhead | Refusal::TooLittle => {
-                matches!(self, Question::Sell(_) | Question::Quote(..))
-            }
-            Refusal::OfficeFull => {
-                matches!(
-                    self,
-                    Question::OpenShift(_) | Question::Sell(_) | Question::Quote(..)
-                )
-            }
-            Refusal::NoSale => matches!(
-                self,
-                Question::Receipt(_) | Question::LastSale(_) | Question::SaleOfRef(..)
-            ),
-            Refusal::NoSuchShift => {
-                matches!(self, Question::ShiftReport(_) | Question::ShiftTotals(_))
-            }
-            Refusal::ImportRow(row, cause) => {
-                matches!(self, Question::Import(..)) && is_row_refused(row, cause)
-            }
-            Refusal::NotLater => matches!(self, Question::MoveBase(..)),
-            Refusal::Memory | Refusal::Store | Refusal::Stopped => true,
-            Refusal::DayPast => matches!(self, Question::WithdrawSteps(..)),
-            Refusal::HasSales => matches!(self, Question::SetKey(..)),
-            Refusal::Differs => false,
+// Whether the office has this refusal for the ask.
+fn may_refuse(ask: &Ask<'_>, refusal: Refusal) -> bool
+    ensures { IsTrue result ↔ MayRefuse refusal ask.now }
+{
+    match refusal {
+        Refusal::RefReused => matches!(ask, Ask::Do(Request::Sell(_))),
+        Refusal::NoShift => { matches!(ask, Ask::Do(Request::CloseShift(_) | Request::Sell(_))) }
+        Refusal::ShiftOpen => matches!(ask, Ask::Do(Request::OpenShift(_))),
+        Refusal::NoMeter => matches!(
+            ask,
+            Ask::Do(
+                Request::SetTariff(..)
+                    | Request::MoveBase(..)
+                    | Request::SetKey(..)
+                    | Request::Sell(_)
+            ) | Ask::Look(Lookup::Meter(_) | Lookup::LastSale(_) | Lookup::Quote(..))
+        ),
+        Refusal::NoTariff => matches!(
+            ask,
+            Ask::Do(
+                Request::AddSteps(..)
+                    | Request::AddMeter(..)
+                    | Request::SetTariff(..)
+                    | Request::WithdrawSteps(..)
+            )
+        ),
+        Refusal::BeforeBase => matches!(
+            ask,
+            Ask::Do(Request::MoveBase(..) | Request::Sell(_)) | Ask::Look(Lookup::Quote(..))
+        ),
+        Refusal::IdentifiersSpent | Refusal::IdentifierAhead | Refusal::TooLittle => matches!(
+            ask,
+            Ask::Do(Request::Sell(_)) | Ask::Look(Lookup::Quote(..))
+        ),
+        Refusal::OfficeFull => matches!(
+            ask,
+            Ask::Do(Request::OpenShift(_) | Request::Sell(_)) | Ask::Look(Lookup::Quote(..))
+        ),
+        Refusal::NoSale => matches!(
+            ask,
+            Ask::Do(Request::Reprint(_))
+                | Ask::Receipt(_)
+                | Ask::Look(Lookup::LastSale(_) | Lookup::SaleOfRef(..))
+        ),
+        Refusal::NoSuchShift => matches!(
+            ask,
+            Ask::Do(Request::ShiftReport(_)) | Ask::Look(Lookup::ShiftTotals(_))
+        ),
+        Refusal::ImportRow(row, cause) => {
+            matches!(ask, Ask::Import(..)) && is_row_refused(row, cause)
         }
+        Refusal::NotLater => matches!(ask, Ask::Do(Request::MoveBase(..))),
+        Refusal::Memory | Refusal::Store | Refusal::Stopped => true,
+        Refusal::DayPast => {
+            matches!(
+                ask,
+                Ask::Do(Request::AddSteps(..) | Request::WithdrawSteps(..))
+            )
+        }
+        Refusal::HasSales => matches!(ask, Ask::Do(Request::SetKey(..))),
+        Refusal::Differs => matches!(
+            ask,
+            Ask::Do(Request::AddTariff(..) | Request::AddSteps(..) | Request::AddMeter(..))
+        ),
     }
 }
 

@@ -1,9 +1,10 @@
 //! The items of a list, as their texts stand in a reply.
 
-ghost use Rattle.std.specs.Prelude.{◌≡◌, ◌++◌, All, IfOk, codes, map};
-ghost use Rattle.desk_client.specs.Items.{IsFrontItem, closed_list_text};
+ghost use Rattle.std.specs.Prelude.{◌≡◌, ◌++◌, All, IfOk, codes, false, map};
+ghost use Rattle.records.specs.Front.{IsFrontItem};
+ghost use Rattle.records.specs.List.{items_text};
 ghost use Rattle.desk_client.specs.Page.{AreTold};
-ghost use Rattle.desk_client.specs.Text.{IsFound};
+ghost use Rattle.records.specs.Front.{IsFound};
 
 use book_lists::PAGE;
 use std::alloc::{AllocError, Global};
@@ -11,7 +12,8 @@ use std::alloc::{AllocError, Global};
 /// An item of a list.
 pub(crate) trait Item: Sized + Drop {
     ghost use Rattle.std.specs.Prelude.{ℕ, List, IfOk};
-    ghost use Rattle.desk_client.specs.Items.{AreReadInOneWay, IsFrontItem};
+    ghost use Rattle.records.specs.Front.{IsFrontItem};
+    ghost use Rattle.records.specs.List.{AreReadInOneWay};
 
     // That it keeps its rules, and its text.
     ghost is_told: { Self → Type 0 };
@@ -34,7 +36,7 @@ pub(crate) fn read_items<'t, T: Item>(
     text: &'t [u8],
 ) -> Result<Option<(Vec<T>, &'t [u8])>, AllocError>
     ensures { IfOk result (IsFrontItem (λ items. All T.is_told items.items)
-        (λ items. closed_list_text (map T.text_of items.items)) text.now) }
+        (λ items. items_text false (map T.text_of items.items)) text.now) }
 {
     T::item_law();
     let mut items = Vec::new(alloc);
@@ -65,7 +67,7 @@ pub(crate) fn read_list<T: Item>(
     text: &[u8],
 ) -> Result<Option<Vec<T>>, AllocError>
     ensures { IfOk result (IsFound (λ items. AreTold T.is_told items.items
-        × (text.now ≡ front.now ++ (closed_list_text (map T.text_of items.items) ++ codes "}")))) }
+        × (text.now ≡ front.now ++ (items_text false (map T.text_of items.items) ++ codes "}")))) }
 {
     T::item_law();
     let Some(rest) = text.strip_prefix(front.as_bytes()) else {

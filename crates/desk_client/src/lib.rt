@@ -3,7 +3,7 @@
 #![tactic(auto)]
 
 mod answers;
-mod asks;
+mod columns;
 mod count;
 mod items;
 mod law;
@@ -11,7 +11,6 @@ mod listed_meter;
 mod listed_shift;
 mod meter;
 mod page;
-mod question;
 mod quote;
 mod receipt;
 mod refusal;
@@ -20,6 +19,7 @@ mod report;
 mod report_line;
 mod sale;
 mod sending;
+mod sent;
 mod start;
 mod tariff_items;
 mod text;
@@ -28,10 +28,10 @@ mod told;
 mod totals;
 mod values;
 
-pub use asks::question_law;
+pub use answers::answer_in;
 pub use law::told_law;
 pub use page::{PageKind, has_tokens, page_in, page_law};
-pub use question::Question;
 pub use reply::{MAX_BODY, MAX_HEAD, Reading, reply_in};
-pub use sending::message;
-pub use told::{Granted, Told, Wanted};
+pub use sending::{message, wanted_by};
+pub use sent::question_law;
+pub use told::{Granted, Told};

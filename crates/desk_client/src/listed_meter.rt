@@ -1,53 +1,45 @@
-ghost use Rattle.std.specs.Prelude.{◌≡◌, map, take};
-ghost use Rattle.desk_client.specs.ListedMeter.{listed_meter_values};
-ghost use Rattle.desk_client.specs.Page.{IsToldListedMeter};
-ghost use Rattle.desk_client.specs.Text.{IsFound, now};
+ghost use Rattle.std.specs.Prelude.{◌≡◌};
+ghost use Rattle.desk_client.specs.Columns.{listed_meter_columns};
 
+use crate::columns::ListedMeterColumns;
 use crate::items::Item;
-use crate::text::{Values, read_front_values};
-use crate::values::{base_of, meter_of, tariff_of};
 use book_states::ListedMeter;
+use desk_messages::fields;
+use records::{Columns, read_front};
 use std::alloc::{AllocError, Global};
 
-// What stands behind each value of a meter.
-const ENDS: [&str; 3] = [",\"meter\":\"", "\",\"tariff\":\"", "\"}"];
-
 impl Item for ListedMeter {
-    ghost use Rattle.desk_client.specs.ListedMeter.{listed_meter_as_read};
+    ghost use Rattle.desk_messages.specs.reply.Records.{listed_meter_text};
     ghost use Rattle.desk_client.specs.Page.{IsToldListedMeter};
 
     ghost is_told = { IsToldListedMeter };
 
-    ghost text_of = { listed_meter_as_read };
+    ghost text_of = { listed_meter_text };
 
     fn read_front<'t>(
         _alloc: Global,
         text: &'t [u8],
     ) -> Result<Option<(ListedMeter, &'t [u8])>, AllocError> {
-        let Some((values, rest)) = read_front_values(text, "{\"base\":", &ENDS) else {
-            return Ok(None);
-        };
-        match meter_item_of(&values) {
-            Some(meter) => Ok(Some((meter, rest))),
+        <ListedMeterColumns>::columns_law();
+        match read_front::<ListedMeterColumns>(text, &fields::LISTED_METER) {
+            Some((columns, rest)) => Ok(Some((meter_of(&columns), rest))),
             None => Ok(None),
         }
     }
 
-    fn item_law() {}
+    fn item_law() {
+        <ListedMeterColumns>::columns_law();
+    }
 }
 
-// The meter that these values are.
-fn meter_item_of(values: &Values<'_>) -> Option<ListedMeter>
-    ensures { IsFound (λ meter. IsToldListedMeter meter
-        × (take 3 (map now values.now.of) ≡ listed_meter_values meter)) result }
+// The meter that has these columns.
+fn meter_of(columns: &ListedMeterColumns) -> ListedMeter
+    ensures { listed_meter_columns result ≡ columns.now }
 {
-    let [base, meter, tariff, ..] = values.of;
-    let base = base_of(base)?;
-    let meter = meter_of(meter)?;
-    let tariff = tariff_of(tariff)?;
-    Some(ListedMeter {
-        number: meter,
-        base,
-        tariff,
-    })
+    let (base, (meter, (tariff, ()))) = *columns;
+    ListedMeter {
+        number: meter.of,
+        base: base.of,
+        tariff: tariff.of,
+    }
 }

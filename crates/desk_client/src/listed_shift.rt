@@ -1,72 +1,71 @@
-ghost use Rattle.std.specs.Prelude.{◌≡◌, map, take};
-ghost use Rattle.desk_client.specs.ListedShift.{listed_shift_values};
-ghost use Rattle.desk_client.specs.Page.{IsToldListedShift};
-ghost use Rattle.desk_client.specs.Text.{IsFound, now};
+ghost use Rattle.std.specs.Prelude.{◌≡◌};
+ghost use Rattle.records.specs.Front.{IsFound};
+ghost use Rattle.desk_client.specs.Columns.{listed_shift_columns, moment_cell};
+ghost use Rattle.desk_client.specs.Totals.{AreTotals};
 
+use crate::columns::{ListedShiftColumns, MomentCell};
 use crate::items::Item;
-use crate::text::{Values, number, read_front_values};
 use crate::totals::totals_within;
-use crate::values::{end_of, moment_of, operator_of, row_number_of};
 use book_states::ListedShift;
-use office_rules::Shift;
+use desk_messages::fields;
+use office_rules::{Moment, Shift};
+use records::{Columns, read_front};
 use std::alloc::{AllocError, Global};
 
-// What stands behind each value of a shift.
-const ENDS: [&str; 7] = [
-    ",\"closed\":",
-    ",\"number\":",
-    ",\"opened\":",
-    ",\"operator\":\"",
-    "\",\"sales\":",
-    ",\"tenths\":",
-    "}",
-];
-
 impl Item for ListedShift {
-    ghost use Rattle.desk_client.specs.ListedShift.{listed_shift_as_read};
+    ghost use Rattle.desk_messages.specs.reply.Records.{listed_shift_text};
     ghost use Rattle.desk_client.specs.Page.{IsToldListedShift};
 
     ghost is_told = { IsToldListedShift };
 
-    ghost text_of = { listed_shift_as_read };
+    ghost text_of = { listed_shift_text };
 
     fn read_front<'t>(
         _alloc: Global,
         text: &'t [u8],
     ) -> Result<Option<(ListedShift, &'t [u8])>, AllocError> {
-        let Some((values, rest)) = read_front_values(text, "{\"cash\":", &ENDS) else {
+        <ListedShiftColumns>::columns_law();
+        let Some((columns, rest)) = read_front::<ListedShiftColumns>(text, &fields::LISTED_SHIFT)
+        else {
             return Ok(None);
         };
-        match shift_item_of(&values) {
+        match shift_of(&columns) {
             Some(shift) => Ok(Some((shift, rest))),
             None => Ok(None),
         }
     }
 
-    fn item_law() {}
+    fn item_law() {
+        <ListedShiftColumns>::columns_law();
+    }
 }
 
-// The shift that these values are.
-fn shift_item_of(values: &Values<'_>) -> Option<ListedShift>
-    ensures { IsFound (λ shift. IsToldListedShift shift
-        × (take 7 (map now values.now.of) ≡ listed_shift_values shift)) result }
+// The shift that has these columns.
+fn shift_of(columns: &ListedShiftColumns) -> Option<ListedShift>
+    ensures { IsFound (λ shift. AreTotals shift.totals
+        × (listed_shift_columns shift ≡ columns.now)) result }
 {
-    let [cash, closed, shift, opened, operator, sales, tenths, ..] = values.of;
-    let cash = number(cash)?;
-    let closed = end_of(closed)?;
-    let shift = row_number_of(shift)?;
-    let opened = moment_of(opened)?;
-    let operator = operator_of(operator)?;
-    let sales = number(sales)?;
-    let tenths = number(tenths)?;
-    let totals = totals_within(sales, tenths, cash)?;
+    let (cash, (closed, (number, (opened, (operator, (sales, (tenths, ()))))))) = *columns;
+    let Some(totals) = totals_within(sales, tenths, cash) else {
+        return None;
+    };
     Some(ListedShift {
         shift: Shift {
-            number: shift,
-            operator,
-            opened,
-            closed,
+            number: number.of,
+            operator: operator.of,
+            opened: opened.of,
+            closed: moment_in(closed),
         },
         totals,
     })
+}
+
+// The moment of an end, if there is one.
+fn moment_in(cell: Option<MomentCell>) -> Option<Moment>
+    ensures { moment_cell result ≡ cell }
+{
+    match cell {
+        Some(moment) => Some(moment.of),
+        None => None,
+    }
 }

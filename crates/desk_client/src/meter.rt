@@ -1,46 +1,45 @@
-ghost use Rattle.std.specs.Prelude.{◌≡◌, map, take};
-ghost use Rattle.desk_client.specs.Meter.{IsToldMeter, meter_text, meter_values};
-ghost use Rattle.desk_client.specs.Text.{IsFound, now};
+ghost use Rattle.std.specs.Prelude.{◌≡◌};
+ghost use Rattle.records.specs.Front.{IsFound};
+ghost use Rattle.desk_messages.specs.reply.Records.{meter_text};
+ghost use Rattle.desk_client.specs.Columns.{meter_columns, row_cell};
+ghost use Rattle.desk_client.specs.Meter.{IsToldMeter};
 
-use crate::text::{Values, read_values};
-use crate::values::{base_of, last_sale_of, meter_of, month_tenths_of, tariff_of};
+use crate::columns::{MeterColumns, RowCell};
 use book_states::MeterSummary;
-
-// What stands behind each value of a meter.
-const ENDS: [&str; 5] = [
-    ",\"meter\":\"",
-    "\",\"sale\":",
-    ",\"tariff\":\"",
-    "\",\"tenths\":",
-    "}",
-];
+use desk_messages::fields;
+use records::{Columns, read_whole};
 
 // The meter that a text tells.
 pub(crate) fn read_meter(text: &[u8]) -> Option<MeterSummary>
     ensures { IsFound (λ meter. IsToldMeter meter × (text.now ≡ meter_text meter)) result }
 {
-    match read_values(text, "{\"base\":", &ENDS) {
-        Some(values) => summary_of(&values),
+    <MeterColumns>::columns_law();
+    match read_whole::<MeterColumns>(text, &fields::METER) {
+        Some(columns) => Some(summary_of(&columns)),
         None => None,
     }
 }
 
-// The meter that these values are.
-fn summary_of(values: &Values<'_>) -> Option<MeterSummary>
-    ensures { IsFound (λ meter. IsToldMeter meter
-        × (take 5 (map now values.now.of) ≡ meter_values meter)) result }
+// The meter that has these columns.
+fn summary_of(columns: &MeterColumns) -> MeterSummary
+    ensures { meter_columns result ≡ columns.now }
 {
-    let [base, meter, last_sale, tariff, tenths, ..] = values.of;
-    let base = base_of(base)?;
-    let meter = meter_of(meter)?;
-    let last_sale = last_sale_of(last_sale)?;
-    let tariff = tariff_of(tariff)?;
-    let tenths = month_tenths_of(tenths)?;
-    Some(MeterSummary {
-        number: meter,
-        base,
-        tariff,
-        tenths,
-        last_sale,
-    })
+    let (base, (meter, (last_sale, (tariff, (tenths, ()))))) = *columns;
+    MeterSummary {
+        number: meter.of,
+        base: base.of,
+        tariff: tariff.of,
+        tenths: tenths.of,
+        last_sale: row_in(last_sale),
+    }
+}
+
+// The number of a sale, if there is one.
+fn row_in(cell: Option<RowCell>) -> Option<u32>
+    ensures { row_cell result ≡ cell }
+{
+    match cell {
+        Some(row) => Some(row.of),
+        None => None,
+    }
 }

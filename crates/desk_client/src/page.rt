@@ -4,18 +4,18 @@ ghost use Rattle.std.specs.Prelude.{◌≡◌, ◌↔◌, IfOk, IsTrue};
 ghost use Rattle.book_states.specs.declared.lookup.Found.{Found as WhatIsFound};
 ghost use Rattle.desk_client.specs.Page.{AreAlike, HasTokens, HaveTokens, IsToldPage};
 ghost use Rattle.desk_client.specs.Page.{page_as_read};
-ghost use Rattle.desk_client.specs.Text.{IsFound};
+ghost use Rattle.records.specs.Front.{IsFound};
 ghost use Rattle.desk_client.specs.declared.page.PageKind.TheVariants.{Meters, Sales, Shifts};
 ghost use Rattle.desk_client.specs.declared.page.PageKind.TheVariants.{Tariffs};
 
 use crate::answers::is_of_class_zero;
+use crate::columns::{ListedMeterColumns, ListedShiftColumns, SaleColumns};
 use crate::items::{Item, read_list};
 use crate::tariff_items::tariff_law;
 use book_states::{Found, ListedMeter, ListedShift, ListedTariff};
-use desk_messages::list_law;
 use office_rules::Sale;
+use records::Columns;
 use std::alloc::{AllocError, Global};
-use sts_fields::amount_law;
 
 /// What a page lists.
 #[derive(Clone, Copy, Debug, PartialEq, Eq)]
@@ -46,7 +46,6 @@ fn tariffs_in(alloc: Global, body: &[u8]) -> Result<Option<Found>, AllocError>
     ensures { IfOk result (IsFound (λ page. IsToldPage Tariffs page
         × (body.now ≡ page_as_read page))) }
 {
-    list_law();
     match read_list(alloc, "{\"tariffs\":[", body)? {
         Some(tariffs) => Ok(Some(Found::Tariffs(tariffs))),
         None => Ok(None),
@@ -58,7 +57,6 @@ fn meters_in(alloc: Global, body: &[u8]) -> Result<Option<Found>, AllocError>
     ensures { IfOk result
         (IsFound (λ page. IsToldPage Meters page × (body.now ≡ page_as_read page))) }
 {
-    list_law();
     match read_list(alloc, "{\"meters\":[", body)? {
         Some(meters) => Ok(Some(Found::Meters(meters))),
         None => Ok(None),
@@ -70,7 +68,6 @@ fn shifts_in(alloc: Global, body: &[u8]) -> Result<Option<Found>, AllocError>
     ensures { IfOk result
         (IsFound (λ page. IsToldPage Shifts page × (body.now ≡ page_as_read page))) }
 {
-    list_law();
     match read_list(alloc, "{\"shifts\":[", body)? {
         Some(shifts) => Ok(Some(Found::Shifts(shifts))),
         None => Ok(None),
@@ -82,7 +79,6 @@ fn sales_in(alloc: Global, body: &[u8]) -> Result<Option<Found>, AllocError>
     ensures { IfOk result
         (IsFound (λ page. IsToldPage Sales page × (body.now ≡ page_as_read page))) }
 {
-    list_law();
     match read_list(alloc, "{\"sales\":[", body)? {
         Some(sales) => Ok(Some(Found::Sales(sales))),
         None => Ok(None),
@@ -114,11 +110,12 @@ pub fn page_law()
     ensures one { (kind : PageKind) (page other : WhatIsFound) → IsToldPage kind page
         → IsToldPage kind other → page_as_read page ≡ page_as_read other → AreAlike page other }
 {
-    list_law();
     tariff_law();
+    <ListedMeterColumns>::columns_law();
+    <ListedShiftColumns>::columns_law();
+    <SaleColumns>::columns_law();
     <ListedTariff as Item>::item_law();
     <ListedMeter as Item>::item_law();
     <ListedShift as Item>::item_law();
     <Sale as Item>::item_law();
-    amount_law();
 }

@@ -1,57 +1,41 @@
-ghost use Rattle.std.specs.Prelude.{◌≡◌, map, take};
-ghost use Rattle.desk_client.specs.Quote.{IsToldQuote, quote_as_read, quote_values};
-ghost use Rattle.desk_client.specs.Text.{IsFound, now};
+ghost use Rattle.std.specs.Prelude.{◌≡◌};
+ghost use Rattle.records.specs.Front.{IsFound};
+ghost use Rattle.desk_messages.specs.reply.Records.{quote_text};
+ghost use Rattle.desk_client.specs.Columns.{IsQuotePriced, quote_columns};
+ghost use Rattle.desk_client.specs.Quote.{IsToldQuote};
 
-use crate::text::{Values, read_values, small_number};
-use crate::values::{amount_of, meter_of, tariff_of, tender_of};
+use crate::columns::QuoteColumns;
+use crate::sale::is_change;
 use book_states::Quote;
-use sts_fields::amount_law;
-
-// What stands behind each value of a quote.
-const ENDS: [&str; 6] = [
-    ",\"meter\":\"",
-    "\",\"price\":",
-    ",\"tariff\":\"",
-    "\",\"tender\":",
-    ",\"tenths\":",
-    "}",
-];
+use desk_messages::fields;
+use records::{Columns, read_whole};
 
 // The quote that a text tells.
 pub(crate) fn read_quote(text: &[u8]) -> Option<Quote>
-    ensures { IsFound (λ quote. IsToldQuote quote × (text.now ≡ quote_as_read quote)) result }
+    ensures { IsFound (λ quote. IsToldQuote quote × (text.now ≡ quote_text quote)) result }
 {
-    amount_law();
-    match read_values(text, "{\"change\":", &ENDS) {
-        Some(values) => quote_of(&values),
+    <QuoteColumns>::columns_law();
+    match read_whole::<QuoteColumns>(text, &fields::QUOTE) {
+        Some(columns) => quote_of(&columns),
         None => None,
     }
 }
 
-// The quote that these values are.
-fn quote_of(values: &Values<'_>) -> Option<Quote>
-    ensures { IsFound (λ quote. IsToldQuote quote
-        × (take 6 (map now values.now.of) ≡ quote_values quote)) result }
+// The quote that has these columns, where the change is that of its price.
+fn quote_of(columns: &QuoteColumns) -> Option<Quote>
+    ensures { IsFound (λ quote. IsQuotePriced quote × (quote_columns quote ≡ columns.now)) result }
 {
-    let [change, meter, price, tariff, tender, tenths, ..] = values.of;
-    let tender = tender_of(tender)?;
-    let price = small_number(price)?;
-    let change = small_number(change)?;
-    let cents = tender.cents();
-    if price > cents {
-        return None;
+    let (change, (meter, (price, (tariff, (tender, (tenths, ())))))) = *columns;
+    let tender = tender.of;
+    if is_change(change, tender.cents(), price) {
+        Some(Quote {
+            meter: meter.of,
+            tariff: tariff.of,
+            tender,
+            tenths: tenths.of,
+            price,
+        })
+    } else {
+        None
     }
-    if change != cents - price {
-        return None;
-    }
-    let meter = meter_of(meter)?;
-    let tariff = tariff_of(tariff)?;
-    let tenths = amount_of(tenths)?;
-    Some(Quote {
-        meter,
-        tariff,
-        tender,
-        tenths,
-        price,
-    })
 }

@@ -4,13 +4,16 @@ ghost use Rattle.std.specs.Prelude.{◌≡◌, ◌↔◌, ◌<◌, ◌+◌, ◌�
 ghost use Rattle.papers.specs.Text.{kwh_text};
 ghost use Rattle.sts_fields.specs.Amount.{IsRepresentable};
 ghost use Rattle.sts_token.specs.Token.{AreTwentyDigits};
-ghost use Rattle.desk_client.specs.Receipt.{AreMoney, AreReceiptOf, IsReceiptOf, spaced};
-ghost use Rattle.desk_client.specs.Text.{IsFound, now};
+ghost use Rattle.desk_client.specs.Receipt.{AreMoney, AreReceiptNumbered, AreReceiptOf};
+ghost use Rattle.desk_client.specs.Receipt.{IsReceiptNumbered, IsReceiptOf, spaced};
+ghost use Rattle.records.specs.Front.{IsFound};
+ghost use Rattle.records.specs.Record.{now};
 
 use crate::answers::is_of_class_zero;
+use crate::columns::are_digits;
 use crate::text::{Values, read_values, small_number};
 use crate::time::time_of;
-use crate::values::{are_digits, row_number_of, tender_of};
+use crate::values::{meter_of, row_number_of, tender_of};
 use office_rules::MeterNo;
 use sts_fields::{Amount, amount_law, calendar_law};
 
@@ -70,6 +73,35 @@ fn are_receipt_of(meter: &MeterNo, values: &Values<'_>) -> bool
     };
     match spaced_token(token) {
         Some(digits) => is_of_class_zero(&digits),
+        None => false,
+    }
+}
+
+// Whether a text is the receipt of the sale of a number, as a desk writes it.
+pub(crate) fn is_receipt_numbered(number: u32, text: &[u8]) -> bool
+    ensures { IsTrue result ↔ IsReceiptNumbered number text.now }
+{
+    amount_law();
+    calendar_law();
+    match read_values(text, "SALE ", &ENDS) {
+        Some(values) => are_receipt_numbered(number, &values),
+        None => false,
+    }
+}
+
+// Whether these values are those of the receipt of the sale of a number.
+fn are_receipt_numbered(number: u32, values: &Values<'_>) -> bool
+    ensures { IsTrue result ↔ AreReceiptNumbered number (take 8 (map now values.now.of)) }
+{
+    let [told, owner, ..] = values.of;
+    let Some(own) = row_number_of(told) else {
+        return false;
+    };
+    if own != number {
+        return false;
+    }
+    match meter_of(owner) {
+        Some(meter) => are_receipt_of(&meter, values),
         None => false,
     }
 }

@@ -1,75 +1,64 @@
 //! The refusals of an office, as a reply tells them.
 
 ghost use Rattle.std.specs.Prelude.{◌≡◌};
-ghost use Rattle.office_rules.specs.Decision.Refusals.{refusal_number};
+ghost use Rattle.desk_messages.specs.reply.Body.{plain_text, refusal_text};
+ghost use Rattle.office_rules.specs.Decision.Refusals.{IsOfNoRow};
+ghost use Rattle.office_rules.specs.declared.decision.refusal.Refusal.TheVariants.{ImportRow};
 ghost use Rattle.office_rules.specs.Decision.RowCauses.{cause_text};
-ghost use Rattle.desk_client.specs.Refusal.{IsCause, IsPlain, IsRowCause, IsWord, plain_text};
-ghost use Rattle.desk_client.specs.Refusal.{row_text};
-ghost use Rattle.desk_client.specs.Text.{IsFound};
+ghost use Rattle.desk_client.specs.Columns.{refusal_columns, row_columns};
+ghost use Rattle.desk_client.specs.Refusal.{IsCause, IsRowCause, IsWord};
+ghost use Rattle.records.specs.Front.{IsFound};
 
-use crate::text::{read_values, small_number};
+use crate::columns::{RefusalColumns, RowRefusalColumns};
+use crate::text::small_number;
+use desk_messages::fields;
 use office_rules::{Refusal, RowCause};
+use records::{Columns, read_whole};
 
 // The refusal of no row that a text tells, by its name and number.
 pub(crate) fn plain_refusal(text: &[u8]) -> Option<Refusal>
-    ensures { IsFound (λ refusal. IsPlain refusal × (text.now ≡ plain_text refusal)) result }
+    ensures { IsFound (λ refusal. IsOfNoRow refusal × (text.now ≡ plain_text refusal)) result }
 {
-    let Some(values) = read_values(text, "{\"error\":\"", &["\",\"refusal\":", "}"]) else {
-        return None;
-    };
-    let [name, number, ..] = values.of;
-    let Some(number) = small_number(number) else {
-        return None;
-    };
-    match numbered(number) {
-        Some(refusal) if refusal.name().as_bytes() == name => Some(refusal),
-        _ => None,
+    <RefusalColumns>::columns_law();
+    match read_whole::<RefusalColumns>(text, &fields::REFUSAL) {
+        Some(columns) => refusal_of(&columns),
+        None => None,
     }
 }
 
-// The refusal of no row that has this number.
-fn numbered(number: u32) -> Option<Refusal>
-    ensures { IsFound (λ refusal. IsPlain refusal × (refusal_number refusal ≡ number)) result }
+// The refusal of no row that has this name and this number.
+fn refusal_of(columns: &RefusalColumns) -> Option<Refusal>
+    ensures { IsFound (λ refusal. IsOfNoRow refusal × (refusal_columns refusal ≡ columns.now))
+        result }
 {
-    match number {
-        1 => Some(Refusal::RefReused),
-        2 => Some(Refusal::NoShift),
-        3 => Some(Refusal::ShiftOpen),
-        4 => Some(Refusal::NoMeter),
-        5 => Some(Refusal::NoTariff),
-        6 => Some(Refusal::Differs),
-        7 => Some(Refusal::BeforeBase),
-        8 => Some(Refusal::IdentifiersSpent),
-        9 => Some(Refusal::IdentifierAhead),
-        10 => Some(Refusal::TooLittle),
-        11 => Some(Refusal::OfficeFull),
-        12 => Some(Refusal::NoSale),
-        13 => Some(Refusal::NoSuchShift),
-        15 => Some(Refusal::Memory),
-        16 => Some(Refusal::Store),
-        17 => Some(Refusal::Stopped),
-        18 => Some(Refusal::NotLater),
-        19 => Some(Refusal::DayPast),
-        20 => Some(Refusal::HasSales),
+    match Refusal::of_number(columns.1.0) {
+        Some(refusal) if refusal.name().as_bytes() == columns.0.as_slice() => Some(refusal),
         _ => None,
     }
 }
 
 // The number of the row that a text refuses, and why.
 pub(crate) fn row_refusal(text: &[u8]) -> Option<(u32, RowCause)>
-    ensures { IsFound (λ found. IsRowCause found.0 found.1 × (text.now ≡ row_text found.0 found.1))
-        result }
+    ensures { IsFound (λ found. IsRowCause found.0 found.1
+        × (text.now ≡ refusal_text (ImportRow found.0 found.1))) result }
 {
-    let middle = "\",\"error\":\"ImportRow\",\"refusal\":14,\"row\":";
-    let Some(values) = read_values(text, "{\"cause\":\"", &[middle, "}"]) else {
+    <RowRefusalColumns>::columns_law();
+    match read_whole::<RowRefusalColumns>(text, &fields::ROW_REFUSAL) {
+        Some(columns) => row_of(&columns),
+        None => None,
+    }
+}
+
+// The row and the cause that are told so.
+fn row_of(columns: &RowRefusalColumns) -> Option<(u32, RowCause)>
+    ensures { IsFound (λ found. IsCause found.1 × (row_columns found ≡ columns.now)) result }
+{
+    let (cause, (name, (number, (row, ())))) = columns;
+    if name.as_slice() != b"ImportRow".as_slice() || *number != 14 {
         return None;
-    };
-    let [cause, row, ..] = values.of;
-    let Some(cause) = cause_of(cause) else {
-        return None;
-    };
-    match small_number(row) {
-        Some(row) => Some((row, cause)),
+    }
+    match cause_of(cause) {
+        Some(cause) => Some((*row, cause)),
         None => None,
     }
 }

@@ -8,7 +8,8 @@ ghost use Rattle.desk_client.specs.Told.{IsStart};
 ghost use Rattle.desk_client.specs.declared.start.Start.{Start};
 
 use crate::start::{Start, begins_as, head_at};
-use crate::told::{Told, Wanted, read_told};
+use crate::told::{Told, granted_start, read_told};
+use asks::Grants;
 
 /// The bytes of a head, at most: the longest that a desk writes has fewer.
 pub const MAX_HEAD: usize = 140;
@@ -40,7 +41,7 @@ struct Head<'b> {
 
 /// Reads the bytes that came so far of the reply to a message: the whole reply, or what is missing
 /// of it, or that nothing which follows makes a reply to this message of them.
-pub fn reply_in(input: &[u8], wanted: Wanted) -> Reading<'_>
+pub fn reply_in(input: &[u8], wanted: Grants) -> Reading<'_>
     ensures { IsReplyReading wanted input.now result }
 {
     match find_head(input, wanted) {
@@ -53,10 +54,10 @@ pub fn reply_in(input: &[u8], wanted: Wanted) -> Reading<'_>
 
 // Whether a reply may begin with these bytes, as far as the start of its head tells: nothing that
 // begins otherwise is waited for.
-fn may_begin(input: &[u8], wanted: Wanted) -> bool
+fn may_begin(input: &[u8], wanted: Grants) -> bool
     ensures { IsTrue result ↔ MayBegin wanted input.now }
 {
-    if begins_as(input, wanted.start()) || begins_as(input, Start::Missing) {
+    if begins_as(input, granted_start(wanted)) || begins_as(input, Start::Missing) {
         return true;
     }
     if begins_as(input, Start::Forbidden) || begins_as(input, Start::Unfit) {
@@ -66,14 +67,14 @@ fn may_begin(input: &[u8], wanted: Wanted) -> bool
 }
 
 // The head that stands at the front of an input.
-fn find_head(input: &[u8], wanted: Wanted) -> Option<Head<'_>>
+fn find_head(input: &[u8], wanted: Grants) -> Option<Head<'_>>
     ensures { MatchOption result
         (HasNoHead wanted input.now)
         (λ head. IsStart wanted head.start × (head.len < 2 ^ 64)
         × (dated : Option (List ℕ)) × IsDated dated
         × (input.now ≡ head_bytes head.start head.len dated head.rest.now)) }
 {
-    let start = wanted.start();
+    let start = granted_start(wanted);
     if let Some((len, rest)) = head_at(input, start) {
         return Some(Head { start, len, rest });
     }
@@ -122,7 +123,7 @@ fn find_refusal(input: &[u8]) -> Option<Head<'_>>
 }
 
 // What a head and the bytes behind it are.
-fn body_in<'b>(head: &Head<'b>, wanted: Wanted) -> Reading<'b>
+fn body_in<'b>(head: &Head<'b>, wanted: Grants) -> Reading<'b>
     requires start { IsStart wanted head.now.start }
     requires len { head.now.len < 2 ^ 64 }
     ensures { (dated : Option (List ℕ)) → IsDated dated → IsReplyReading wanted

@@ -6,7 +6,8 @@ ghost use Rattle.office_rules.specs.declared.office.shift.Shift.{Shift as AnyShi
 ghost use Rattle.papers.specs.Report.{shift_head, totals_text};
 ghost use Rattle.desk_client.specs.Report.{EndsReport, HasHead, IsReportOf, IsToldShift};
 ghost use Rattle.desk_client.specs.Report.{head_values};
-ghost use Rattle.desk_client.specs.Text.{IsFound, now};
+ghost use Rattle.records.specs.Front.{IsFound};
+ghost use Rattle.records.specs.Record.{now};
 
 use crate::report_line::line_in;
 use crate::text::{Values, behind, read_front_values};

@@ -1,121 +1,105 @@
-ghost use Rattle.std.specs.Prelude.{◌≡◌, map};
-ghost use Rattle.desk_client.specs.Sale.{IsSaleTold, sale_as_read, sale_values};
-ghost use Rattle.desk_client.specs.Text.{IsFound, now};
+//! Sales in replies.
 
+ghost use Rattle.std.specs.Prelude.{◌≡◌, ◌-◌, ◌≤◌, ◌↔◌, IsTrue};
+ghost use Rattle.records.specs.Front.{IsFound};
+ghost use Rattle.desk_messages.specs.reply.Records.{sale_text};
+ghost use Rattle.desk_client.specs.Columns.{IsPriced, sale_columns};
+ghost use Rattle.desk_client.specs.Sale.{IsSaleTold};
+
+use crate::columns::SaleColumns;
 use crate::items::Item;
-use crate::text::{Values, read_front_values, read_values, small_number};
-use crate::values::{
-    amount_of, base_of, meter_of, moment_of, operator_of, ref_of, row_number_of, tender_of, tid_of,
-    token_of,
-};
+use desk_messages::fields;
 use office_rules::Sale;
+use records::{Columns, read_front, read_whole};
 use std::alloc::{AllocError, Global};
-use sts_fields::amount_law;
-
-// What stands behind each value of a sale.
-const ENDS: [&str; 13] = [
-    ",\"change\":",
-    ",\"meter\":\"",
-    "\",\"moment\":",
-    ",\"number\":",
-    ",\"operator\":\"",
-    "\",\"price\":",
-    ",\"ref\":\"",
-    "\",\"shift\":",
-    ",\"tender\":",
-    ",\"tenths\":",
-    ",\"tid\":",
-    ",\"token\":\"",
-    "\"}",
-];
 
 // The sale that a text tells. What it does not tell is the nibble of the token, which is 0 here.
 pub(crate) fn read_sale(text: &[u8]) -> Option<Sale>
-    ensures { IsFound (λ sale. IsSaleTold sale × (text.now ≡ sale_as_read sale)) result }
+    ensures { IsFound (λ sale. IsSaleTold sale × (text.now ≡ sale_text sale)) result }
 {
-    amount_law();
-    match read_values(text, "{\"base\":", &ENDS) {
-        Some(values) => sale_of(&values),
+    <SaleColumns>::columns_law();
+    match read_whole::<SaleColumns>(text, &fields::SALE) {
+        Some(columns) => sale_of(&columns),
         None => None,
     }
 }
 
 impl Item for Sale {
-    ghost use Rattle.desk_client.specs.Sale.{IsSaleTold, sale_as_read};
+    ghost use Rattle.desk_messages.specs.reply.Records.{sale_text};
+    ghost use Rattle.desk_client.specs.Sale.{IsSaleTold};
 
     ghost is_told = { IsSaleTold };
 
-    ghost text_of = { sale_as_read };
+    ghost text_of = { sale_text };
 
     fn read_front<'t>(
         _alloc: Global,
         text: &'t [u8],
     ) -> Result<Option<(Sale, &'t [u8])>, AllocError> {
-        amount_law();
-        let Some((values, rest)) = read_front_values(text, "{\"base\":", &ENDS) else {
+        <SaleColumns>::columns_law();
+        let Some((columns, rest)) = read_front::<SaleColumns>(text, &fields::SALE) else {
             return Ok(None);
         };
-        match sale_of(&values) {
+        match sale_of(&columns) {
             Some(sale) => Ok(Some((sale, rest))),
             None => Ok(None),
         }
     }
 
     fn item_law() {
-        amount_law();
+        <SaleColumns>::columns_law();
     }
 }
 
-// The sale that these values are.
-fn sale_of(values: &Values<'_>) -> Option<Sale>
-    ensures { IsFound
-        (λ sale. IsSaleTold sale × (map now values.now.of ≡ sale_values sale)) result }
+// The sale that has these columns, where the change is that of its price.
+fn sale_of(columns: &SaleColumns) -> Option<Sale>
+    ensures { IsFound (λ sale. IsPriced sale × (sale_columns sale ≡ columns.now)) result }
 {
-    let [
+    let (
         base,
-        change,
-        meter,
-        moment,
-        number,
-        operator,
-        price,
-        order_ref,
-        ..
-    ] = values.of;
-    let [.., shift, tender, tenths, tid, token] = values.of;
-    let tender = tender_of(tender)?;
-    let price = small_number(price)?;
-    let change = small_number(change)?;
-    let cents = tender.cents();
-    if price > cents {
-        return None;
+        (
+            change,
+            (
+                meter,
+                (
+                    moment,
+                    (
+                        number,
+                        (
+                            operator,
+                            (price, (order_ref, (shift, (tender, (tenths, (tid, (token, ()))))))),
+                        ),
+                    ),
+                ),
+            ),
+        ),
+    ) = *columns;
+    let tender = tender.of;
+    let digits = token.of;
+    if is_change(change, tender.cents(), price) {
+        Some(Sale {
+            number: number.of,
+            moment: moment.of,
+            shift: shift.of,
+            operator: operator.of,
+            order_ref: order_ref.of,
+            meter: meter.of,
+            base: base.of,
+            tid: tid.of,
+            rnd: 0,
+            tenths: tenths.of,
+            price,
+            tender,
+            digits,
+        })
+    } else {
+        None
     }
-    if change != cents - price {
-        return None;
-    }
-    let base = base_of(base)?;
-    let meter = meter_of(meter)?;
-    let moment = moment_of(moment)?;
-    let number = row_number_of(number)?;
-    let operator = operator_of(operator)?;
-    let order_ref = ref_of(order_ref)?;
-    let shift = row_number_of(shift)?;
-    let tenths = amount_of(tenths)?;
-    let tid = tid_of(tid)?;
-    let digits = token_of(token)?;
-    Some(Sale {
-        number,
-        moment,
-        shift,
-        operator,
-        order_ref,
-        meter,
-        base,
-        tid,
-        rnd: 0,
-        tenths,
-        price,
-        tender,
-        digits,
-    })
+}
+
+// Whether this is given back of a tender for a price.
+pub(crate) fn is_change(change: u32, tender: u32, price: u32) -> bool
+    ensures { IsTrue result ↔ ((price ≤ tender) × (change ≡ tender - price)) }
+{
+    price <= tender && change == tender - price
 }

@@ -2,14 +2,34 @@
 
 ghost use Rattle.std.specs.Prelude.{◌≡◌, ◌++◌, IfOk, OnOk};
 ghost use Rattle.desk_client.specs.Message.{body_part, front_lines, message_bytes, method_word};
+ghost use Rattle.desk_client.specs.Sent.{ask_text, wanted_by};
 
+use asks::{Ask, Grants};
 use conversation::Method;
 use itoa::Buffer;
 use std::alloc::{AllocError, Global};
 
-/// The bytes of a whole message to a desk, with this method, target and body. One of GET, HEAD or
-/// DELETE is sent without its body. An error is want of memory.
-pub fn message(
+/// The bytes of the message of an ask. An error is want of memory.
+pub fn message(alloc: Global, ask: &Ask<'_>) -> Result<Vec<u8>, AllocError>
+    ensures { IfOk result (λ text. text.items ≡ ask_text ask.now) }
+{
+    let mut target = Vec::new(alloc);
+    ask.put_target(&mut target)?;
+    let mut body = Vec::new(alloc);
+    ask.put_body(&mut body)?;
+    whole_message(alloc, ask.method(), &target, &body)
+}
+
+/// What the reply to it is to tell, where it is granted.
+pub fn wanted_by(ask: &Ask<'_>) -> Grants
+    ensures { result ≡ wanted_by ask.now }
+{
+    ask.kind().endpoint().grants
+}
+
+// The bytes of a whole message to a desk, with this method, target and body. One of GET, HEAD or
+// DELETE is sent without its body.
+fn whole_message(
     alloc: Global,
     method: Method,
     target: &[u8],

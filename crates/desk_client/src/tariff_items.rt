@@ -8,20 +8,21 @@ ghost use Rattle.book_states.specs.declared.lookup.ListedTariff.{ListedTariff as
 ghost use Rattle.desk_messages.specs.reply.Lists.{day_text, tariff_text};
 ghost use Rattle.desk_client.specs.Page.{IsToldTariff, tariff_view};
 ghost use Rattle.desk_client.specs.TariffItem.{with_steps};
-ghost use Rattle.desk_client.specs.Text.{IsFound, LacksStop};
+ghost use Rattle.records.specs.Front.{IsFound};
+ghost use Rattle.desk_client.specs.Text.{LacksStop};
 
 use crate::items::{Item, read_items};
 use crate::text::value_at;
 use crate::values::tariff_of;
 use book_states::{LaterSteps, ListedTariff};
-use desk_messages::list_law;
+use desk_messages::day_text_law;
 use std::alloc::{AllocError, Global};
 use sts_fields::{Day, calendar_law, day_law};
 use tariff::{Steps, StepsFault, steps_text_law};
 
 impl Item for LaterSteps {
-    ghost use Rattle.desk_messages.specs.reply.Lists.{later_text};
     ghost use Rattle.desk_client.specs.Page.{IsToldLater};
+    ghost use Rattle.desk_client.specs.TariffItem.{later_text};
 
     ghost is_told = { IsToldLater };
 
@@ -59,7 +60,6 @@ impl Item for ListedTariff {
         alloc: Global,
         text: &'t [u8],
     ) -> Result<Option<(ListedTariff, &'t [u8])>, AllocError> {
-        list_law();
         LaterSteps::item_law();
         let Some(rest) = text.strip_prefix(b"{\"later\":[".as_slice()) else {
             return Ok(None);
@@ -78,7 +78,6 @@ impl Item for ListedTariff {
     }
 
     fn item_law() {
-        list_law();
         LaterSteps::item_law();
     }
 }
@@ -120,7 +119,7 @@ fn read_with_steps<'t>(
 fn day_in(value: &[u8]) -> Option<Day>
     ensures { IsFound (λ day. IsDay day × (value.now ≡ day_text day)) result }
 {
-    list_law();
+    day_text_law();
     day_law();
     match Day::of_text(value) {
         Ok(day) => Some(day),
@@ -145,7 +144,7 @@ pub(crate) fn tariff_law()
     ensures { (t u : Tariff) → IsToldTariff t → IsToldTariff u → tariff_text t ≡ tariff_text u
         → tariff_view t ≡ tariff_view u }
 {
-    list_law();
+    day_text_law();
     day_law();
     steps_text_law();
     calendar_law();

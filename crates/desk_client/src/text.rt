@@ -2,8 +2,10 @@
 
 ghost use Rattle.std.specs.Prelude.{◌≡◌, ◌≢◌, ◌++◌, ◌<◌, ◌≤◌, ◌^◌, ◌↔◌, ℕ, List, All, MatchOption};
 ghost use Rattle.std.specs.Prelude.{[], decimal, false, length, map, slice_index, take, true};
-ghost use Rattle.desk_client.specs.Text.{BeginsWithStop, IsFound, LackStops, LacksStop, is_stop};
-ghost use Rattle.desk_client.specs.Text.{now, woven};
+ghost use Rattle.records.specs.Front.{IsFound};
+ghost use Rattle.desk_client.specs.Text.{BeginsWithStop, LackStops, LacksStop, is_stop};
+ghost use Rattle.records.specs.Record.{now};
+ghost use Rattle.desk_client.specs.Text.{woven};
 
 use itoa::Buffer;
 use std::str;

@@ -6,7 +6,7 @@ ghost use Rattle.papers.specs.Text.{time_text};
 ghost use Rattle.sts_fields.specs.Day.{two_digits};
 ghost use Rattle.sts_fields.specs.Moment.{IsMoment};
 ghost use Rattle.desk_client.specs.Page.{IsToldEnd};
-ghost use Rattle.desk_client.specs.Text.{IsFound};
+ghost use Rattle.records.specs.Front.{IsFound};
 ghost use Rattle.desk_client.specs.Time.{clock_after};
 
 use sts_fields::{Day, Moment, calendar_law, day_law};

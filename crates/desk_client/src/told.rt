@@ -1,8 +1,10 @@
 ghost use Rattle.std.specs.Prelude.{◌≡◌};
-ghost use Rattle.desk_client.specs.Told.{IsAnswer, IsStart, IsTellable, IsTellableRefusal};
-ghost use Rattle.desk_client.specs.Told.{granted_start, granted_text, refusal_start, refusal_text};
-ghost use Rattle.desk_client.specs.Told.{told_start, told_text, wanted_of};
-ghost use Rattle.desk_client.specs.Text.{IsFound};
+ghost use Rattle.desk_client.specs.Told.{IsAnswer, IsGrantOf, IsStart, IsTellable};
+ghost use Rattle.desk_client.specs.Told.{IsTellableRefusal};
+ghost use Rattle.desk_messages.specs.reply.Body.{refusal_text};
+ghost use Rattle.desk_client.specs.Told.{granted_start, granted_text, refusal_start};
+ghost use Rattle.desk_client.specs.Told.{told_start, told_text};
+ghost use Rattle.records.specs.Front.{IsFound};
 
 use crate::count::{read_added, read_shift, read_withdrawn};
 use crate::meter::read_meter;
@@ -11,34 +13,10 @@ use crate::refusal::{plain_refusal, row_refusal};
 use crate::sale::read_sale;
 use crate::start::Start;
 use crate::totals::read_totals;
+use asks::Grants;
 use book_states::{MeterSummary, Quote};
 use book_tables::Totals;
 use office_rules::{Refusal, Sale};
-
-/// What a reply is to tell, where the desk grants what it was asked.
-#[derive(Clone, Copy, Debug, PartialEq, Eq)]
-pub enum Wanted {
-    /// That it was done.
-    Done,
-    /// How many rows of an import were new.
-    Imported,
-    /// How many lists of steps were withdrawn.
-    Withdrawn,
-    /// The number of the shift that was opened or closed.
-    Shift,
-    /// A sale.
-    Sale,
-    /// A meter.
-    Meter,
-    /// What a tender would buy for a meter.
-    Quote,
-    /// The running totals of a shift.
-    Totals,
-    /// A text to be printed: a receipt or a report.
-    Paper,
-    /// A page of a list, as JSON.
-    Page,
-}
 
 /// What a desk grants.
 #[derive(Clone, Copy, Debug, PartialEq, Eq)]
@@ -58,64 +36,69 @@ pub enum Granted<'b> {
     Page(&'b [u8]),
 }
 
-impl Wanted {
-    // What the reply begins with.
-    pub(crate) fn start(self) -> Start
-        ensures { result ≡ granted_start self }
-    {
-        match self {
-            Wanted::Paper => Start::Paper,
-            Wanted::Done
-            | Wanted::Imported
-            | Wanted::Withdrawn
-            | Wanted::Shift
-            | Wanted::Sale
-            | Wanted::Meter
-            | Wanted::Quote
-            | Wanted::Totals
-            | Wanted::Page => Start::Json,
-        }
+// What the reply begins with that tells this.
+pub(crate) fn granted_start(wanted: Grants) -> Start
+    ensures { result ≡ granted_start wanted }
+{
+    match wanted {
+        Grants::Paper => Start::Paper,
+        Grants::Done
+        | Grants::Imported
+        | Grants::Withdrawn
+        | Grants::Shift
+        | Grants::Sale
+        | Grants::Health
+        | Grants::Meter
+        | Grants::Quote
+        | Grants::Totals
+        | Grants::Tariffs
+        | Grants::Meters
+        | Grants::Shifts
+        | Grants::Sales => Start::Json,
     }
 }
 
 // What a body grants, where this is wanted.
-pub(crate) fn read_granted(wanted: Wanted, text: &[u8]) -> Option<Granted<'_>>
-    ensures { IsFound (λ granted. IsAnswer granted × (wanted_of granted ≡ wanted)
+pub(crate) fn read_granted(wanted: Grants, text: &[u8]) -> Option<Granted<'_>>
+    ensures { IsFound (λ granted. IsAnswer granted × IsGrantOf wanted granted
         × (text.now ≡ granted_text granted)) result }
 {
     match wanted {
-        Wanted::Done if text == b"{\"done\":true}".as_slice() => Some(Granted::Done),
-        Wanted::Done => None,
-        Wanted::Imported => match read_added(text) {
+        Grants::Done if text == b"{\"done\":true}".as_slice() => Some(Granted::Done),
+        Grants::Done => None,
+        Grants::Imported => match read_added(text) {
             Some(count) => Some(Granted::Imported(count)),
             None => None,
         },
-        Wanted::Withdrawn => match read_withdrawn(text) {
+        Grants::Withdrawn => match read_withdrawn(text) {
             Some(count) => Some(Granted::Withdrawn(count)),
             None => None,
         },
-        Wanted::Shift => match read_shift(text) {
+        Grants::Shift => match read_shift(text) {
             Some(number) => Some(Granted::Shift(number)),
             None => None,
         },
-        Wanted::Sale => match read_sale(text) {
+        Grants::Sale => match read_sale(text) {
             Some(sale) => Some(Granted::Sale(sale)),
             None => None,
         },
-        Wanted::Meter => match read_meter(text) {
+        Grants::Meter => match read_meter(text) {
             Some(meter) => Some(Granted::Meter(meter)),
             None => None,
         },
-        Wanted::Quote => match read_quote(text) {
+        Grants::Quote => match read_quote(text) {
             Some(quote) => Some(Granted::Quote(quote)),
             None => None,
         },
-        Wanted::Totals => match read_totals(text) {
+        Grants::Totals => match read_totals(text) {
             Some((number, totals)) => Some(Granted::Totals(number, totals)),
             None => None,
         },
-        Wanted::Paper => Some(Granted::Paper(text)),
-        Wanted::Page => Some(Granted::Page(text)),
+        Grants::Paper => Some(Granted::Paper(text)),
+        Grants::Health => None,
+        Grants::Tariffs | Grants::Meters | Grants::Shifts | Grants::Sales => {
+            Some(Granted::Page(text))
+        }
     }
 }
 
@@ -141,7 +124,8 @@ pub enum Told<'b> {
 }
 
 // What a body tells behind this start, where this is wanted.
-pub(crate) fn read_told(start: Start, wanted: Wanted, text: &[u8]) -> Option<Told<'_>>
+#[tactic(auto, using(crate::proofs::HeadLemmas::grant_start))]
+pub(crate) fn read_told(start: Start, wanted: Grants, text: &[u8]) -> Option<Told<'_>>
     requires { IsStart wanted start }
     ensures { IsFound (λ told. IsTellable wanted told × (told_start told ≡ start)
         × (text.now ≡ told_text told)) result }

@@ -1,40 +1,38 @@
-ghost use Rattle.std.specs.Prelude.{◌≡◌, map, take};
-ghost use Rattle.desk_client.specs.Text.{IsFound, now};
-ghost use Rattle.desk_client.specs.Totals.{AreTotals, IsToldTotals, totals_as_read, totals_values};
+ghost use Rattle.std.specs.Prelude.{◌≡◌};
+ghost use Rattle.records.specs.Front.{IsFound};
+ghost use Rattle.desk_messages.specs.reply.Records.{totals_text};
+ghost use Rattle.desk_client.specs.Columns.{totals_columns};
+ghost use Rattle.desk_client.specs.Totals.{AreTotals, IsToldTotals};
 
-use crate::text::{Values, number, read_values};
-use crate::values::row_number_of;
+use crate::columns::TotalsColumns;
 use book_tables::Totals;
+use desk_messages::fields;
 use office_rules::GREATEST_COUNT;
+use records::{Columns, read_whole};
 use sts_fields::Amount;
 use tariff::Tender;
-
-// What stands behind each value of a shift's totals.
-const ENDS: [&str; 4] = [",\"sales\":", ",\"shift\":", ",\"tenths\":", "}"];
 
 // The number of a shift and its totals, as a text tells them.
 pub(crate) fn read_totals(text: &[u8]) -> Option<(u32, Totals)>
     ensures { IsFound (λ found. IsToldTotals found.0 found.1
-        × (text.now ≡ totals_as_read found.0 found.1)) result }
+        × (text.now ≡ totals_text found.0 found.1)) result }
 {
-    match read_values(text, "{\"cash\":", &ENDS) {
-        Some(values) => totals_of(&values),
+    <TotalsColumns>::columns_law();
+    match read_whole::<TotalsColumns>(text, &fields::TOTALS) {
+        Some(columns) => totals_of(&columns),
         None => None,
     }
 }
 
-// The number and the totals that these values are.
-fn totals_of(values: &Values<'_>) -> Option<(u32, Totals)>
-    ensures { IsFound (λ found. IsToldTotals found.0 found.1
-        × (take 4 (map now values.now.of) ≡ totals_values found.0 found.1)) result }
+// The number and the totals that have these columns.
+fn totals_of(columns: &TotalsColumns) -> Option<(u32, Totals)>
+    ensures { IsFound (λ found. AreTotals found.1 × (totals_columns found ≡ columns.now)) result }
 {
-    let [cash, sales, shift, tenths, ..] = values.of;
-    let cash = number(cash)?;
-    let sales = number(sales)?;
-    let shift = row_number_of(shift)?;
-    let tenths = number(tenths)?;
-    let totals = totals_within(sales, tenths, cash)?;
-    Some((shift, totals))
+    let (cash, (sales, (shift, (tenths, ())))) = *columns;
+    match totals_within(sales, tenths, cash) {
+        Some(totals) => Some((shift.of, totals)),
+        None => None,
+    }
 }
 
 // The totals that these are, where a shift may have them.

@@ -2,14 +2,15 @@
 use Rattle.std.proofs.Common.{◌≡◌, ◌∙◌, ℕ, ◌+◌, ◌==◌, true, false, List, [], ◌∷◌, ◌++◌, length, Option, Some, None, Ok, Err, refl, ap, sym, subst, append-nil, inl, inr}
 use Rattle.std.specs.Prelude.{◌⊎◌, Bool, if◌then◌else◌}
 use Rattle.std.proofs.lemmas.List.{length-append}
+use Rattle.asks.specs.declared.ask.Ask.TheVariants.{Look}
+use Rattle.asks.specs.declared.lookup.Lookup.{Lookup}
 use Rattle.book_states.specs.declared.lookup.Found.{Found}
 use Rattle.command_line.specs.declared.address.Address.{Address}
-use Rattle.command_line.specs.declared.commands.list.Listed.{Listed}
-use Rattle.desk_client.specs.Question.{question_text}
+use Rattle.desk_client.specs.Sent.{ask_text}
 use Rattle.sts_fields.specs.Text.{Text}
 use Rattle.desk_commands.proofs.PageLemmas.{more_text, some_behind}
 use Rattle.vend_ports.proofs.TakeLemmas.{takes_as, takes_last, takes_next, takes_none}
-use Rattle.desk_commands.specs.ListedAtDesk.{IsListedAtDesk, IsPageAsked, IsPagePrinted, IsPageReply, IsPageStop, TellPages, and_next, page_fault_line, page_question}
+use Rattle.desk_commands.specs.ListedAtDesk.{IsListedAtDesk, IsPageAsked, IsPagePrinted, IsPageReply, IsPageStop, TellPages, and_next, page_fault_line}
 use Rattle.desk_commands.specs.Exchanged.{AreRounds, Exchanges, IsRound, Round, calls_of}
 use Rattle.desk_commands.specs.Exchanged.IsUnsent.{unreached, unread, unsent}
 use Rattle.desk_commands.specs.print.Pages.{list_behind, most_pages}
@@ -31,11 +32,11 @@ more_rounds remaining contents [] fresh now last message came are is = (last, su
 more_rounds remaining contents (round ∷ rounds) fresh now last message came (between, held, are) is =
     (between, held, more_rounds remaining contents rounds between now last message came are is)
 
-more_told : (list : Option Listed) (rounds : List Round) (pages : List Found) (next : Listed) (came : Text) (page : Found)
+more_told : (list : Option Lookup) (rounds : List Round) (pages : List Found) (next : Lookup) (came : Text) (page : Found)
     → TellPages list rounds pages (Some next) → IsPageReply next came page
     → TellPages list (and_next rounds next came) (pages ++ page ∷ []) (list_behind page)
 more_told list [] [] next came page are told = subst
-    (λ (l : Option Listed). TellPages l (and_next [] next came) (page ∷ []) (list_behind page)) are (refl, told, refl)
+    (λ (l : Option Lookup). TellPages l (and_next [] next came) (page ∷ []) (list_behind page)) are (refl, told, refl)
 more_told list [] (first ∷ pages) next came page are told = absurd are
 more_told None (round ∷ rounds) pages next came page are told = absurd are
 more_told (Some list) (round ∷ rounds) [] next came page are told = absurd are
@@ -43,17 +44,17 @@ more_told (Some list) (round ∷ rounds) (first ∷ pages) next came page (asks,
     (asks, tells, more_told (list_behind first) rounds pages next came page are told)
 
 -- why no list follows a page
-last_page : (Most : Type 0) (next behind : Option Listed) (failed : Bool) → next ≡ None → next ≡ (if failed then None else behind)
+last_page : (Most : Type 0) (next behind : Option Lookup) (failed : Bool) → next ≡ None → next ≡ (if failed then None else behind)
     → (behind ≡ None) ⊎ ((failed ≡ true) ⊎ Most)
 last_page Most next behind true none is = inr (inl refl)
 last_page Most next behind false none is = inl (sym is ∙ none)
 
 -- ---- all pages
 
-module _ {N S : Type 0} (of : loopback.Ghosts N S) (remaining contents : S → Held) (net : N) (desk : Address) (list : Listed) (json : Bool)
+module _ {N S : Type 0} (of : loopback.Ghosts N S) (remaining contents : S → Held) (net : N) (desk : Address) (list : Lookup) (json : Bool)
     (before : Sink) where
   -- the pages before one were asked for and printed
-  pub record AskedSoFar (now : S) (after : Sink) (next : Listed) (page : ℕ) : Type 0 where
+  pub record AskedSoFar (now : S) (after : Sink) (next : Lookup) (page : ℕ) : Type 0 where
     pub fresh : S
     pub rounds : List Round
     pub pages : List Found
@@ -80,18 +81,18 @@ module _ {N S : Type 0} (of : loopback.Ghosts N S) (remaining contents : S → H
     stops = (list, refl, unreached misses refl);
   }
 
-  module _ (now last : S) (part after : Sink) (next : Listed) (page : ℕ) (so_far : AskedSoFar now part next page) where
+  module _ (now last : S) (part after : Sink) (next : Lookup) (page : ℕ) (so_far : AskedSoFar now part next page) where
     has_held : of.ends S now → Exchanges of remaining contents net desk so_far.rounds
     has_held ended = record { fresh = so_far.fresh; last = now; calls = so_far.calls; held = so_far.held; ended = ended }
 
-    holds_more : of.ends S last → (came : Text) → IsRound remaining contents now last (question_text (page_question next)) came
+    holds_more : of.ends S last → (came : Text) → IsRound remaining contents now last (ask_text (Look next)) came
         → Exchanges of remaining contents net desk (and_next so_far.rounds next came)
     holds_more ended came round = record {
       ended = ended;
       fresh = so_far.fresh;
       last = last;
       calls = so_far.calls;
-      held = more_rounds remaining contents so_far.rounds so_far.fresh now last (question_text (page_question next)) came so_far.held round;
+      held = more_rounds remaining contents so_far.rounds so_far.fresh now last (ask_text (Look next)) came so_far.held round;
     }
 
     put_more : (found : Found) → Takes part after (page_text json (page == 0) found) → Takes before after (pages_text json (so_far.pages ++ found ∷ []))
@@ -100,23 +101,23 @@ module _ {N S : Type 0} (of : loopback.Ghosts N S) (remaining contents : S → H
         takes_as before after _ _ text (takes_next before part after (pages_text json so_far.pages) (page_text json (page == 0) found) so_far.put put)
 
     -- a page was printed and a list follows it: there is one page more
-    pub page_more : (behind : Listed) → IsPagePrinted remaining contents next json (page == 0) now last part after (Ok (Some behind))
+    pub page_more : (behind : Lookup) → IsPagePrinted remaining contents next json (page == 0) now last part after (Ok (Some behind))
         → AskedSoFar last after behind (page + 1)
     page_more behind (found, (came, round, told), (put, follows)) = record {
       fresh = so_far.fresh;
       rounds = and_next so_far.rounds next came;
       pages = so_far.pages ++ found ∷ [];
       calls = so_far.calls;
-      held = more_rounds remaining contents so_far.rounds so_far.fresh now last (question_text (page_question next)) came so_far.held round;
+      held = more_rounds remaining contents so_far.rounds so_far.fresh now last (ask_text (Look next)) came so_far.held round;
       put = put_more found put;
-      are = subst (λ (left : Option Listed). TellPages (Some list) (and_next so_far.rounds next came) (so_far.pages ++ found ∷ []) left)
+      are = subst (λ (left : Option Lookup). TellPages (Some list) (and_next so_far.rounds next came) (so_far.pages ++ found ∷ []) left)
           (some_behind behind (list_behind found) after.failed follows)
           (more_told (Some list) so_far.rounds so_far.pages next came found so_far.are told);
       count = length-append so_far.pages (found ∷ []) ∙ ap (λ n. n + 1) so_far.count;
     }
 
     -- a page that no list follows was printed: the list ends as done
-    pub page_last : of.ends S last → (err : Sink) (behind : Option Listed) → behind ≡ None
+    pub page_last : of.ends S last → (err : Sink) (behind : Option Lookup) → behind ≡ None
         → IsPagePrinted remaining contents next json (page == 0) now last part after (Ok behind)
         → IsListedAtDesk (calls_of of remaining contents net) desk list json (outputs before after err err) how.Done
     page_last ended err behind none (found, (came, round, told), (put, follows)) = record {

@@ -4,8 +4,8 @@ use Rattle.std.specs.Prelude.{if◌then◌else◌}
 use Rattle.std.specs.List.{flat_map}
 use Rattle.std.proofs.lemmas.Bool.{ne_eqb}
 use Rattle.std.proofs.lemmas.Grind.{flat_map-append}
+use Rattle.asks.specs.declared.lookup.Lookup.{Lookup}
 use Rattle.book_states.specs.declared.lookup.Found.{Found}
-use Rattle.command_line.specs.declared.commands.list.Listed.{Listed}
 use Rattle.desk_commands.specs.print.ListTexts.{page_text, pages_text}
 
 -- the text of a page more
@@ -22,6 +22,6 @@ more_text json (first ∷ pages) page =
     ∙ ap (λ l. front ++ l) (sym (flat_map-append (page_text json false) pages (page ∷ [])))
 
 -- what follows a page that was taken
-pub some_behind : (next : Listed) (behind : Option Listed) (failed : Bool) → Some next ≡ (if failed then None else behind) → behind ≡ Some next
+pub some_behind : (next : Lookup) (behind : Option Lookup) (failed : Bool) → Some next ≡ (if failed then None else behind) → behind ≡ Some next
 some_behind next behind true is = absurd (cc)
 some_behind next behind false is = sym is

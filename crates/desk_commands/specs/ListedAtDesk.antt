@@ -3,15 +3,14 @@
 use Rattle.std.specs.Prelude.{◌≡◌, ◌≢◌, ◌⊎◌, ⊤, Bool, true, List, [], ◌∷◌, ◌++◌, length, Option}
 use Rattle.std.specs.Prelude.{Some, None, Result, Ok, Err}
 use Rattle.std.specs.Borrow.{Bor}
+use Rattle.asks.specs.declared.ask.Ask.TheVariants.{Look}
+use Rattle.asks.specs.declared.lookup.Lookup.{Lookup}
+use Rattle.asks.specs.declared.lookup.Lookup.TheVariants as lookups
 use Rattle.book_states.specs.declared.lookup.Found.{Found}
 use Rattle.command_line.specs.declared.address.Address.{Address}
-use Rattle.command_line.specs.declared.commands.list.Listed.{Listed}
-use Rattle.command_line.specs.declared.commands.list.Listed.TheVariants as listed
 use Rattle.desk_client.specs.Answers.{IsReplyTo}
 use Rattle.desk_client.specs.Page.{HasTokens, IsToldPage, page_as_read}
-use Rattle.desk_client.specs.Question.{question_text}
-use Rattle.desk_client.specs.declared.question.Question.{Question}
-use Rattle.desk_client.specs.declared.question.Question.TheVariants as questions
+use Rattle.desk_client.specs.Sent.{ask_text}
 use Rattle.desk_client.specs.declared.page.PageKind.{PageKind}
 use Rattle.desk_client.specs.declared.page.PageKind.TheVariants as kinds
 use Rattle.desk_client.specs.declared.told.Granted.TheVariants as grants
@@ -33,27 +32,28 @@ use Rattle.desk_commands.specs.declared.list_at_desk.PageFault.TheVariants as fa
 
 -- ---- pages
 
--- the question that asks for the first page of a list
-abbrev pub page_question : Listed → Question
-page_question (listed.Tariffs after) = questions.Tariffs after
-page_question (listed.Meters after) = questions.Meters after
-page_question (listed.Shifts after) = questions.Shifts after
-page_question (listed.Sales after) = questions.Sales after
+-- A list is looked up by its first page. Any other look-up is none.
+abbrev pub IsNoList : Lookup → Type 0
+IsNoList (lookups.Tariffs after) = ⊥
+IsNoList (lookups.Meters after) = ⊥
+IsNoList (lookups.Shifts after) = ⊥
+IsNoList (lookups.Sales after) = ⊥
+IsNoList lookup = ⊤
 
--- what the pages of a list have
-abbrev pub page_kind : Listed → PageKind
-page_kind (listed.Tariffs after) = kinds.Tariffs
-page_kind (listed.Meters after) = kinds.Meters
-page_kind (listed.Shifts after) = kinds.Shifts
-page_kind (listed.Sales after) = kinds.Sales
+-- what the pages of a list have; any other look-up has no pages
+abbrev pub page_kind : Lookup → PageKind
+page_kind (lookups.Tariffs after) = kinds.Tariffs
+page_kind (lookups.Meters after) = kinds.Meters
+page_kind (lookups.Shifts after) = kinds.Shifts
+page_kind lookup = kinds.Sales
 
 -- a whole reply came that tells a text for a page
-abbrev pub IsTextReply : Listed → (came : Text) → (body : Bor Text) → Type 0
-IsTextReply list came body = IsReplyTo (page_question list) came (tells.Granted (grants.Page body))
+abbrev pub IsTextReply : Lookup → (came : Text) → (body : Bor Text) → Type 0
+IsTextReply list came body = IsReplyTo (Look list) came (tells.Granted (grants.Page body))
 
 -- a whole reply came that tells this page of the list; its members come after what was asked for,
 -- and the digits of its sales can be a token's
-pub record IsPageReply (list : Listed) (came : Text) (page : Found) : Type 0 where
+pub record IsPageReply (list : Lookup) (came : Text) (page : Found) : Type 0 where
   pub body : Bor Text
   pub reply : IsTextReply list came body
   pub told : IsToldPage (page_kind list) page
@@ -63,10 +63,10 @@ pub record IsPageReply (list : Listed) (came : Text) (page : Found) : Type 0 whe
 
 -- These rounds told these pages of a list: the first, and each next one the first of the list
 -- behind the one before it. What is left is the list behind the last of them.
-abbrev pub TellPages : Option Listed → List Round → List Found → (left : Option Listed) → Type 0
+abbrev pub TellPages : Option Lookup → List Round → List Found → (left : Option Lookup) → Type 0
 TellPages list [] [] left = left ≡ list
 TellPages (Some list) (round ∷ rounds) (page ∷ pages) left =
-    (round.message ≡ question_text (page_question list)) × IsPageReply list round.came page
+    (round.message ≡ ask_text (Look list)) × IsPageReply list round.came page
     × TellPages (list_behind page) rounds pages left
 TellPages list rounds pages left = ⊥
 
@@ -83,31 +83,32 @@ page_fault_line faults.Memory = refusal_line refusals.Memory
 
 -- the text is no page of the list, or one whose members do not come after what was asked for, or
 -- one with a sale whose digits can be no token's
-abbrev pub IsOtherText : Listed → Text → Type 0
+abbrev pub IsOtherText : Lookup → Text → Type 0
 IsOtherText list text = (page : Found) → IsToldPage (page_kind list) page → ComesAfter list page
     → HasTokens page → text ≢ page_as_read page
 
 -- why a text is not printed as a page of a list: it is none, or there is no room for its page
-abbrev pub IsNoPageText : Listed → Text → PageFault → Type 0
+abbrev pub IsNoPageText : Lookup → Text → PageFault → Type 0
 IsNoPageText list text faults.OutOfForm = IsOtherText list text
 IsNoPageText list text faults.Memory = ⊤
 IsNoPageText list text fault = ⊥
 
 -- why what came is not printed as the next page of a list: a refusal; that the desk's clock has no
--- moment; what is no whole reply, or tells no page of the list; or a text, and there is no room for
--- its page or for what is printed of it
-abbrev pub IsNoPage : Listed → (came : Text) → PageFault → Type 0
+-- moment; what is no whole reply, or tells no page of the list, or that no list was asked for; or a
+-- text, and there is no room for its page or for what is printed of it
+abbrev pub IsNoPage : Lookup → (came : Text) → PageFault → Type 0
 IsNoPage list came faults.NoMessage = ⊥
 IsNoPage list came faults.Unsent = ⊥
 IsNoPage list came (faults.Refused refusal) =
-    IsReplyTo (page_question list) came (tells.Refused refusal)
-IsNoPage list came faults.NoMoment = IsReplyTo (page_question list) came tells.NoMoment
-IsNoPage list came faults.OutOfForm = ((told : Told) → ¬ IsReplyTo (page_question list) came told)
-    ⊎ ((body : Bor Text) × IsTextReply list came body × IsOtherText list body.now)
+    IsReplyTo (Look list) came (tells.Refused refusal)
+IsNoPage list came faults.NoMoment = IsReplyTo (Look list) came tells.NoMoment
+IsNoPage list came faults.OutOfForm = ((told : Told) → ¬ IsReplyTo (Look list) came told)
+    ⊎ (((body : Bor Text) × IsTextReply list came body × IsOtherText list body.now)
+    ⊎ IsNoList list)
 IsNoPage list came faults.Memory = (body : Bor Text) × IsTextReply list came body
 
 -- what came tells this page of the list, or it does not, for this fault
-abbrev pub IsPageIn : Listed → (came : Text) → Result Found PageFault → Type 0
+abbrev pub IsPageIn : Lookup → (came : Text) → Result Found PageFault → Type 0
 IsPageIn list came (Ok page) = IsPageReply list came page
 IsPageIn list came (Err fault) = IsNoPage list came fault
 
@@ -116,19 +117,19 @@ IsPageIn list came (Err fault) = IsNoPage list came fault
 -- A message that asks for the first page of a list was sent on a stream, and what came tells this
 -- page, or it does not; or the message was cut off, or there was no room for what came; or there
 -- was none for the message, and the stream is as it was.
-abbrev pub IsPageAsked : {S : Type 0} → (remaining contents : S → Held) → Listed
+abbrev pub IsPageAsked : {S : Type 0} → (remaining contents : S → Held) → Lookup
     → (fresh last : S) → Result Found PageFault → Type 0
 IsPageAsked remaining contents list fresh last (Err faults.NoMessage) = last ≡ fresh
 IsPageAsked remaining contents list fresh last (Err faults.Unsent) =
-    IsUnheld remaining contents fresh last (question_text (page_question list))
+    IsUnheld remaining contents fresh last (ask_text (Look list))
 IsPageAsked remaining contents list fresh last page = (came : Text)
-    × IsRound remaining contents fresh last (question_text (page_question list)) came
+    × IsRound remaining contents fresh last (ask_text (Look list)) came
     × IsPageIn list came page
 
 -- it is printed, and the list behind it is to follow; or nothing is printed
-abbrev pub IsPagePrinted : {S : Type 0} → (remaining contents : S → Held) → Listed
+abbrev pub IsPagePrinted : {S : Type 0} → (remaining contents : S → Held) → Lookup
     → (json first : Bool) → (fresh last : S) → (before after : Sink)
-    → Result (Option Listed) PageFault → Type 0
+    → Result (Option Lookup) PageFault → Type 0
 IsPagePrinted remaining contents list json first fresh last before after (Ok next) =
     (page : Found) × IsPageAsked remaining contents list fresh last (Ok page)
     × IsPagePut page json first before after next
@@ -138,22 +139,22 @@ IsPagePrinted remaining contents list json first fresh last before after (Err fa
 -- ---- all pages
 
 -- the rounds, and one more that asks for the next page of a list
-abbrev pub and_next : List Round → Listed → (came : Text) → List Round
+abbrev pub and_next : List Round → Lookup → (came : Text) → List Round
 and_next rounds list came =
-    rounds ++ record { message = question_text (page_question list); came = came } ∷ []
+    rounds ++ record { message = ask_text (Look list); came = came } ∷ []
 
 -- A page is not printed, for this fault: there was no room for the message for it, no connection,
 -- no room for what came, or what came is no page.
-abbrev pub IsPageStop : Calls → Address → List Round → (left : Option Listed) → PageFault → Type 0
+abbrev pub IsPageStop : Calls → Address → List Round → (left : Option Lookup) → PageFault → Type 0
 IsPageStop calls desk rounds left faults.NoMessage = calls.exchanges desk rounds
-IsPageStop calls desk rounds left faults.Unsent = (list : Listed) × (left ≡ Some list)
-    × IsUnsent calls desk rounds (question_text (page_question list))
-IsPageStop calls desk rounds left fault = (list : Listed) × (left ≡ Some list) × (came : Text)
+IsPageStop calls desk rounds left faults.Unsent = (list : Lookup) × (left ≡ Some list)
+    × IsUnsent calls desk rounds (ask_text (Look list))
+IsPageStop calls desk rounds left fault = (list : Lookup) × (left ≡ Some list) × (came : Text)
     × calls.exchanges desk (and_next rounds list came) × IsNoPage list came fault
 
 -- It stops behind the last page; or as the output took no more, or there are more pages than an
 -- office in a file can have; or at a page that is not printed.
-abbrev pub IsDeskStop : Calls → Address → List Round → List Found → (left : Option Listed)
+abbrev pub IsDeskStop : Calls → Address → List Round → List Found → (left : Option Lookup)
     → (failed : Bool) → Option PageFault → Type 0
 IsDeskStop calls desk rounds pages left failed None = calls.exchanges desk rounds
     × ((left ≡ None) ⊎ ((failed ≡ true) ⊎ (length pages ≡ most_pages)))
@@ -172,11 +173,11 @@ page_stop_end (Some fault) = Refused
 -- The pages of a list are printed as a desk told them, up to the last one, which is not full; or
 -- those before one that did not come, and then why; or those up to one that the output did not
 -- take.
-pub record IsListedAtDesk (calls : Calls) (desk : Address) (list : Listed) (json : Bool)
+pub record IsListedAtDesk (calls : Calls) (desk : Address) (list : Lookup) (json : Bool)
     (o : Outputs) (end : CommandEnd) : Type 0 where
   pub rounds : List Round
   pub pages : List Found
-  pub left : Option Listed
+  pub left : Option Lookup
   pub stop : Option PageFault
   pub told : IsTold o (pages_text json pages) (page_stop_errors stop) (page_stop_end stop) end
   pub are : TellPages (Some list) rounds pages left

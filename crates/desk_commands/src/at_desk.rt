@@ -1,25 +1,24 @@
-//! A question to a running desk: what a command with `--desk` asks, and what it prints of the
-//! reply.
+//! An ask to a running desk: what a command with `--desk` asks, and what it prints of the reply.
 
 ghost use Rattle.std.specs.Prelude.{◌≡◌, [], IfErr, IfOk, MatchResult};
 ghost use Rattle.desk_commands.specs.AskedOfDesk.{AreRowsFor, HasNoRows, IsAsked};
-ghost use Rattle.desk_commands.specs.AskedOfDesk.{IsAskedOfDesk, IsAskedOnce, NeedsRoom};
+ghost use Rattle.desk_commands.specs.AskedOfDesk.{IsAskedOfDesk, NeedsRoom};
 ghost use Rattle.desk_commands.specs.AskedOfDesk.{SaleNeedsRoom, TellsGranted, TellsTold};
-ghost use Rattle.desk_commands.specs.AskedOfDesk.{granted_output, is_json};
-ghost use Rattle.desk_commands.specs.AskedOfDesk.{question_of, rows_fault_line};
-ghost use Rattle.desk_commands.specs.AskedOfDesk.{shown_question, told_sale_text};
+ghost use Rattle.desk_commands.specs.AskedOfDesk.{granted_output, rows_fault_line};
+ghost use Rattle.desk_commands.specs.AskedOfDesk.{told_sale_text};
 ghost use Rattle.desk_commands.specs.Exchanged.{calls_of};
 ghost use Rattle.vend_ports.specs.port.Texts.{texts_of};
 ghost use Rattle.vend_ports.specs.print.Told.{Takes, outputs};
 
 use crate::exchange::exchange;
-use crate::list_at_desk::{list, page_question};
+use crate::list_at_desk::list;
 use crate::print::found::put_found;
 use crate::print::totals::put_totals;
-use book_states::{Found, Lookup};
-use command_line::{Address, DeskQuestion, DeskWords, Shown};
+use asks::{Ask, Csv, Lookup};
+use book_states::Found;
+use command_line::{Address, AskWords};
 use conversation::MAX_BODY;
-use desk_client::{Granted, Question, Told};
+use desk_client::{Granted, Told, answer_in, message, wanted_by};
 use office_rules::{Refusal, Sale};
 use papers::receipt_in_place;
 use std::alloc::{AllocError, Global};
@@ -40,7 +39,9 @@ pub enum RowsFault {
 /// Asks a desk, and prints what the command on the file would print where it answered so; or tells
 /// that no reply came, or why the desk is not asked.
 pub fn run<F: TextFiles, L: Loopback, O: Write, E: Write>(
-    words: &DeskWords,
+    desk: Address,
+    ask: &AskWords<'_>,
+    json: bool,
     alloc: Global,
     texts: F,
     loopback: L,
@@ -49,132 +50,70 @@ pub fn run<F: TextFiles, L: Loopback, O: Write, E: Write>(
 ) -> CommandEnd
     ensures { IsAskedOfDesk (texts_of F.TextFiles texts)
         (calls_of L.Loopback L.Stream.remaining L.Stream.contents loopback) (L.leaves L loopback)
-        words.now (outputs out.old out.new err.old err.new) result }
+        desk ask.now json (outputs out.old out.new err.old err.new) result }
 {
-    match &words.question {
-        DeskQuestion::List { listed, json } => {
-            F::leave(texts);
-            list(alloc, words.desk, *listed, *json, loopback, out, err)
-        }
-        question => ask_once(question, words.desk, alloc, texts, loopback, out, err),
-    }
-}
-
-// Asks a desk one question, or tells why it is not asked.
-fn ask_once<F: TextFiles, L: Loopback, O: Write, E: Write>(
-    asked: &DeskQuestion,
-    desk: Address,
-    alloc: Global,
-    texts: F,
-    loopback: L,
-    out: &mut Watched<'_, O>,
-    err: &mut Watched<'_, E>,
-) -> CommandEnd
-    ensures { IsAskedOnce (texts_of F.TextFiles texts)
-        (calls_of L.Loopback L.Stream.remaining L.Stream.contents loopback) (L.leaves L loopback)
-        desk asked.now (outputs out.old out.new err.old err.new) result }
-{
-    match rows_for(asked, alloc, texts) {
-        Ok(rows) => {
-            let question = question_of(asked, &rows);
-            ask(alloc, desk, &question, is_json(asked), loopback, out, err)
-        }
-        Err(fault) => {
-            L::leave(loopback);
-            put_rows_fault(fault, err);
-            CommandEnd::Refused
-        }
-    }
-}
-
-// The rows that an import asks a desk to add: the bytes of a file. Other questions have none.
-fn rows_for<F: TextFiles>(
-    asked: &DeskQuestion,
-    alloc: Global,
-    texts: F,
-) -> Result<Vec<u8>, RowsFault>
-    ensures rows { IfOk result
-        (λ rows. AreRowsFor (texts_of F.TextFiles texts) asked.now rows.items) }
-    ensures none { IfErr result (HasNoRows (texts_of F.TextFiles texts) asked.now) }
-{
-    match asked {
-        DeskQuestion::Import(_, csv) => match texts.read(csv) {
-            Ok(bytes) if bytes.len() <= MAX_BODY => Ok(bytes),
-            Ok(_) => Err(RowsFault::TooLong),
-            Err(fault) => Err(RowsFault::Unread(fault)),
+    match ask {
+        AskWords::Import(kind, path) => match rows_for(path, texts) {
+            Ok(rows) => {
+                let ask = Ask::Import(*kind, Csv::new(&rows));
+                ask_one(alloc, desk, &ask, json, loopback, out, err)
+            }
+            Err(fault) => {
+                L::leave(loopback);
+                put_rows_fault(fault, err);
+                CommandEnd::Refused
+            }
         },
-        _ => {
+        AskWords::Ask(ask) => {
             F::leave(texts);
-            Ok(Vec::new(alloc))
+            ask_one(alloc, desk, ask, json, loopback, out, err)
+        }
+        AskWords::List(lookup) => {
+            F::leave(texts);
+            list(alloc, desk, *lookup, json, loopback, out, err)
+        }
+        AskWords::Export => {
+            F::leave(texts);
+            list(alloc, desk, Lookup::Sales(0), false, loopback, out, err)
         }
     }
 }
 
-// The question that the words ask, an import with these rows.
-fn question_of<'a>(asked: &DeskQuestion, rows: &'a [u8]) -> Question<'a>
-    ensures { result ≡ question_of asked.now rows.entry }
+// The rows that a desk is asked to add: the bytes of the file of a path.
+fn rows_for<F: TextFiles>(path: &str, texts: F) -> Result<Vec<u8>, RowsFault>
+    ensures rows { IfOk result
+        (λ rows. AreRowsFor (texts_of F.TextFiles texts) path.now rows.items) }
+    ensures none { IfErr result (HasNoRows (texts_of F.TextFiles texts) path.now) }
 {
-    match asked {
-        DeskQuestion::Import(kind, _) => Question::Import(*kind, rows),
-        DeskQuestion::SetTariff(meter, tariff) => Question::SetTariff(*meter, *tariff),
-        DeskQuestion::WithdrawSteps(tariff, from) => Question::WithdrawSteps(*tariff, *from),
-        DeskQuestion::MoveBase(meter, base) => Question::MoveBase(*meter, *base),
-        DeskQuestion::SetKey(meter, key) => Question::SetKey(*meter, *key),
-        DeskQuestion::OpenShift(operator) => Question::OpenShift(*operator),
-        DeskQuestion::CloseShift(operator) => Question::CloseShift(*operator),
-        DeskQuestion::Sell(order) => Question::Sell(*order),
-        DeskQuestion::ShiftReport(number) => Question::ShiftReport(*number),
-        DeskQuestion::Receipt(number) => Question::Receipt(*number),
-        DeskQuestion::ShiftTotals(number) => Question::ShiftTotals(*number),
-        DeskQuestion::Show { shown, .. } => shown_question(*shown),
-        DeskQuestion::Offer { meter, tender, .. } => Question::Quote(*meter, *tender),
-        DeskQuestion::List { listed, .. } => page_question(*listed),
-    }
-}
-
-// The question that asks for what is to be shown.
-fn shown_question<'a>(shown: Shown) -> Question<'a>
-    ensures { result ≡ shown_question shown }
-{
-    match shown {
-        Shown::Meter(number) => Question::Meter(number),
-        Shown::Last(number) => Question::LastSale(number),
-        Shown::Sale(operator, order_ref) => Question::SaleOfRef(operator, order_ref),
-    }
-}
-
-// Whether what is looked up is printed as JSON.
-fn is_json(asked: &DeskQuestion) -> bool
-    ensures { result ≡ is_json asked.now }
-{
-    match asked {
-        DeskQuestion::Show { json, .. } | DeskQuestion::Offer { json, .. } => *json,
-        _ => false,
+    match texts.read(path) {
+        Ok(bytes) if bytes.len() <= MAX_BODY => Ok(bytes),
+        Ok(_) => Err(RowsFault::TooLong),
+        Err(fault) => Err(RowsFault::Unread(fault)),
     }
 }
 
 // Sends a desk one message, and prints what the reply tells; or tells that none came.
-fn ask<L: Loopback, O: Write, E: Write>(
+fn ask_one<L: Loopback, O: Write, E: Write>(
     alloc: Global,
     desk: Address,
-    question: &Question,
+    ask: &Ask<'_>,
     json: bool,
     loopback: L,
     out: &mut Watched<'_, O>,
     err: &mut Watched<'_, E>,
 ) -> CommandEnd
     ensures { IsAsked (calls_of L.Loopback L.Stream.remaining L.Stream.contents loopback)
-        (L.leaves L loopback) desk json question.now
+        (L.leaves L loopback) desk json ask.now
         (outputs out.old out.new err.old err.new) result }
 {
-    let Ok(message) = question.message(alloc) else {
+    let Ok(message) = message(alloc, ask) else {
         L::leave(loopback);
         put_refusal(Refusal::Memory, err);
         return CommandEnd::Refused;
     };
-    match exchange(alloc, loopback, desk, &message, question.wanted()) {
-        Some(came) => match question.answer_in(&came) {
-            Some(told) => tell(alloc, question, json, &told, out, err),
+    match exchange(alloc, loopback, desk, &message, wanted_by(ask)) {
+        Some(came) => match answer_in(ask, &came) {
+            Some(told) => tell(alloc, ask, json, &told, out, err),
             None => {
                 put_line(&[b"net"], err);
                 CommandEnd::Refused
@@ -190,17 +129,17 @@ fn ask<L: Loopback, O: Write, E: Write>(
 // Prints what a reply tells.
 fn tell<O: Write, E: Write>(
     alloc: Global,
-    question: &Question,
+    ask: &Ask<'_>,
     json: bool,
     told: &Told,
     out: &mut Watched<'_, O>,
     err: &mut Watched<'_, E>,
 ) -> CommandEnd
-    ensures { TellsTold json question.now told.now
+    ensures { TellsTold json ask.now told.now
         (outputs out.old out.new err.old err.new) result }
 {
     match told {
-        Told::Granted(granted) => tell_granted(alloc, question, json, granted, out, err),
+        Told::Granted(granted) => tell_granted(alloc, ask, json, granted, out, err),
         Told::Refused(refusal) => {
             put_refusal(*refusal, err);
             CommandEnd::Refused
@@ -215,16 +154,16 @@ fn tell<O: Write, E: Write>(
 // Prints what is granted, or tells that there was no room for its text.
 fn tell_granted<O: Write, E: Write>(
     alloc: Global,
-    question: &Question,
+    ask: &Ask<'_>,
     json: bool,
     granted: &Granted,
     out: &mut Watched<'_, O>,
     err: &mut Watched<'_, E>,
 ) -> CommandEnd
-    ensures { TellsGranted json question.now granted.now
+    ensures { TellsGranted json ask.now granted.now
         (outputs out.old out.new err.old err.new) result }
 {
-    match put_granted(alloc, question, json, granted, out) {
+    match put_granted(alloc, ask, json, granted, out) {
         Ok(()) => CommandEnd::Done,
         Err(_) => {
             put_refusal(Refusal::Memory, err);
@@ -236,14 +175,14 @@ fn tell_granted<O: Write, E: Write>(
 // Prints what is granted. Only what was looked up may find no room, and then nothing is printed.
 fn put_granted<O: Write>(
     alloc: Global,
-    question: &Question,
+    ask: &Ask<'_>,
     json: bool,
     granted: &Granted,
     out: &mut Watched<'_, O>,
 ) -> Result<(), AllocError>
     ensures { MatchResult result
-        (λ _. Takes out.old out.new (granted_output json question.now granted.now))
-        (λ _. NeedsRoom json question.now granted.now
+        (λ _. Takes out.old out.new (granted_output json ask.now granted.now))
+        (λ _. NeedsRoom json ask.now granted.now
         × Takes out.old out.new []) }
 {
     match granted {
@@ -251,7 +190,7 @@ fn put_granted<O: Write>(
         Granted::Imported(count) => put_added(*count, out),
         Granted::Withdrawn(count) => put_withdrawn(*count, out),
         Granted::Shift(number) => put_shift(*number, out),
-        Granted::Sale(sale) => return put_told_sale(alloc, question, json, sale, out),
+        Granted::Sale(sale) => return put_told_sale(alloc, ask, json, sale, out),
         Granted::Paper(text) | Granted::Page(text) => out.put(text),
         Granted::Meter(meter) => {
             let lookup = Lookup::Meter(meter.number);
@@ -269,21 +208,18 @@ fn put_granted<O: Write>(
 // Prints a sale: one that was sold as its receipt, and one that was looked up as `show sale` does.
 fn put_told_sale<O: Write>(
     alloc: Global,
-    question: &Question,
+    ask: &Ask<'_>,
     json: bool,
     sale: &Sale,
     out: &mut Watched<'_, O>,
 ) -> Result<(), AllocError>
     ensures { MatchResult result
-        (λ _. Takes out.old out.new (told_sale_text json question.now sale.now))
-        (λ _. SaleNeedsRoom json question.now sale.now
+        (λ _. Takes out.old out.new (told_sale_text json ask.now sale.now))
+        (λ _. SaleNeedsRoom json ask.now sale.now
         × Takes out.old out.new []) }
 {
-    match question {
-        Question::SaleOfRef(operator, order_ref) => {
-            let lookup = Lookup::SaleOfRef(*operator, *order_ref);
-            put_found(alloc, &lookup, &Found::Sale(*sale), json, out)
-        }
+    match ask {
+        Ask::Look(lookup) => put_found(alloc, lookup, &Found::Sale(*sale), json, out),
         _ => {
             out.put(&receipt_in_place(sale));
             Ok(())

@@ -8,8 +8,9 @@ ghost use Rattle.desk_client.specs.declared.told.Told.{Told};
 ghost use Rattle.desk_commands.specs.Exchanged.{ComesBehind, IsExchanged, IsRead, IsRound};
 ghost use Rattle.desk_commands.specs.Exchanged.{IsUnheld, calls_of, longest_reply};
 
+use asks::Grants;
 use command_line::Address;
-use desk_client::{MAX_HEAD, Reading, Wanted, reply_in, told_law};
+use desk_client::{MAX_HEAD, Reading, reply_in, told_law};
 use papers::write_whole;
 use std::alloc::{AllocError, Global};
 use std::io::{ErrorKind, Read, Write};
@@ -25,7 +26,7 @@ pub(crate) fn exchange<L: Loopback>(
     loopback: L,
     desk: Address,
     message: &[u8],
-    wanted: Wanted,
+    wanted: Grants,
 ) -> Option<Vec<u8>>
     ensures { IsExchanged (λ came. came.items)
         (calls_of L.Loopback L.Stream.remaining L.Stream.contents loopback) desk message.now
@@ -50,7 +51,7 @@ pub(crate) fn exchange_on<S: Read + Write>(
     alloc: Global,
     stream: &mut S,
     message: &[u8],
-    wanted: Wanted,
+    wanted: Grants,
 ) -> Option<Vec<u8>>
     ensures held { MatchOption result
         (IsUnheld S.remaining S.contents stream.old stream.new message.now)
@@ -64,7 +65,7 @@ pub(crate) fn exchange_on<S: Read + Write>(
 }
 
 // Reads a reply, by as many reads as it takes, or up to where none can be had any more.
-fn receive<S: Read>(alloc: Global, stream: &mut S, wanted: Wanted) -> Result<Vec<u8>, AllocError>
+fn receive<S: Read>(alloc: Global, stream: &mut S, wanted: Grants) -> Result<Vec<u8>, AllocError>
     ensures read { MatchResult result
         (λ came. Consumes (S.remaining stream.old) (S.remaining stream.new) came.items)
         (λ _. IsRead (S.remaining stream.old) (S.remaining stream.new)) }
@@ -87,7 +88,7 @@ fn receive<S: Read>(alloc: Global, stream: &mut S, wanted: Wanted) -> Result<Vec
 
 // How many bytes are asked for next, where these came so far of the reply to a message that wants
 // this: none behind a whole reply, nor where it can be none, whatever follows.
-fn lacking(came: &[u8], wanted: Wanted) -> usize
+fn lacking(came: &[u8], wanted: Grants) -> usize
     ensures more { 0 < result → (told : Told) → ¬ IsReply wanted came.now told }
     ensures few { 0 < result → length came.now + result ≤ longest_reply }
     ensures done { result ≡ 0 → (more : List ℕ) (told : Told)

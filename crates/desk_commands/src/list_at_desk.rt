@@ -1,12 +1,14 @@
 //! A list that a running desk has, printed page by page.
 
-ghost use Rattle.std.specs.Prelude.{◌≡◌, IfOk, MatchResult};
+ghost use Rattle.std.specs.Prelude.{◌≡◌, IfOk, MatchOption, MatchResult};
+ghost use Rattle.asks.specs.declared.ask.Ask.TheVariants.{Look};
+ghost use Rattle.desk_client.specs.Answers.{IsReplyTo};
 ghost use Rattle.desk_client.specs.Page.{HasTokens, IsToldPage, page_as_read};
-ghost use Rattle.desk_client.specs.Question.{question_text};
+ghost use Rattle.desk_client.specs.Sent.{ask_text, wanted_by};
+ghost use Rattle.desk_client.specs.declared.told.Told.{Told as WhatIsTold};
 ghost use Rattle.desk_commands.specs.ListedAtDesk.{IsListedAtDesk, IsNoPageText, IsPageAsked};
 ghost use Rattle.desk_commands.specs.ListedAtDesk.{IsPageIn};
 ghost use Rattle.desk_commands.specs.ListedAtDesk.{IsPagePrinted, page_fault_line, page_kind};
-ghost use Rattle.desk_commands.specs.ListedAtDesk.{page_question};
 ghost use Rattle.desk_commands.specs.Exchanged.{calls_of};
 ghost use Rattle.desk_commands.specs.PageOrder.{ComesAfter};
 ghost use Rattle.vend_ports.specs.print.Told.{Takes, outputs};
@@ -14,9 +16,12 @@ ghost use Rattle.vend_ports.specs.print.Told.{Takes, outputs};
 use crate::exchange::exchange_on;
 use crate::page_order::comes_after;
 use crate::print::pages::put_page;
+use asks::{Ask, Grants, Lookup};
 use book_states::Found;
-use command_line::{Address, Listed};
-use desk_client::{Granted, PageKind, Question, Told, Wanted, has_tokens, page_in, page_law};
+use command_line::Address;
+use desk_client::{
+    Granted, PageKind, Told, answer_in, has_tokens, message, page_in, page_law, wanted_by,
+};
 use office_rules::Refusal;
 use std::alloc::{AllocError, Global};
 use std::io::{Read, Write};
@@ -44,7 +49,7 @@ pub enum PageFault {
 pub(crate) fn list<L: Loopback, O: Write, E: Write>(
     alloc: Global,
     desk: Address,
-    list: Listed,
+    list: Lookup,
     json: bool,
     loopback: L,
     out: &mut Watched<'_, O>,
@@ -85,11 +90,11 @@ pub(crate) fn list<L: Loopback, O: Write, E: Write>(
 fn print_page<S: Read + Write, O: Write>(
     alloc: Global,
     stream: &mut S,
-    list: Listed,
+    list: Lookup,
     json: bool,
     is_first: bool,
     out: &mut Watched<'_, O>,
-) -> Result<Option<Listed>, PageFault>
+) -> Result<Option<Lookup>, PageFault>
     ensures { IsPagePrinted S.remaining S.contents list json is_first stream.old stream.new
         out.old out.new result }
 {
@@ -107,41 +112,59 @@ fn print_page<S: Read + Write, O: Write>(
 fn ask_page<S: Read + Write>(
     alloc: Global,
     stream: &mut S,
-    list: Listed,
+    list: Lookup,
 ) -> Result<Found, PageFault>
     ensures { IsPageAsked S.remaining S.contents list stream.old stream.new result }
 {
     let Ok(message) = page_message(alloc, list) else {
         return Err(PageFault::NoMessage);
     };
-    match exchange_on(alloc, stream, &message, Wanted::Page) {
+    match exchange_on(alloc, stream, &message, page_grants(list)) {
         Some(came) => page_of(alloc, &list, &came),
         None => Err(PageFault::Unsent),
     }
 }
 
 // The message that asks for the first page of a list.
-fn page_message(alloc: Global, list: Listed) -> Result<Vec<u8>, AllocError>
-    ensures { IfOk result (λ text. text.items ≡ question_text (page_question list)) }
+fn page_message(alloc: Global, list: Lookup) -> Result<Vec<u8>, AllocError>
+    ensures { IfOk result (λ text. text.items ≡ ask_text (Look list)) }
 {
-    page_question(list).message(alloc)
+    message(alloc, &Ask::Look(list))
+}
+
+// What is told where it is granted.
+fn page_grants(list: Lookup) -> Grants
+    ensures { result ≡ wanted_by (Look list) }
+{
+    wanted_by(&Ask::Look(list))
+}
+
+// What the reply to it tells.
+fn told_of<'b>(list: Lookup, came: &'b [u8]) -> Option<Told<'b>>
+    ensures { MatchOption result ((told : WhatIsTold) → ¬ IsReplyTo (Look list) came.now told)
+        (IsReplyTo (Look list) came.now) }
+{
+    answer_in(&Ask::Look(list), came)
 }
 
 // The page of a list that a reply tells.
-fn page_of(alloc: Global, list: &Listed, came: &[u8]) -> Result<Found, PageFault>
+fn page_of(alloc: Global, list: &Lookup, came: &[u8]) -> Result<Found, PageFault>
     ensures { IsPageIn list.now came.now result }
 {
-    match page_question(*list).answer_in(came) {
-        Some(Told::Granted(Granted::Page(body))) => page_told(alloc, list, body),
+    match told_of(*list, came) {
+        Some(Told::Granted(granted)) => match granted {
+            Granted::Page(body) => page_told(alloc, list, body),
+            // No list was asked for.
+            _ => Err(PageFault::OutOfForm),
+        },
         Some(Told::Refused(refusal)) => Err(PageFault::Refused(refusal)),
         Some(Told::NoMoment) => Err(PageFault::NoMoment),
-        // No other grant is wanted.
-        Some(Told::Granted(_)) | None => Err(PageFault::OutOfForm),
+        None => Err(PageFault::OutOfForm),
     }
 }
 
 // The page of a list that a text tells.
-fn page_told(alloc: Global, list: &Listed, text: &[u8]) -> Result<Found, PageFault>
+fn page_told(alloc: Global, list: &Lookup, text: &[u8]) -> Result<Found, PageFault>
     ensures { MatchResult result
         (λ page. IsToldPage (page_kind list.now) page × ComesAfter list.now page
         × HasTokens page × (text.now ≡ page_as_read page))
@@ -162,27 +185,16 @@ fn page_told(alloc: Global, list: &Listed, text: &[u8]) -> Result<Found, PageFau
     Ok(page)
 }
 
-/// The question that asks for the first page of a list.
-pub(crate) fn page_question<'a>(list: Listed) -> Question<'a>
-    ensures { result ≡ page_question list }
-{
-    match list {
-        Listed::Tariffs(after) => Question::Tariffs(after),
-        Listed::Meters(after) => Question::Meters(after),
-        Listed::Shifts(after) => Question::Shifts(after),
-        Listed::Sales(after) => Question::Sales(after),
-    }
-}
-
 // What the pages of a list have.
-fn page_kind(list: Listed) -> PageKind
+fn page_kind(list: Lookup) -> PageKind
     ensures { result ≡ page_kind list }
 {
     match list {
-        Listed::Tariffs(_) => PageKind::Tariffs,
-        Listed::Meters(_) => PageKind::Meters,
-        Listed::Shifts(_) => PageKind::Shifts,
-        Listed::Sales(_) => PageKind::Sales,
+        Lookup::Tariffs(_) => PageKind::Tariffs,
+        Lookup::Meters(_) => PageKind::Meters,
+        Lookup::Shifts(_) => PageKind::Shifts,
+        // Any other look-up has no pages.
+        _ => PageKind::Sales,
     }
 }
 

@@ -4,25 +4,25 @@ ghost use Rattle.std.specs.Prelude.{◌↔◌, ◌<◌, IsTrue, map};
 ghost use Rattle.book_lists.specs.Pages.{ComesBefore};
 ghost use Rattle.desk_commands.specs.PageOrder.{ComesAfter, Rise};
 
+use asks::Lookup;
 use book_states::{Found, ListedMeter, ListedShift, ListedTariff};
-use command_line::Listed;
 use office_rules::Sale;
 use std::cmp::Ordering;
 
 /// Whether the members of a page come after what its list begins after, each after the one before
 /// it.
-pub(crate) fn comes_after(list: &Listed, page: &Found) -> bool
+pub(crate) fn comes_after(list: &Lookup, page: &Found) -> bool
     ensures { IsTrue result ↔ ComesAfter list.now page.now }
 {
     match (list, page) {
-        (Listed::Tariffs(None), Found::Tariffs(page)) => tariffs_rise(b"", page),
-        (Listed::Tariffs(Some(after)), Found::Tariffs(page)) => {
+        (Lookup::Tariffs(None), Found::Tariffs(page)) => tariffs_rise(b"", page),
+        (Lookup::Tariffs(Some(after)), Found::Tariffs(page)) => {
             tariffs_rise(after.as_bytes(), page)
         }
-        (Listed::Meters(None), Found::Meters(page)) => meters_rise(b"", page),
-        (Listed::Meters(Some(after)), Found::Meters(page)) => meters_rise(after.as_bytes(), page),
-        (Listed::Shifts(after), Found::Shifts(page)) => shifts_rise(*after, page),
-        (Listed::Sales(after), Found::Sales(page)) => sales_rise(*after, page),
+        (Lookup::Meters(None), Found::Meters(page)) => meters_rise(b"", page),
+        (Lookup::Meters(Some(after)), Found::Meters(page)) => meters_rise(after.as_bytes(), page),
+        (Lookup::Shifts(after), Found::Shifts(page)) => shifts_rise(*after, page),
+        (Lookup::Sales(after), Found::Sales(page)) => sales_rise(*after, page),
         _ => false,
     }
 }

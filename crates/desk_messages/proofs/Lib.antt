@@ -1,13 +1,10 @@
-pub mod ArrayLemmas
-pub mod AskingLemmas
-pub mod BodyLemmas
 pub mod HttpDateLemmas
-pub mod MemberLemmas
+pub mod JsonLemmas
+pub mod MeaningLemmas
 pub mod PageLemmas
-pub mod ParameterLemmas
 pub mod PlainLemmas
 pub mod ReplyLemmas
 pub mod RouteLemmas
-pub mod SaleLemmas
+pub mod RowLemmas
 pub mod SaleTextLemmas
-pub mod TableLemmas
+pub mod WalkLemmas

@@ -1,82 +1,12 @@
--- The text of a sale in JSON, member by member.
-use Rattle.std.proofs.Common.{◌≡◌, ◌∙◌, ℕ, Bool, true, List, [], ◌∷◌, ◌++◌, codes, refl, ap, append_assoc}
+-- The text of a sale in JSON, piece by piece.
+use Rattle.std.proofs.Common.{◌≡◌, ◌∙◌, ℕ, List, [], ◌∷◌, ◌++◌, codes, refl, ap, append_assoc}
+use Rattle.std.specs.Fmt.{decimal}
+use Rattle.records.specs.Cell as cell
+use Rattle.records.specs.Record.{record_text}
 use Rattle.papers.specs.Text.{change_of}
 use Rattle.sts_fields.specs.Base.{year_of}
-use Rattle.std.specs.Char.{is_ascii_alphanumeric, is_ascii_digit}
-use Rattle.std.specs.Fmt.{decimal}
-use Rattle.std.specs.List.{AllByRecursion, AllPass, flat_map}
-use Rattle.std.proofs.Common.{arith}
-use Rattle.std.proofs.lemmas.Bool.Decides.{nat_tests}
-use Rattle.std.proofs.lemmas.List.Elements.{recursion_from_All}
-use Rattle.json.specs.Print.{escape_byte, quoted}
-use Rattle.serde_json.proofs.OnLiterals.{serde_json_on_literals}
-use Rattle.serde_json.specs.Data.{string}
-use Rattle.desk_messages.specs.reply.Members.{json_text, whole_number}
-use Rattle.desk_messages.specs.reply.Body.{sale_members}
-use Rattle.desk_messages.specs.reply.SaleText.{IsTellableSale, sale_text, sale_text_of}
-use Rattle.desk_messages.proofs.SaleLemmas.{digits-kept}
-use Rattle.office_rules.specs.Name.{is_name_byte}
 use Rattle.office_rules.specs.declared.office.sale.Sale.{Sale}
-
--- a digit needs no escape in JSON
-pub plain_digit : (b : ℕ) → is_ascii_digit b ≡ true → escape_byte b ≡ b ∷ []
-unfolding escape_byte
-plain_digit b e = grind (arith, nat_tests)
-
--- nor does a letter or digit, as operators have them
-pub plain_letter : (b : ℕ) → is_ascii_alphanumeric b ≡ true → escape_byte b ≡ b ∷ []
-unfolding escape_byte
-plain_letter b e = grind (arith, nat_tests)
-
--- nor does a byte of a name
-pub plain_name : (b : ℕ) → is_name_byte b ≡ true → escape_byte b ≡ b ∷ []
-unfolding escape_byte
-plain_name b e = grind (arith, nat_tests)
-
-unescaped : (test : ℕ → Bool) → ((b : ℕ) → test b ≡ true → escape_byte b ≡ b ∷ []) → (text : List ℕ)
-    → AllByRecursion (λ b. test b ≡ true) text → flat_map escape_byte text ≡ text
-unescaped test plain [] passes = refl
-unescaped test plain (b ∷ text) passes = rw (plain b passes.0, unescaped test plain text passes.1) refl
-
--- bytes that need no escape stand as they are
-pub as_it_is : (test : ℕ → Bool) → ((b : ℕ) → test b ≡ true → escape_byte b ≡ b ∷ []) → (text : List ℕ) → AllPass test text
-    → flat_map escape_byte text ≡ text
-as_it_is test plain text passes = unescaped test plain text (recursion_from_All (λ b. test b ≡ true) text passes)
-
--- the members in the order of their names
-object-text : (base change moment number price shift tender tenths tid : ℕ) (meter operator order_ref token : List ℕ)
-    → json_text ((codes "base", whole_number base) ∷ (codes "change", whole_number change) ∷ (codes "meter", string meter)
-    ∷ (codes "moment", whole_number moment)
-    ∷ (codes "number", whole_number number) ∷ (codes "operator", string operator) ∷ (codes "price", whole_number price)
-    ∷ (codes "ref", string order_ref) ∷ (codes "shift", whole_number shift) ∷ (codes "tender", whole_number tender)
-    ∷ (codes "tenths", whole_number tenths) ∷ (codes "tid", whole_number tid) ∷ (codes "token", string token) ∷ [])
-    ≡ codes "{\"base\":" ++ (decimal base ++ (codes ",\"change\":" ++ (decimal change ++ (codes ",\"meter\":" ++ (quoted meter
-    ++ (codes ",\"moment\":" ++ (decimal moment ++ (codes ",\"number\":" ++ (decimal number ++ (codes ",\"operator\":" ++ (quoted operator
-    ++ (codes ",\"price\":" ++ (decimal price ++ (codes ",\"ref\":" ++ (quoted order_ref ++ (codes ",\"shift\":" ++ (decimal shift
-    ++ (codes ",\"tender\":" ++ (decimal tender ++ (codes ",\"tenths\":" ++ (decimal tenths ++ (codes ",\"tid\":" ++ (decimal tid
-    ++ (codes ",\"token\":" ++ (quoted token ++ codes "}")))))))))))))))))))))))))
-unfolding json_text serde_json_on_literals
-object-text base change moment number price shift tender tenths tid meter operator order_ref token = refl
-
--- a text in quotes, before what follows
-pub closed : (text rest : List ℕ) → (34 ∷ (text ++ 34 ∷ [])) ++ rest ≡ 34 ∷ (text ++ 34 ∷ rest)
-closed text rest = ap (λ (all : List ℕ). 34 ∷ all) (append_assoc text (34 ∷ []) rest)
-
--- the JSON of a sale that can be told is its text, whose values need no escape
-pub sale_text-is : (s : Sale) → IsTellableSale s → json_text (sale_members s) ≡ sale_text s
-sale_text-is s told =
-    rw (
-      digits-kept s.digits told.digits.digits,
-      object-text _ _ s.moment s.number s.price s.shift s.tender s.tenths s.tid s.meter s.operator s.order_ref s.digits,
-      as_it_is is_ascii_digit plain_digit s.meter told.meter.digits,
-      as_it_is is_ascii_alphanumeric plain_letter s.operator told.operator.bytes,
-      as_it_is is_name_byte plain_name s.order_ref told.order_ref.bytes,
-      as_it_is is_ascii_digit plain_digit s.digits told.digits.digits,
-      closed s.meter,
-      closed s.operator,
-      closed s.order_ref,
-      closed s.digits,
-    ) refl
+use Rattle.desk_messages.specs.reply.Records.{sale_names, sale_text}
 
 -- a piece of a text, and what stands behind it
 pub onto : (t u p rest whole : List ℕ) → u ≡ t ++ p → whole ≡ u ++ rest → whole ≡ t ++ (p ++ rest)
@@ -86,14 +16,47 @@ onto t u p rest whole e f = f ∙ ap (λ front. front ++ rest) e ∙ append_asso
 pub behind_nothing : (t rest whole : List ℕ) → t ≡ [] → whole ≡ t ++ rest → whole ≡ rest
 behind_nothing t rest whole e f = f ∙ ap (λ front. front ++ rest) e
 
+-- a text in quotes, before what follows
+pub closed : (text rest : List ℕ) → (34 ∷ (text ++ 34 ∷ [])) ++ rest ≡ 34 ∷ (text ++ 34 ∷ rest)
+closed text rest = ap (λ (all : List ℕ). 34 ∷ all) (append_assoc text (34 ∷ []) rest)
+
+-- the members of a sale, between fixed words
+abbrev pub sale_text_of : (base change moment number price shift tender tenths tid : ℕ)
+    → (meter operator order_ref token : List ℕ) → List ℕ
+sale_text_of
+    base change moment number price shift tender tenths tid meter operator order_ref token =
+    codes "{\"base\":" ++ (decimal base
+    ++ (codes ",\"change\":" ++ (decimal change
+    ++ (codes ",\"meter\":\"" ++ (meter
+    ++ (codes "\",\"moment\":" ++ (decimal moment
+    ++ (codes ",\"number\":" ++ (decimal number
+    ++ (codes ",\"operator\":\"" ++ (operator
+    ++ (codes "\",\"price\":" ++ (decimal price
+    ++ (codes ",\"ref\":\"" ++ (order_ref
+    ++ (codes "\",\"shift\":" ++ (decimal shift
+    ++ (codes ",\"tender\":" ++ (decimal tender
+    ++ (codes ",\"tenths\":" ++ (decimal tenths
+    ++ (codes ",\"tid\":" ++ (decimal tid
+    ++ (codes ",\"token\":\"" ++ (token
+    ++ codes "\"}")))))))))))))))))))))))))
+
+-- its record is that
+pub sale_text-is : (base change moment own price shift tender tenths tid : ℕ) (meter operator order_ref token : List ℕ)
+    → record_text sale_names (cell.number base ∷ cell.number change ∷ cell.text meter ∷ cell.number moment ∷ cell.number own ∷ cell.text operator
+    ∷ cell.number price ∷ cell.text order_ref ∷ cell.number shift ∷ cell.number tender ∷ cell.number tenths ∷ cell.number tid ∷ cell.text token ∷ [])
+    ≡ sale_text_of base change moment own price shift tender tenths tid meter operator order_ref token
+sale_text-is base change moment own price shift tender tenths tid meter operator order_ref token =
+    rw (closed meter, closed operator, closed order_ref, closed token) refl
+
 -- the text of a sale by its pieces
-pub sale_text-pieces : (s : Sale) → IsTellableSale s → (base change moment number price shift tender tenths tid : ℕ) (meter operator order_ref token : List ℕ)
+pub sale_text-pieces : (s : Sale) (base change moment number price shift tender tenths tid : ℕ) (meter operator order_ref token : List ℕ)
     → base ≡ year_of s.base → change ≡ change_of s → meter ≡ s.meter → moment ≡ s.moment → number ≡ s.number
     → operator ≡ s.operator → price ≡ s.price → order_ref ≡ s.order_ref → shift ≡ s.shift
     → tender ≡ s.tender → tenths ≡ s.tenths → tid ≡ s.tid → token ≡ s.digits
-    → json_text (sale_members s) ≡ sale_text_of base change moment number price shift tender tenths tid meter operator order_ref token
-sale_text-pieces s told base change moment number price shift tender tenths tid meter operator order_ref token e1 e2 e3 e4 e5 e6 e7 e8 e9 e10 e11 e12 e13 =
-    rw (e1, e2, e3, e4, e5, e6, e7, e8, e9, e10, e11, e12, e13) (sale_text-is s told)
+    → sale_text s ≡ sale_text_of base change moment number price shift tender tenths tid meter operator order_ref token
+sale_text-pieces s base change moment number price shift tender tenths tid meter operator order_ref token e1 e2 e3 e4 e5 e6 e7 e8 e9 e10 e11 e12 e13 =
+    rw (e1, e2, e3, e4, e5, e6, e7, e8, e9, e10, e11, e12, e13)
+    (sale_text-is (year_of s.base) (change_of s) s.moment s.number s.price s.shift s.tender s.tenths s.tid s.meter s.operator s.order_ref s.digits)
 
 -- the text that the pieces make, each behind those before it
 pub sale_text-made : (base change moment number price shift tender tenths tid : ℕ) (meter operator order_ref token : List ℕ)

@@ -1,7 +1,4 @@
-pub mod Asking
 pub mod DeskFault
 pub mod Meaning
-pub mod Reads
-pub mod json_body
+pub mod Routes
 pub mod reply
-pub mod route

@@ -1,7 +1,7 @@
 pub mod Body
 pub mod Head
 pub mod HttpDate
+pub mod Json
 pub mod Lists
-pub mod Members
-pub mod SaleText
+pub mod Records
 pub mod Text

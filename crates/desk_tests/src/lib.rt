@@ -35,3 +35,5 @@ mod sentences;
 mod streams;
 #[cfg(test)]
 mod texts;
+#[cfg(test)]
+mod words;

@@ -11,7 +11,7 @@
 //! function without a clause, so that no proof reads it.
 
 pub(crate) mod answers;
-pub(crate) mod asks;
 pub(crate) mod later;
 pub(crate) mod looks;
+pub(crate) mod requests;
 pub(crate) mod talks;

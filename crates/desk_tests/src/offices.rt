@@ -2,10 +2,10 @@
 //! plain lists beside it.
 
 use crate::lists::answers::answers;
-use crate::lists::asks::asks;
 use crate::lists::later::{again, later};
 use crate::lists::looks::{looks, looks_later};
-use crate::lists::talks::{after_asks, with_clocks};
+use crate::lists::requests::requests;
+use crate::lists::talks::{after_requests, with_clocks};
 use crate::texts::{bytes, message, reply_at};
 use books::Books;
 use desk::{Desk, End, Script};
@@ -158,7 +158,7 @@ fn hold<S: Alter, T: BlockTransform>(
 #[test]
 fn lists_at_a_desk_in_memory(rt: HostRuntime) -> Result<(), Fail> {
     for lists in [
-        [asks(), after_asks(), looks()],
+        [requests(), after_requests(), looks()],
         [later(), again(), looks_later()],
     ] {
         let mut both = in_memory(rt.alloc())?;
@@ -192,7 +192,7 @@ impl<T: BlockTransform, A: Abort + AllocGlobal> Life<T, ()> for Conversation<'_,
 fn lists_at_a_desk_over_a_file(rt: HostRuntime) -> Result<(), Fail> {
     let path = "desk.db";
     for told in [
-        [asks(), after_asks(), looks()],
+        [requests(), after_requests(), looks()],
         [later(), again(), looks_later()],
     ] {
         remove(rt.alloc(), &rt, path)?;

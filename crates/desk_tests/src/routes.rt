@@ -1,13 +1,16 @@
-//! Which route a target and a method stand for.
+//! Which kind of ask a target and a method stand for, and with which values.
 
+use crate::bodies::asked;
 use crate::texts::bytes;
-use desk::{DeskFault, Endpoint, JsonKind, Lookup, Method, Route, Routes};
-use office_rules::{MeterNo, Operator, Ref, TariffName, Tender};
-use papers::FileKind;
+use crate::words::{lookup, meter, tariff};
+use arrayvec::ArrayVec;
+use asks::Value;
+use desk::{AskKind, DeskFault, Lookup, Method, Named, Routes};
+use std::alloc::{AllocError, Global};
 use std::test::Fail;
 use sts_fields::Day;
 
-// Each a target behind its method, and its route.
+// Each a target behind its method, and what it names.
 fn targets() -> &'static str {
     "\
 POST /tariffs = add-tariff
@@ -55,65 +58,89 @@ GET /sales?after=1000000000 = sales 1000000000
 "
 }
 
-fn route(text: &str) -> Result<Route, Fail> {
+// What a line names.
+fn named(text: &str) -> Result<Named, Fail> {
     let (word, value) = text.split_once(' ').unwrap_or((text, ""));
-    Ok(match word {
-        "add-tariff" => Route::Object(JsonKind::AddTariff),
-        "add-steps" => Route::Object(JsonKind::AddSteps(tariff(value)?)),
-        "withdraw-steps" => dated_steps(value)?,
-        "add-meter" => Route::Object(JsonKind::AddMeter),
-        "set-tariff" => Route::Object(JsonKind::SetTariff(meter(value)?)),
-        "move-base" => Route::Object(JsonKind::MoveBase(meter(value)?)),
-        "set-key" => Route::Object(JsonKind::SetKey(meter(value)?)),
-        "open-shift" => Route::Object(JsonKind::OpenShift),
-        "close-shift" => Route::Object(JsonKind::CloseShift),
-        "report" => Route::ShiftReport(value.parse()?),
-        "sell" => Route::Object(JsonKind::Sell),
-        "reprint" => Route::Reprint(value.parse()?),
-        "receipt" => Route::Receipt(value.parse()?),
-        "import-meters" => Route::Import(FileKind::Meters),
-        "import-tariffs" => Route::Import(FileKind::Tariffs),
-        _ => Route::LookUp(lookup(word, value)?),
-    })
+    match word {
+        "add-steps" | "withdraw-steps" => of_tariff(word, value),
+        "set-tariff" => one(AskKind::SetTariff, Value::Meter(meter(value)?)),
+        "move-base" => one(AskKind::MoveBase, Value::Meter(meter(value)?)),
+        "set-key" => one(AskKind::SetKey, Value::Meter(meter(value)?)),
+        "report" => one(AskKind::ShiftReport, Value::Number(value.parse()?)),
+        "reprint" => one(AskKind::Reprint, Value::Number(value.parse()?)),
+        "receipt" => one(AskKind::Receipt, Value::Number(value.parse()?)),
+        _ => match without_values(word) {
+            Some(kind) => Ok(none(kind)),
+            None => named_by(&lookup(word, value)?),
+        },
+    }
 }
 
-fn dated_steps(value: &str) -> Result<Route, Fail> {
-    let (name, date) = value.split_once(' ').ok_or("no day")?;
+fn without_values(word: &str) -> Option<AskKind> {
+    match word {
+        "add-tariff" => Some(AskKind::AddTariff),
+        "add-meter" => Some(AskKind::AddMeter),
+        "open-shift" => Some(AskKind::OpenShift),
+        "close-shift" => Some(AskKind::CloseShift),
+        "sell" => Some(AskKind::Sell),
+        "import-meters" => Some(AskKind::ImportMeters),
+        "import-tariffs" => Some(AskKind::ImportTariffs),
+        _ => None,
+    }
+}
+
+fn of_tariff(word: &str, value: &str) -> Result<Named, Fail> {
+    let (name, date) = value.split_once(' ').unwrap_or((value, ""));
+    let name = Value::Tariff(tariff(name)?);
+    if word == "add-steps" {
+        return one(AskKind::AddSteps, name);
+    }
     let day = Day::of_text(date.as_bytes()).ok().ok_or("a day")?;
-    Ok(Route::WithdrawSteps(tariff(name)?, day))
+    two(AskKind::WithdrawSteps, name, Value::Day(day))
 }
 
-fn lookup(word: &str, value: &str) -> Result<Lookup, Fail> {
-    let (first, second) = value.split_once(' ').unwrap_or((value, ""));
-    Ok(match word {
-        "health" => Lookup::Health,
-        "meter" => Lookup::Meter(meter(first)?),
-        "last-sale" => Lookup::LastSale(meter(first)?),
-        "quote" => Lookup::Quote(
-            meter(first)?,
-            Tender::read(second.parse()?).ok_or("a tender")?,
+fn named_by(lookup: &Lookup) -> Result<Named, Fail> {
+    match lookup {
+        Lookup::Health => Ok(none(AskKind::Health)),
+        Lookup::Meter(meter) => one(AskKind::Meter, Value::Meter(*meter)),
+        Lookup::LastSale(meter) => one(AskKind::LastSale, Value::Meter(*meter)),
+        Lookup::SaleOfRef(operator, order_ref) => two(
+            AskKind::SaleOfRef,
+            Value::Operator(*operator),
+            Value::Ref(*order_ref),
         ),
-        "sale-of-ref" => Lookup::SaleOfRef(
-            Operator::read(first.as_bytes()).ok_or("an operator")?,
-            Ref::read(second.as_bytes()).ok_or("a ref")?,
+        Lookup::Quote(meter, tender) => two(
+            AskKind::Quote,
+            Value::Meter(*meter),
+            Value::Tender(*tender),
         ),
-        "totals" => Lookup::ShiftTotals(first.parse()?),
-        "tariffs" if first.is_empty() => Lookup::Tariffs(None),
-        "tariffs" => Lookup::Tariffs(Some(tariff(first)?)),
-        "meters" if first.is_empty() => Lookup::Meters(None),
-        "meters" => Lookup::Meters(Some(meter(first)?)),
-        "shifts" => Lookup::Shifts(first.parse()?),
-        "sales" => Lookup::Sales(first.parse()?),
-        _ => return Err(Fail::new(format_args!("no route: {word} {value}"))),
-    })
+        Lookup::ShiftTotals(shift) => one(AskKind::ShiftTotals, Value::Number(*shift)),
+        Lookup::Tariffs(None) => Ok(none(AskKind::FirstTariffs)),
+        Lookup::Tariffs(Some(name)) => one(AskKind::TariffsAfter, Value::Tariff(*name)),
+        Lookup::Meters(None) => Ok(none(AskKind::FirstMeters)),
+        Lookup::Meters(Some(meter)) => one(AskKind::MetersAfter, Value::Meter(*meter)),
+        Lookup::Shifts(shift) => one(AskKind::ShiftsAfter, Value::Start(*shift)),
+        Lookup::Sales(sale) => one(AskKind::SalesAfter, Value::Start(*sale)),
+    }
 }
 
-fn meter(text: &str) -> Result<MeterNo, Fail> {
-    Ok(MeterNo::read(text.as_bytes()).ok_or("a meter")?)
+fn none(kind: AskKind) -> Named {
+    Named {
+        kind,
+        values: ArrayVec::new(),
+    }
 }
 
-fn tariff(text: &str) -> Result<TariffName, Fail> {
-    Ok(TariffName::read(text.as_bytes()).ok_or("a tariff")?)
+fn one(kind: AskKind, value: Value) -> Result<Named, Fail> {
+    let mut named = none(kind);
+    named.values.try_push(value).ok().ok_or("room")?;
+    Ok(named)
+}
+
+fn two(kind: AskKind, first: Value, second: Value) -> Result<Named, Fail> {
+    let mut named = one(kind, first)?;
+    named.values.try_push(second).ok().ok_or("room")?;
+    Ok(named)
 }
 
 // Targets that are no routes, each behind a `>`. `texts` says how they are written.
@@ -173,13 +200,43 @@ fn each_route(rt: HostRuntime) -> Result<(), Fail> {
             _ => (Method::Post, Method::Get),
         };
         let target = target.as_bytes();
-        assert_eq!(rt; routes.route_of(target, own), Ok(route(wanted)?), "{line}");
+        assert_eq!(rt; routes.route_of(target, own), Ok(named(wanted)?), "{line}");
         let fault = Err(DeskFault::Method(own));
         assert_eq!(rt; routes.route_of(target, other), fault, "{line}");
         let of_get = routes.route_of(target, Method::Get);
         assert_eq!(rt; routes.route_of(target, Method::Head), of_get, "{line}");
     }
     assert_eq!(rt; targets().lines().count(), 41);
+    Ok(())
+}
+
+// The words of targets that have a body, and what else is no look-up.
+fn is_look_up(word: &str) -> bool {
+    match word {
+        "add-steps" | "withdraw-steps" | "set-tariff" | "move-base" | "set-key" | "report" => false,
+        "reprint" | "receipt" => false,
+        _ => without_values(word).is_none(),
+    }
+}
+
+#[test]
+fn each_look_up(rt: HostRuntime) -> Result<(), Fail> {
+    let alloc = rt.alloc();
+    let routes = Routes::new(alloc)?;
+    let mut count = 0u32;
+    for line in targets().lines() {
+        let (head, wanted) = line.split_once(" = ").ok_or("no route")?;
+        let (_, target) = head.split_once(' ').ok_or("no target")?;
+        let (word, value) = wanted.split_once(' ').unwrap_or((wanted, ""));
+        if is_look_up(word) {
+            let lookup = lookup(word, value)?;
+            let wanted = format!(in alloc; "{lookup:?}")?;
+            let found = asked(alloc, &routes, target, b"")?;
+            assert_eq!(rt; found.as_str(), wanted.as_str(), "{line}");
+            count = count.saturating_add(1);
+        }
+    }
+    assert_eq!(rt; count, 20);
     Ok(())
 }
 
@@ -197,27 +254,36 @@ fn no_route(rt: HostRuntime) -> Result<(), Fail> {
     Ok(())
 }
 
+// The pattern of a kind, behind its method.
+fn pattern(alloc: Global, kind: AskKind) -> Result<Vec<u8>, AllocError> {
+    let mut text = match kind.endpoint().method {
+        Method::Get => Vec::from_slice(alloc, b"GET ")?,
+        Method::Post => Vec::from_slice(alloc, b"POST ")?,
+        _ => Vec::from_slice(alloc, b"DELETE ")?,
+    };
+    kind.put_pattern(&mut text)?;
+    Ok(text)
+}
+
+static PATTERNS: [(AskKind, &str); 8] = [
+    (AskKind::SetTariff, "POST /meters/{meter}/tariff"),
+    (AskKind::MoveBase, "POST /meters/{meter}/base"),
+    (AskKind::AddSteps, "POST /tariffs/{tariff}/steps"),
+    (AskKind::SetKey, "POST /meters/{meter}/key"),
+    (
+        AskKind::WithdrawSteps,
+        "DELETE /tariffs/{tariff}/steps/{day}",
+    ),
+    (AskKind::Quote, "GET /meters/{meter}/quote?tender={tender}"),
+    (AskKind::MetersAfter, "GET /meters?after={meter}"),
+    (AskKind::SaleOfRef, "GET /operators/{operator}/sales/{ref}"),
+];
+
 #[test]
-fn patterns(rt: HostRuntime) {
-    assert_eq!(rt; Endpoint::MeterTariff.pattern(), "/meters/{meter}/tariff");
-    assert_eq!(rt; Endpoint::MeterTariff.method(), Method::Post);
-    assert_eq!(rt; Endpoint::MeterBase.pattern(), "/meters/{meter}/base");
-    assert_eq!(rt; Endpoint::TariffSteps.pattern(), "/tariffs/{tariff}/steps");
-    assert_eq!(rt; Endpoint::MeterKey.pattern(), "/meters/{meter}/key");
-    assert_eq!(rt;
-        Endpoint::DatedSteps.pattern(),
-        "/tariffs/{tariff}/steps/{day}"
-    );
-    assert_eq!(rt; Endpoint::DatedSteps.method(), Method::Delete);
-    assert_eq!(rt;
-        Endpoint::Quote.pattern(),
-        "/meters/{meter}/quote?tender={tender}"
-    );
-    assert_eq!(rt; Endpoint::Quote.method(), Method::Get);
-    assert_eq!(rt; Endpoint::MetersAfter.pattern(), "/meters?after={meter}");
-    assert_eq!(rt; Endpoint::FirstMeters.method(), Method::Get);
-    assert_eq!(rt;
-        Endpoint::SaleOfRef.pattern(),
-        "/operators/{operator}/sales/{ref}"
-    );
+fn patterns(rt: HostRuntime) -> Result<(), Fail> {
+    for (kind, wanted) in &PATTERNS {
+        assert_eq!(rt; pattern(rt.alloc(), *kind)?.as_slice(), wanted.as_bytes());
+    }
+    assert_eq!(rt; AskKind::FirstMeters.endpoint().method, Method::Get);
+    Ok(())
 }

@@ -1,7 +1,9 @@
 //! The sentence of each fault of a message, of a body and of a request's target.
 
-use desk::{BodyFault, DeskFault, MessageFault, Method};
+use asks::AskFault;
+use desk::{DeskFault, MessageFault, Method};
 use office_rules::RowCause;
+use papers::RowFault;
 use std::alloc::Global;
 use std::fmt::Display;
 use std::test::Fail;
@@ -14,7 +16,7 @@ not exactly one Host field
 a Transfer-Encoding field
 no length in Content-Length
 the body is too long
-not the JSON of the route
+not the JSON of the ask
 row 2: Columns
 out of memory
 no such target
@@ -40,9 +42,9 @@ fn each_fault_has_its_sentence(rt: HostRuntime) -> Result<(), Fail> {
     add(alloc, &mut text, &MessageFault::Coding)?;
     add(alloc, &mut text, &MessageFault::Length)?;
     add(alloc, &mut text, &MessageFault::Body)?;
-    add(alloc, &mut text, &BodyFault::OutsideRule)?;
-    add(alloc, &mut text, &BodyFault::Row(2, RowCause::Columns))?;
-    add(alloc, &mut text, &BodyFault::Memory)?;
+    add(alloc, &mut text, &AskFault::OutsideRule)?;
+    add(alloc, &mut text, &RowFault::At(2, RowCause::Columns))?;
+    add(alloc, &mut text, &AskFault::Memory)?;
     add(alloc, &mut text, &DeskFault::NoRoute)?;
     add(alloc, &mut text, &DeskFault::Method(Method::Get))?;
     add(alloc, &mut text, &DeskFault::Clock)?;

@@ -15,16 +15,20 @@ use Rattle.sts_token.specs.Token.{BlockFunction}
 use Rattle.book_opening.specs.declared.fault.OpenFault.{OpenFault}
 use Rattle.books.specs.Keeps.{Seen}
 use Rattle.command_line.specs.Asked.{ArgumentsSay, CommandAsks}
-use Rattle.command_line.specs.Commands.{SaysDeskQuestion, SaysRequest, SaysServe}
+use Rattle.command_line.specs.Commands.{SaysAsk, SaysAskWords, SaysLookup, SaysRequest, SaysServe}
 use Rattle.command_line.specs.Line.{command_in}
 use Rattle.command_line.specs.Said.{IsArgument}
 use Rattle.command_line.specs.Values.{SaysConnections}
 use Rattle.command_line.specs.declared.address.Address.{Address}
 use Rattle.command_line.specs.declared.asked.Asked.{Asked}
 use Rattle.command_line.specs.declared.asked.Asked.TheVariants as asks
-use Rattle.command_line.specs.declared.commands.at_desk.DeskQuestion.{DeskQuestion}
-use Rattle.command_line.specs.declared.commands.at_desk.DeskQuestion.TheVariants as questions
 use Rattle.command_line.specs.declared.commands.serve.ServeWords.{ServeWords}
+use Rattle.command_line.specs.declared.office_words.AskWords.{AskWords}
+use Rattle.command_line.specs.declared.office_words.AskWords.TheVariants as office
+use Rattle.asks.specs.declared.ask.Ask.{Ask}
+use Rattle.asks.specs.declared.ask.Ask.TheVariants as asked_of
+use Rattle.asks.specs.declared.lookup.Lookup.{Lookup}
+use Rattle.asks.specs.declared.lookup.Lookup.TheVariants as lookups
 use Rattle.conversation.specs.Exchanges.{Timed}
 use Rattle.conversation.specs.Run.{IsAll, IsRun}
 use Rattle.conversation.specs.declared.end.End.{End}
@@ -75,22 +79,25 @@ no_request rows (requests.OpenShift operator) says = subst IsServe says.0 tt
 no_request rows (requests.CloseShift operator) says = subst IsServe says.0 tt
 no_request rows request says = says
 
-no_question : (rows : List Row) (q : DeskQuestion) → ¬ SaysDeskQuestion (codes "serve") rows q
-no_question rows (questions.Import kind csv) says = subst IsServe says.0 tt
-no_question rows (questions.SetTariff meter tariff) says = subst IsServe says.0 tt
-no_question rows (questions.WithdrawSteps tariff from) says = subst IsServe says.0 tt
-no_question rows (questions.MoveBase meter base) says = subst IsServe says.0 tt
-no_question rows (questions.SetKey meter key) says = subst IsServe says.0 tt
-no_question rows (questions.OpenShift operator) says = subst IsServe says.0 tt
-no_question rows (questions.CloseShift operator) says = subst IsServe says.0 tt
-no_question rows (questions.Sell order) says = subst IsServe says.0 tt
-no_question rows (questions.ShiftReport number) says = subst IsServe says.0 tt
-no_question rows (questions.Receipt number) says = subst IsServe says.0 tt
-no_question rows (questions.ShiftTotals number) says = subst IsServe says.0 tt
-no_question rows (questions.Show shown json) says = subst IsServe says.0 tt
-no_question rows (questions.Offer meter tender json) says = subst IsServe says.0 tt
-no_question rows (questions.List members json) (inl says) = subst IsServe says.0 tt
-no_question rows (questions.List members json) (inr says) = subst IsServe says.0 tt
+no_lookup : (rows : List Row) (l : Lookup) → ¬ SaysLookup (codes "serve") rows l
+no_lookup rows (lookups.Meter meter) says = subst IsServe says.0 tt
+no_lookup rows (lookups.LastSale meter) says = subst IsServe says.0 tt
+no_lookup rows (lookups.SaleOfRef operator order_ref) says = subst IsServe says.0 tt
+no_lookup rows (lookups.Quote meter tender) says = subst IsServe says.0 tt
+no_lookup rows (lookups.ShiftTotals number) says = subst IsServe says.0 tt
+no_lookup rows lookup says = says
+
+no_ask : (rows : List Row) (ask : Ask) → ¬ SaysAsk (codes "serve") rows ask
+no_ask rows (asked_of.Import kind csv) says = says
+no_ask rows (asked_of.Do request) says = no_request rows request says
+no_ask rows (asked_of.Receipt number) says = subst IsServe says.0 tt
+no_ask rows (asked_of.Look lookup) says = no_lookup rows lookup says
+
+no_words : (rows : List Row) (words : AskWords) → ¬ SaysAskWords (codes "serve") rows words
+no_words rows (office.Import kind csv) says = subst IsServe says.0 tt
+no_words rows (office.Ask ask) says = no_ask rows ask says
+no_words rows (office.List lookup) says = subst IsServe says.0 tt
+no_words rows office.Export says = subst IsServe says.0 tt
 
 -- it is asked to serve so many connections
 abbrev Serves : ℕ → Asked → Type 0
@@ -104,16 +111,10 @@ one_count (Some text) m n a b = sym b.0.1 ∙ a.0.1
 
 serves : (rows : List Row) (words : ServeWords) (it : Asked) → SaysServe rows words → ArgumentsSay (codes "serve") rows it → Serves words.connections it
 serves rows words (asks.Serve other) one says = one_count _ words.connections other.connections one.connections says.1.connections
-serves rows words (asks.Request other) one says = absurd (no_request rows other.request says.request)
-serves rows words (asks.Desk other) one says = absurd (no_question rows other.question says.question)
+serves rows words (asks.Office other) one says = absurd (no_words rows other.ask says.ask)
 serves rows words (asks.Trial other) one says = absurd (subst IsServe says.0 tt)
-serves rows words (asks.Import other) one says = absurd (subst IsServe says.0 tt)
-serves rows words (asks.Report other) one says = absurd (subst IsServe says.0 tt)
-serves rows words (asks.Show other) one says = absurd (subst IsServe says.0 tt)
-serves rows words (asks.List other) one says = absurd (subst IsServe says.0 tt)
 serves rows words (asks.Meter other) one says = absurd (subst IsServe says.0 tt)
 serves rows words (asks.Quote other) one says = absurd (subst IsServe says.0 tt)
-serves rows words (asks.Offer other) one says = absurd (subst IsServe says.0 tt)
 serves rows words (asks.Selfcheck other) one says = absurd (subst IsServe says.0 tt)
 serves rows words (asks.Audit other) one says = absurd (subst IsServe says.0 tt)
 

@@ -1,16 +1,19 @@
 -- Commands that ask a desk, and what the desk answered.
-use Rattle.std.proofs.Common.{◌≡◌, ◌∙◌, ℕ, ℤ, pos, false, List, [], ◌∷◌, ◌++◌, length, take, Option, Some, ap, append_assoc, inl, inr, refl, sym, subst}
+use Rattle.std.proofs.Common.{◌≡◌, ◌∙◌, ℕ, ℤ, pos, Bool, List, [], ◌∷◌, ◌++◌, length, take, Option, Some, ap, append_assoc, inl, inr, refl, sym, subst}
 use lib.Seq.{take-append_seam}
 use Rattle.sqlite.specs.State.{HasCleanDisk}
 use Rattle.sqlite_trees.specs.declared.store.Store.{Ghosts}
 use Rattle.sts_fields.specs.Moment.{IsMoment}
 use Rattle.sts_fields.specs.Text.{Text}
+use Rattle.asks.specs.declared.ask.Ask.{Ask}
+use Rattle.asks.specs.declared.endpoint.Grants.TheVariants as wants
 use Rattle.books.specs.Keeps.{Represents, Seen}
 use Rattle.command_line.specs.declared.address.Address.{Address}
 use Rattle.command_line.specs.declared.asked.Asked.{Asked}
 use Rattle.command_line.specs.declared.asked.Asked.TheVariants as asks
-use Rattle.command_line.specs.declared.commands.at_desk.DeskQuestion.{DeskQuestion}
-use Rattle.command_line.specs.declared.commands.at_desk.DeskQuestion.TheVariants as desk_asks
+use Rattle.command_line.specs.declared.office_words.AskWords.{AskWords}
+use Rattle.command_line.specs.declared.place.Place.{Place}
+use Rattle.command_line.specs.declared.place.Place.TheVariants as places
 use Rattle.conversation.proofs.WiderLemmas.{run_wider, unclocked}
 use Rattle.conversation.specs.Clock.{Gives}
 use Rattle.conversation.specs.Conversation.{Conversation}
@@ -23,19 +26,15 @@ use Rattle.conversation.specs.message.Messages.{Ending, closing, ended, finished
 use Rattle.desk.specs.Answering.{answers_by, life_serves, message_refusal_of}
 use Rattle.desk.specs.Converses.{Converses}
 use Rattle.desk_client.specs.Answers.{IsReplyTo, IsSaleFor}
-use Rattle.desk_client.specs.Asks.{IsAskable}
-use Rattle.desk_client.specs.Question.{question_text, wanted_by}
+use Rattle.desk_client.specs.Sent.{CanSend, ask_text, wanted_by}
 use Rattle.desk_client.specs.Reply.{IsReply}
 use Rattle.desk_client.specs.Tells.{as_told}
-use Rattle.desk_client.specs.Told.{wanted_of}
-use Rattle.desk_client.specs.declared.question.Question.{Question}
-use Rattle.desk_client.specs.declared.question.Question.TheVariants as questions
+use Rattle.desk_client.specs.Told.{IsGrantOf}
 use Rattle.desk_client.specs.declared.told.Granted.{Granted}
 use Rattle.desk_client.specs.declared.told.Granted.TheVariants as grants
 use Rattle.desk_client.specs.declared.told.Told.{Told}
 use Rattle.desk_client.specs.declared.told.Told.TheVariants as tells
-use Rattle.desk_client.specs.declared.told.Wanted.TheVariants as wants
-use Rattle.desk_commands.specs.AskedOfDesk.{IsAnswered, IsAsked, IsAskedOnce, TellsTold}
+use Rattle.desk_commands.specs.AskedOfDesk.{IsAsked, IsAskedOfDesk, IsAskedOnce, TellsTold}
 use Rattle.desk_commands.specs.AskedOfDesk.IsAsked.{broken, no_room, replied, unsent}
 use Rattle.desk_commands.specs.AskedOfDesk.IsAskedOnce.{asked, without_rows}
 use Rattle.desk_commands.specs.Exchanged.{Calls, Exchanges, Round, one_round}
@@ -45,9 +44,11 @@ use Rattle.office_rules.specs.declared.office.sale.Sale.{Sale}
 use Rattle.papers.specs.Receipt.{receipt_of}
 use Rattle.program_laws.specs.AtDesk.{IsAnsweredAt, IsSoldIn}
 use Rattle.program_laws.specs.Selling.{PrintsSale}
-use Rattle.program_laws.specs.runs.Asked.{AsksDesk, AsksDeskSo, AsksIn, rounds_answered, rounds_asked, rounds_of_one}
+use Rattle.program_laws.specs.runs.Asked.{AsksAt, AsksDesk, AsksDeskSo, AsksIn, rounds_asked, rounds_of_one, rounds_once}
 use Rattle.program_laws.specs.runs.Here.{Here}
-use Rattle.vend_commands.specs.Run.{IsCarriedOut, IsProgramRun}
+use Rattle.program_laws.specs.runs.Words.{selling}
+use Rattle.program_laws.proofs.CourseLemmas.{exchanged_opening}
+use Rattle.vend_commands.specs.Run.{IsCarriedOut, IsOfficeAsked, IsProgramRun}
 use Rattle.vend_commands.specs.Run.IsProgramRun.{answered, bad_word, explained}
 use Rattle.vend_commands.specs.Run.IsProgramRun.{no_room as no_room_for_words}
 use Rattle.vend_commands.specs.port.Machines.{Machine}
@@ -57,9 +58,8 @@ use Rattle.vend_ports.specs.print.Told.{Outputs}
 use Rattle.vend_ports.specs.declared.command_end.CommandEnd.{CommandEnd}
 use Rattle.vend_ports.specs.declared.command_end.CommandEnd.TheVariants.{Done, Refused}
 use Rattle.vend_ports.specs.declared.port.loopback.Loopback as loopback
-use Rattle.law_witnesses.specs.Asking.{AreAnswering, transcript}
+use Rattle.law_witnesses.specs.Asking.{AreAnswering, ask_to_sell, transcript}
 use Rattle.law_witnesses.specs.Runs.{IsRunOf}
-use Rattle.law_witnesses.proofs.TalkLemmas.{GoesAlong}
 
 -- ---- the bytes of a connection
 
@@ -89,46 +89,64 @@ module _ {N S : Type 0} (of : loopback.Ghosts N S) (unread sent : S → List ℕ
 pub record IsRepliedTo (calls : Calls) (order : Order) (o : Outputs) (end : CommandEnd) (rounds : List Round) : Type 0 where
   pub desk : Address
   pub came : Text
-  pub had : calls.exchanges desk (one_round (question_text (questions.Sell order)) came)
+  pub json : Bool
+  pub had : calls.exchanges desk (one_round (ask_text (ask_to_sell order)) came)
   pub told : Told
-  pub is : IsReplyTo (questions.Sell order) came told
-  pub telling : TellsTold false (questions.Sell order) told o end
-  pub rounds_are : rounds ≡ one_round (question_text (questions.Sell order)) came
+  pub is : IsReplyTo (ask_to_sell order) came told
+  pub telling : TellsTold json (ask_to_sell order) told o end
+  pub rounds_are : rounds ≡ one_round (ask_text (ask_to_sell order)) came
 
-module _ (calls : Calls) (uncalled : Type 0) (order : Order) (o : Outputs) (end : CommandEnd) (done : end ≡ Done) where
-  one_replied : (desk : Address) (is : IsAsked calls uncalled desk false (questions.Sell order) o end)
-      → IsRepliedTo calls order o end (rounds_of_one (questions.Sell order) o end is)
-  one_replied desk (replied came had told is telling) =
-      record { desk = desk; came = came; had = had; told = told; is = is; telling = telling; rounds_are = refl }
-  one_replied desk (broken came had none told) = absurd (let end_is : end ≡ Refused = told.2 in cc)
-  one_replied desk (unsent why told) = absurd (let end_is : end ≡ Refused = told.2 in cc)
-  one_replied desk (no_room idle told) = absurd (let end_is : end ≡ Refused = told.2 in cc)
+module _ (calls : Calls) (uncalled : Type 0) (order : Order) (json : Bool) (o : Outputs) (end : CommandEnd) (done : end ≡ Done) where
+  one_replied : (desk : Address) (ask : Ask) → ask ≡ ask_to_sell order → (is : IsAsked calls uncalled desk json ask o end)
+      → IsRepliedTo calls order o end (rounds_of_one ask o end is)
+  one_replied desk ask same (replied came had told is telling) =
+      let Had : Ask → Type 0 = λ a. calls.exchanges desk (one_round (ask_text a) came) in
+      let Is : Ask → Type 0 = λ a. IsReplyTo a came told in
+      let Tells : Ask → Type 0 = λ a. TellsTold json a told o end in
+      record {
+        desk = desk;
+        came = came;
+        json = json;
+        had = subst Had same had;
+        told = told;
+        is = subst Is same is;
+        telling = subst Tells same telling;
+        rounds_are = ap (λ (a : Ask). one_round (ask_text a) came) same;
+      }
+  one_replied desk ask same (broken came had none told) = absurd (let end_is : end ≡ Refused = told.2 in cc)
+  one_replied desk ask same (unsent why told) = absurd (let end_is : end ≡ Refused = told.2 in cc)
+  one_replied desk ask same (no_room idle told) = absurd (let end_is : end ≡ Refused = told.2 in cc)
 
-  once_replied : {texts : Texts} (desk : Address) (is : IsAskedOnce texts calls uncalled desk (desk_asks.Sell order) o end)
-      → IsRepliedTo calls order o end (rounds_asked (desk_asks.Sell order) o end is)
-  once_replied desk (asked rows are is) = one_replied desk is
-  once_replied desk (without_rows fault lacks idle told) = absurd (let end_is : end ≡ Refused = told.2 in cc)
+  once_replied : {texts : Texts} (desk : Address) (is : IsAskedOnce texts calls uncalled desk (selling order) json o end)
+      → IsRepliedTo calls order o end (rounds_once o end is)
+  once_replied desk (asked ask says is) = one_replied desk ask says.1 is
+  once_replied desk (without_rows fault lacks idle told) = absurd lacks
 
-  abbrev Replies : (texts : Texts) (desk : Address) (question : DeskQuestion) → Type 0
-  Replies texts desk question = (is : IsAnswered texts calls uncalled desk question o end)
-      → IsRepliedTo calls order o end (rounds_answered texts calls uncalled desk question o end is)
+  abbrev Replies : (texts : Texts) (desk : Address) (words : AskWords) → Type 0
+  Replies texts desk words = (is : IsAskedOfDesk texts calls uncalled desk words json o end)
+      → IsRepliedTo calls order o end (rounds_asked texts calls uncalled desk words json o end is)
 
-  answer_replied : (texts : Texts) (desk : Address) (question : DeskQuestion) → desk_asks.Sell order ≡ question → Replies texts desk question
-  answer_replied texts desk question same =
-      let Of : DeskQuestion → Type 0 = λ q. Replies texts desk q in
-      let sells : Of (desk_asks.Sell order) = λ is. once_replied desk is in
+  answer_replied : (texts : Texts) (desk : Address) (words : AskWords) → selling order ≡ words → Replies texts desk words
+  answer_replied texts desk words same =
+      let Of : AskWords → Type 0 = λ w. Replies texts desk w in
+      let sells : Of (selling order) = λ is. once_replied desk is in
       subst Of same sells
 
 module _ {S D R W : Type 0} (store : Ghosts S) (m : Machine D R W) (order : Order) (rounds : List Round) where
-  carried_replied : (it : Asked) (o : Outputs) (end : CommandEnd) (is : IsCarriedOut store m it o end)
-      → AsksIn store m it o end is (desk_asks.Sell order) rounds → end ≡ Done → IsRepliedTo m.loop.calls order o end rounds
-  carried_replied (asks.Desk words) o end (untouched, shut, is) (same, are) done =
+  place_replied : (place : Place) (words : AskWords) (json : Bool) (o : Outputs) (end : CommandEnd) (is : IsOfficeAsked store m place words json o end)
+      → AsksAt store m place words json o end is (selling order) rounds → end ≡ Done → IsRepliedTo m.loop.calls order o end rounds
+  place_replied (places.Desk desk) words json o end (untouched, shut, is) (same, are) done =
       let Replied : List Round → Type 0 = λ rs. IsRepliedTo m.loop.calls order o end rs in
-      subst Replied (sym are) (answer_replied m.loop.calls m.loop.leaves order o end done m.texts words.desk words.question same is)
+      subst Replied (sym are) (answer_replied m.loop.calls m.loop.leaves order json o end done m.texts desk words same is)
+  place_replied place words json o end is none done = absurd none
+
+  carried_replied : (it : Asked) (o : Outputs) (end : CommandEnd) (is : IsCarriedOut store m it o end)
+      → AsksIn store m it o end is (selling order) rounds → end ≡ Done → IsRepliedTo m.loop.calls order o end rounds
+  carried_replied (asks.Office words) o end is asking done = place_replied words.place words.ask words.json o end is asking done
   carried_replied it o end is none done = absurd none
 
   run_replied : (words : List Text) (o : Outputs) (end : CommandEnd) (run : IsProgramRun store m words o end)
-      → AsksDeskSo words o end run (desk_asks.Sell order) rounds → end ≡ Done → IsRepliedTo m.loop.calls order o end rounds
+      → AsksDeskSo words o end run (selling order) rounds → end ≡ Done → IsRepliedTo m.loop.calls order o end rounds
   run_replied words o end (answered it for is) asking done = carried_replied it o end is asking done
   run_replied words o end (bad_word idle none asks_none told) asking done = absurd asking
   run_replied words o end (explained idle kind text among some says) asking done = absurd asking
@@ -137,7 +155,7 @@ module _ {S D R W : Type 0} (store : Ghosts S) (m : Machine D R W) (order : Orde
 module _ {P D R W : Type 0} (here : Here P D R W) {ports : P} {words : List Text} {end : CommandEnd} {back : Option (here.M × here.M)}
     {printed : List ℕ} (it : IsRunOf here ports words end back printed) where
   -- a run that asked a desk to sell, and ended as done, was replied to
-  pub desk_replied : (order : Order) (rounds : List Round) → AsksDesk here it.run (desk_asks.Sell order) rounds → end ≡ Done
+  pub desk_replied : (order : Order) (rounds : List Round) → AsksDesk here it.run (selling order) rounds → end ≡ Done
       → IsRepliedTo (here.rest ports back).loop.calls order it.run.o it.run.end rounds
   desk_replied order rounds asking done =
       let With : P → Type 0 = λ p. IsRepliedTo (here.rest p it.run.back).loop.calls order it.run.o it.run.end rounds in
@@ -146,20 +164,21 @@ module _ {P D R W : Type 0} (here : Here P D R W) {ports : P} {words : List Text
       subst Gave it.gave (subst With it.with_ports replied)
 
 -- what is granted that is wanted of an order is a sale for it, whose receipt was printed
-sale_granted : (order : Order) (came : Text) (g : Granted) (o : Outputs) (end : CommandEnd) → IsReplyTo (questions.Sell order) came (tells.Granted g)
-    → TellsTold false (questions.Sell order) (tells.Granted g) o end → end ≡ Done → wanted_of g ≡ wants.Sale
-    → (s : Sale) × IsReply (wanted_by (questions.Sell order)) came (tells.Granted (grants.Sale s)) × IsSaleFor order s × PrintsSale s o end
-sale_granted order came (grants.Sale s) o end is (inl told) done wanted = (s, is.reply, is.answers.1, told)
-sale_granted order came (grants.Sale s) o end is (inr room) done wanted = absurd room.0
-sale_granted order came g o end is telling done wanted = absurd (cc)
+sale_granted : (order : Order) (json : Bool) (came : Text) (g : Granted) (o : Outputs) (end : CommandEnd)
+    → IsReplyTo (ask_to_sell order) came (tells.Granted g) → TellsTold json (ask_to_sell order) (tells.Granted g) o end → end ≡ Done
+    → IsGrantOf wants.Sale g
+    → (s : Sale) × IsReply (wanted_by (ask_to_sell order)) came (tells.Granted (grants.Sale s)) × IsSaleFor order s × PrintsSale s o end
+sale_granted order json came (grants.Sale s) o end is (inl told) done wanted = (s, is.reply, is.answers.1, told)
+sale_granted order json came (grants.Sale s) o end is (inr room) done wanted = absurd room.0
+sale_granted order json came g o end is telling done wanted = absurd wanted
 
 -- so is what a reply to an order told
-pub sale_told : (order : Order) (came : Text) (told : Told) (o : Outputs) (end : CommandEnd) → IsReplyTo (questions.Sell order) came told
-    → TellsTold false (questions.Sell order) told o end → end ≡ Done
-    → (s : Sale) × IsReply (wanted_by (questions.Sell order)) came (tells.Granted (grants.Sale s)) × IsSaleFor order s × PrintsSale s o end
-sale_told order came (tells.Granted g) o end is telling done = sale_granted order came g o end is telling done is.reply.tellable.1
-sale_told order came (tells.Refused refusal) o end is told done = absurd (let end_is : end ≡ Refused = told.2 in cc)
-sale_told order came tells.NoMoment o end is told done = absurd (let end_is : end ≡ Refused = told.2 in cc)
+pub sale_told : (order : Order) (json : Bool) (came : Text) (told : Told) (o : Outputs) (end : CommandEnd) → IsReplyTo (ask_to_sell order) came told
+    → TellsTold json (ask_to_sell order) told o end → end ≡ Done
+    → (s : Sale) × IsReply (wanted_by (ask_to_sell order)) came (tells.Granted (grants.Sale s)) × IsSaleFor order s × PrintsSale s o end
+sale_told order json came (tells.Granted g) o end is telling done = sale_granted order json came g o end is telling done is.reply.tellable.1
+sale_told order json came (tells.Refused refusal) o end is told done = absurd (let end_is : end ≡ Refused = told.2 in cc)
+sale_told order json came tells.NoMoment o end is told done = absurd (let end_is : end ≡ Refused = told.2 in cc)
 
 -- ---- a desk that answered
 
@@ -215,18 +234,18 @@ for_told order s t same is =
     let told : For (as_told t) = subst For (sym same) is in
     record { operator = told.operator; order_ref = told.order_ref; meter = told.meter; tender = told.tender }
 
--- a desk's conversation over the message of a question is its answer
+-- a desk's conversation over the message of an ask is its answer
 abbrev pub AnswersLine : Type 0
-AnswersLine = (question : Question) (old new : Timed Life) (came : Text) (ending : Ending) → IsAskable question
-    → Conversation (timed (answers_by life_serves)) message_refusal_of ended (question_text question) old came ending new
-    → (second : ℤ) × IsAnsweredAt second old (question_text question) came new
+AnswersLine = (ask : Ask) (old new : Timed Life) (came : Text) (ending : Ending) → CanSend ask
+    → Conversation (timed (answers_by life_serves)) message_refusal_of ended (ask_text ask) old came ending new
+    → (second : ℤ) × IsAnsweredAt second old (ask_text ask) came new
 
 -- what a desk told of an order it sold for it
 abbrev pub SoldOfOrder : (IsLiving : Life → Type 0) → Type 0
-SoldOfOrder IsLiving = (order : Order) (moment : ℕ) (old new : Timed Life) (came : Text) (s : Sale) → IsAskable (questions.Sell order)
+SoldOfOrder IsLiving = (order : Order) (moment : ℕ) (old new : Timed Life) (came : Text) (s : Sale) → CanSend (ask_to_sell order)
     → IsMoment moment → IsOffice old.0.opening → IsLiving new.0
-    → IsAnsweredAt (pos moment) old (question_text (questions.Sell order)) came new
-    → IsReply (wanted_by (questions.Sell order)) came (tells.Granted (grants.Sale s))
+    → IsAnsweredAt (pos moment) old (ask_text (ask_to_sell order)) came new
+    → IsReply (wanted_by (ask_to_sell order)) came (tells.Granted (grants.Sale s))
     → (t : Sale) × (as_told t ≡ s) × IsSoldIn new.0 order t
 
 -- the life in which a desk sold, and its sale
@@ -239,26 +258,25 @@ pub record HasSoldFor (order : Order) (s : Sale) (books : Seen) (opening : Offic
   pub sold : IsSoldIn life order sale
 
 -- a desk that answered an order by a sale sold it
-pub has_sold : GoesAlong → AnswersLine → (IsLiving : Life → Type 0) → SoldOfOrder IsLiving
-    → (order : Order) (moment : ℕ) (second : ℤ) → second ≡ pos moment → IsMoment moment → IsAskable (questions.Sell order)
+pub has_sold : AnswersLine → (IsLiving : Life → Type 0) → SoldOfOrder IsLiving
+    → (order : Order) (moment : ℕ) (second : ℤ) → second ≡ pos moment → IsMoment moment → CanSend (ask_to_sell order)
     → (old new : Seen) (life : Life) → Represents life old → IsOffice life.opening → ((after : Life) → Represents after new → IsLiving after)
-    → (input text : List ℕ) → input ≡ question_text (questions.Sell order) → AreAnswering second input text old new
-    → (s : Sale) → IsReply (wanted_by (questions.Sell order)) text (tells.Granted (grants.Sale s)) → HasSoldFor order s new life.opening
-has_sold along line IsLiving sold order moment second is_second is_moment askable old new life kept office living input text sent answering s reply =
+    → (input text : List ℕ) → input ≡ ask_text (ask_to_sell order) → AreAnswering second input text old new
+    → (s : Sale) → IsReply (wanted_by (ask_to_sell order)) text (tells.Granted (grants.Sale s)) → HasSoldFor order s new life.opening
+has_sold line IsLiving sold order moment second is_second is_moment askable old new life kept office living input text sent answering s reply =
     let Asked : List ℕ → Type 0 = λ i. AreAnswering second i text old new in
-    let At : ℤ → Type 0 = λ n. AreAnswering n (question_text (questions.Sell order)) text old new in
+    let At : ℤ → Type 0 = λ n. AreAnswering n (ask_text (ask_to_sell order)) text old new in
     let here = (subst At is_second (subst Asked sent answering)).lives life kept in
     let old_life : Timed Life = (life, Some (pos moment ∷ [])) in
     let after : Timed Life = here.0 in
     let held = here.2.1 in
-    let on = along old_life after held.exchanges held.served in
-    let given = line (questions.Sell order) old_life after text here.2.0 askable held in
-    let at = at_second (pos moment) given.0 life after (question_text (questions.Sell order)) text given.1 in
+    let given = line (ask_to_sell order) old_life after text here.2.0 askable held in
+    let at = at_second (pos moment) given.0 life after (ask_text (ask_to_sell order)) text given.1 in
     let sale = sold order moment old_life after text s askable is_moment office (living after.0 here.1) at reply in
     record {
       life = after.0;
       kept = here.1;
-      opens = ap (λ (l : Life). l.opening) on.4;
+      opens = exchanged_opening old_life after held.exchanges held.served;
       sale = sale.0;
       same = sale.1;
       sold = sale.2;

@@ -6,9 +6,9 @@ use Rattle.audit_lists.specs.declared.fault.OfficeFault.{OfficeFault}
 use Rattle.audit_lists.specs.declared.fault.OfficeFault.TheVariants as fault
 use Rattle.audit_rows.specs.declared.finding.Finding.{Finding}
 use Rattle.book_facts.specs.Lookups.{Finds, last_found}
+use Rattle.asks.specs.declared.lookup.Lookup.{Lookup}
 use Rattle.book_states.specs.declared.lookup.Found.{Found}
 use Rattle.book_states.specs.declared.lookup.Found.TheVariants as found
-use Rattle.book_states.specs.declared.lookup.Lookup.{Lookup}
 use Rattle.office_rules.specs.Office.{Office, empty_office}
 use Rattle.office_rules.specs.declared.decision.refusal.Refusal.TheVariants.{Memory, Stopped, Store}
 use Rattle.office_rules.specs.declared.office.meter.Meter.{Meter}

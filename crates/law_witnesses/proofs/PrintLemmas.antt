@@ -1,10 +1,8 @@
 -- The text of pages, and what commands printed.
-use Rattle.std.proofs.Common.{◌≡◌, ℕ, Bool, false, true, [], ◌∷◌, Option, Some, append-nil, subst}
+use Rattle.std.proofs.Common.{◌≡◌, Bool, false, true, [], ◌∷◌, Some, append-nil, subst}
 use Rattle.book_states.specs.declared.lookup.Found.{Found}
 use Rattle.desk_commands.specs.print.ListTexts.{page_text, pages_text}
 use Rattle.sts_fields.specs.Text.{Text}
-use Rattle.vend_ports.specs.commands.Timed.{IsDoneAt}
-use Rattle.vend_ports.specs.declared.command_end.CommandEnd.{CommandEnd}
 use Rattle.vend_ports.specs.print.Sink.{Held, Sink}
 use Rattle.vend_ports.specs.print.Told.{IsTaken, Outputs, Takes}
 use Rattle.law_witnesses.specs.Printed.{HasPrinted}
@@ -12,11 +10,6 @@ use Rattle.law_witnesses.specs.Printed.{HasPrinted}
 -- one page alone is its text
 pub one_page : (page : Found) → pages_text false (page ∷ []) ≡ page_text false true page
 one_page page = append-nil (page_text false true page)
-
--- what is done at a moment that is given is done at that one
-pub at_given : (Idle : Type 0) (moment : ℕ) (At : ℕ → Type 0) (o : Outputs) (end : CommandEnd) (at : Option ℕ) → at ≡ Some moment
-    → IsDoneAt Idle At o end at → At moment
-at_given Idle moment At o end at is done = let Does : Option ℕ → Type 0 = λ m. IsDoneAt Idle At o end m in subst Does is done
 
 -- where no write failed, an empty writer holds the text that it was given
 pub taken_whole : (old new : Sink) (text printed : Text) → Takes old new text → old.held ≡ Some [] → old.failed ≡ false → new.failed ≡ false

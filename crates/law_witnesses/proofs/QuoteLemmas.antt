@@ -6,9 +6,9 @@ use Rattle.sts_fields.specs.Tid.{fresh_after, minute_of}
 use Rattle.sts_token.specs.Token.{BlockFunction}
 use Rattle.tariff.specs.Purchase.{purchase_of}
 use Rattle.book_facts.specs.Lookups.{Finds, IsQuoted, quote, sale_found}
+use Rattle.asks.specs.declared.lookup.Lookup.{Lookup}
 use Rattle.book_states.specs.declared.lookup.Found.{Found}
 use Rattle.book_states.specs.declared.lookup.Found.TheVariants as found
-use Rattle.book_states.specs.declared.lookup.Lookup.{Lookup}
 use Rattle.book_states.specs.declared.lookup.Quote.{Quote}
 use Rattle.office_rules.specs.Decision.{◌>>=◌, MeterAccount, account_of, decision_of, next_number, or_refusal, sell, sell_once}
 use Rattle.office_rules.specs.Decision.Fold.{after, replies_to, reply, reply_of, step}

@@ -3,9 +3,9 @@ use Rattle.std.proofs.Common.{◌≡◌, ◌∙◌, List, [], ◌∷◌, map, So
 use Rattle.std.specs.Prelude.{◌↔◌, Contains}
 use Rattle.std.proofs.lemmas.List.{get_or-map, length-map}
 use Rattle.book_facts.specs.Lookups.{Finds, sale_found}
+use Rattle.asks.specs.declared.lookup.Lookup.TheVariants.{SaleOfRef}
 use Rattle.book_states.specs.declared.lookup.Found.{Found}
 use Rattle.book_states.specs.declared.lookup.Found.TheVariants as found
-use Rattle.book_states.specs.declared.lookup.Lookup.TheVariants.{SaleOfRef}
 use Rattle.books.specs.Headline.{with_last}
 use Rattle.desk_client.specs.Answers.{IsSaleFor}
 use Rattle.office_rules.specs.Decision.Fold.{after}

@@ -1,7 +1,6 @@
 -- A conversation over a life, and the requests that its messages asked.
-use Rattle.std.proofs.Common.{◌≡◌, ◌∙◌, ◌⊎◌, ◌++◌, ℕ, ℤ, List, [], Option, Some, Result, inl, inr, subst, sym, refl}
+use Rattle.std.proofs.Common.{◌≡◌, ◌∙◌, ◌⊎◌, ◌++◌, ℕ, ℤ, List, [], Option, Some, inl, inr, subst, sym, refl}
 use Rattle.sqlite.specs.State.{HasCleanDisk}
-use Rattle.book_states.specs.declared.lookup.Found.{Found}
 use Rattle.books.specs.Keeps.{Represents, Seen}
 use Rattle.conversation.proofs.WiderLemmas.{run_wider, unclocked}
 use Rattle.conversation.specs.Exchanges.{Exchanged, MessageExchange, Timed, clocked, timed}
@@ -10,24 +9,20 @@ use Rattle.conversation.specs.Uses.{Use}
 use Rattle.conversation.specs.declared.end.End.{End}
 use Rattle.conversation.specs.declared.end.End.TheVariants.{Closed}
 use Rattle.conversation.specs.message.Messages.{Ending, closing, ended, finished}
-use Rattle.desk.specs.Along.{AreAsked}
+use Rattle.desk.specs.Along.{AreAsked, GoesBy, Served}
 use Rattle.desk.specs.Answering.{answers_by, life_serves, message_refusal_of}
 use Rattle.desk.specs.Converses.{Converses}
 use Rattle.desk.specs.OneConversation.{conversation_text}
 use Rattle.office_rules.specs.Office.{empty_office}
-use Rattle.office_rules.specs.declared.decision.answer.Answer.{Answer}
-use Rattle.office_rules.specs.declared.decision.refusal.Refusal.{Refusal}
-use Rattle.office_rules.specs.declared.decision.request.Stamped.{Stamped}
 use Rattle.sts_token.specs.Token.{BlockFunction}
 use Rattle.vend_core.specs.Law.Life.{Life}
-use Rattle.vend_core.specs.Law.LifeLaws.{extended_along, opened}
+use Rattle.vend_core.specs.Law.LifeLaws.{opened}
 use Rattle.law_witnesses.specs.Talks.{IsTalk}
 
--- a life goes on along a conversation by the requests of its messages
+-- a life goes on along a conversation by what its messages asked
 abbrev pub GoesAlong : Type 0
 GoesAlong = (old new : Timed Life) (xs : List MessageExchange) → Exchanged (timed (answers_by life_serves)) old xs new
-    → (ats : List Stamped) × (replies : List (Result Answer Refusal)) × (finds : List (Result Found Refusal))
-    × AreAsked xs ats replies finds × (new.0 ≡ extended_along old.0 ats replies)
+    → (served : List Served) × AreAsked xs served × GoesBy old.0 served new.0
 
 module _ (law : GoesAlong) (forward : BlockFunction) (answers : Option (List ℤ)) (new : Timed Life) (books : Seen) (clean : HasCleanDisk books.state)
     (kept : Represents new.0 books) (text input : List ℕ) where
@@ -35,18 +30,17 @@ module _ (law : GoesAlong) (forward : BlockFunction) (answers : Option (List ℤ
       → (talk : IsTalk input books) × (text ≡ conversation_text talk.exchanges talk.ending)
   said ending s =
       let xs = s.conversation.exchanges in
-      let along = law (opened forward empty_office, answers) new xs s.conversation.served in
-      let Keeps : Life → Type 0 = λ life. Represents life books in (
+      let along = law (opened forward empty_office, answers) new xs s.conversation.served in (
         record {
           exchanges = xs;
           ending = ending;
           messages = s.conversation.messages;
-          ats = along.0;
-          replies = along.1;
-          finds = along.2;
-          asked = along.3;
+          served = along.0;
+          asked = along.1;
           forward = forward;
-          keeps = record { led = refl; kept = subst Keeps along.4 kept; clean = clean };
+          life = new.0;
+          goes = along.2;
+          keeps = record { led = refl; kept = kept; clean = clean };
         },
         s.written ∙ s.conversation.text_is,
       )

@@ -1,5 +1,7 @@
 -- What a desk answers, and what is held of the connection of one who reads it; and what words ask.
 use Rattle.std.specs.Prelude.{◌≡◌, ℕ, ℤ, List, [], ◌∷◌, ◌++◌, length, Some}
+use Rattle.asks.specs.declared.ask.Ask.{Ask}
+use Rattle.asks.specs.declared.ask.Ask.TheVariants.{Do}
 use Rattle.books.specs.Keeps.{Represents, Seen}
 use Rattle.command_line.specs.Asked.{AskFor}
 use Rattle.command_line.specs.declared.asked.Asked.TheVariants.{Serve}
@@ -9,6 +11,7 @@ use Rattle.conversation.specs.Exchanges.{Timed, timed}
 use Rattle.conversation.specs.message.Messages.{Ending, ended}
 use Rattle.desk.specs.Answering.{answers_by, life_serves, message_refusal_of}
 use Rattle.office_rules.specs.declared.decision.request.Order.{Order}
+use Rattle.office_rules.specs.declared.decision.request.Request.TheVariants.{Sell}
 use Rattle.sts_fields.specs.Text.{Text}
 use Rattle.vend_core.specs.Law.Life.{Life}
 
@@ -27,6 +30,10 @@ pub record AreAnswering (second : ℤ) (input text : List ℕ) (old new : Seen) 
 -- the words ask to serve so many connections
 abbrev pub WordsServe : List Text → ℕ → Type 0
 WordsServe words count = (it : ServeWords) × AskFor words (Serve it) × (it.connections ≡ count)
+
+-- what asks a desk to sell this order
+abbrev pub ask_to_sell : Order → Ask
+ask_to_sell order = Do (Sell order)
 
 -- the operator, the ref, the meter and the tender of two orders are the same
 pub record AreOneOrder (one other : Order) : Type 0 where

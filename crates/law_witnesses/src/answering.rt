@@ -9,11 +9,12 @@ use crate::kept::{Kept, KeptFile, Nothing};
 use crate::offices::day;
 use crate::older::copied;
 use crate::runs::{Later, Then, WORDS, back_of, order_said, ports_on, ran, sold_on_files};
+use asks::Ask;
 use books::Books;
 use command_line::{Address, Asked, meant, parse};
 use conversation::{End, Script, Untold};
 use desk::Desk;
-use desk_client::Question;
+use desk_client::message;
 use office_lines::values::{FIRST_DAY, METER, moment, order};
 use office_rules::{Moment, Order, Request, Stamped};
 use program_laws::{program_law, run_law};
@@ -232,7 +233,7 @@ fn receipt_of_answer(
     if !are_one_order(&wanted, &said) {
         return None;
     }
-    let Ok(message) = Question::Sell(wanted).message(alloc) else {
+    let Ok(message) = message(alloc, &Ask::Do(Request::Sell(wanted))) else {
         return None;
     };
     let Some((_sale, files)) = sold_on_files(alloc, ats, moment, order) else {

@@ -1,7 +1,6 @@
 //! The law of what a command prints that asks a desk.
 ghost use Rattle.std.specs.Prelude.{◌≡◌, map, ⊤, IfSome, Some};
 ghost use Rattle.books.specs.Keeps.{seen};
-ghost use Rattle.command_line.specs.declared.commands.at_desk.DeskQuestion.{DeskQuestion};
 ghost use Rattle.papers.specs.Receipt.{receipt_of};
 ghost use Rattle.program_laws.specs.runs.Asked.{WordsSellAtDesk};
 ghost use Rattle.law_witnesses.specs.Asking.{AreAnswering, transcript};
@@ -9,15 +8,15 @@ ghost use Rattle.law_witnesses.specs.Asking.{AreAnswering, transcript};
 use crate::desks::keeps_rules;
 use crate::kept::{KeptFile, Nothing};
 use crate::offices::{day, sale_of, served};
-use crate::runs::ran;
-use book_states::Lookup;
+use crate::runs::{ordered, ran};
+use asks::{Ask, Lookup};
 use books::Books;
-use command_line::{Address, Asked, DeskQuestion, meant, parse};
+use command_line::{Address, Asked, Place, meant, parse};
 use conversation::{End, Script};
-use desk::{Desk, desk_law};
-use desk_client::{Question, told_law};
+use desk::Desk;
+use desk_client::{answer_in, message, told_law};
 use office_lines::values::{FIRST_DAY, moment};
-use office_rules::{Moment, Order, Sale, Stamped, store_law};
+use office_rules::{Moment, Order, Request, Sale, Stamped, store_law};
 use program_laws::{at_desk_law, run_law};
 use sqlite::{Files, MemStore};
 use sqlite_disk::Memory;
@@ -142,16 +141,6 @@ pub(crate) fn calling_ports<'a>(alloc: Global, reply: &'a [u8]) -> Ports<Calling
     }
 }
 
-// The order that a desk is asked to sell.
-fn ordered_at(question: &DeskQuestion<'_>) -> Option<Order>
-    ensures { IfSome result (λ order. question.now ≡ DeskQuestion.Sell order) }
-{
-    match question {
-        DeskQuestion::Sell(order) => Some(*order),
-        _ => None,
-    }
-}
-
 // The order that some words ask a desk to sell.
 pub(crate) fn order_to_desk(alloc: Global, words: &[&str]) -> Option<Order>
     ensures { IfSome result (WordsSellAtDesk (map (λ w. w.now) words.now)) }
@@ -165,9 +154,12 @@ pub(crate) fn order_to_desk(alloc: Global, words: &[&str]) -> Option<Order>
     let Ok(asked) = Asked::read(alloc, &matches) else {
         return None;
     };
-    match &asked {
-        Asked::Desk(said) => ordered_at(&said.question),
-        _ => None,
+    let Asked::Office(said) = &asked else {
+        return None;
+    };
+    match &said.place {
+        Place::Desk(_) => ordered(&said.ask),
+        Place::File(_) => None,
     }
 }
 
@@ -207,7 +199,6 @@ fn receipt_at_desk(
     history_law();
     store_law();
     told_law();
-    desk_law();
     at_desk_law();
     run_law::<Calling<'_>>();
     let Some(order) = order_to_desk(alloc, words) else {
@@ -217,14 +208,14 @@ fn receipt_at_desk(
     let Some((mut books, _replies)) = served(alloc, ats, moment) else {
         return None;
     };
-    let question = Question::Sell(order);
-    let Ok(message) = question.message(alloc) else {
+    let ask = Ask::Do(Request::Sell(order));
+    let Ok(message) = message(alloc, &ask) else {
         return None;
     };
     let Some(text) = answered_at(alloc, &mut books, &message, moment.secs()) else {
         return None;
     };
-    let Some(_told) = question.answer_in(&text) else {
+    let Some(_told) = answer_in(&ask, &text) else {
         return None;
     };
     let Some((ended, printed)) = ran(alloc, calling_ports(alloc, &text), words) else {

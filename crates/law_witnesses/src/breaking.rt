@@ -6,9 +6,10 @@ ghost use Rattle.sqlite_disk.specs.Memory.{memory_is_usable};
 use crate::kept::{Kept, KeptFile, Nothing};
 use crate::offices::day;
 use crate::runs::{Later, Then, WORDS, back_of, order_said, ports_on, ran, sold_on_files};
+use asks::Ask;
 use command_line::Address;
 use conversation::{End, Script, Untold};
-use desk_client::Question;
+use desk_client::message;
 use office_lines::values::{FIRST_DAY, METER, moment, order};
 use office_rules::{Moment, Request, Sale, Stamped};
 use program_laws::run_law;
@@ -208,8 +209,8 @@ fn a_desk_that_is_cut_off_keeps_the_sale(rt: HostRuntime) -> Result<(), Fail> {
     ) else {
         return Err("no order".into());
     };
-    let same = Question::Sell(first).message(rt.alloc())?;
-    let more = Question::Sell(other).message(rt.alloc())?;
+    let same = message(rt.alloc(), &Ask::Do(Request::Sell(first)))?;
+    let more = message(rt.alloc(), &Ask::Do(Request::Sell(other)))?;
     for (sent, room) in [
         (&same[..], 40),
         (&same[..same.len().min(50)], 40),

@@ -1,26 +1,28 @@
 //! The laws of single commands on the file of an office.
-ghost use Rattle.std.specs.Prelude.{◌≡◌, ◌⊎◌, codes, IfSome, IsTrue, Option};
-ghost use Rattle.std.specs.Prelude.{Some, option_map};
+ghost use Rattle.std.specs.Prelude.{◌≡◌, ◌⊎◌, false, IfSome, IsTrue, Option, option_map};
 ghost use Rattle.audit.specs.declared.audited.Audited.{Audited};
 ghost use Rattle.command_line.specs.Transform.{forward_of};
-ghost use Rattle.command_line.specs.declared.transform.Shipped.{Shipped as WhatShips};
 ghost use Rattle.desk_client.specs.Answers.{IsSaleFor};
-ghost use Rattle.office_commands.specs.commands.Asked.{IsAskedAt};
+ghost use Rattle.office_commands.specs.commands.AtFile.{IsAskedOfFile};
 ghost use Rattle.office_commands.specs.commands.Audited.{IsAudited};
+ghost use Rattle.office_commands.specs.port.Back.{is_untouched};
 ghost use Rattle.office_commands.specs.port.Places.{places_of};
 ghost use Rattle.office_commands.specs.print.AuditLines.{no_office_line, sound_line};
-ghost use Rattle.office_rules.specs.declared.decision.request.Request.{Request as WhatIsAsked};
 ghost use Rattle.papers.specs.Receipt.{receipt_of};
+ghost use Rattle.program_laws.specs.runs.Words.{selling};
+ghost use Rattle.vend_ports.specs.port.Dial.{dial_of};
+ghost use Rattle.vend_ports.specs.port.Texts.{texts_of};
 ghost use Rattle.vend_ports.specs.declared.command_end.CommandEnd.{CommandEnd as HowItEnds};
 ghost use Rattle.law_witnesses.specs.Printed.{HasPrinted};
 
 use crate::kept::{KeptFile, Nothing};
 use crate::offices::day;
 use crate::runs::{sold_on_files, written};
-use command_line::{AuditWords, RequestWords, Shipped};
-use conversation::Script;
+use asks::Ask;
+use command_line::{AskWords, AuditWords, FilePlace, Shipped};
+use conversation::{Clock, Script};
 use office_commands::OfficeFile;
-use office_commands::commands::{file_audit, request};
+use office_commands::commands::{at_file, file_audit};
 use office_lines::values::{FIRST_DAY, METER, moment, order};
 use office_rules::{Moment, Order, Request, Sale, Stamped};
 use program_laws::{broken_law, sell_law};
@@ -29,7 +31,7 @@ use sqlite_trees::store::Store;
 use std::alloc::Global;
 use std::test::Fail;
 use vend_core::{history_law, office_law};
-use vend_ports::{CommandEnd, Watched};
+use vend_ports::{CommandEnd, TextFiles, Watched};
 
 // Whether a sale is that of an order.
 pub(crate) fn is_sale_for(order: &Order, sale: &Sale) -> bool
@@ -42,30 +44,39 @@ pub(crate) fn is_sale_for(order: &Order, sale: &Sale) -> bool
 }
 
 // What a `sell` of an order prints of the office in a file, where it ends as done.
-fn printed_by_sell<H: OfficeFile>(
+fn printed_by_sell<H: OfficeFile, F: TextFiles, C: Clock>(
     alloc: Global,
+    place: &FilePlace<'_>,
     office: H,
-    moment: Moment,
+    texts: F,
+    clock: &mut C,
     order: &Order,
 ) -> Option<Vec<u8>>
     ensures { IfSome result (λ text. (back : Option (H.Medium × H.Medium)) × HasPrinted
-        (λ o. IsAskedAt ⟦<FileStore<H::Medium> as Store>⟧
-        (places_of H.Medium.Disk H.Salts.SaltSource H.OfficeFile office back) WhatShips.Plain
-        (codes "office.db") 0 moment (WhatIsAsked.Sell order.now) o HowItEnds.Done) text.items) }
+        (λ o. IsAskedOfFile ⟦<FileStore<H::Medium> as Store>⟧
+        (places_of H.Medium.Disk H.Salts.SaltSource H.OfficeFile office back)
+        (is_untouched H.OfficeFile office back) (texts_of F.TextFiles texts)
+        (dial_of C.Clock clock.old) place.now (selling order.now) false o HowItEnds.Done)
+        text.items) }
 {
-    let words = RequestWords {
-        transform: Shipped::Plain,
-        file: "office.db",
-        wait: 0,
-        at: Some(moment),
-        request: Request::Sell(*order),
-    };
-    let mut clock = Script::new(0, &[]);
+    let words = AskWords::Ask(Ask::Do(Request::Sell(*order)));
+    let mut progress = Nothing;
     let mut out = Vec::new(alloc);
     let mut err = Vec::new(alloc);
     let mut watched = Watched::new(&mut out);
     let mut errors = Watched::new(&mut err);
-    let ended = request::run(words, alloc, office, &mut clock, &mut watched, &mut errors);
+    let ended = at_file::run(
+        place,
+        words,
+        false,
+        alloc,
+        office,
+        texts,
+        clock,
+        &mut progress,
+        &mut watched,
+        &mut errors,
+    );
     let failed = watched.has_failed();
     let Some(text) = written(alloc, watched) else {
         return None;
@@ -91,14 +102,22 @@ fn receipt_by_sell(
 {
     history_law();
     office_law();
-    sell_law::<KeptFile<()>>();
+    sell_law::<KeptFile<()>, Nothing, Script>();
     let Some((sale, files)) = sold_on_files(alloc, ats, moment, order) else {
         return None;
     };
     if !is_sale_for(order, &sale) {
         return None;
     }
-    match printed_by_sell(alloc, KeptFile::<()>::new(files), moment, order) {
+    let place = FilePlace {
+        path: "office.db",
+        wait: 0,
+        transform: Shipped::Plain,
+        at: Some(moment),
+    };
+    let office = KeptFile::<()>::new(files);
+    let mut clock = Script::new(0, &[]);
+    match printed_by_sell(alloc, &place, office, Nothing, &mut clock, order) {
         Some(text) => Some((sale, text)),
         None => None,
     }

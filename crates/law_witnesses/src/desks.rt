@@ -2,14 +2,16 @@
 ghost use Rattle.std.specs.Prelude.{◌≡◌, IfSome};
 ghost use Rattle.books.specs.Keeps.{seen};
 ghost use Rattle.desk.specs.OneConversation.{conversation_text};
-ghost use Rattle.desk_client.specs.Asks.{IsAskableOrder};
+ghost use Rattle.desk_client.specs.Sent.{CanSend};
 ghost use Rattle.office_rules.specs.declared.decision.request.Request.{Request};
-ghost use Rattle.law_witnesses.specs.Talks.{IsTalk};
+ghost use Rattle.law_witnesses.specs.Asking.{ask_to_sell};
+ghost use Rattle.law_witnesses.specs.Talks.{IsOnlyText, IsTalk};
 
+use asks::{Ask, ask_law};
 use books::Books;
 use conversation::{End, Next, Script, next_of};
 use desk::{Desk, conversation_law, desk_law};
-use desk_client::{Question, question_law};
+use desk_client::{message, question_law};
 use desk_messages::{Meaning, Routes};
 use office_lines::values::{FIRST_DAY, METER, moment, order};
 use office_rules::{Moment, Order, Request};
@@ -18,9 +20,9 @@ use std::alloc::Global;
 use std::test::Fail;
 use sts_token::Plain;
 
-// Says that the values of an order keep their rules, as its types see to.
+// Says that a desk can be asked to sell an order, whose values keep their rules as its types see to.
 pub(crate) fn keeps_rules(order: &Order)
-    ensures { IsAskableOrder order.now }
+    ensures { CanSend (ask_to_sell order.now) }
 {
     let _meter = order.meter.as_bytes();
     let _operator = order.operator.as_bytes();
@@ -32,17 +34,18 @@ pub(crate) fn keeps_rules(order: &Order)
 fn read_at_desk(alloc: Global, routes: &Routes, order: &Order, moment: Moment) -> Option<Request>
     ensures { IfSome result (λ request. request ≡ Request.Sell order.now) }
 {
+    ask_law();
     question_law();
-    conversation_law();
     keeps_rules(order);
-    let Ok(text) = Question::Sell(*order).message(alloc) else {
+    let ask = Ask::Do(Request::Sell(*order));
+    let Ok(text) = message(alloc, &ask) else {
         return None;
     };
     let Next::Whole(received) = next_of(&text) else {
         return None;
     };
     match routes.meaning_of(alloc, moment.secs(), &received) {
-        Meaning::Asks(_, _, request) => Some(request),
+        Meaning::Asks(_, Ask::Do(request)) => Some(request),
         _ => None,
     }
 }
@@ -50,9 +53,11 @@ fn read_at_desk(alloc: Global, routes: &Routes, order: &Order, moment: Moment) -
 // A conversation of a new office in memory with all that this input says, and what was written.
 fn talked(alloc: Global, input: &[u8], second: i64) -> Option<(Books<MemStore, Plain>, Vec<u8>)>
     ensures { IfSome result (λ both. (talk : IsTalk input.now (seen both.0))
-        × (both.1.items ≡ conversation_text talk.exchanges talk.ending)) }
+        × (both.1.items ≡ conversation_text talk.exchanges talk.ending)
+        × IsOnlyText talk both.1.items) }
 {
     desk_law();
+    conversation_law();
     let Ok(desk) = Desk::new(alloc) else {
         return None;
     };

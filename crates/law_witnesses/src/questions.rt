@@ -5,10 +5,9 @@ ghost use Rattle.desk_messages.specs.reply.Text.{reply_bytes_of};
 ghost use Rattle.law_witnesses.specs.Sold.{told_sold};
 
 use crate::routes::{METERS, SOLD};
+use asks::Grants;
 use book_states::{Found, ListedMeter};
-use desk_client::{
-    Granted, PageKind, Reading, Told, Wanted, page_in, page_law, reply_in, told_law,
-};
+use desk_client::{Granted, PageKind, Reading, Told, page_in, page_law, reply_in, told_law};
 use desk_messages::{Form, Outcome, found_json, moment_given, reply_bytes};
 use office_lines::values::FIRST_DAY;
 use office_rules::{Answer, Sale};
@@ -33,13 +32,13 @@ fn sale_again(alloc: Global, second: i64, reply: &[u8]) -> Option<(Sale, Sale)>
     ensures { IfSome result (λ both. both.0 ≡ both.1) }
 {
     told_law();
-    let Reading::Whole(Told::Granted(Granted::Sale(sale))) = reply_in(reply, Wanted::Sale) else {
+    let Reading::Whole(Told::Granted(Granted::Sale(sale))) = reply_in(reply, Grants::Sale) else {
         return None;
     };
     let Some(text) = reply_of(alloc, second, &sale) else {
         return None;
     };
-    match reply_in(&text, Wanted::Sale) {
+    match reply_in(&text, Grants::Sale) {
         Reading::Whole(Told::Granted(Granted::Sale(again))) => Some((sale, again)),
         _ => None,
     }

@@ -1,69 +1,70 @@
 //! The laws of what messages ask, and of what they are told.
-ghost use Rattle.std.specs.Prelude.{◌≡◌, ◌++◌, codes, map, IfSome};
+ghost use Rattle.std.specs.Prelude.{◌≡◌, ◌++◌, IfSome};
 ghost use Rattle.desk_messages.specs.reply.Body.{body_of};
-ghost use Rattle.desk_messages.specs.reply.Lists.{list_text, listed_meter_text};
-ghost use Rattle.desk_messages.specs.reply.SaleText.{IsTellableSale, sale_text};
+ghost use Rattle.serde_json.specs.Written.{compact_text};
+ghost use Rattle.law_witnesses.specs.Sold.{totals_object};
 
-use book_states::{Found, Health, ListedMeter};
-use conversation::Method;
-use desk_client::{Granted, PageKind, Reading, Told, Wanted, page_in, reply_in};
+use asks::AskKind;
+use book_states::{Found, Health};
+use book_tables::Totals;
+use conversation::{Method, Next, Received, next_of};
 use desk_messages::{
-    DeskFault, Form, JsonKind, Outcome, Route, Routes, asking_law, date_law, found_json, head_law,
-    http_date, list_law, put_day, reply_law, reply_to, request_of, route_law,
+    Form, Meaning, Outcome, Routes, date_law, day_text_law, found_json, head_law, http_date,
+    json_law, meaning_law, put_day, reply_to,
 };
 use httpdate::HttpDate;
 use office_lines::values::{FIRST_DAY, moment};
-use office_rules::{Moment, Request, Sale};
+use office_rules::Moment;
 use std::alloc::Global;
+use std::process::Abort;
 use std::test::Fail;
 use sts_fields::{Day, day_law};
 
-// The routes of a target in two tables.
-fn routed_twice(
+// What a message means in two tables of routes.
+fn read_twice<'b>(
+    alloc: Global,
     one: &Routes,
     other: &Routes,
-    target: &[u8],
-    method: Method,
-) -> (Result<Route, DeskFault>, Result<Route, DeskFault>)
-    ensures { result.0 ≡ result.1 }
-{
-    route_law();
-    let first = one.route_of(target, method);
-    let again = other.route_of(target, method);
-    (first, again)
-}
-
-#[test]
-fn a_target_has_one_route(rt: HostRuntime) -> Result<(), Fail> {
-    let one = Routes::new(rt.alloc())?;
-    let other = Routes::new(rt.alloc())?;
-    let (first, again) = routed_twice(&one, &other, b"/sales/7/receipt", Method::Get);
-    assert_eq!(rt; first, Ok(Route::Receipt(7)));
-    assert_eq!(rt; again, first);
-    Ok(())
-}
-
-// What a body asks of a route, read twice.
-fn asked_twice(alloc: Global, route: &Route, body: &[u8]) -> Option<(Request, Request)>
+    message: &Received<'b>,
+    second: i64,
+) -> Option<(Meaning<'b>, Meaning<'b>)>
     ensures { IfSome result (λ both. both.0 ≡ both.1) }
 {
-    asking_law();
-    let first = request_of(alloc, *route, body).ok()?;
-    let again = request_of(alloc, *route, body).ok()?;
-    Some((first, again))
+    meaning_law();
+    let first = one.meaning_of(alloc, second, message);
+    let again = other.meaning_of(alloc, second, message);
+    match (&first, &again) {
+        (Meaning::Memory, _) => None,
+        (_, Meaning::Memory) => None,
+        _ => Some((first, again)),
+    }
 }
 
-#[test]
-fn a_body_asks_one_request(rt: HostRuntime) -> Result<(), Fail> {
-    let body = b"{\"meter\":\"12345678903\",\"operator\":\"ann\",\"ref\":\"A-1\",\"tender\":10}";
-    let (first, again) = asked_twice(rt.alloc(), &Route::Object(JsonKind::Sell), body).ok_or(
-        "no request",
-    )?;
-    let (Request::Sell(first), Request::Sell(again)) = (first, again) else {
-        return Err("no order".into());
+// That two tables take a message for an ask, and for the same.
+fn asks_one(rt: &impl Abort, alloc: Global, text: &[u8]) -> Result<AskKind, Fail> {
+    let one = Routes::new(alloc)?;
+    let other = Routes::new(alloc)?;
+    let Next::Whole(message) = next_of(text) else {
+        return Err("no message".into());
     };
-    assert_eq!(rt; first.tender.cents(), 10);
-    assert_eq!(rt; again, first);
+    let both = read_twice(alloc, &one, &other, &message, FIRST_DAY).ok_or("no memory")?;
+    match &both {
+        (Meaning::Asks(_, first), Meaning::Asks(_, again)) => {
+            assert_eq!(rt; again.kind(), first.kind());
+            Ok(first.kind())
+        }
+        _ => Err("no ask".into()),
+    }
+}
+
+const ORDER: &[u8] = b"POST /sales HTTP/1.1\r\nHost: d\r\nContent-Length: 64\r\n\r\n\
+    {\"meter\":\"12345678903\",\"operator\":\"ann\",\"ref\":\"A-1\",\"tender\":10}";
+
+#[test]
+fn a_message_means_one_thing(rt: HostRuntime) -> Result<(), Fail> {
+    let receipt = b"GET /sales/7/receipt HTTP/1.1\r\nHost: d\r\n\r\n";
+    assert_eq!(rt; asks_one(&rt, rt.alloc(), receipt)?, AskKind::Receipt);
+    assert_eq!(rt; asks_one(&rt, rt.alloc(), ORDER)?, AskKind::Sell);
     Ok(())
 }
 
@@ -121,34 +122,35 @@ fn a_date_is_that_of_its_moment(rt: HostRuntime) -> Result<(), Fail> {
     Ok(())
 }
 
-// The text that a desk writes of a sale.
-fn text_of(alloc: Global, sale: &Sale) -> Option<Vec<u8>>
-    requires { IsTellableSale sale.now }
-    ensures { IfSome result (λ text. text.items ≡ sale_text sale.now) }
+// The text that a desk writes of a shift's totals: that of an object of JSON.
+fn totals_written(alloc: Global, number: u32, sales: u32, tenths: u32, cash: u32) -> Option<Vec<u8>>
+    ensures { IfSome result
+        (λ text. text.items ≡ compact_text (totals_object number sales tenths cash)) }
 {
-    reply_law();
-    match found_json(alloc, &Found::Sale(*sale)) {
+    json_law();
+    let sold = u64::from(sales);
+    let energy = u64::from(tenths);
+    let paid = u64::from(cash);
+    let totals = Totals {
+        sales: sold,
+        tenths: energy,
+        cash: paid,
+    };
+    match found_json(alloc, &Found::ShiftTotals(number, totals)) {
         Ok(text) => Some(text),
         Err(_) => None,
     }
 }
 
-// The same of the sale that a reply tells.
-fn sale_written(alloc: Global, reply: &[u8]) -> Option<(Sale, Vec<u8>)>
-    ensures { IfSome result (λ told. told.1.items ≡ sale_text told.0) }
-{
-    let Reading::Whole(Told::Granted(Granted::Sale(sale))) = reply_in(reply, Wanted::Sale) else {
-        return None;
-    };
-    match text_of(alloc, &sale) {
-        Some(text) => Some((sale, text)),
-        None => None,
-    }
+#[test]
+fn totals_are_json(rt: HostRuntime) -> Result<(), Fail> {
+    let text = totals_written(rt.alloc(), 1, 2, 6, 110).ok_or("no text")?;
+    assert_eq!(rt;
+        text.as_slice(),
+        b"{\"cash\":110,\"sales\":2,\"shift\":1,\"tenths\":6}".as_slice()
+    );
+    Ok(())
 }
-
-const SALE: &[u8] = b"{\"base\":2014,\"change\":0,\"meter\":\"12345678903\",\"moment\":1388534430,\
-    \"number\":1,\"operator\":\"ann\",\"price\":10,\"ref\":\"A-1\",\"shift\":1,\"tender\":10,\
-    \"tenths\":1,\"tid\":2,\"token\":\"00072057602627981690\"}";
 
 pub(crate) const SOLD: &[u8] = b"HTTP/1.1 200 OK\r\nContent-Type: application/json\r\n\
     Content-Length: 189\r\n\r\n\
@@ -156,46 +158,15 @@ pub(crate) const SOLD: &[u8] = b"HTTP/1.1 200 OK\r\nContent-Type: application/js
     \"operator\":\"ann\",\"price\":10,\"ref\":\"A-1\",\"shift\":1,\"tender\":10,\"tenths\":1,\
     \"tid\":2,\"token\":\"00072057602627981690\"}";
 
-#[test]
-fn a_sale_is_written_out(rt: HostRuntime) -> Result<(), Fail> {
-    let (sale, text) = sale_written(rt.alloc(), SOLD).ok_or("no sale")?;
-    assert_eq!(rt; sale.digits.as_slice(), b"00072057602627981690".as_slice());
-    assert_eq!(rt; text.as_slice(), SALE);
-    Ok(())
-}
-
-// The meters of a page, with the text that a desk writes of them.
-fn meters_written(alloc: Global, page: &[u8]) -> Option<(Vec<ListedMeter>, Vec<u8>)>
-    ensures { IfSome result (λ told. told.1.items
-        ≡ list_text (codes "meters") (map listed_meter_text told.0.items)) }
-{
-    list_law();
-    let Ok(Some(found)) = page_in(alloc, PageKind::Meters, page) else {
-        return None;
-    };
-    match (found_json(alloc, &found), found) {
-        (Ok(text), Found::Meters(meters)) => Some((meters, text)),
-        _ => None,
-    }
-}
-
 pub(crate) const METERS: &[u8] =
     b"{\"meters\":[{\"base\":2014,\"meter\":\"12345678903\",\"tariff\":\"flat\"},\
     {\"base\":1993,\"meter\":\"12345678911\",\"tariff\":\"steep\"}]}";
-
-#[test]
-fn a_list_is_written_out(rt: HostRuntime) -> Result<(), Fail> {
-    let (meters, text) = meters_written(rt.alloc(), METERS).ok_or("no page")?;
-    assert_eq!(rt; meters.len(), 2);
-    assert_eq!(rt; text.as_slice(), METERS);
-    Ok(())
-}
 
 // A day, written as a desk writes it and read as a desk reads it.
 fn day_again(alloc: Global, day: Day) -> Option<Day>
     ensures { IfSome result (λ again. again ≡ day) }
 {
-    list_law();
+    day_text_law();
     day_law();
     let _days = day.days();
     let mut text = Vec::new(alloc);

@@ -3,7 +3,7 @@ ghost use Rattle.std.specs.Prelude.{◌≡◌, map, IfSome, IsTrue, Some};
 ghost use Rattle.office_rules.specs.declared.decision.request.Request.{Request};
 ghost use Rattle.papers.specs.Receipt.{receipt_of};
 ghost use Rattle.program_laws.specs.runs.Here.{here_of};
-ghost use Rattle.program_laws.specs.runs.Words.{WordsRequest};
+ghost use Rattle.program_laws.specs.runs.Words.{WordsRequest, selling};
 ghost use Rattle.sqlite_disk.specs.Memory.{memory_is_usable};
 ghost use Rattle.vend_commands.specs.port.Machines.{loop_of, way};
 ghost use Rattle.law_witnesses.specs.Runs.{HasLeft, IsRunOf};
@@ -11,8 +11,9 @@ ghost use Rattle.law_witnesses.specs.Runs.{HasLeft, IsRunOf};
 use crate::files::closed;
 use crate::kept::{Kept, KeptFile, Nothing};
 use crate::offices::{day, sold_by};
+use asks::Ask;
 use books::{Books, found_law, opening_law};
-use command_line::{Asked, meant, parse};
+use command_line::{AskWords, Asked, Place, meant, parse};
 use conversation::Script;
 use office_lines::values::{FIRST_DAY, moment};
 use office_rules::{Moment, Order, Request, Sale, Stamped};
@@ -25,12 +26,12 @@ use sts_token::Plain;
 use vend_commands::{Back, CommandEnd, Ended, Machine, OfficeFile, Ports, Watched, run_over};
 use vend_core::office_law;
 
-// The order that a request is to sell.
-fn ordered(request: &Request) -> Option<Order>
-    ensures { IfSome result (λ order. request.now ≡ Request.Sell order) }
+// The order that an office is asked to sell.
+pub(crate) fn ordered(asked: &AskWords<'_>) -> Option<Order>
+    ensures { IfSome result (λ order. asked.now ≡ selling order) }
 {
-    match request {
-        Request::Sell(order) => Some(*order),
+    match asked {
+        AskWords::Ask(Ask::Do(Request::Sell(order))) => Some(*order),
         _ => None,
     }
 }
@@ -49,9 +50,12 @@ pub(crate) fn order_said(alloc: Global, words: &[&str]) -> Option<Order>
     let Ok(asked) = Asked::read(alloc, &matches) else {
         return None;
     };
-    match &asked {
-        Asked::Request(said) => ordered(&said.request),
-        _ => None,
+    let Asked::Office(said) = &asked else {
+        return None;
+    };
+    match &said.place {
+        Place::File(_) => ordered(&said.ask),
+        Place::Desk(_) => None,
     }
 }
 

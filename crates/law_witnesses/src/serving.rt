@@ -8,12 +8,12 @@ use crate::kept::{KeptFile, Nothing};
 use crate::offices::{day, sale_of};
 use crate::recorded::Recorded;
 use crate::runs::sold_on_files;
-use book_states::Lookup;
+use asks::{Ask, Lookup};
 use books::{Books, OpenFault};
 use command_line::{Address, ServeWords, Shipped, Syncs};
 use conversation::Script;
 use desk::Desk;
-use desk_client::Question;
+use desk_client::message;
 use office_lines::values::{FIRST_DAY, METER, moment, order};
 use office_rules::{Moment, Order, Request, Sale, Stamped, store_law};
 use program_laws::serve_law;
@@ -123,7 +123,7 @@ fn a_sale_stands_behind_a_desk(rt: HostRuntime) -> Result<(), Fail> {
     ) else {
         return Err("no order".into());
     };
-    let sent = Question::Sell(other).message(rt.alloc())?;
+    let sent = message(rt.alloc(), &Ask::Do(Request::Sell(other)))?;
     let found = found_behind_desk(rt.alloc(), &ats, now, &first, &sent).ok_or("no sale")?;
     let (sale, again, _line) = found;
     assert_eq!(rt; sale.number, 2);

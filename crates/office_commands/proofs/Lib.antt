@@ -1,3 +1,4 @@
+pub mod AtFileLemmas
 pub mod AuditLemmas
 pub mod ClosingLemmas
 pub mod ExportLemmas

@@ -1,4 +1,5 @@
 pub mod Asked
+pub mod AtFile
 pub mod Audited
 pub mod Imported
 pub mod LookedUp

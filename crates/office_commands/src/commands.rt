@@ -1,10 +1,8 @@
 //! The commands: what each does.
 
+pub mod at_file;
 pub mod file_audit;
-pub mod import;
-pub mod list;
+mod import;
 mod look_up;
-pub mod offer;
-pub mod report;
-pub mod request;
-pub mod show;
+mod report;
+mod request;

@@ -8,5 +8,5 @@ pub(crate) mod looking;
 pub(crate) mod meeting;
 pub(crate) mod met;
 pub(crate) mod opening;
+pub(crate) mod paper;
 pub(crate) mod reopening;
-pub(crate) mod wanted;

@@ -1,10 +1,14 @@
 -- The lives of one office along connections.
-use Rattle.std.proofs.Common.{◌≡◌, ◌⊎◌, ◌∙◌, ℕ, ℤ, zero, suc, List, [], ◌∷◌, ◌++◌, Option, inl, inr, refl, ap, subst, sym}
+use Rattle.std.proofs.Common.{◌≡◌, ◌⊎◌, ◌∙◌, ℕ, ℤ, zero, suc, List, [], ◌∷◌, ◌++◌, Option, Result, Ok, Err, inl, inr, refl, ap, subst, sym}
 use Rattle.std.proofs.Math.Logic.{∥∥₁_elim}
 use Rattle.sqlite.specs.State.{HasCleanDisk}
 use Rattle.books.specs.Headline.{with_last}
 use Rattle.books.specs.Keeps.{Seen}
-use Rattle.desk.specs.Answering.{answers_by, life_serves, message_refusal_of}
+use Rattle.asks.specs.declared.ask.Ask.{Ask}
+use Rattle.asks.specs.declared.ask.Ask.TheVariants as asks
+use Rattle.desk.specs.Answering.{IsServed, answers_by, life_serves, message_refusal_of}
+use Rattle.desk_messages.specs.declared.reply.outcome.Outcome.{Outcome}
+use Rattle.papers.specs.declared.row_fault.RowFault.TheVariants.{At, Memory as LacksMemory}
 use Rattle.conversation.specs.Exchanges.{Exchanged, GaveUp, MessageExchange, Timed, clocked, timed}
 use Rattle.conversation.specs.message.Messages.{BeginsMessage, Message}
 use Rattle.conversation.specs.Run.{IsRun}
@@ -15,20 +19,44 @@ use Rattle.conversation.specs.declared.end.End.TheVariants.{Closed, BadMessage, 
 use Rattle.sts_fields.specs.Text.{Text}
 use Rattle.sts_token.specs.Token.{BlockFunction}
 use Rattle.vend_core.specs.Law.Life.{IsLife, LeadTo, Life, MayLeave}
-use Rattle.vend_core.specs.Law.LifeLaws.{opened}
+use Rattle.vend_core.specs.Law.LifeLaws.{extended_by, opened}
+use Rattle.office_rules.specs.declared.decision.answer.Answer.{Answer}
+use Rattle.office_rules.specs.declared.decision.refusal.Refusal.{Refusal}
+use Rattle.office_rules.specs.declared.decision.request.Stamped.{Stamped}
 use Rattle.office_rules.specs.Office.{Office}
 use Rattle.vend_commands.specs.serving.Connections.{AreHeld, AreReady, Service, service}
 use Rattle.program_laws.specs.Courses.{Course, IsNext, KeepsLast, LiveOn, course}
 use Rattle.vend_commands.specs.port.Machines.{Way}
 
--- ---- a life goes on from the office that it opened
+-- ---- a life goes on by one request, or stays as it is
+
+-- it went on by this request and its reply, or by none
+abbrev pub OneOn : (old new : Life) → Type 0
+OneOn old new = ((at : Stamped) × (reply : Result Answer Refusal) × (new ≡ extended_by old at reply)) ⊎ (new ≡ old)
+
+served_on : (moment : ℕ) (ask : Ask) (outcome : Outcome) (old new : Life) → IsServed life_serves moment ask outcome old new → OneOn old new
+served_on moment (asks.Import kind csv) outcome old new (Ok rows, are, (reply, is, (at, stamped, goes))) = inl (at, reply, goes)
+served_on moment (asks.Import kind csv) outcome old new (Err (At row cause), are, (is, same)) = inr same
+served_on moment (asks.Import kind csv) outcome old new (Err LacksMemory, are, none) = absurd none
+served_on moment (asks.Do request) outcome old new (reply, is, (at, stamped, goes)) = inl (at, reply, goes)
+served_on moment (asks.Receipt number) outcome old new (reply, is, (at, stamped, goes)) = inl (at, reply, goes)
+served_on moment (asks.Look lookup) outcome old new (found, is, (finds, same)) = inr same
+
+-- so by an exchange
+pub answered_on : (old new : Timed Life) (x : MessageExchange) → timed (answers_by life_serves) old x new → OneOn old.0 new.0
+answered_on old new x ((outcome, inl (fault, has, is, same), told), clock) = inr same
+answered_on old new x ((outcome, inr (moment, ask, asks, served), told), clock) = served_on moment ask outcome old.0 new.0 served
+
+-- ---- it goes on from the office that it opened
 
 answered_opening : (old new : Timed Life) (x : MessageExchange) → timed (answers_by life_serves) old x new → new.0.opening ≡ old.0.opening
-answered_opening old new x ((outcome, inl (idle, same), told), clock) = ap (λ l. l.opening) same
-answered_opening old new x ((outcome, inr (inl (form, moment, request, reply, is, asks, (at, stamped, goes))), told), clock) = ap (λ l. l.opening) goes
-answered_opening old new x ((outcome, inr (inr (form, moment, lookup, found, is, looks, (finds, same))), told), clock) = ap (λ l. l.opening) same
+answered_opening old new x step = elim (answered_on old new x step) [
+  | inl (at, reply, goes) ↦ ap (λ (l : Life). l.opening) goes
+  | inr same ↦ ap (λ (l : Life). l.opening) same
+]
 
-exchanged_opening : (old new : Timed Life) (xs : List MessageExchange) → Exchanged (timed (answers_by life_serves)) old xs new → new.0.opening ≡ old.0.opening
+-- so along exchanges
+pub exchanged_opening : (old new : Timed Life) (xs : List MessageExchange) → Exchanged (timed (answers_by life_serves)) old xs new → new.0.opening ≡ old.0.opening
 exchanged_opening old new [] same = ap (λ l. l.0.opening) same
 exchanged_opening old new (x ∷ xs) (mid, first, rest) = exchanged_opening mid new xs rest ∙ answered_opening old mid x first
 

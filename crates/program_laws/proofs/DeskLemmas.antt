@@ -1,12 +1,17 @@
 -- A sale that was read, or told at a desk, was handed out in a life.
-use Rattle.std.proofs.Common.{◌≡◌, ◌⊎◌, ℕ, zero, suc, List, [], ◌∷◌, ◌++◌, Option, Result, inl, inr, refl, sym, subst, arith}
+use Rattle.std.proofs.Common.{◌≡◌, ◌⊎◌, ℕ, zero, suc, List, [], ◌∷◌, ◌++◌, Option, Result, Ok, Err, inl, inr, refl, sym, subst, arith}
 use Rattle.std.specs.Prelude.{Contains}
 use Rattle.std.proofs.lemmas.List.Elements.{Contains-append_left, Contains-append_right}
 use Rattle.sqlite_disk.specs.declared.Disk as disk
 use Rattle.books.specs.Headline.{with_last}
 use Rattle.command_line.specs.Transform.{forward_of}
 use Rattle.command_line.specs.declared.transform.Shipped.TheVariants.{Plain}
-use Rattle.desk.specs.Answering.{answers_by, life_serves, message_refusal_of}
+use Rattle.asks.specs.declared.ask.Ask.{Ask}
+use Rattle.asks.specs.declared.ask.Ask.TheVariants.{Do, Import, Look, Receipt}
+use Rattle.desk.specs.Answering.{IsImported, IsServed, LifeReplies, answers_by, life_serves, message_refusal_of}
+use Rattle.desk_messages.specs.declared.reply.outcome.Outcome.{Outcome}
+use Rattle.papers.specs.declared.row_fault.RowFault.{RowFault}
+use Rattle.papers.specs.declared.row_fault.RowFault.TheVariants.{At, Memory as NoRoom}
 use Rattle.conversation.specs.Exchanges.{Exchanged, GaveUp, MessageExchange, Timed, timed}
 use Rattle.conversation.specs.message.Messages.{BeginsMessage, Message}
 use Rattle.conversation.specs.Conversation.{IsNextText}
@@ -20,15 +25,18 @@ use Rattle.vend_core.specs.Law.Life.{HandsOut, IsHanded, Life}
 use Rattle.vend_core.specs.Law.LifeLaws.{extended_by, opened}
 use Rattle.office_rules.specs.declared.decision.answer.Answer.{Answer}
 use Rattle.office_rules.specs.declared.decision.refusal.Refusal.{Refusal}
+use Rattle.office_rules.specs.declared.decision.request.Request.{Request}
+use Rattle.office_rules.specs.declared.decision.request.Request.TheVariants as requests
 use Rattle.office_rules.specs.declared.decision.request.Stamped.{Stamped}
+use Rattle.office_rules.specs.declared.office.row.Row.{Row}
 use Rattle.office_rules.specs.declared.office.sale.Sale.{Sale}
 use Rattle.vend_commands.specs.serving.Connections.{Service, service}
 use Rattle.program_laws.specs.Courses.{AreLived, Course, IsNext, course}
-use Rattle.program_laws.specs.SalesTold.{ConnectionsTell, CutReplyTells, ExchangeTells, ExchangesTell, RunTells}
+use Rattle.program_laws.specs.SalesTold.{ConnectionsTell, CutReplyTells, ExchangeTells, ExchangesTell, RunTells, sales_came}
 use Rattle.vend_commands.specs.port.Machines.{Way}
 use Rattle.program_laws.specs.runs.Steps.{LivesIn, TellsIn}
 use Rattle.program_laws.specs.runs.Uses.{RunUse, asking_life, connected, idle_life, many_lives, no_life, reading_life, unconnected, unseen}
-use Rattle.program_laws.proofs.FoundLemmas.{found_hands, read_hands}
+use Rattle.program_laws.proofs.FoundLemmas.{found_hands, none_there, read_hands}
 
 -- what the law of a life says of the sales that it hands out
 pub record HandingLaws : Type 0 where
@@ -40,15 +48,57 @@ pub handed_more : (lives more : List Life) (s : Sale) → IsHanded lives s → I
 handed_more lives more s (life, there, hands) = (life, Contains-append_left lives more life there, hands)
 
 module _ (laws : HandingLaws) (s : Sale) where
+  -- ---- what is served
+
+  replied_keeps : (old new : Life) (moment : ℕ) (request : Request) (reply : Result Answer Refusal) → LifeReplies moment request reply old new
+      → HandsOut old s → HandsOut new s
+  replied_keeps old new moment request reply (at, stamped, goes) hands = subst (λ l. HandsOut l s) (sym goes) (laws.for_good old at reply s hands)
+
+  replied_hands : (old new : Life) (moment : ℕ) (request : Request) (reply : Result Answer Refusal) → LifeReplies moment request reply old new
+      → Contains (sales_of reply) s → HandsOut new s
+  replied_hands old new moment request reply (at, stamped, goes) told = subst (λ l. HandsOut l s) (sym goes) (laws.replied old at reply s told)
+
+  imported_keeps : (moment : ℕ) (read : Result (List Row) RowFault) (outcome : Outcome) (old new : Life) → IsImported life_serves moment read outcome old new
+      → HandsOut old s → HandsOut new s
+  imported_keeps moment (Ok rows) outcome old new (reply, same, replies) hands = replied_keeps old new moment (requests.Import rows) reply replies hands
+  imported_keeps moment (Err (At row cause)) outcome old new (same, stays) hands = subst (λ l. HandsOut l s) (sym stays) hands
+  imported_keeps moment (Err NoRoom) outcome old new none hands = absurd none
+
+  -- a life hands out what it handed out before something was asked
+  served_keeps : (moment : ℕ) (ask : Ask) (outcome : Outcome) (old new : Life) → IsServed life_serves moment ask outcome old new
+      → HandsOut old s → HandsOut new s
+  served_keeps moment (Import kind csv) outcome old new (read, is, imported) hands = imported_keeps moment read outcome old new imported hands
+  served_keeps moment (Do request) outcome old new (reply, same, replies) hands = replied_keeps old new moment request reply replies hands
+  served_keeps moment (Receipt sale) outcome old new (reply, same, replies) hands = replied_keeps old new moment (requests.Reprint sale) reply replies hands
+  served_keeps moment (Look lookup) outcome old new (found, same, (finds, stays)) hands = subst (λ l. HandsOut l s) (sym stays) hands
+
+  -- the sale is in what came
+  abbrev Has : Outcome → Type 0
+  Has outcome = Contains (sales_came outcome) s
+
+  imported_hands : (moment : ℕ) (read : Result (List Row) RowFault) (outcome : Outcome) (old new : Life) → IsImported life_serves moment read outcome old new
+      → Has outcome → HandsOut new s
+  imported_hands moment (Ok rows) outcome old new (reply, same, replies) told =
+      replied_hands old new moment (requests.Import rows) reply replies (subst Has same told)
+  imported_hands moment (Err (At row cause)) outcome old new (same, stays) told = absurd (none_there s (subst Has same told))
+  imported_hands moment (Err NoRoom) outcome old new none told = absurd none
+
+  -- and what came of it
+  pub served_hands : (moment : ℕ) (ask : Ask) (outcome : Outcome) (old new : Life) → IsServed life_serves moment ask outcome old new
+      → Contains (sales_came outcome) s → HandsOut new s
+  served_hands moment (Import kind csv) outcome old new (read, is, imported) told = imported_hands moment read outcome old new imported told
+  served_hands moment (Do request) outcome old new (reply, same, replies) told = replied_hands old new moment request reply replies (subst Has same told)
+  served_hands moment (Receipt sale) outcome old new (reply, same, replies) told =
+      replied_hands old new moment (requests.Reprint sale) reply replies (subst Has same told)
+  served_hands moment (Look lookup) outcome old new (found, same, (finds, stays)) told =
+      subst (λ l. HandsOut l s) (sym stays) (found_hands old moment lookup found s finds (subst Has same told))
+
   -- ---- along a conversation
 
-  -- a life hands out what it handed out before a message
+  -- so it does before a message
   answered_keeps : (old new : Timed Life) (x : MessageExchange) → timed (answers_by life_serves) old x new → HandsOut old.0 s → HandsOut new.0 s
-  answered_keeps old new x ((outcome, inl (idle, same), told), clock) hands = subst (λ (l : Life). HandsOut l s) (sym same) hands
-  answered_keeps old new x ((outcome, inr (inl (form, moment, request, reply, is, asks, (at, stamped, goes))), told), clock) hands =
-      subst (λ (l : Life). HandsOut l s) (sym goes) (laws.for_good old.0 at reply s hands)
-  answered_keeps old new x ((outcome, inr (inr (form, moment, lookup, found, is, looks, (finds, same))), told), clock) hands =
-      subst (λ (l : Life). HandsOut l s) (sym same) hands
+  answered_keeps old new x ((outcome, inl (fault, has, is, same), told), clock) hands = subst (λ (l : Life). HandsOut l s) (sym same) hands
+  answered_keeps old new x ((outcome, inr (moment, ask, asks, serves), told), clock) hands = served_keeps moment ask outcome old.0 new.0 serves hands
 
   exchanged_keeps : (old new : Timed Life) (xs : List MessageExchange) → Exchanged (timed (answers_by life_serves)) old xs new
       → HandsOut old.0 s → HandsOut new.0 s
@@ -85,9 +135,7 @@ module _ (laws : HandingLaws) (s : Sale) where
   -- ---- what is told is handed out
 
   exchange_hands : (old new : Life) (x : MessageExchange) → ExchangeTells old x new s → HandsOut new s
-  exchange_hands old new x (inl (at, reply, asked, goes, gives)) = subst (λ (l : Life). HandsOut l s) (sym goes) (laws.replied old at reply s gives)
-  exchange_hands old new x (inr (found, looked, finds, same, gives)) =
-      subst (λ (l : Life). HandsOut l s) (sym same) (found_hands old looked.moment looked.lookup found s finds gives)
+  exchange_hands old new x told = served_hands told.served.moment told.served.ask told.served.outcome old new told.goes told.has
 
   exchanges_hand : (old new : Timed Life) (xs : List MessageExchange) (served : Exchanged (timed (answers_by life_serves)) old xs new)
       → ExchangesTell old xs new served s → HandsOut new.0 s

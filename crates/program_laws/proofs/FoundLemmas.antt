@@ -21,17 +21,17 @@ use Rattle.office_rules.specs.declared.office.sale.Sale.{Sale}
 use Rattle.book_lists.specs.Pages.{page_size}
 use Rattle.book_facts.specs.Lookups.{Finds, last_found, last_sale, last_under, quote_for, sale_found, sale_of_some_tid}
 use Rattle.book_facts.specs.Totals.{shift_totals}
+use Rattle.asks.specs.declared.lookup.Lookup.{Lookup}
+use Rattle.asks.specs.declared.lookup.Lookup.TheVariants as lookups
 use Rattle.book_states.specs.declared.lookup.Found.{Found}
 use Rattle.book_states.specs.declared.lookup.Found.TheVariants as found
-use Rattle.book_states.specs.declared.lookup.Lookup.{Lookup}
-use Rattle.book_states.specs.declared.lookup.Lookup.TheVariants as lookups
 use Rattle.books.specs.Looking.{IsFoundAt}
-use Rattle.command_line.specs.declared.commands.list.Listed.{Listed}
-use Rattle.desk_commands.specs.print.Pages.{ArePages, list_behind, page_lookup}
+use Rattle.desk_commands.specs.print.Pages.{ArePages, list_behind}
 use Rattle.program_laws.specs.runs.Readings.{IsReadIn, IsSaleRead, Reading, exported, one_found, pages_found}
 use Rattle.program_laws.specs.SalesTold.{sales_found}
 
-none_there : {X : Type 0} (x : X) → ¬ Contains [] x
+-- nothing stands in a list of nothing
+pub none_there : {X : Type 0} (x : X) → ¬ Contains [] x
 none_there x there = omega (arith, there.1)
 
 only_there : {X : Type 0} (x y : X) → Contains (y ∷ []) x → y ≡ x
@@ -132,13 +132,13 @@ found_in life moment lookup result s (inr (inr (inl store))) told = absurd (none
 found_in life moment lookup result s (inr (inr (inr stopped))) told = absurd (none_there s (subst (λ r. Contains (sales_found r) s) stopped told))
 
 -- the sales of pages of a list stand in the office
-pages_stand : (o : Office) (s : Sale) (moment : ℕ) (list : Option Listed) (pages : List Found) (left : Option Listed)
+pages_stand : (o : Office) (s : Sale) (moment : ℕ) (list : Option Lookup) (pages : List Found) (left : Option Lookup)
     → ArePages o moment list pages left → Contains (flat_map (λ page. sales_found (Ok page)) pages) s → Contains o.sales s
 pages_stand o s moment list [] left are told = absurd (none_there s told)
 pages_stand o s moment None (page ∷ pages) left are told = absurd are
 pages_stand o s moment (Some list) (page ∷ pages) left (finds, later) told =
     elim (Contains-append_cases (sales_found (Ok page)) (flat_map (λ page. sales_found (Ok page)) pages) s told) [
-      | inl first ↦ found_stands o s moment (page_lookup list) (Ok page) finds first
+      | inl first ↦ found_stands o s moment list (Ok page) finds first
       | inr others ↦ pages_stand o s moment (list_behind page) pages left later others
     ]
 

@@ -13,19 +13,18 @@ use Rattle.book_tables.proofs.ListLemmas.{pairs_append}
 use Rattle.office_rules.proofs.OfficeLemmas.MapLemmas.{all_from_contains}
 use Rattle.book_lists.specs.Pages.{AreFirstAfter, ComesBefore}
 use Rattle.book_facts.specs.Lookups.{Finds, IsListedMeter, IsListedTariff}
+use Rattle.asks.specs.declared.lookup.Lookup.{Lookup}
+use Rattle.asks.specs.declared.lookup.Lookup.TheVariants as lookups
 use Rattle.book_states.specs.declared.lookup.Found.{Found}
 use Rattle.book_states.specs.declared.lookup.Found.TheVariants as found
 use Rattle.book_states.specs.declared.lookup.ListedMeter.{ListedMeter}
 use Rattle.book_states.specs.declared.lookup.ListedTariff.{ListedTariff}
-use Rattle.book_states.specs.declared.lookup.Lookup.TheVariants as lookups
-use Rattle.command_line.specs.declared.commands.list.Listed.{Listed}
-use Rattle.command_line.specs.declared.commands.list.Listed.TheVariants as listed
 use Rattle.sts_fields.specs.Day.{day_at}
 use Rattle.sts_fields.specs.Text.{Text}
 use Rattle.office_rules.specs.Office.{Office}
 use Rattle.program_laws.proofs.WholeLemmas.{from_first, from_next, no_page_more, none_past, text_from}
 use Rattle.vend_ports.specs.print.Printed.{table_row_of}
-use Rattle.desk_commands.specs.print.Pages.{ArePages, last_of_full, list_behind, page_lookup}
+use Rattle.desk_commands.specs.print.Pages.{ArePages, last_of_full, list_behind}
 use Rattle.desk_commands.specs.print.ListTexts.{meter_line, meter_names, page_text, pages_text, table_text, tariff_lines, tariff_names}
 use Rattle.program_laws.specs.WholeLists.{AreAllAfter, AreAllMeters, AreAllTariffs, whole_meters_text, whole_tariffs_text}
 
@@ -87,7 +86,7 @@ module _ {Y : Type 0} (key : Y → Text) (Has : Text → Type 0) where
 
   module _ (Each : Y → Type 0) (text : Bool → List Y → Text)
       (law : (first : Bool) (front back : List Y) → text first (front ++ back) ≡ text first front ++ text false back)
-      (o : Office) (moment : ℕ) (list : Option Text → Listed) where
+      (o : Office) (moment : ℕ) (list : Option Text → Lookup) where
     -- the members that a page has
     pub record IsKeyedPage (at : Option Text) (page : Found) : Type 0 where
       pub members : List Y
@@ -103,13 +102,13 @@ module _ {Y : Type 0} (key : Y → Text) (Has : Text → Type 0) where
       pub all : AreAllAfter Has (unwrap_or at []) (map key members)
       pub text_is : text_from named pages ≡ text named members
 
-    module _ (reads : (at : Option Text) (page : Found) → Finds o moment (page_lookup (list at)) (Ok page) → IsKeyedPage at page) where
+    module _ (reads : (at : Option Text) (page : Found) → Finds o moment (list at) (Ok page) → IsKeyedPage at page) where
       -- the pages of a list, up to the last one, have all members after a text, each once
       pub whole_list : (pages : List Found) (named : Bool) (at : Option Text) → ArePages o moment (Some (list at)) pages None → AreKeyedPages at named pages
       whole_list [] named at none = cc
       whole_list (page ∷ pages) named at (finds, rest) =
           let has = reads at page finds in
-          let behind = subst (λ (left : Option Listed). ArePages o moment left pages None) has.behind rest in
+          let behind = subst (λ (left : Option Lookup). ArePages o moment left pages None) has.behind rest in
           by_length has (λ next. whole_list pages false next) (length has.members == 100) refl behind
         where
           by_last : (has : IsKeyedPage at page) → ((next : Option Text) → ArePages o moment (Some (list next)) pages None
@@ -157,28 +156,28 @@ lines_law names lines named front back =
 
 tariffs_read : (o : Office) (moment : ℕ) (at : Option Text) (page : Found) → Finds o moment (lookups.Tariffs at) (Ok page)
     → IsKeyedPage (λ t. t.name) (λ name. IsSome (o.tariffs name)) (IsListedTariff o (day_at moment)) whole_tariffs_text
-    (lines_law tariff_names tariff_lines) o moment listed.Tariffs at page
+    (lines_law tariff_names tariff_lines) o moment lookups.Tariffs at page
 tariffs_read o moment at (found.Tariffs page) are = record { members = page.items; each = are.each; first = are.first; text_is = λ named. refl; behind = refl }
 tariffs_read o moment at page none = absurd none
 
 -- the pages of a list of tariffs print all tariffs after a name, each once
-pub whole_tariffs : (o : Office) (moment : ℕ) (after : Option Text) (pages : List Found) → ArePages o moment (Some (listed.Tariffs after)) pages None
+pub whole_tariffs : (o : Office) (moment : ℕ) (after : Option Text) (pages : List Found) → ArePages o moment (Some (lookups.Tariffs after)) pages None
     → (tariffs : List ListedTariff) × AreAllTariffs o (day_at moment) (unwrap_or after []) tariffs × (pages_text false pages ≡ whole_tariffs_text true tariffs)
 whole_tariffs o moment after pages are =
     let all = whole_list (λ t. t.name) (λ name. IsSome (o.tariffs name)) (IsListedTariff o (day_at moment)) whole_tariffs_text
-    (lines_law tariff_names tariff_lines) o moment listed.Tariffs (tariffs_read o moment) pages true after are in
+    (lines_law tariff_names tariff_lines) o moment lookups.Tariffs (tariffs_read o moment) pages true after are in
     (all.members, record { each = all.each; all = all.all }, from_first pages ∙ all.text_is)
 
 meters_read : (o : Office) (moment : ℕ) (at : Option Text) (page : Found) → Finds o moment (lookups.Meters at) (Ok page)
     → IsKeyedPage (λ m. m.number) (λ number. IsSome (o.meters number)) (IsListedMeter o) whole_meters_text
-    (lines_law meter_names meter_line) o moment listed.Meters at page
+    (lines_law meter_names meter_line) o moment lookups.Meters at page
 meters_read o moment at (found.Meters page) are = record { members = page.items; each = are.each; first = are.first; text_is = λ named. refl; behind = refl }
 meters_read o moment at page none = absurd none
 
 -- the pages of a list of meters print all meters after a number, each once
-pub whole_meters : (o : Office) (moment : ℕ) (after : Option Text) (pages : List Found) → ArePages o moment (Some (listed.Meters after)) pages None
+pub whole_meters : (o : Office) (moment : ℕ) (after : Option Text) (pages : List Found) → ArePages o moment (Some (lookups.Meters after)) pages None
     → (meters : List ListedMeter) × AreAllMeters o (unwrap_or after []) meters × (pages_text false pages ≡ whole_meters_text true meters)
 whole_meters o moment after pages are =
     let all = whole_list (λ m. m.number) (λ number. IsSome (o.meters number)) (IsListedMeter o) whole_meters_text
-    (lines_law meter_names meter_line) o moment listed.Meters (meters_read o moment) pages true after are in
+    (lines_law meter_names meter_line) o moment lookups.Meters (meters_read o moment) pages true after are in
     (all.members, record { each = all.each; all = all.all }, from_first pages ∙ all.text_is)

@@ -1,20 +1,19 @@
 -- What is told of a sale names it.
-use Rattle.std.proofs.Common.{◌≡◌, ◌≢◌, ◌∙◌, ℕ, ◌+◌, List, [], ◌∷◌, ◌++◌, true, false, slice_get, Option, None, Some, refl, sym, ap, append_assoc, arith}
-use Rattle.std.specs.Prelude.{All, Contains, IsSome, codes, decimal}
+use Rattle.std.proofs.Common.{◌≡◌, ◌≢◌, ◌∙◌, ℕ, ◌+◌, List, [], ◌∷◌, ◌++◌, true, false, slice_get, Some, refl, sym, ap, append_assoc, arith}
+use Rattle.std.specs.Prelude.{All, Contains, codes, decimal, drop}
 use Rattle.std.specs.List.{AllByRecursion}
 use Rattle.std.proofs.lemmas.Fmt.{decimal_injective}
 use Rattle.std.proofs.lemmas.List.{append_cancel_left}
-use Rattle.std.proofs.lemmas.List.Elements.{All-contains, All-weaker, recursion_from_All}
+use Rattle.std.proofs.lemmas.List.Elements.{All-weaker, recursion_from_All}
 use Rattle.std.proofs.lemmas.Option.{slice_get-get_or}
-use Rattle.desk_messages.specs.reply.Body.{sale_members}
-use Rattle.desk_messages.specs.reply.Members.{json_text}
-use Rattle.desk_messages.specs.reply.SaleText.{IsTellableSale, sale_text}
+use Rattle.desk_messages.specs.reply.Records.{sale_cells, sale_names, sale_text}
+use Rattle.records.specs.Record.{members_text}
+use Rattle.sts_fields.specs.Base.{year_of}
 use Rattle.papers.specs.Export.{IsPlainField, export_fields}
 use Rattle.papers.specs.Receipt.{receipt_of}
 use Rattle.papers.specs.Text.{change_of, grouped, kwh_text, line, time_text}
 use Rattle.office_rules.specs.Name.{is_name_byte}
-use Rattle.office_rules.specs.Office.{IsOffice, IsSaleRow, Office}
-use Rattle.office_rules.specs.declared.office.meter.Meter.{Meter}
+use Rattle.office_rules.specs.Office.{IsOffice, Office}
 use Rattle.office_rules.specs.declared.office.sale.Sale.{Sale}
 
 -- ---- what stands before a sign
@@ -71,16 +70,6 @@ same_number o s t is here there same =
     let found : Some s ≡ Some t = sym mine.1 ∙ (ap (λ (k : ℕ). slice_get o.sales k) place ∙ yours.1) in
     cc
 
-meter_of : (found : Option Meter) → IsSome found → (m : Meter) × (found ≡ Some m)
-meter_of (Some m) some = (m, refl)
-meter_of None some = cc
-
-tellable : (o : Office) (s : Sale) → IsOffice o → Contains o.sales s → IsTellableSale s
-tellable o s is there =
-    let row : IsSaleRow o s = All-contains (IsSaleRow o) o.sales s is.sales there in
-    let meter = meter_of (o.meters s.meter) row.meter in
-    record { operator = row.operator; order_ref = row.order_ref; meter = (is.meters s.meter meter.0 meter.1).numbered; digits = row.digits }
-
 -- ---- its receipt
 
 -- eight texts, one behind another
@@ -123,6 +112,18 @@ fifth base base' change change' meter meter' moment moment' number number' rest 
     let at_number = append_cancel_left (codes "\"number\":") _ _ (behind_sign 44 moment moment' _ _ o o' at_moment) in
     before_sign 44 number number' rest rest' n n' at_number
 
+-- what stands behind the meter in the text of a sale, and behind the number
+abbrev behind_digits : Sale → List ℕ
+behind_digits s = members_text true (drop 5 sale_names) (drop 5 (sale_cells s))
+
+abbrev behind_meter : Sale → List ℕ
+behind_meter s = codes ",\"moment\":" ++ (decimal s.moment ++ (codes ",\"number\":" ++ (decimal s.number ++ behind_digits s)))
+
+front_text : (s : Sale) → sale_text s ≡ codes "{\"base\":" ++ (decimal (year_of s.base) ++ (codes ",\"change\":" ++ (decimal (change_of s)
+    ++ (codes ",\"meter\":\"" ++ (s.meter ++ (34 ∷ behind_meter s))))))
+front_text s = ap (λ (t : List ℕ). codes "{\"base\":" ++ (decimal (year_of s.base) ++ (codes ",\"change\":" ++ (decimal (change_of s)
+    ++ (codes ",\"meter\":\"" ++ t))))) (append_assoc s.meter (34 ∷ []) (behind_meter s))
+
 module _ (plain : (o : Office) (s : Sale) → IsOffice o → Contains o.sales s → All IsPlainField (export_fields s)) (o : Office) (s t : Sale)
     (is : IsOffice o) (here : Contains o.sales s) (there : Contains o.sales t) where
   mine : AllByRecursion IsPlainField (export_fields s)
@@ -141,14 +142,11 @@ module _ (plain : (o : Office) (s : Sale) → IsOffice o → Contains o.sales s 
       same_number o s t is here there (before_sign 10 (decimal s.number) (decimal t.number) (behind_number s) (behind_number t)
       (plain_free 10 refl (decimal s.number) mine.0) (plain_free 10 refl (decimal t.number) yours.0) lines)
 
-  text_names : sale_text s ≡ sale_text t → s ≡ t
-  text_names same = same_number o s t is here there (fifth _ _ _ _ _ _ _ _ (decimal s.number) (decimal t.number) _ _
+  -- so are two that have one text in JSON
+  pub json_names : sale_text s ≡ sale_text t → s ≡ t
+  json_names same = same_number o s t is here there (fifth _ _ _ _ _ _ _ _ (decimal s.number) (decimal t.number) _ _
       (plain_free 44 refl _ mine.1.1.1.1.1.1.0) (plain_free 44 refl _ yours.1.1.1.1.1.1.0)
       (plain_free 44 refl _ mine.1.1.1.1.1.1.1.1.1.1.1.0) (plain_free 44 refl _ yours.1.1.1.1.1.1.1.1.1.1.1.0)
       (plain_free 34 refl _ mine.1.1.1.1.1.0) (plain_free 34 refl _ yours.1.1.1.1.1.0)
       (plain_free 44 refl _ mine.1.0) (plain_free 44 refl _ yours.1.0)
-      (plain_free 44 refl _ mine.0) (plain_free 44 refl _ yours.0) same)
-
-  -- so are two that have one text in JSON
-  pub json_names : ((s : Sale) → IsTellableSale s → json_text (sale_members s) ≡ sale_text s) → json_text (sale_members s) ≡ json_text (sale_members t) → s ≡ t
-  json_names told same = text_names (sym (told s (tellable o s is here)) ∙ (same ∙ told t (tellable o t is there)))
+      (plain_free 44 refl _ mine.0) (plain_free 44 refl _ yours.0) (sym (front_text s) ∙ (same ∙ front_text t)))

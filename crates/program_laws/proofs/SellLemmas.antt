@@ -26,13 +26,19 @@ use Rattle.office_rules.specs.declared.decision.request.Stamped.{Stamped}
 use Rattle.office_rules.specs.declared.office.sale.Sale.{Sale}
 use Rattle.office_rules.specs.declared.office.shift.Shift.{Shift}
 use Rattle.program_laws.specs.Selling.{EndsSold, PrintsSale}
+use Rattle.program_laws.specs.runs.Words.{selling}
 use Rattle.office_commands.specs.office.Served.{TellsReply, answer_text}
 use Rattle.office_commands.specs.commands.Asked.{IsAskedAt}
+use Rattle.office_commands.specs.commands.AtFile.{IsAskedOfFile}
 use Rattle.office_commands.specs.port.Places.{Places}
+use Rattle.vend_ports.specs.commands.Timed.{IsTakenMoment}
+use Rattle.vend_ports.specs.port.Dial.{Dial}
+use Rattle.vend_ports.specs.port.Texts.{Texts}
 use Rattle.vend_ports.specs.print.Told.{IsTold, Outputs, Takes}
 use Rattle.office_commands.specs.office.Visited.{seen_in}
 use Rattle.office_commands.specs.office.Visited.IsVisited.{unopened, visited}
 use Rattle.command_line.specs.Transform.{forward_of}
+use Rattle.command_line.specs.declared.place.FilePlace.{FilePlace}
 use Rattle.command_line.specs.declared.transform.Shipped.{Shipped}
 use Rattle.vend_ports.specs.declared.command_end.CommandEnd.{CommandEnd}
 use Rattle.vend_ports.specs.declared.command_end.CommandEnd.TheVariants as how
@@ -109,8 +115,8 @@ pub sale_told : (sale : Sale) (o : Outputs) (end : CommandEnd) → TellsReply (O
 sale_told sale o end (inl told) = told
 sale_told sale o end (inr (none, told)) = absurd none
 
--- a `sell` that ended as done has sold for the order in the office of its file
-pub ends_sold : {S : Type 0} (store : Ghosts S) (answers_stand : (forward : BlockFunction) (o : Office) (at : Stamped)
+-- a request to sell that ended as done has sold for the order in the office of the file
+ends_sold : {S : Type 0} (store : Ghosts S) (answers_stand : (forward : BlockFunction) (o : Office) (at : Stamped)
     → All (Contains (step forward o at).sales) (sales_of (reply forward o at))) (at : Places) (path : Text) (wait : ℕ)
     (transform : Shipped) (order : Order) (moment : ℕ) (office : Office) (o : Outputs) → StandsIn (at path wait).image office
     → IsAskedAt store at transform path wait moment (Sell order) o how.Done → EndsSold store (at path wait).closes transform order moment office o
@@ -145,3 +151,15 @@ ends_sold store answers_stand places path wait transform order moment office o s
             left = λ trees may. let some = kept.left trees may in subst (RecoversTo trees) (one_left forward office at told.0 some.0 some.1) some.2;
           },
     )
+
+-- so has a `sell`, at the moment that it took
+pub sell_done : {S : Type 0} (store : Ghosts S) (answers_stand : (forward : BlockFunction) (o : Office) (at : Stamped)
+    → All (Contains (step forward o at).sales) (sales_of (reply forward o at))) (at : Places) (untouched : Type 0) (texts : Texts) (clock : Dial)
+    (file : FilePlace) (order : Order) (json : Bool) (office : Office) (o : Outputs) → StandsIn (at file.path.now file.wait).image office
+    → IsAskedOfFile store at untouched texts clock file (selling order) json o how.Done
+    → (moment : ℕ) × IsTakenMoment file.at clock (Some moment)
+    × EndsSold store (at file.path.now file.wait).closes file.transform order moment office o
+sell_done store answers_stand places untouched texts clock file order json office o stands (unread, (Some moment, taken, done)) =
+    (moment, taken, ends_sold store answers_stand places file.path.now file.wait file.transform order moment office o stands done)
+sell_done store answers_stand places untouched texts clock file order json office o stands (unread, (None, taken, (idle, told))) =
+    absurd (not_refused o _ _ told)

@@ -10,19 +10,18 @@ use Rattle.sqlite.proofs.MarkLemmas.{slice_get-take}
 use Rattle.book_tables.proofs.ListLemmas.{after_numbered}
 use Rattle.book_lists.specs.Pages.{page_size}
 use Rattle.book_facts.specs.Lookups.{Finds, listed_shift}
+use Rattle.asks.specs.declared.lookup.Lookup.{Lookup}
+use Rattle.asks.specs.declared.lookup.Lookup.TheVariants as lookups
 use Rattle.book_states.specs.declared.lookup.Found.{Found}
 use Rattle.book_states.specs.declared.lookup.Found.TheVariants as found
 use Rattle.book_states.specs.declared.lookup.ListedShift.{ListedShift}
-use Rattle.book_states.specs.declared.lookup.Lookup.TheVariants as lookups
-use Rattle.command_line.specs.declared.commands.list.Listed.{Listed}
-use Rattle.command_line.specs.declared.commands.list.Listed.TheVariants as listed
 use Rattle.papers.specs.Export.{export_of}
 use Rattle.sts_fields.specs.Text.{Text}
 use Rattle.office_rules.specs.Office.{AreNumbered, IsOffice, Office}
 use Rattle.office_rules.specs.declared.office.sale.Sale.{Sale}
 use Rattle.office_commands.proofs.ExportLemmas.{PagesLaw}
 use Rattle.vend_ports.specs.print.Printed.{table_row_of}
-use Rattle.desk_commands.specs.print.Pages.{ArePages, last_of_full, list_behind, page_lookup}
+use Rattle.desk_commands.specs.print.Pages.{ArePages, last_of_full, list_behind}
 use Rattle.desk_commands.specs.print.ListTexts.{listed_shift_line, page_text, pages_text, shift_names, shift_rows_text}
 
 -- ---- places in lists
@@ -100,8 +99,8 @@ module _ {X Y : Type 0} (number : X → ℕ) (show : X → Y) (key : Y → ℕ) 
       ap (λ l. map show (take 100 all) ++ map show l) behind ∙ sym (map-append show (take 100 all) (drop 100 all)) ∙ ap (map show) (take-append-drop 100 all)
 
   module _ (text : Bool → List Y → Text) (law : (first : Bool) (front back : List Y) → text first (front ++ back) ≡ text first front ++ text false back)
-      (o : Office) (moment : ℕ) (xs : List X) (numbered : AreNumbered number xs) (list : ℕ → Listed)
-      (reads : (n : ℕ) (page : Found) → Finds o moment (page_lookup (list n)) (Ok page)
+      (o : Office) (moment : ℕ) (xs : List X) (numbered : AreNumbered number xs) (list : ℕ → Lookup)
+      (reads : (n : ℕ) (page : Found) → Finds o moment (list n) (Ok page)
       → ((first : Bool) → page_text false first page ≡ text first (first_above n xs))
       × (list_behind page ≡ option_map (λ y. list (key y)) (last_of_full (first_above n xs)))) where
     -- the text of pages up to one that is not full is that of all
@@ -110,7 +109,7 @@ module _ {X Y : Type 0} (number : X → ℕ) (show : X → Y) (key : Y → ℕ) 
     whole_text [] first n none = cc
     whole_text (page ∷ pages) first n (finds, rest) =
         let has = reads n page finds in
-        let behind = subst (λ (left : Option Listed). ArePages o moment left pages None) has.1 rest in
+        let behind = subst (λ (left : Option Lookup). ArePages o moment left pages None) has.1 rest in
         ap (λ l. l ++ flat_map (page_text false false) pages) (has.0 first)
         ∙ by_length (λ next. whole_text pages false next) (length (first_above n xs) == 100) refl behind
       where
@@ -145,11 +144,11 @@ module _ {X Y : Type 0} (number : X → ℕ) (show : X → Y) (key : Y → ℕ) 
 shifts_read : (o : Office) (moment n : ℕ) (page : Found) → Finds o moment (lookups.Shifts n) (Ok page)
     → ((first : Bool) → page_text false first page ≡ shift_rows_text first
     (first_above (λ s. s.number) (listed_shift o) (λ l. l.shift.number) (λ s. refl) n o.shifts))
-    × (list_behind page ≡ option_map (λ l. listed.Shifts l.shift.number)
+    × (list_behind page ≡ option_map (λ l. lookups.Shifts l.shift.number)
     (last_of_full (first_above (λ s. s.number) (listed_shift o) (λ l. l.shift.number) (λ s. refl) n o.shifts)))
 shifts_read o moment n (found.Shifts page) is = (
   λ first. ap (shift_rows_text first) is,
-  ap (λ ls. option_map (λ (l : ListedShift). listed.Shifts l.shift.number) (last_of_full ls)) is,
+  ap (λ ls. option_map (λ (l : ListedShift). lookups.Shifts l.shift.number) (last_of_full ls)) is,
 )
 shifts_read o moment n page none = absurd none
 
@@ -160,26 +159,26 @@ shifts_law first front back =
     ∙ sym (append_assoc names (flat_map listed_shift_line front) (flat_map listed_shift_line back))
 
 -- the pages of a list of shifts print all shifts after a number, each once
-pub whole_shifts : (o : Office) (moment after : ℕ) (pages : List Found) → IsOffice o → ArePages o moment (Some (listed.Shifts after)) pages None
+pub whole_shifts : (o : Office) (moment after : ℕ) (pages : List Found) → IsOffice o → ArePages o moment (Some (lookups.Shifts after)) pages None
     → pages_text false pages ≡ shift_rows_text true (map (listed_shift o) (filter (λ s. nat_lt after s.number) o.shifts))
 whole_shifts o moment after pages office are =
     from_first pages
     ∙ whole_text (λ s. s.number) (listed_shift o) (λ l. l.shift.number) (λ s. refl) shift_rows_text shifts_law o moment o.shifts
-    office.shift_numbers listed.Shifts (shifts_read o moment) pages true after are
+    office.shift_numbers lookups.Shifts (shifts_read o moment) pages true after are
 
 sales_read : (o : Office) (moment n : ℕ) (page : Found) → Finds o moment (lookups.Sales n) (Ok page)
     → ((first : Bool) → page_text false first page ≡ export_of first (first_above (λ s. s.number) (λ s. s) (λ s. s.number) (λ s. refl) n o.sales))
-    × (list_behind page ≡ option_map (λ s. listed.Sales s.number) (last_of_full (first_above (λ s. s.number) (λ s. s) (λ s. s.number) (λ s. refl) n o.sales)))
+    × (list_behind page ≡ option_map (λ s. lookups.Sales s.number) (last_of_full (first_above (λ s. s.number) (λ s. s) (λ s. s.number) (λ s. refl) n o.sales)))
 sales_read o moment n (found.Sales page) is =
     let same = is ∙ sym (map-id _) in
-    (λ first. ap (export_of first) same, ap (λ ss. option_map (λ (s : Sale). listed.Sales s.number) (last_of_full ss)) same)
+    (λ first. ap (export_of first) same, ap (λ ss. option_map (λ (s : Sale). lookups.Sales s.number) (last_of_full ss)) same)
 sales_read o moment n page none = absurd none
 
 -- the pages of a list of sales print an export of all sales after a number
-pub whole_sales : PagesLaw → (o : Office) (moment after : ℕ) (pages : List Found) → IsOffice o → ArePages o moment (Some (listed.Sales after)) pages None
+pub whole_sales : PagesLaw → (o : Office) (moment after : ℕ) (pages : List Found) → IsOffice o → ArePages o moment (Some (lookups.Sales after)) pages None
     → pages_text false pages ≡ export_of true (filter (λ s. nat_lt after s.number) o.sales)
 whole_sales law o moment after pages office are =
     from_first pages
-    ∙ whole_text (λ s. s.number) (λ s. s) (λ s. s.number) (λ s. refl) export_of law o moment o.sales office.sale_numbers listed.Sales
+    ∙ whole_text (λ s. s.number) (λ s. s) (λ s. s.number) (λ s. refl) export_of law o moment o.sales office.sale_numbers lookups.Sales
     (sales_read o moment) pages true after are
     ∙ ap (export_of true) (map-id _)

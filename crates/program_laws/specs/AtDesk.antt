@@ -4,21 +4,21 @@
 -- The office is a life, since a desk's conversation is one: it goes on by the requests that
 -- messages ask and the replies that they get.
 use Rattle.std.specs.Prelude.{◌≡◌, ◌⊎◌, ⊤, ℕ, ℤ, pos, Bool, false, List, [], ◌∷◌, Option, Some}
-use Rattle.std.specs.Prelude.{Contains, Result, Ok, Err}
+use Rattle.std.specs.Prelude.{◌≤◌, Contains, Result, Ok, Err, length}
 use Rattle.std.specs.List.{flat_map}
+use Rattle.asks.specs.declared.ask.Ask.{Ask}
+use Rattle.asks.specs.declared.ask.Ask.TheVariants.{Import, Do, Receipt, Look}
+use Rattle.asks.specs.declared.lookup.Lookup.{Lookup}
+use Rattle.asks.specs.declared.lookup.Lookup.TheVariants as lookups
 use Rattle.book_states.specs.declared.lookup.Found.{Found}
 use Rattle.book_states.specs.declared.lookup.Found.TheVariants as found
-use Rattle.book_states.specs.declared.lookup.Lookup.{Lookup}
-use Rattle.book_states.specs.declared.lookup.Lookup.TheVariants as lookups
 use Rattle.book_tables.specs.declared.row.totals.Totals.{Totals}
 use Rattle.books.specs.Looking.{IsFoundAt}
 use Rattle.conversation.specs.Exchanges.{MessageExchange, Timed, timed}
+use Rattle.conversation.specs.message.Framing.{longest_body}
 use Rattle.conversation.specs.message.Messages.{BeginsMessage}
 use Rattle.desk.specs.Answering.{LifeReplies, answers_by, life_serves}
 use Rattle.desk_client.specs.Answers.{IsReplyTo}
-use Rattle.desk_client.specs.Asks.{Asked, asked_by, imported, looked_up, requested}
-use Rattle.desk_client.specs.declared.question.Question.{Question}
-use Rattle.desk_client.specs.declared.question.Question.TheVariants as questions
 use Rattle.desk_client.specs.declared.told.Told.TheVariants as tells
 use Rattle.papers.specs.File.{AreFileRecords, Fields}
 use Rattle.papers.specs.Import.{IsReading}
@@ -37,9 +37,10 @@ use Rattle.office_rules.specs.declared.decision.request.Request.TheVariants as r
 use Rattle.office_rules.specs.declared.decision.request.Stamped.{Stamped}
 use Rattle.office_rules.specs.declared.office.row.Row.{Row}
 use Rattle.office_rules.specs.declared.office.sale.Sale.{Sale}
-use Rattle.command_line.specs.declared.commands.list.Listed.{Listed}
+use Rattle.command_line.specs.declared.office_words.AskWords.{AskWords}
+use Rattle.command_line.specs.declared.office_words.AskWords.TheVariants as words
 use Rattle.office_commands.specs.commands.Imported.{refusal_of_rows}
-use Rattle.desk_commands.specs.ListedAtDesk.{IsPageReply, page_question}
+use Rattle.desk_commands.specs.ListedAtDesk.{IsPageReply}
 use Rattle.office_commands.specs.commands.LookedUp.{TellsFound}
 use Rattle.office_commands.specs.office.Served.{TellsReply}
 use Rattle.desk_commands.specs.Exchanged.{Round}
@@ -137,34 +138,21 @@ abbrev pub IsSoldIn : Life → Order → Sale → Type 0
 IsSoldIn life order s = (at : Stamped) × (at.request ≡ requests.Sell order)
     × Contains life.exchanges (record { request = at; reply = Ok (answers.Sold s) })
 
--- ---- by the question
+-- ---- by the ask
 
 -- What the command that asks this prints of an office, and what it makes of it. The totals of a
--- shift are printed as `report` prints them, and what else is looked up as `show` and `quote` do.
-abbrev pub PrintsAsked : (json : Bool) → Asked → (moment : ℕ) → (old new : Life) → Outputs
+-- shift are printed as `report` prints them, and what else is looked up as `show` and `offer` do.
+abbrev pub PrintsAsOnFile : (json : Bool) → Ask → (moment : ℕ) → (old new : Life) → Outputs
     → CommandEnd → Type 0
-PrintsAsked json (requested form request) moment old new o end =
-    PrintsReply moment request old new o end
-PrintsAsked json (looked_up (lookups.ShiftTotals number)) moment old new o end =
+PrintsAsOnFile json (Import kind csv) moment old new o end =
+    PrintsImport moment kind csv old new o end
+PrintsAsOnFile json (Do request) moment old new o end = PrintsReply moment request old new o end
+PrintsAsOnFile json (Receipt sale) moment old new o end =
+    PrintsReply moment (requests.Reprint sale) old new o end
+PrintsAsOnFile json (Look (lookups.ShiftTotals number)) moment old new o end =
     PrintsTotals moment number old new o end
-PrintsAsked json (looked_up lookup) moment old new o end =
+PrintsAsOnFile json (Look lookup) moment old new o end =
     PrintsFound moment lookup json old new o end
-PrintsAsked json (imported kind bytes) moment old new o end =
-    PrintsImport moment kind bytes old new o end
-
-abbrev pub PrintsAsOnFile : (json : Bool) → Question → (moment : ℕ) → (old new : Life) → Outputs
-    → CommandEnd → Type 0
-PrintsAsOnFile json question moment old new o end =
-    PrintsAsked json (asked_by question) moment old new o end
-
--- a command asks this by one message: no page of a list, and no receipt as JSON
-abbrev pub IsAskedByOne : (json : Bool) → Question → Type 0
-IsAskedByOne json (questions.Tariffs after) = ⊥
-IsAskedByOne json (questions.Meters after) = ⊥
-IsAskedByOne json (questions.Shifts after) = ⊥
-IsAskedByOne json (questions.Sales after) = ⊥
-IsAskedByOne json (questions.LastSale meter) = json ≡ false
-IsAskedByOne json question = ⊤
 
 -- What is looked up alone, and is no page of a list. A health tells of a write that failed too,
 -- which no office has.
@@ -176,11 +164,35 @@ IsOneLookup (lookups.Shifts after) = ⊥
 IsOneLookup (lookups.Sales after) = ⊥
 IsOneLookup lookup = ⊤
 
+-- a command asks this by one message: no page of a list, no health, and no receipt as JSON
+abbrev pub IsAskedByOne : (json : Bool) → Ask → Type 0
+IsAskedByOne json (Look (lookups.LastSale meter)) = json ≡ false
+IsAskedByOne json (Look lookup) = IsOneLookup lookup
+IsAskedByOne json ask = ⊤
+
+-- it does not ask for the health of an office, of which no command reads what a desk tells
+abbrev pub AsksNoHealth : Ask → Type 0
+AsksNoHealth (Look lookups.Health) = ⊥
+AsksNoHealth ask = ⊤
+
 -- ---- the pages of a list
+
+-- the words ask this by one message: an import with the rows of its file, which fit into it
+abbrev pub AskForOne : AskWords → Ask → Type 0
+AskForOne (words.Import kind path) ask =
+    (rows : Text) × (length rows ≤ longest_body) × (ask ≡ Import kind rows)
+AskForOne (words.Ask it) ask = ask ≡ it
+AskForOne asked ask = ⊥
+
+-- they ask for the pages of this list: the one that they name, or all sales
+abbrev pub AskForPages : AskWords → Lookup → Type 0
+AskForPages (words.List it) list = list ≡ it
+AskForPages words.Export list = list ≡ lookups.Sales 0
+AskForPages asked list = ⊥
 
 -- At each moment of this day the office has these pages of the list, with this list left behind
 -- them; they are printed as the pages that a desk told; and the office is as it was.
-pub record PrintsList (day : ℕ) (list : Listed) (told : List Found) (left : Option Listed)
+pub record PrintsList (day : ℕ) (list : Lookup) (told : List Found) (left : Option Lookup)
     (old new : Life) : Type 0 where
   pub pages : List Found
   pub are : (moment : ℕ) → day_at moment ≡ day
@@ -189,7 +201,7 @@ pub record PrintsList (day : ℕ) (list : Listed) (told : List Found) (left : Op
   pub same : new ≡ old
 
 -- what came tells a page of the list, or why the office has no answer
-abbrev pub IsPageOrRefusal : Listed → (came : Text) → Type 0
+abbrev pub IsPageOrRefusal : Lookup → (came : Text) → Type 0
 IsPageOrRefusal list came =
     ((page : Found) × IsPageReply list came page)
-    ⊎ ((refusal : Refusal) × IsReplyTo (page_question list) came (tells.Refused refusal))
+    ⊎ ((refusal : Refusal) × IsReplyTo (Look list) came (tells.Refused refusal))

@@ -1,25 +1,23 @@
 -- The sales that connections were told of, in replies that were written whole or cut off.
 use Rattle.std.proofs.Common.{inl, inr}
-use Rattle.std.specs.Prelude.{◌≡◌, ◌⊎◌, ℕ, zero, suc, List, [], ◌∷◌, Option, Result, Ok, Err}
+use Rattle.std.specs.Prelude.{◌⊎◌, ℕ, zero, suc, List, [], ◌∷◌, Option, Result, Ok, Err}
 use Rattle.std.specs.Prelude.{Contains}
 use Rattle.book_states.specs.declared.lookup.Found.{Found}
 use Rattle.book_states.specs.declared.lookup.Found.TheVariants as found
-use Rattle.books.specs.Looking.{IsFoundAt}
 use Rattle.conversation.specs.Exchanges.{Exchanged, MessageExchange, Timed, timed}
 use Rattle.conversation.specs.Conversation.{IsNextText}
 use Rattle.conversation.specs.Run.{IsRun}
 use Rattle.conversation.specs.declared.end.End.{End}
 use Rattle.conversation.specs.declared.end.End.TheVariants.{Closed, BadMessage, ReadFault}
 use Rattle.conversation.specs.declared.end.End.TheVariants.{WriteFault, Memory}
-use Rattle.desk.specs.Along.{AskedOffice, LookedUp}
-use Rattle.desk.specs.Answering.{answers_by, life_serves, message_refusal_of}
+use Rattle.desk.specs.Along.{AskedOffice, Served}
+use Rattle.desk.specs.Answering.{IsServed, answers_by, life_serves, message_refusal_of}
+use Rattle.desk_messages.specs.declared.reply.outcome.Outcome.{Outcome}
+use Rattle.desk_messages.specs.declared.reply.outcome.Outcome.TheVariants as outcomes
 use Rattle.sts_token.specs.Token.{BlockFunction}
 use Rattle.office_rules.specs.Law.Handed.{sales_of}
 use Rattle.vend_core.specs.Law.Life.{Life}
-use Rattle.vend_core.specs.Law.LifeLaws.{extended_by}
-use Rattle.office_rules.specs.declared.decision.answer.Answer.{Answer}
 use Rattle.office_rules.specs.declared.decision.refusal.Refusal.{Refusal}
-use Rattle.office_rules.specs.declared.decision.request.Stamped.{Stamped}
 use Rattle.office_rules.specs.declared.office.sale.Sale.{Sale}
 use Rattle.vend_commands.specs.serving.Connections.{Service}
 use Rattle.program_laws.specs.Courses.{AreLived, Course}
@@ -38,16 +36,20 @@ sales_found (Ok (found.Shifts page)) = []
 sales_found (Ok (found.Sales page)) = page.items
 sales_found (Err refusal) = []
 
--- The message asked a request of the life and was told the reply, by which the life went on, and
--- the sale is in that reply. Or it looked something up and was told what was found in the life,
--- which stays as it is, and the sale is in that.
-abbrev pub ExchangeTells : Life → MessageExchange → Life → Sale → Type 0
-ExchangeTells old x new s =
-    ((at : Stamped) × (reply : Result Answer Refusal) × AskedOffice x at reply
-    × (new ≡ extended_by old at reply) × Contains (sales_of reply) s)
-    ⊎ ((found : Result Found Refusal) × (looked : LookedUp x found)
-    × IsFoundAt old looked.moment looked.lookup found × (new ≡ old)
-    × Contains (sales_found found) s)
+-- those in what came of a message
+abbrev pub sales_came : Outcome → List Sale
+sales_came (outcomes.Refused fault) = []
+sales_came (outcomes.Faulty fault) = []
+sales_came (outcomes.Replied form reply) = sales_of reply
+sales_came (outcomes.Found form found) = sales_found found
+
+-- The message asked something of the life and was told what came of it, by which the life went on:
+-- the reply to a request, or what was looked up in it. And the sale is in that.
+pub record ExchangeTells (old : Life) (x : MessageExchange) (new : Life) (s : Sale) : Type 0 where
+  pub served : Served
+  pub asked : AskedOffice x served
+  pub goes : IsServed life_serves served.moment served.ask served.outcome old new
+  pub has : Contains (sales_came served.outcome) s
 
 -- one of these exchanges told it
 abbrev pub ExchangesTell : (old : Timed Life) → (xs : List MessageExchange) → (new : Timed Life)

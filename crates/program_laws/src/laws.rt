@@ -1,4 +1,4 @@
-ghost use Rattle.std.specs.Prelude.{◌≡◌, ◌≢◌, ◌≤◌, ◌⊎◌, ◌<◌, ◌^◌, ℕ, List, [], Option, Some};
+ghost use Rattle.std.specs.Prelude.{◌≡◌, ◌≤◌, ◌⊎◌, ◌<◌, ◌^◌, ℕ, List, [], Option, Some};
 ghost use Rattle.std.specs.Prelude.{None, Ok, Contains, false, true, filter, map, nat_lt};
 ghost use Rattle.std.specs.Prelude.{unwrap_or, Result, IfErr, IfSome, All, ℤ, pos, Bool, length};
 ghost use Rattle.sqlite.specs.Files.{file_state};
@@ -22,13 +22,13 @@ ghost use Rattle.books.specs.Path.{StandsIn};
 ghost use Rattle.books.specs.declared.books.Books.{Books};
 ghost use Rattle.sqlite_store.specs.declared.store.FileStore.{FileStore as Files};
 ghost use Rattle.command_line.specs.Transform.{shipped};
+ghost use Rattle.command_line.specs.declared.place.FilePlace.{FilePlace};
 ghost use Rattle.command_line.specs.declared.transform.Shipped.{Shipped};
 ghost use Rattle.papers.specs.Export.{export_of};
 ghost use Rattle.papers.specs.Receipt.{receipt_of};
-ghost use Rattle.desk_messages.specs.reply.Body.{sale_members};
-ghost use Rattle.desk_messages.specs.reply.Members.{json_text};
+ghost use Rattle.desk_messages.specs.reply.Records.{sale_text};
 ghost use Rattle.program_laws.specs.Sound.{EndsSound};
-ghost use Rattle.office_commands.specs.commands.Asked.{IsAskedAt};
+ghost use Rattle.office_commands.specs.commands.AtFile.{IsAskedOfFile};
 ghost use Rattle.office_commands.specs.commands.Audited.{IsAudited};
 ghost use Rattle.office_commands.specs.commands.LookedUp.{IsPurchaseFor};
 ghost use Rattle.office_commands.specs.office.Audits.{AuditsIn};
@@ -41,12 +41,13 @@ ghost use Rattle.office_rules.specs.declared.decision.answer.Answer.TheVariants.
 ghost use Rattle.office_rules.specs.declared.decision.request.Order.{Order};
 ghost use Rattle.office_rules.specs.declared.decision.request.Request.TheVariants.{Sell};
 ghost use Rattle.office_rules.specs.declared.office.sale.Sale.{Sale};
-ghost use Rattle.office_commands.specs.port.Back.{lets_go_giving};
+ghost use Rattle.office_commands.specs.port.Back.{is_untouched, lets_go_giving};
 ghost use Rattle.office_commands.specs.port.Places.{places_of};
 ghost use Rattle.vend_commands.specs.port.Machines.{loop_of, way};
 ghost use Rattle.program_laws.specs.runs.EachRun.{KeepsEachRun};
 ghost use Rattle.program_laws.specs.runs.Here.{here_of};
 ghost use Rattle.program_laws.specs.runs.Promise.{KeepsPromise};
+ghost use Rattle.program_laws.specs.runs.Words.{selling};
 ghost use Rattle.program_laws.specs.Selling.{EndsSold, PrintsSale};
 ghost use Rattle.office_commands.specs.office.Served.{TellsReply};
 ghost use Rattle.desk_commands.specs.print.Pages.{ArePages};
@@ -58,8 +59,9 @@ ghost use Rattle.office_commands.specs.office.Visited.{seen_in};
 ghost use Rattle.vend_ports.specs.declared.command_end.CommandEnd.{CommandEnd};
 ghost use Rattle.vend_ports.specs.declared.command_end.CommandEnd.TheVariants.{Done, Refused};
 ghost use Rattle.books.specs.Looking.{IsFoundAt};
+ghost use Rattle.asks.specs.declared.ask.Ask.{Ask};
+ghost use Rattle.asks.specs.declared.lookup.Lookup.{Lookup};
 ghost use Rattle.book_states.specs.declared.lookup.Health.{Health};
-ghost use Rattle.book_states.specs.declared.lookup.Lookup.{Lookup};
 ghost use Rattle.office_rules.specs.declared.decision.answer.Answer.{Answer};
 ghost use Rattle.office_rules.specs.declared.decision.refusal.Refusal.{Refusal};
 ghost use Rattle.office_rules.specs.declared.decision.request.Request.{Request};
@@ -71,32 +73,34 @@ ghost use Rattle.desk.specs.Answering.{LifeReplies, answers_by, life_serves, mes
 ghost use Rattle.vend_core.specs.Law.LifeLaws.{IsReadingRequest};
 ghost use Rattle.vend_core.specs.Law.Reached.{IsPlausible};
 ghost use Rattle.desk_client.specs.Answers.{IsReplyTo};
-ghost use Rattle.desk_client.specs.Asks.{IsAskable, IsNoMoment};
-ghost use Rattle.desk_client.specs.Question.{question_text, wanted_by};
+ghost use Rattle.desk_client.specs.Sent.{CanSend, IsNoMoment, ask_text, wanted_by};
 ghost use Rattle.desk_client.specs.Reply.{IsReply, longest_reply_body};
-ghost use Rattle.desk_client.specs.declared.question.Question.{Question as WhatIsAsked};
-ghost use Rattle.desk_client.specs.declared.question.Question.TheVariants.{Sell as AsksSale};
 ghost use Rattle.desk_client.specs.Tells.{as_told};
+ghost use Rattle.desk_client.specs.declared.told.Granted.TheVariants.{Paper as TellsPaper};
 ghost use Rattle.desk_client.specs.declared.told.Granted.TheVariants.{Sale as TellsSale};
 ghost use Rattle.desk_client.specs.declared.told.Told.{Told};
 ghost use Rattle.desk_client.specs.declared.told.Told.TheVariants.{Granted as Grants};
-ghost use Rattle.program_laws.specs.AtDesk.{AreAnsweredOn, IsAnsweredAt, IsAskedByOne, IsGivenOn};
+ghost use Rattle.program_laws.specs.AtDesk.{AreAnsweredOn, AskForOne, AskForPages, AsksNoHealth};
+ghost use Rattle.program_laws.specs.AtDesk.{IsAnsweredAt, IsAskedByOne, IsGivenOn};
 ghost use Rattle.program_laws.specs.AtDesk.{IsOneLookup, IsPageOrRefusal, IsSoldIn};
 ghost use Rattle.program_laws.specs.AtDesk.{PrintsAsOnFile};
 ghost use Rattle.program_laws.specs.AtDesk.{PrintsList, came_in, sent_in};
 ghost use Rattle.std.specs.Borrow.{Bor};
 ghost use Rattle.clap.specs.Walk.{Row};
-ghost use Rattle.command_line.specs.Commands.{SaysDeskQuestion};
-ghost use Rattle.desk_commands.specs.AskedOfDesk.{TellsTold, is_json, question_of};
-ghost use Rattle.conversation.specs.message.Framing.{longest_body as longest_message};
-ghost use Rattle.desk_commands.specs.ListedAtDesk.{TellPages, page_question};
+ghost use Rattle.command_line.specs.Commands.{SaysOffice};
+ghost use Rattle.command_line.specs.declared.office_words.OfficeWords.{OfficeWords};
+ghost use Rattle.desk_commands.specs.AskedOfDesk.{TellsTold};
+ghost use Rattle.desk_commands.specs.ListedAtDesk.{IsNoList, TellPages};
+ghost use Rattle.vend_ports.specs.commands.Timed.{IsTakenMoment};
+ghost use Rattle.vend_ports.specs.port.Dial.{dial_of};
+ghost use Rattle.vend_ports.specs.port.Texts.{Texts, texts_of};
 ghost use Rattle.desk_commands.specs.Exchanged.{Round};
 ghost use Rattle.vend_ports.specs.print.Printed.{clock_line};
 
+use asks::ask_law;
 use book_tables::PRESENT_FORMAT;
 use books::{found_law, opening_law};
-use command_line::{DeskQuestion, Listed};
-use desk::{Clock, conversation_law, date_law, reply_law, route_law};
+use desk::{Clock, date_law, meaning_law};
 use desk_client::{page_law, question_law, told_law};
 use office_commands::lost_law;
 use office_rules::store_law;
@@ -105,7 +109,7 @@ use sqlite::FileStore;
 use sqlite_trees::store::Store;
 use sts_fields::amount_law;
 use tariff::purchase_law;
-use vend_commands::{Door, Machine, OfficeFile};
+use vend_commands::{Door, Machine, OfficeFile, TextFiles};
 use vend_core::{credited_law, life_law, lives_law, office_law, reached_law};
 
 /// What the pages of a list print together where the last one is not full: the lines of all
@@ -114,23 +118,23 @@ use vend_core::{credited_law, life_law, lives_law, office_law, reached_law};
 pub fn list_law()
     ensures tariffs { (office : Office) (moment : ℕ) (after : Option Text)
         (pages : List WhatIsFound)
-        → ArePages office moment (Some (Listed.Tariffs after)) pages None
+        → ArePages office moment (Some (Lookup.Tariffs after)) pages None
         → (tariffs : List ListedTariff)
         × AreAllTariffs office (day_at moment) (unwrap_or after []) tariffs
         × (pages_text false pages ≡ whole_tariffs_text true tariffs) }
     ensures meters { (office : Office) (moment : ℕ) (after : Option Text)
         (pages : List WhatIsFound)
-        → ArePages office moment (Some (Listed.Meters after)) pages None
+        → ArePages office moment (Some (Lookup.Meters after)) pages None
         → (meters : List ListedMeter) × AreAllMeters office (unwrap_or after []) meters
         × (pages_text false pages ≡ whole_meters_text true meters) }
     ensures shifts { (office : Office) (moment after : ℕ) (pages : List WhatIsFound)
         → IsOffice office
-        → ArePages office moment (Some (Listed.Shifts after)) pages None
+        → ArePages office moment (Some (Lookup.Shifts after)) pages None
         → pages_text false pages ≡ shift_rows_text true
         (map (listed_shift office) (filter (λ s. nat_lt after s.number) office.shifts)) }
     ensures sales { (office : Office) (moment after : ℕ) (pages : List WhatIsFound)
         → IsOffice office
-        → ArePages office moment (Some (Listed.Sales after)) pages None
+        → ArePages office moment (Some (Lookup.Sales after)) pages None
         → pages_text false pages
         ≡ export_of true (filter (λ s. nat_lt after s.number) office.sales) }
 {
@@ -138,18 +142,21 @@ pub fn list_law()
 }
 
 /// A `sell` that ends as done on files that stood for an office printed the receipt of the sale
-/// that the office's rules give for the order; and this sale is in all that a crash may leave of
-/// the files once they are closed. Of a granted sale it prints the receipt and nothing else: if
-/// memory ran out, that was before anything was sold.
-pub fn sell_law<H: OfficeFile>()
-    ensures done { (file : H) (back : Option (H.Medium × H.Medium)) (path : Text) (wait : ℕ)
-        (transform : Shipped) (order : Order) (moment : ℕ) (office : Office)
-        (o : Outputs) → StandsIn (H.image file path) office
-        → IsAskedAt ⟦<FileStore<H::Medium> as Store>⟧
+/// that the office's rules give for the order, at the moment that its words give or else at the
+/// clock's; and this sale is in all that a crash may leave of the files once they are closed. Of a
+/// granted sale it prints the receipt and nothing else: if memory ran out, that was before anything
+/// was sold.
+pub fn sell_law<H: OfficeFile, F: TextFiles, C: Clock>()
+    ensures done { (file : H) (back : Option (H.Medium × H.Medium)) (texts : F) (clock : C)
+        (place : FilePlace) (order : Order) (json : Bool) (office : Office) (o : Outputs)
+        → StandsIn (H.image file place.path.now) office
+        → IsAskedOfFile ⟦<FileStore<H::Medium> as Store>⟧
         (places_of H.Medium.Disk H.Salts.SaltSource H.OfficeFile file back)
-        transform path wait moment (Sell order) o Done
-        → EndsSold ⟦<FileStore<H::Medium> as Store>⟧
-        (IsClosed H.Medium.Disk (lets_go_giving H.OfficeFile back)) transform order
+        (is_untouched H.OfficeFile file back) (texts_of F.TextFiles texts)
+        (dial_of C.Clock clock) place (selling order) json o Done
+        → (moment : ℕ) × IsTakenMoment place.at (dial_of C.Clock clock) (Some moment)
+        × EndsSold ⟦<FileStore<H::Medium> as Store>⟧
+        (IsClosed H.Medium.Disk (lets_go_giving H.OfficeFile back)) place.transform order
         moment office o }
     ensures told { (sale : Sale) (o : Outputs) (end : CommandEnd)
         → TellsReply (Ok (Sold sale)) o end → PrintsSale sale o end }
@@ -162,7 +169,7 @@ pub fn format_law()
     ensures { PRESENT_FORMAT ≡ present_format }
 {}
 
-/// What `quote` of a file prints is a purchase that `quote` prints: of the steps that hold for the
+/// What `offer` prints is a purchase that `quote` prints: of the steps that hold for the
 /// meter on the day, after the tenths that its month has before.
 pub fn offer_law()
     ensures { (office : Office) (moment : ℕ) (meter : Text) (tender : ℕ) (quoted : Quote)
@@ -268,9 +275,8 @@ pub fn program_law<M: Machine, N: Machine>()
     amount_law();
     purchase_law();
     reached_law();
-    route_law();
-    conversation_law();
-    reply_law();
+    ask_law();
+    meaning_law();
     date_law();
     told_law();
     question_law();
@@ -283,83 +289,88 @@ pub fn receipt_once()
     ensures receipt { (o : Office) (s t : Sale) → IsOffice o → Contains o.sales s
         → Contains o.sales t → receipt_of s ≡ receipt_of t → s ≡ t }
     ensures json { (o : Office) (s t : Sale) → IsOffice o → Contains o.sales s
-        → Contains o.sales t → json_text (sale_members s) ≡ json_text (sale_members t) → s ≡ t }
+        → Contains o.sales t → sale_text s ≡ sale_text t → s ≡ t }
 {
     export_fields_law();
-    reply_law();
 }
 
 /// What a command that asks a desk prints is what the same command prints of the desk's office. The
 /// desk read what the command sent, and answered it by its own law, and its whole reply came.
 pub fn at_desk_law()
-    // One question: the reply or what was found, printed as on the file.
-    ensures one { (question : WhatIsAsked) (json : Bool) (moment : ℕ) (old new : Timed Life)
+    // One ask: the reply or what was found, printed as on the file.
+    ensures one { (ask : Ask) (json : Bool) (moment : ℕ) (old new : Timed Life)
         (came : Text) (told : Told) (o : Outputs) (end : CommandEnd)
-        → IsAskedByOne json question → IsAskable question → IsMoment moment
+        → IsAskedByOne json ask → CanSend ask → IsMoment moment
         → IsOffice old.0.opening → IsLife new.0
-        → IsAnsweredAt (pos moment) old (question_text question) came new
-        → IsReply (wanted_by question) came told → TellsTold json question told o end
-        → PrintsAsOnFile json question moment old.0 new.0 o end }
+        → IsAnsweredAt (pos moment) old (ask_text ask) came new
+        → IsReply (wanted_by ask) came told → TellsTold json ask told o end
+        → PrintsAsOnFile json ask moment old.0 new.0 o end }
 
     // A list: its pages, of one day, and the list that is left behind them.
-    ensures pages { (list : Listed) (day : ℕ) (old new : Timed Life) (rounds : List Round)
-        (pages : List WhatIsFound) (left : Option Listed)
-        → IsAskable (page_question list)
+    ensures pages { (list : Lookup) (day : ℕ) (old new : Timed Life) (rounds : List Round)
+        (pages : List WhatIsFound) (left : Option Lookup)
+        → CanSend (Ask.Look list)
         → IsOffice old.0.opening → IsLife old.0
         → AreAnsweredOn day old rounds new → TellPages (Some list) rounds pages left
         → PrintsList day list pages left old.0 new.0 }
 
     // The command takes each of these answers for what it is, up to the longest body, of an office
-    // that requests may have led to.
-    ensures read { (question : WhatIsAsked) (moment : ℕ) (old new : Timed Life) (came : Text)
-        → IsAskable question → IsMoment moment
+    // that requests may have led to. No command asks a desk for its health.
+    ensures read { (ask : Ask) (moment : ℕ) (old new : Timed Life) (came : Text)
+        → AsksNoHealth ask → CanSend ask → IsMoment moment
         → IsOffice old.0.opening → IsPlausible old.0.opening → IsLife new.0
-        → IsAnsweredAt (pos moment) old (question_text question) came new
+        → IsAnsweredAt (pos moment) old (ask_text ask) came new
         → length came ≤ longest_reply_body
-        → (told : Told) × IsReplyTo question came told }
-    ensures page_read { (list : Listed) (moment : ℕ) (old new : Timed Life) (came : Text)
-        → IsAskable (page_question list) → IsMoment moment
+        → (told : Told) × IsReplyTo ask came told }
+    ensures page_read { (list : Lookup) (moment : ℕ) (old new : Timed Life) (came : Text)
+        → ¬ IsNoList list → CanSend (Ask.Look list) → IsMoment moment
         → IsOffice old.0.opening → IsPlausible old.0.opening → IsLife old.0
-        → IsAnsweredAt (pos moment) old (question_text (page_question list)) came new
+        → IsAnsweredAt (pos moment) old (ask_text (Ask.Look list)) came new
         → length came ≤ longest_reply_body → IsPageOrRefusal list came }
 
     // A sale that is told, but for the nibble that no reply tells, was handed out by the desk's
     // life; that of an order was sold for it.
-    ensures handed { (question : WhatIsAsked) (moment : ℕ) (old new : Timed Life) (came : Text)
-        (s : Sale)
-        → IsAskable question → IsMoment moment → IsOffice old.0.opening → IsLife new.0
-        → IsAnsweredAt (pos moment) old (question_text question) came new
-        → IsReply (wanted_by question) came (Grants (TellsSale s))
+    ensures handed { (ask : Ask) (moment : ℕ) (old new : Timed Life) (came : Text) (s : Sale)
+        → CanSend ask → IsMoment moment → IsOffice old.0.opening → IsLife new.0
+        → IsAnsweredAt (pos moment) old (ask_text ask) came new
+        → IsReply (wanted_by ask) came (Grants (TellsSale s))
         → (t : Sale) × (as_told t ≡ s) × HandsOut new.0 t }
     ensures sold { (order : Order) (moment : ℕ) (old new : Timed Life) (came : Text) (s : Sale)
-        → IsAskable (AsksSale order) → IsMoment moment
+        → CanSend (Ask.Do (Sell order)) → IsMoment moment
         → IsOffice old.0.opening → IsLife new.0
-        → IsAnsweredAt (pos moment) old (question_text (AsksSale order)) came new
-        → IsReply (wanted_by (AsksSale order)) came (Grants (TellsSale s))
+        → IsAnsweredAt (pos moment) old (ask_text (Ask.Do (Sell order))) came new
+        → IsReply (wanted_by (Ask.Do (Sell order))) came (Grants (TellsSale s))
         → (t : Sale) × (as_told t ≡ s) × IsSoldIn new.0 order t }
 
-    // What the words of a command say is such a question: it can be asked, and but for a list it is
-    // asked by one message.
-    ensures askable { (name : Text) (words : List Row) (asked : DeskQuestion) (rows : Bor Text)
-        → SaysDeskQuestion name words asked → length rows.now ≤ longest_message
-        → IsAskable (question_of asked rows) }
-    ensures by_one { (name : Text) (words : List Row) (asked : DeskQuestion) (rows : Bor Text)
-        → SaysDeskQuestion name words asked
-        → ((list : Listed) (json : Bool) → asked ≢ DeskQuestion.List list json)
-        → IsAskedByOne (is_json asked) (question_of asked rows) }
+    // And a receipt that is told is that of a sale of its number that was handed out.
+    ensures receipt { (number moment : ℕ) (old new : Timed Life) (came : Text) (text : Bor Text)
+        → CanSend (Ask.Receipt number) → IsMoment moment
+        → IsOffice old.0.opening → IsLife new.0
+        → IsAnsweredAt (pos moment) old (ask_text (Ask.Receipt number)) came new
+        → IsReply (wanted_by (Ask.Receipt number)) came (Grants (TellsPaper text))
+        → (t : Sale) × (t.number ≡ number) × (text.now ≡ receipt_of t) × HandsOut new.0 t }
 
-    // So a desk answers what a question sends, and what a list sends: a conversation over these
+    // What the words of a command ask can be asked of a desk: one thing by one message, or the
+    // pages of a list.
+    ensures askable { (name : Text) (rows : List Row) (words : OfficeWords) (ask : Ask)
+        → SaysOffice name rows words → AskForOne words.ask ask
+        → CanSend ask × IsAskedByOne words.json ask }
+    ensures list_askable { (name : Text) (rows : List Row) (words : OfficeWords) (list : Lookup)
+        → SaysOffice name rows words → AskForPages words.ask list
+        → CanSend (Ask.Look list) × (¬ IsNoList list) }
+
+    // So a desk answers what an ask sends, and what a list sends: a conversation over these
     // bytes is their exchanges and no others, as long as the line loses and changes none of them,
     // nor any of what the desk writes.
-    ensures line { (question : WhatIsAsked) (old new : Timed Life) (came : Text) (ending : Ending)
-        → IsAskable question
+    ensures line { (ask : Ask) (old new : Timed Life) (came : Text) (ending : Ending)
+        → CanSend ask
         → Conversation (timed (answers_by life_serves)) message_refusal_of ended
-        (question_text question) old came ending new
-        → (second : ℤ) × IsAnsweredAt second old (question_text question) came new }
+        (ask_text ask) old came ending new
+        → (second : ℤ) × IsAnsweredAt second old (ask_text ask) came new }
 
-    ensures lines { (list : Listed) (day : ℕ) (old new : Timed Life) (rounds : List Round)
-        (pages : List WhatIsFound) (left : Option Listed) (ending : Ending)
-        → IsAskable (page_question list)
+    ensures lines { (list : Lookup) (day : ℕ) (old new : Timed Life) (rounds : List Round)
+        (pages : List WhatIsFound) (left : Option Lookup) (ending : Ending)
+        → CanSend (Ask.Look list)
         → IsOffice old.0.opening → IsLife old.0
         → TellPages (Some list) rounds pages left → length (came_in rounds) < 2 ^ 64
         → (held : Conversation (timed (answers_by life_serves)) message_refusal_of ended
@@ -369,11 +380,11 @@ pub fn at_desk_law()
 
     // A desk's clock outside the moments of an office: that is printed, and the office is as it
     // was.
-    ensures clock { (question : WhatIsAsked) (json : Bool) (second : ℤ) (old new : Timed Life)
-        (came : Text) (told : Told) (o : Outputs) (end : CommandEnd)
-        → IsAskable question → IsNoMoment second
-        → IsAnsweredAt second old (question_text question) came new
-        → IsReply (wanted_by question) came told → TellsTold json question told o end
+    ensures clock { (ask : Ask) (json : Bool) (second : ℤ) (old new : Timed Life) (came : Text)
+        (told : Told) (o : Outputs) (end : CommandEnd)
+        → CanSend ask → IsNoMoment second
+        → IsAnsweredAt second old (ask_text ask) came new
+        → IsReply (wanted_by ask) came told → TellsTold json ask told o end
         → IsTold o [] clock_line Refused end × (new.0 ≡ old.0) }
 
     // One life has one reply to a request at a moment, and one of what is looked up then, but for
@@ -404,9 +415,8 @@ pub fn at_desk_law()
     life_law();
     reached_law();
     store_law();
-    route_law();
-    conversation_law();
-    reply_law();
+    ask_law();
+    meaning_law();
     date_law();
     told_law();
     question_law();

@@ -4,11 +4,15 @@ use Rattle.std.specs.Prelude.{None, codes}
 use Rattle.std.specs.Io.KnownBytes.{Keeps}
 use Rattle.sts_fields.specs.Text.{Text}
 use Rattle.papers.specs.Text.{time_text}
-use Rattle.office_rules.specs.declared.decision.request.Request.{Request}
-use Rattle.office_rules.specs.declared.decision.request.Request.TheVariants as requests
+use Rattle.office_rules.specs.declared.decision.request.Request.TheVariants.{Sell}
+use Rattle.asks.specs.declared.ask.Ask.TheVariants.{Do}
 use Rattle.command_line.specs.Asked.{AskFor}
 use Rattle.command_line.specs.declared.asked.Asked.{Asked}
-use Rattle.command_line.specs.declared.asked.Asked.TheVariants as asks
+use Rattle.command_line.specs.declared.asked.Asked.TheVariants.{Office}
+use Rattle.command_line.specs.declared.office_words.AskWords.{AskWords}
+use Rattle.command_line.specs.declared.office_words.AskWords.TheVariants.{Ask}
+use Rattle.command_line.specs.declared.place.Place.{Place}
+use Rattle.command_line.specs.declared.place.Place.TheVariants.{File, Desk}
 use Rattle.vend_ports.specs.print.Printed.{line_of}
 use Rattle.vend_ports.specs.print.Sink.{Held}
 use Rattle.vend_ports.specs.print.Told.{IsTaken}
@@ -28,15 +32,19 @@ moments_line last now =
 abbrev pub doubt_line : (last now : ℕ) → Text
 doubt_line last now = moments_line (time_text last ++ codes ",") (time_text now ++ codes ".")
 
--- a request is an order
-abbrev pub IsOrder : Request → Type 0
-IsOrder (requests.Sell order) = ⊤
-IsOrder request = ⊥
+-- what an office is asked is an order
+abbrev pub IsOrder : AskWords → Type 0
+IsOrder (Ask (Do (Sell order))) = ⊤
+IsOrder ask = ⊥
+
+-- the office is in the file of this name, and is asked by this computer's clock
+abbrev pub IsFileByClock : Place → (path : Text) → Type 0
+IsFileByClock (File file) path = (file.at ≡ None) × (file.path.now ≡ path)
+IsFileByClock (Desk address) path = ⊥
 
 -- what is asked sells from the file of this name, by this computer's clock
 abbrev pub SellsByClock : Asked → (path : Text) → Type 0
-SellsByClock (asks.Request words) path =
-    IsOrder words.request × (words.at ≡ None) × (words.file.now ≡ path)
+SellsByClock (Office words) path = IsOrder words.ask × IsFileByClock words.place path
 SellsByClock asked path = ⊥
 
 -- the words ask for that

@@ -1,14 +1,15 @@
 //! Whether this computer's clock looks wrong, by the last sale before one that is made by it.
 ghost use Rattle.std.specs.Prelude.{◌≡◌, Bool, IfSome, MatchOption, false, map};
 ghost use Rattle.std.specs.Io.KnownBytes.{Keeps};
-ghost use Rattle.terminal_advice.specs.Doubt.{AreFarApart, IsDoubted, IsSaid, SellsByClock};
-ghost use Rattle.terminal_advice.specs.Doubt.{moments_line};
+ghost use Rattle.terminal_advice.specs.Doubt.{AreFarApart, IsDoubted, IsFileByClock, IsSaid};
+ghost use Rattle.terminal_advice.specs.Doubt.{SellsByClock, moments_line};
 ghost use Rattle.vend_ports.specs.print.Told.{IsTaken};
 
 use crate::look::Look;
 use crate::second_line::put_words;
 use crate::time::{put, time_text};
-use command_line::{Asked, meant, parse};
+use asks::Ask;
+use command_line::{AskWords, Asked, Place, meant, parse};
 use office_rules::Request;
 use std::alloc::Global;
 use std::io::Write;
@@ -52,11 +53,25 @@ fn selling_file<'a>(asked: &Asked<'_, 'a>) -> Option<&'a str>
     ensures { IfSome result (λ file. SellsByClock asked.now file.now) }
 {
     match asked {
-        Asked::Request(words) => match (&words.request, words.at) {
-            (Request::Sell(_), None) => Some(words.file),
+        Asked::Office(words) => match &words.ask {
+            AskWords::Ask(Ask::Do(Request::Sell(_))) => file_by_clock(&words.place),
             _ => None,
         },
         _ => None,
+    }
+}
+
+// The file that is asked by this computer's clock.
+fn file_by_clock<'a>(place: &Place<'a>) -> Option<&'a str>
+    ensures { IfSome result (λ file. IsFileByClock place.now file.now) }
+{
+    match place {
+        Place::File(file) => match file.at {
+            Some(_) => None,
+            None => Some(file.path),
+        },
+        // It has its own clock.
+        Place::Desk(_) => None,
     }
 }
 

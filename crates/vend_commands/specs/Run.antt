@@ -1,5 +1,5 @@
 -- A run of the program: how what its words ask for is answered.
-use Rattle.std.specs.Prelude.{◌≡◌, ◌≢◌, ⊤, List, [], option_map}
+use Rattle.std.specs.Prelude.{◌≡◌, ◌≢◌, ⊤, Bool, List, [], option_map}
 use Rattle.clap.specs.Kinds.{IsAmong}
 use Rattle.clap.specs.declared.error.kind.ErrorKind.{ErrorKind}
 use Rattle.clap.specs.declared.error.kind.ErrorKind.TheVariants.{DisplayHelp, DisplayVersion}
@@ -11,54 +11,46 @@ use Rattle.command_line.specs.Asked.{AskFor}
 use Rattle.command_line.specs.Line.{faults_in}
 use Rattle.command_line.specs.Place.{lack_place}
 use Rattle.command_line.specs.Transform.{forward_of}
-use Rattle.office_commands.specs.commands.Asked.{IsAskedAt}
 use Rattle.desk_commands.specs.AskedOfDesk.{IsAskedOfDesk}
+use Rattle.office_commands.specs.commands.AtFile.{IsAskedOfFile}
 use Rattle.office_commands.specs.commands.Audited.{IsAudited}
-use Rattle.book_states.specs.declared.lookup.Lookup.TheVariants as lookups
-use Rattle.office_commands.specs.commands.Imported.{IsFileImported}
-use Rattle.office_commands.specs.commands.LookedUp.{IsShown, lookup_of}
 use Rattle.vend_commands.specs.serving.Listening.{IsServedTo}
 use Rattle.vend_ports.specs.commands.Metered.{IsMetered}
 use Rattle.vend_commands.specs.port.Machines.{IsAlone, IsMachineIdle, IsOffline, IsShut, Machine}
 use Rattle.vend_ports.specs.print.Printed.{refusal_line}
 use Rattle.vend_ports.specs.commands.Quoted.{PrintsQuote}
-use Rattle.office_commands.specs.commands.Reported.{IsReported}
 use Rattle.vend_commands.specs.commands.Selfchecked.{IsSelfchecked}
 use Rattle.vend_commands.specs.commands.Unread.{unread_line}
 use Rattle.vend_ports.specs.commands.Timed.{IsTimed}
 use Rattle.vend_ports.specs.print.Told.{Outputs, IsTold}
 use Rattle.vend_ports.specs.commands.Tried.{IsTried}
 use Rattle.command_line.specs.declared.asked.Asked.{Asked}
-use Rattle.command_line.specs.declared.asked.Asked.TheVariants as asks
-use Rattle.command_line.specs.declared.asked.Asked.TheVariants.{Trial, Import, Request, Report}
-use Rattle.command_line.specs.declared.asked.Asked.TheVariants.{Show, Offer, Meter, Quote, Serve}
-use Rattle.command_line.specs.declared.asked.Asked.TheVariants.{Selfcheck, Audit}
-use Rattle.office_commands.specs.declared.office.wanted.Wanted.TheVariants.{One, Listing}
+use Rattle.command_line.specs.declared.asked.Asked.TheVariants.{Office, Trial, Meter, Quote}
+use Rattle.command_line.specs.declared.asked.Asked.TheVariants.{Serve, Selfcheck, Audit}
+use Rattle.command_line.specs.declared.office_words.AskWords.{AskWords}
+use Rattle.command_line.specs.declared.place.Place.{Place}
+use Rattle.command_line.specs.declared.place.Place.TheVariants.{File, Desk}
 use Rattle.vend_ports.specs.declared.command_end.CommandEnd.{CommandEnd}
 use Rattle.vend_ports.specs.declared.command_end.CommandEnd.TheVariants.{Done, Refused, BadWords}
 
+-- An office is asked: one in a file, where nobody is listened to and no connection is made; or one
+-- at a desk, where no file of an office is found and no clock is read.
+abbrev pub IsOfficeAsked : {S D R W : Type 0} → Ghosts S → Machine D R W → Place → AskWords
+    → (json : Bool) → Outputs → CommandEnd → Type 0
+IsOfficeAsked store m (File file) ask json o end = IsOffline m
+    × IsAskedOfFile store m.at m.untouched m.texts m.clock file ask json o end
+IsOfficeAsked store m (Desk address) ask json o end = m.untouched × IsShut m
+    × IsAskedOfDesk m.texts m.loop.calls m.loop.leaves address ask json o end
+
 -- What is asked for is done, and nothing of the machine is used beside: where no office is needed
--- none is found, only `serve` has the door, only `selfcheck` connects the machine with itself, only
--- a command that asks a desk connects it with one, and it has no clock, and only `import` reads a
--- file, once.
+-- none is found, only `serve` has the door, only `selfcheck` connects the machine with itself, and
+-- only what asks a desk connects it with one.
 abbrev pub IsCarriedOut : {S D R W : Type 0} → Ghosts S → Machine D R W → Asked → Outputs
     → CommandEnd → Type 0
+IsCarriedOut store m (Office words) o end =
+    IsOfficeAsked store m words.place words.ask words.json o end
 IsCarriedOut store m (Trial words) o end =
     IsMachineIdle m × IsTimed ⊤ words.at m.clock (λ moment. IsTried words moment o end) o end
-IsCarriedOut store m (Import words) o end = IsOffline m
-    × IsTimed (m.untouched × m.texts.leaves) words.at m.clock
-    (λ moment. IsFileImported store m.at m.untouched m.texts words moment o end) o end
-IsCarriedOut store m (Request words) o end = IsAlone m × IsTimed m.untouched words.at m.clock
-    (λ moment. IsAskedAt store m.at words.transform words.file.now words.wait moment
-    words.request o end) o end
-IsCarriedOut store m (Report words) o end = IsAlone m × IsReported store m.at words o end
-IsCarriedOut store m (Show words) o end = IsAlone m × IsShown store m.at m.untouched m.clock
-    words.at words.file.now words.wait (One (lookup_of words.shown) words.json) o end
-IsCarriedOut store m (asks.List words) o end = IsAlone m × IsShown store m.at m.untouched
-    m.clock words.at words.file.now words.wait (Listing words.listed words.json) o end
-IsCarriedOut store m (Offer words) o end = IsAlone m × IsShown store m.at m.untouched m.clock
-    words.at words.file.now words.wait
-    (One (lookups.Quote words.meter words.tender) words.json) o end
 IsCarriedOut store m (Meter words) o end = IsMachineIdle m × IsMetered words o end
 IsCarriedOut store m (Quote words) o end = IsMachineIdle m × PrintsQuote words o end
 IsCarriedOut store m (Serve words) o end =
@@ -66,8 +58,6 @@ IsCarriedOut store m (Serve words) o end =
     × IsServedTo store m.way m.at m.door m.clock words o end
 IsCarriedOut store m (Selfcheck words) o end = m.untouched × (IsShut m × m.texts.leaves)
     × IsSelfchecked (m.loop.agrees words.transform) (m.loop.disagrees words.transform) o end
-IsCarriedOut store m (asks.Desk words) o end = m.untouched × IsShut m
-    × IsAskedOfDesk m.texts m.loop.calls m.loop.leaves words o end
 IsCarriedOut store m (Audit words) o end =
     IsAlone m
     × IsAudited (m.at words.file.now words.wait) (option_map forward_of words.transform) o end

@@ -5,7 +5,8 @@ ghost use Rattle.office_rules.specs.declared.decision.refusal.Refusal.TheVariant
 ghost use Rattle.command_line.specs.Asked.{AskFor};
 ghost use Rattle.vend_commands.specs.port.Machines.{machine_of};
 ghost use Rattle.vend_ports.specs.print.Printed.{refusal_line};
-ghost use Rattle.vend_commands.specs.Run.{IsCarriedOut, IsExplained, IsProgramRun};
+ghost use Rattle.vend_commands.specs.Run.{IsCarriedOut, IsExplained, IsOfficeAsked};
+ghost use Rattle.vend_commands.specs.Run.{IsProgramRun};
 ghost use Rattle.vend_ports.specs.Status.{status_of};
 ghost use Rattle.vend_ports.specs.print.Sink.{writer};
 ghost use Rattle.vend_ports.specs.print.Told.{IsTold, Takes, outputs};
@@ -17,10 +18,10 @@ use crate::commands;
 use crate::commands::selfcheck::run_selfcheck;
 use crate::print::explanation::Explanation;
 use clap::error::ErrorKind;
-use command_line::{Asked, BadWords, meant, parse};
+use command_line::{Asked, BadWords, OfficeWords, Place, meant, parse};
 use desk::{MachineClock, TimeSource};
 use desk_commands::at_desk;
-use office_commands::commands::{file_audit, import, list, offer, report, request, show};
+use office_commands::commands::{at_file, file_audit};
 use office_commands::{Ended, Machine, MachineFile, OfficeFile, Ports, TerminalProgress};
 use office_rules::Refusal;
 use sqlite::Start;
@@ -199,45 +200,13 @@ fn answer<M: Machine, O: Write, E: Write>(
     ensures { IsCarriedOut (over_files {g = M.Office.Medium.Disk}) (machine_of ports result.back)
         asked.entry (outputs out.old out.new err.old err.new) result.end }
 {
-    let mut clock = ports.clock;
     match asked {
+        Asked::Office(words) => ask_office(alloc, ports, words, out, err),
         Asked::Trial(words) => {
             leave_all(ports.office, ports.texts, ports.door, ports.loopback);
+            let mut clock = ports.clock;
             let end = trial::run(&words, alloc, &mut clock, out, err);
             Ended { end, back: None }
-        }
-        Asked::Import(words) => {
-            go_offline(ports.door, ports.loopback);
-            import::run(
-                &words,
-                alloc,
-                ports.office,
-                ports.texts,
-                &mut clock,
-                out,
-                err,
-            )
-        }
-        Asked::Request(words) => {
-            be_alone(ports.texts, ports.door, ports.loopback);
-            request::run(words, alloc, ports.office, &mut clock, out, err)
-        }
-        Asked::Report(words) => {
-            be_alone(ports.texts, ports.door, ports.loopback);
-            let mut progress = ports.progress;
-            report::run(&words, alloc, ports.office, &mut progress, out, err)
-        }
-        Asked::Show(words) => {
-            be_alone(ports.texts, ports.door, ports.loopback);
-            show::run(&words, alloc, ports.office, &mut clock, out, err)
-        }
-        Asked::List(words) => {
-            be_alone(ports.texts, ports.door, ports.loopback);
-            list::run(&words, alloc, ports.office, &mut clock, out, err)
-        }
-        Asked::Offer(words) => {
-            be_alone(ports.texts, ports.door, ports.loopback);
-            offer::run(&words, alloc, ports.office, &mut clock, out, err)
         }
         Asked::Meter(words) => {
             leave_all(ports.office, ports.texts, ports.door, ports.loopback);
@@ -252,6 +221,7 @@ fn answer<M: Machine, O: Write, E: Write>(
         Asked::Serve(words) => {
             M::Texts::leave(ports.texts);
             M::Loopback::leave(ports.loopback);
+            let mut clock = ports.clock;
             commands::serve::run(&words, alloc, ports.office, ports.door, &mut clock, err)
         }
         Asked::Selfcheck(words) => {
@@ -261,17 +231,59 @@ fn answer<M: Machine, O: Write, E: Write>(
             let end = run_selfcheck(&words, alloc, ports.loopback, out, err);
             Ended { end, back: None }
         }
-        Asked::Desk(words) => {
-            M::Office::leave(ports.office);
-            M::Door::leave(ports.door);
-            let loopback = ports.loopback;
-            let end = at_desk::run(&words, alloc, ports.texts, loopback, out, err);
-            Ended { end, back: None }
-        }
         Asked::Audit(words) => {
             be_alone(ports.texts, ports.door, ports.loopback);
             let mut progress = ports.progress;
             file_audit::run(&words, alloc, ports.office, &mut progress, out, err)
+        }
+    }
+}
+
+// Asks the office that the words name.
+fn ask_office<M: Machine, O: Write, E: Write>(
+    alloc: Global,
+    ports: Ports<M>,
+    words: OfficeWords<'_>,
+    out: &mut Watched<'_, O>,
+    err: &mut Watched<'_, E>,
+) -> Ended<<M::Office as OfficeFile>::Medium>
+    ensures { IsOfficeAsked (over_files {g = M.Office.Medium.Disk}) (machine_of ports result.back)
+        words.entry.place words.entry.ask words.entry.json
+        (outputs out.old out.new err.old err.new) result.end }
+{
+    let OfficeWords { place, ask, json } = words;
+    match place {
+        Place::File(file) => {
+            go_offline(ports.door, ports.loopback);
+            let mut clock = ports.clock;
+            let mut progress = ports.progress;
+            at_file::run(
+                &file,
+                ask,
+                json,
+                alloc,
+                ports.office,
+                ports.texts,
+                &mut clock,
+                &mut progress,
+                out,
+                err,
+            )
+        }
+        Place::Desk(address) => {
+            M::Office::leave(ports.office);
+            M::Door::leave(ports.door);
+            let end = at_desk::run(
+                address,
+                &ask,
+                json,
+                alloc,
+                ports.texts,
+                ports.loopback,
+                out,
+                err,
+            );
+            Ended { end, back: None }
         }
     }
 }

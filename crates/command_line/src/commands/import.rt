@@ -1,34 +1,18 @@
 ghost use Rattle.std.specs.Prelude.{codes};
-ghost use Rattle.command_line.specs.Commands.{SaysImport, SaysKind};
+ghost use Rattle.command_line.specs.Commands.{SaysAskWords, SaysKind};
 ghost use Rattle.command_line.specs.Said.{IsArgument, ReadsWhat, argument_rows, parsed_argument};
 ghost use Rattle.command_line.specs.Values.{SaysText};
 
 use crate::argument::{Argument, ArgumentKind};
 use crate::description::Description;
-use crate::transform::Shipped;
+use crate::office_words::AskWords;
 use crate::{options, said};
 use clap::ArgMatches;
 use papers::FileKind;
-use sts_fields::Moment;
 
 /// What it does, in its help.
 pub(crate) const ABOUT: &str =
     "Adds the tariffs or meters of a CSV file, all or none, and prints how many were new";
-
-/// What `import` is asked to do: the rows of a file of tariffs or meters, added to an office.
-#[derive(Clone, Copy)]
-pub struct ImportWords<'a> {
-    pub transform: Shipped,
-    /// The file that keeps the office.
-    pub file: &'a str,
-    /// For how many seconds it waits while another program has the file, 0 to 3600.
-    pub wait: u32,
-    /// The machine's clock where it is left out.
-    pub at: Option<Moment>,
-    pub kind: FileKind,
-    /// The file of rows.
-    pub csv: &'a str,
-}
 
 /// `import --file F [--wait S] [--at S] [--transform X] tariffs|meters CSV`.
 pub(crate) const COMMAND: Description = Description {
@@ -61,22 +45,15 @@ pub(crate) const CSV: Argument = Argument {
         meter,base,tariff,key",
 };
 
-impl<'a> ImportWords<'a> {
-    pub(crate) fn read(matches: &ArgMatches<'a>) -> Option<ImportWords<'a>>
-        ensures { ReadsWhat result (SaysImport (argument_rows matches.now)) }
-    {
-        Some(ImportWords {
-            transform: options::read_transform(matches)?,
-            file: options::read_file(matches)?,
-            wait: options::read_wait(matches)?,
-            at: options::read_at(matches)?,
-            kind: read_kind(matches)?,
-            csv: read_csv(matches)?,
-        })
-    }
+/// Which file's rows `import` adds to an office.
+pub(crate) fn read<'a>(matches: &ArgMatches<'a>) -> Option<AskWords<'a>>
+    ensures { ReadsWhat result (SaysAskWords (codes "import") (argument_rows matches.now)) }
+{
+    let kind = read_kind(matches)?;
+    Some(AskWords::Import(kind, read_csv(matches)?))
 }
 
-pub(crate) fn read_kind(matches: &ArgMatches) -> Option<FileKind>
+fn read_kind(matches: &ArgMatches) -> Option<FileKind>
     ensures { ReadsWhat result (IsArgument SaysKind
         (parsed_argument (codes "kind") (argument_rows matches.now))) }
 {
@@ -87,7 +64,7 @@ pub(crate) fn read_kind(matches: &ArgMatches) -> Option<FileKind>
     }
 }
 
-pub(crate) fn read_csv<'a>(matches: &ArgMatches<'a>) -> Option<&'a str>
+fn read_csv<'a>(matches: &ArgMatches<'a>) -> Option<&'a str>
     ensures { ReadsWhat result (IsArgument SaysText
         (parsed_argument (codes "csv") (argument_rows matches.now))) }
 {

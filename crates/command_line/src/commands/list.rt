@@ -1,5 +1,5 @@
 ghost use Rattle.std.specs.Prelude.{codes};
-ghost use Rattle.command_line.specs.Commands.{IsNumberOrNone, SaysList, SaysListed};
+ghost use Rattle.command_line.specs.Commands.{IsNumberOrNone, SaysListed};
 ghost use Rattle.command_line.specs.Said.{IsOptionalArgument, ReadsWhat, argument_rows};
 ghost use Rattle.command_line.specs.Said.{parsed_argument};
 ghost use Rattle.command_line.specs.Values.{SaysMeterNo, SaysTariff};
@@ -7,42 +7,14 @@ ghost use Rattle.command_line.specs.Values.{SaysMeterNo, SaysTariff};
 use crate::argument::{Argument, ArgumentKind};
 use crate::description::Description;
 use crate::{options, said, values};
+use asks::Lookup;
 use clap::ArgMatches;
 use office_rules::{MeterNo, TariffName};
-use sts_fields::Moment;
 
 /// What it does, in its help.
 pub(crate) const ABOUT: &str =
     "Prints the tariffs with their steps, the meters without their keys, the shifts with their \
     totals, or the sales";
-
-/// What is listed of an office: all members of a kind, or those after one, in the order of their
-/// keys. It need not be there.
-#[derive(Clone, Copy, Debug, PartialEq, Eq)]
-pub enum Listed {
-    /// The tariffs, after a name in the order of its bytes.
-    Tariffs(Option<TariffName>),
-    /// The meters after a number, without their keys.
-    Meters(Option<MeterNo>),
-    /// The shifts after a number, 0 to 10^9.
-    Shifts(u32),
-    /// The sales after a number, 0 to 10^9.
-    Sales(u32),
-}
-
-/// What `list` is asked for: the members of an office.
-#[derive(Clone, Copy)]
-pub struct ListWords<'a> {
-    /// The file that keeps the office. It is not made.
-    pub file: &'a str,
-    /// For how many seconds it waits while another program has the file, 0 to 3600.
-    pub wait: u32,
-    /// The machine's clock where it is left out.
-    pub at: Option<Moment>,
-    pub listed: Listed,
-    /// As JSON, a line for each page, and not as a line for each member.
-    pub json: bool,
-}
 
 /// `list --file F [--wait S] [--at S] [--after KEY] [--json] tariffs|meters|shifts|sales`.
 pub(crate) const COMMAND: Description = Description {
@@ -82,28 +54,16 @@ pub(crate) const WHAT: Argument = Argument {
     help: "What to print: tariffs, meters, shifts or sales",
 };
 
-impl<'a> ListWords<'a> {
-    pub(crate) fn read(matches: &ArgMatches<'a>) -> Option<ListWords<'a>>
-        ensures { ReadsWhat result (SaysList (argument_rows matches.now)) }
-    {
-        Some(ListWords {
-            file: options::read_file(matches)?,
-            wait: options::read_wait(matches)?,
-            at: options::read_at(matches)?,
-            listed: read_listed(matches)?,
-            json: options::read_json(matches)?,
-        })
-    }
-}
-
-pub(crate) fn read_listed(matches: &ArgMatches) -> Option<Listed>
+/// The first page that `list` asks an office for: that of all members, or of those after one, which
+/// need not be there.
+pub(crate) fn read(matches: &ArgMatches) -> Option<Lookup>
     ensures { ReadsWhat result (SaysListed (argument_rows matches.now)) }
 {
     match said::text(matches, "what")? {
-        "tariffs" => Some(Listed::Tariffs(tariff_after(matches)?)),
-        "meters" => Some(Listed::Meters(meter_after(matches)?)),
-        "shifts" => Some(Listed::Shifts(number_after(matches)?)),
-        "sales" => Some(Listed::Sales(number_after(matches)?)),
+        "tariffs" => Some(Lookup::Tariffs(tariff_after(matches)?)),
+        "meters" => Some(Lookup::Meters(meter_after(matches)?)),
+        "shifts" => Some(Lookup::Shifts(number_after(matches)?)),
+        "sales" => Some(Lookup::Sales(number_after(matches)?)),
         _ => None,
     }
 }

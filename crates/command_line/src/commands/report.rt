@@ -1,39 +1,19 @@
 ghost use Rattle.std.specs.Prelude.{codes};
-ghost use Rattle.command_line.specs.Commands.{SaysPaper, SaysReport};
+ghost use Rattle.command_line.specs.Commands.{SaysAskWords, SaysLookup, SaysRequest};
 ghost use Rattle.command_line.specs.Said.{IsArgument, ReadsWhat, argument_rows, parsed_argument};
 ghost use Rattle.command_line.specs.Values.{SaysItem};
 
 use crate::argument::{Argument, ArgumentKind};
 use crate::description::Description;
+use crate::office_words::AskWords;
 use crate::{options, said, values};
+use asks::{Ask, Lookup};
 use clap::ArgMatches;
+use office_rules::Request;
 
 /// What it does, in its help.
 pub(crate) const ABOUT: &str =
     "Prints a shift's report or totals, a sale's receipt again, or all sales as CSV";
-
-/// What is printed from an office's books.
-#[derive(Clone, Copy, Debug, PartialEq, Eq)]
-pub enum Paper {
-    /// The report of the shift of this number, 1 to 10^9.
-    Shift(u32),
-    /// The receipt of the sale of this number, 1 to 10^9.
-    Receipt(u32),
-    /// The totals of the shift of this number, 1 to 10^9.
-    Totals(u32),
-    /// All sales, as CSV.
-    Sales,
-}
-
-/// What `report` is asked for: a paper of an office.
-#[derive(Clone, Copy)]
-pub struct ReportWords<'a> {
-    /// The file that keeps the office. It is not made.
-    pub file: &'a str,
-    /// For how many seconds it waits while another program has the file, 0 to 3600.
-    pub wait: u32,
-    pub paper: Paper,
-}
 
 /// `report --file F [--wait S] --kind shift|receipt|totals|sales [--number N]`.
 pub(crate) const COMMAND: Description = Description {
@@ -64,28 +44,40 @@ pub(crate) const NUMBER: Argument = Argument {
         it), 1 to 1000000000; ignored with sales",
 };
 
-impl<'a> ReportWords<'a> {
-    pub(crate) fn read(matches: &ArgMatches<'a>) -> Option<ReportWords<'a>>
-        ensures { ReadsWhat result (SaysReport (argument_rows matches.now)) }
-    {
-        Some(ReportWords {
-            file: options::read_file(matches)?,
-            wait: options::read_wait(matches)?,
-            paper: read_paper(matches)?,
-        })
+/// Which paper `report` asks an office for, or the export of its sales.
+pub(crate) fn read<'a>(matches: &ArgMatches) -> Option<AskWords<'a>>
+    ensures { ReadsWhat result (SaysAskWords (codes "report") (argument_rows matches.now)) }
+{
+    match said::text(matches, "kind")? {
+        "receipt" => Some(AskWords::Ask(Ask::Receipt(read_number(matches)?))),
+        "sales" => Some(AskWords::Export),
+        "totals" => match read_lookup(matches) {
+            Some(lookup) => Some(AskWords::Ask(Ask::Look(lookup))),
+            None => None,
+        },
+        _ => match read_request(matches) {
+            Some(request) => Some(AskWords::Ask(Ask::Do(request))),
+            None => None,
+        },
     }
 }
 
-pub(crate) fn read_paper(matches: &ArgMatches) -> Option<Paper>
-    ensures { ReadsWhat result (SaysPaper
-        (parsed_argument (codes "kind") (argument_rows matches.now))
-        (parsed_argument (codes "number") (argument_rows matches.now))) }
+/// The request of `report`: a shift is reported.
+pub(crate) fn read_request(matches: &ArgMatches) -> Option<Request>
+    ensures { ReadsWhat result (SaysRequest (codes "report") (argument_rows matches.now)) }
 {
     match said::text(matches, "kind")? {
-        "shift" => Some(Paper::Shift(read_number(matches)?)),
-        "receipt" => Some(Paper::Receipt(read_number(matches)?)),
-        "totals" => Some(Paper::Totals(read_number(matches)?)),
-        "sales" => Some(Paper::Sales),
+        "shift" => Some(Request::ShiftReport(read_number(matches)?)),
+        _ => None,
+    }
+}
+
+/// What `report` looks up: the totals of a shift.
+pub(crate) fn read_lookup(matches: &ArgMatches) -> Option<Lookup>
+    ensures { ReadsWhat result (SaysLookup (codes "report") (argument_rows matches.now)) }
+{
+    match said::text(matches, "kind")? {
+        "totals" => Some(Lookup::ShiftTotals(read_number(matches)?)),
         _ => None,
     }
 }

@@ -53,8 +53,8 @@ pub(crate) fn read(matches: &ArgMatches) -> Option<Request>
     Some(Request::Sell(read_order(matches)?))
 }
 
-/// The order that is sold.
-pub(crate) fn read_order(matches: &ArgMatches) -> Option<Order>
+// The order that is sold.
+fn read_order(matches: &ArgMatches) -> Option<Order>
     ensures { ReadsWhat result (SaysOrder (argument_rows matches.now)) }
 {
     Some(Order {

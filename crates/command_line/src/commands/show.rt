@@ -1,42 +1,17 @@
-ghost use Rattle.command_line.specs.Commands.{SaysShow, SaysShown};
+ghost use Rattle.std.specs.Prelude.{codes};
+ghost use Rattle.command_line.specs.Commands.{SaysLookup};
 ghost use Rattle.command_line.specs.Said.{ReadsWhat, argument_rows};
 
 use crate::argument::{Argument, ArgumentKind};
 use crate::description::Description;
 use crate::{options, said};
+use asks::Lookup;
 use clap::ArgMatches;
-use office_rules::{MeterNo, Operator, Ref};
-use sts_fields::Moment;
 
 /// What it does, in its help.
 pub(crate) const ABOUT: &str =
     "Prints a meter and what it bought this month, a sale by its ref, or the receipt of a meter's \
     last sale";
-
-/// What is shown of an office.
-#[derive(Clone, Copy, Debug, PartialEq, Eq)]
-pub enum Shown {
-    /// A meter, without its key.
-    Meter(MeterNo),
-    /// The receipt of the last sale to a meter.
-    Last(MeterNo),
-    /// The sale that an operator made under a ref.
-    Sale(Operator, Ref),
-}
-
-/// What `show` is asked for: something that an office has.
-#[derive(Clone, Copy)]
-pub struct ShowWords<'a> {
-    /// The file that keeps the office. It is not made.
-    pub file: &'a str,
-    /// For how many seconds it waits while another program has the file, 0 to 3600.
-    pub wait: u32,
-    /// The machine's clock where it is left out.
-    pub at: Option<Moment>,
-    pub shown: Shown,
-    /// As JSON and not as lines; false with `Last`.
-    pub json: bool,
-}
 
 /// `show --file F [--wait S] [--at S] [--json] meter --meter M`, the same with
 /// `sale --operator O --ref R`, and `show --file F [--wait S] [--at S] last --meter M`.
@@ -93,33 +68,20 @@ pub(crate) const WHAT: Argument = Argument {
     help: "What to print: meter, sale or last",
 };
 
-impl<'a> ShowWords<'a> {
-    pub(crate) fn read(matches: &ArgMatches<'a>) -> Option<ShowWords<'a>>
-        ensures { ReadsWhat result (SaysShow (argument_rows matches.now)) }
-    {
-        Some(ShowWords {
-            file: options::read_file(matches)?,
-            wait: options::read_wait(matches)?,
-            at: options::read_at(matches)?,
-            shown: read_shown(matches)?,
-            json: options::read_json(matches)?,
-        })
-    }
-}
-
-pub(crate) fn read_shown(matches: &ArgMatches) -> Option<Shown>
-    ensures { ReadsWhat result (SaysShown (argument_rows matches.now)) }
+/// What `show` looks up in an office.
+pub(crate) fn read(matches: &ArgMatches) -> Option<Lookup>
+    ensures { ReadsWhat result (SaysLookup (codes "show") (argument_rows matches.now)) }
 {
     match said::text(matches, "what")? {
-        "meter" => Some(Shown::Meter(options::read_meter(matches)?)),
+        "meter" => Some(Lookup::Meter(options::read_meter(matches)?)),
         // A receipt is a text, and no JSON.
         "last" => match options::read_json(matches)? {
             true => None,
-            false => Some(Shown::Last(options::read_meter(matches)?)),
+            false => Some(Lookup::LastSale(options::read_meter(matches)?)),
         },
         "sale" => {
             let operator = options::read_operator(matches)?;
-            Some(Shown::Sale(operator, options::read_ref(matches)?))
+            Some(Lookup::SaleOfRef(operator, options::read_ref(matches)?))
         }
         _ => None,
     }

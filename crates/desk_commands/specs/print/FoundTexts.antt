@@ -1,10 +1,10 @@
 -- What is printed of what was looked up.
 use Rattle.std.specs.Prelude.{⊤, ℕ, ◌-◌, Bool, true, false, [], ◌∷◌, ◌++◌, Option, Some, None}
 use Rattle.std.specs.Prelude.{codes, decimal}
+use Rattle.asks.specs.declared.lookup.Lookup.{Lookup}
+use Rattle.asks.specs.declared.lookup.Lookup.TheVariants as lookups
 use Rattle.book_states.specs.declared.lookup.Found.{Found}
 use Rattle.book_states.specs.declared.lookup.Found.TheVariants as found
-use Rattle.book_states.specs.declared.lookup.Lookup.{Lookup}
-use Rattle.book_states.specs.declared.lookup.Lookup.TheVariants as lookups
 use Rattle.book_states.specs.declared.lookup.MeterSummary.{MeterSummary}
 use Rattle.book_states.specs.declared.lookup.Quote.{Quote}
 use Rattle.desk_messages.specs.declared.reply.form.Form.TheVariants.{Json}

@@ -1,13 +1,13 @@
 -- What is printed of a page of a list.
 use Rattle.std.specs.Prelude.{Bool, true, false, List, [], ◌∷◌, ◌++◌, codes, decimal, if◌then◌else◌}
 use Rattle.std.specs.List.{flat_map}
+use Rattle.asks.specs.Value.{day_text}
 use Rattle.book_states.specs.declared.lookup.Found.{Found}
 use Rattle.book_states.specs.declared.lookup.Found.TheVariants as found
 use Rattle.book_states.specs.declared.lookup.LaterSteps.{LaterSteps}
 use Rattle.book_states.specs.declared.lookup.ListedMeter.{ListedMeter}
 use Rattle.book_states.specs.declared.lookup.ListedShift.{ListedShift}
 use Rattle.book_states.specs.declared.lookup.ListedTariff.{ListedTariff}
-use Rattle.desk_messages.specs.reply.Lists.{day_text}
 use Rattle.papers.specs.Export.{export_of}
 use Rattle.sts_fields.specs.Base.{year_of}
 use Rattle.sts_fields.specs.Text.{Text}

@@ -9,7 +9,8 @@ ghost use Rattle.vend_ports.specs.print.Told.{Takes};
 ghost use Rattle.book_states.specs.declared.lookup.Found.TheVariants.{Sale as FoundSale};
 
 use crate::print::page::json_line;
-use book_states::{Found, Lookup, MeterSummary, Quote};
+use asks::Lookup;
+use book_states::{Found, MeterSummary, Quote};
 use itoa::Buffer;
 use office_rules::Sale;
 use papers::{export, receipt_in_place};

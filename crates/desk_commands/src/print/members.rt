@@ -6,8 +6,8 @@ ghost use Rattle.desk_commands.specs.print.FoundTexts.{number_or_none};
 ghost use Rattle.desk_commands.specs.print.ListTexts.{later_line};
 
 use crate::print::table::{TableRow, put_fields};
+use asks::{put_day, put_steps};
 use book_states::{LaterSteps, ListedMeter, ListedShift, ListedTariff};
-use desk_messages::{put_day, put_steps};
 use itoa::Buffer;
 use office_rules::Moment;
 use std::alloc::{AllocError, Global};

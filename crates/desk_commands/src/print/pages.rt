@@ -6,9 +6,9 @@ ghost use Rattle.desk_commands.specs.print.Pages.{IsPagePut, last_of_full, list_
 ghost use Rattle.vend_ports.specs.print.Told.{Takes};
 
 use crate::print::page::page_text;
+use asks::Lookup;
 use book_lists::PAGE;
 use book_states::Found;
-use command_line::Listed;
 use std::alloc::{AllocError, Global};
 use std::io::Write;
 use vend_ports::Watched;
@@ -22,7 +22,7 @@ pub fn put_page<O: Write>(
     json: bool,
     is_first: bool,
     out: &mut Watched<'_, O>,
-) -> Result<Option<Listed>, AllocError>
+) -> Result<Option<Lookup>, AllocError>
     ensures { MatchResult result
         (IsPagePut page.now json is_first out.old out.new) (λ _. Takes out.old out.new []) }
 {
@@ -38,25 +38,25 @@ pub fn put_page<O: Write>(
 }
 
 // The list behind a page, after its last member, where the page is full.
-fn list_behind(page: &Found) -> Option<Listed>
+fn list_behind(page: &Found) -> Option<Lookup>
     ensures { result ≡ list_behind page.now }
 {
     match page {
         Found::Tariffs(page) => {
             let last = last_of_full(page.as_slice())?;
-            Some(Listed::Tariffs(Some(last.name)))
+            Some(Lookup::Tariffs(Some(last.name)))
         }
         Found::Meters(page) => {
             let last = last_of_full(page.as_slice())?;
-            Some(Listed::Meters(Some(last.number)))
+            Some(Lookup::Meters(Some(last.number)))
         }
         Found::Shifts(page) => {
             let last = last_of_full(page.as_slice())?;
-            Some(Listed::Shifts(last.shift.number))
+            Some(Lookup::Shifts(last.shift.number))
         }
         Found::Sales(page) => {
             let last = last_of_full(page.as_slice())?;
-            Some(Listed::Sales(last.number))
+            Some(Lookup::Sales(last.number))
         }
         _ => None,
     }

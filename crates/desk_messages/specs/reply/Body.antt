@@ -1,28 +1,24 @@
 -- The bodies of replies.
-use Rattle.std.specs.Prelude.{ℕ, ◌-◌, Bool, true, false, List, [], ◌∷◌, codes, map, Ok, Err}
-use Rattle.std.specs.Str.Lossy.{utf8_lossy}
-use Rattle.serde_json.specs.Data.{Data, boolean, string}
+use Rattle.std.specs.Prelude.{ℕ, List, codes, map, Ok, Err}
 use Rattle.conversation.specs.message.MessageFault.{message_fault_word}
+use Rattle.records.specs.List.{list_text, page_text, records_text}
+use Rattle.records.specs.Record.{record_text}
 use Rattle.desk_messages.specs.declared.reply.form.Form.{Form}
 use Rattle.desk_messages.specs.declared.reply.form.Form.TheVariants.{Json, Paper}
 use Rattle.desk_messages.specs.declared.reply.outcome.Outcome.{Outcome}
 use Rattle.desk_messages.specs.declared.reply.outcome.Outcome.TheVariants.{Refused, Faulty, Replied}
 use Rattle.desk_messages.specs.declared.reply.outcome.Outcome.TheVariants as outcomes
 use Rattle.desk_messages.specs.DeskFault.{desk_fault_word}
-use Rattle.desk_messages.specs.reply.Lists.{list_members, listed_meter_data, listed_shift_data}
-use Rattle.desk_messages.specs.reply.Lists.{tariff_data}
-use Rattle.desk_messages.specs.reply.Members.{Pair, json_text, object_of, some_number, whole_number}
-use Rattle.book_tables.specs.row.Rows.{present_format}
-use Rattle.book_tables.specs.declared.row.totals.Totals.{Totals}
+use Rattle.desk_messages.specs.reply.Lists.{tariff_text}
+use Rattle.desk_messages.specs.reply.Records.{count_text, fault_text, health_text, meter_text}
+use Rattle.desk_messages.specs.reply.Records.{listed_meter_cells, listed_meter_names, quote_text}
+use Rattle.desk_messages.specs.reply.Records.{listed_shift_cells, listed_shift_names, totals_text}
+use Rattle.desk_messages.specs.reply.Records.{refusal_cells, refusal_names, row_cells, row_names}
+use Rattle.desk_messages.specs.reply.Records.{sale_cells, sale_names, sale_text}
 use Rattle.book_states.specs.declared.lookup.Found.{Found}
 use Rattle.book_states.specs.declared.lookup.Found.TheVariants as found
-use Rattle.book_states.specs.declared.lookup.Health.{Health}
-use Rattle.book_states.specs.declared.lookup.MeterSummary.{MeterSummary}
-use Rattle.book_states.specs.declared.lookup.Quote.{Quote}
 use Rattle.papers.specs.Receipt.{receipt_of}
 use Rattle.papers.specs.Report.{report_of}
-use Rattle.papers.specs.Text.{change_of}
-use Rattle.sts_fields.specs.Base.{year_of}
 use Rattle.office_rules.specs.Decision.Refusals.{refusal_category, refusal_name, refusal_number}
 use Rattle.office_rules.specs.Decision.RowCauses.{cause_text}
 use Rattle.office_rules.specs.declared.decision.answer.Answer.{Answer}
@@ -36,142 +32,68 @@ use Rattle.office_rules.specs.declared.decision.category.Category.TheVariants.{U
 use Rattle.office_rules.specs.declared.decision.refusal.Refusal.{Refusal}
 use Rattle.office_rules.specs.declared.office.sale.Sale.{Sale}
 
--- a fault of the desk is told by its word
-abbrev pub fault_members : List ℕ → List Pair
-fault_members word = (codes "error", string word) ∷ []
-
 -- a refusal of a row is told by its name and number, the row and the cause
-abbrev pub row_members : List ℕ → ℕ → ℕ → List ℕ → List Pair
-row_members name number row cause =
-    (codes "cause", string cause)
-    ∷ (codes "error", string name)
-    ∷ (codes "refusal", whole_number number)
-    ∷ (codes "row", whole_number row)
-    ∷ []
+abbrev pub row_text : Refusal → ℕ → List ℕ → List ℕ
+row_text refusal row cause =
+    record_text row_names (row_cells (refusal_name refusal) (refusal_number refusal) row cause)
 
 -- another refusal of the office is told by its name and number
-abbrev pub name_members : Refusal → List Pair
-name_members refusal =
-    (codes "error", string (refusal_name refusal))
-    ∷ (codes "refusal", whole_number (refusal_number refusal))
-    ∷ []
+abbrev pub plain_text : Refusal → List ℕ
+plain_text refusal =
+    record_text refusal_names (refusal_cells (refusal_name refusal) (refusal_number refusal))
 
 -- what a refusal of this category is told by
-abbrev pub category_members : Refusal → Category → List Pair
-category_members refusal (UnfitRow row cause) =
-    row_members (refusal_name refusal) (refusal_number refusal) row (cause_text cause)
-category_members refusal Missing = name_members refusal
-category_members refusal Forbidden = name_members refusal
-category_members refusal Unfit = name_members refusal
-category_members refusal Unable = name_members refusal
+abbrev pub text_by : Refusal → Category → List ℕ
+text_by refusal (UnfitRow row cause) = row_text refusal row (cause_text cause)
+text_by refusal Missing = plain_text refusal
+text_by refusal Forbidden = plain_text refusal
+text_by refusal Unfit = plain_text refusal
+text_by refusal Unable = plain_text refusal
 
-abbrev pub refusal_members : Refusal → List Pair
-refusal_members refusal = category_members refusal (refusal_category refusal)
-
--- a sale; the digits of its token are text already, as those of an office are
-abbrev pub sale_members : Sale → List Pair
-sale_members s =
-    (codes "base", whole_number (year_of s.base))
-    ∷ (codes "change", whole_number (change_of s))
-    ∷ (codes "meter", string s.meter)
-    ∷ (codes "moment", whole_number s.moment)
-    ∷ (codes "number", whole_number s.number)
-    ∷ (codes "operator", string s.operator)
-    ∷ (codes "price", whole_number s.price)
-    ∷ (codes "ref", string s.order_ref)
-    ∷ (codes "shift", whole_number s.shift)
-    ∷ (codes "tender", whole_number s.tender)
-    ∷ (codes "tenths", whole_number s.tenths)
-    ∷ (codes "tid", whole_number s.tid)
-    ∷ (codes "token", string (utf8_lossy s.digits))
-    ∷ []
-
-abbrev pub sale_data : Sale → Data
-sale_data s = object_of (sale_members s)
+abbrev pub refusal_text : Refusal → List ℕ
+refusal_text refusal = text_by refusal (refusal_category refusal)
 
 -- a sale in a form: itself, or its receipt
 abbrev pub sale_body : Form → Sale → List ℕ
-sale_body Json sale = json_text (sale_members sale)
+sale_body Json sale = sale_text sale
 sale_body Paper sale = receipt_of sale
+
+-- that it was done
+abbrev pub done_text : List ℕ
+done_text = codes "{\"done\":true}"
 
 -- an answer, where a sale is to have this form
 abbrev pub answer_body : Form → Answer → List ℕ
-answer_body form Done = json_text ((codes "done", boolean true) ∷ [])
-answer_body form (Imported count) = json_text ((codes "added", whole_number count) ∷ [])
-answer_body form (Withdrawn count) = json_text ((codes "withdrawn", whole_number count) ∷ [])
-answer_body form (Opened shift) = json_text ((codes "shift", whole_number shift) ∷ [])
-answer_body form (Closed shift) = json_text ((codes "shift", whole_number shift) ∷ [])
+answer_body form Done = done_text
+answer_body form (Imported count) = count_text (codes "added") count
+answer_body form (Withdrawn count) = count_text (codes "withdrawn") count
+answer_body form (Opened shift) = count_text (codes "shift") shift
+answer_body form (Closed shift) = count_text (codes "shift") shift
 answer_body form (Sold sale) = sale_body form sale
 answer_body form (Reprinted sale) = sale_body form sale
 answer_body form (Report shift sales) = report_of shift sales
 
--- what became of the last change that was to be written
-abbrev pub last_write : (failed : Bool) → List ℕ
-last_write true = codes "failed"
-last_write false = codes "done"
-
--- that the office answers: the format of its file, the moment of its last sale, what became of its
--- last change, and how many sales there are
-abbrev pub health_members : Health → List Pair
-health_members h =
-    (codes "format", whole_number present_format)
-    ∷ (codes "last_moment", some_number h.last_moment)
-    ∷ (codes "last_write", string (last_write h.write_failed))
-    ∷ (codes "sales", whole_number h.sales)
-    ∷ []
-
--- a meter, without its key: the year of its base date, its number, the number of the last sale to
--- it, its tariff, and the tenths that were sold to it in the month
-abbrev pub meter_members : MeterSummary → List Pair
-meter_members m =
-    (codes "base", whole_number (year_of m.base))
-    ∷ (codes "meter", string m.number)
-    ∷ (codes "sale", some_number m.last_sale)
-    ∷ (codes "tariff", string m.tariff)
-    ∷ (codes "tenths", whole_number m.tenths)
-    ∷ []
-
--- what a tender would buy, and what would be given back of it
-abbrev pub quote_members : Quote → List Pair
-quote_members q =
-    (codes "change", whole_number (q.tender - q.price))
-    ∷ (codes "meter", string q.meter)
-    ∷ (codes "price", whole_number q.price)
-    ∷ (codes "tariff", string q.tariff)
-    ∷ (codes "tender", whole_number q.tender)
-    ∷ (codes "tenths", whole_number q.tenths)
-    ∷ []
-
--- the running totals of the shift of a number
-abbrev pub totals_members : ℕ → Totals → List Pair
-totals_members number totals =
-    (codes "cash", whole_number totals.cash)
-    ∷ (codes "sales", whole_number totals.sales)
-    ∷ (codes "shift", whole_number number)
-    ∷ (codes "tenths", whole_number totals.tenths)
-    ∷ []
-
 -- what was found, where a sale is to have this form
 abbrev pub found_body : Form → Found → List ℕ
-found_body form (found.Health health) = json_text (health_members health)
-found_body form (found.Meter summary) = json_text (meter_members summary)
+found_body form (found.Health health) = health_text health
+found_body form (found.Meter summary) = meter_text summary
 found_body form (found.Sale sale) = sale_body form sale
-found_body form (found.Quote quote) = json_text (quote_members quote)
-found_body form (found.ShiftTotals number totals) = json_text (totals_members number totals)
+found_body form (found.Quote quote) = quote_text quote
+found_body form (found.ShiftTotals number totals) = totals_text number totals
 found_body form (found.Tariffs page) =
-    json_text (list_members (codes "tariffs") (map tariff_data page.items))
+    page_text (codes "tariffs") (list_text (map tariff_text page.items))
 found_body form (found.Meters page) =
-    json_text (list_members (codes "meters") (map listed_meter_data page.items))
+    page_text (codes "meters") (records_text listed_meter_names listed_meter_cells page.items)
 found_body form (found.Shifts page) =
-    json_text (list_members (codes "shifts") (map listed_shift_data page.items))
+    page_text (codes "shifts") (records_text listed_shift_names listed_shift_cells page.items)
 found_body form (found.Sales page) =
-    json_text (list_members (codes "sales") (map sale_data page.items))
+    page_text (codes "sales") (records_text sale_names sale_cells page.items)
 
 -- the body for what came of a message
 abbrev pub body_of : Outcome → List ℕ
-body_of (Refused fault) = json_text (fault_members (message_fault_word fault))
-body_of (Faulty fault) = json_text (fault_members (desk_fault_word fault))
+body_of (Refused fault) = fault_text (message_fault_word fault)
+body_of (Faulty fault) = fault_text (desk_fault_word fault)
 body_of (Replied form (Ok answer)) = answer_body form answer
-body_of (Replied form (Err refusal)) = json_text (refusal_members refusal)
+body_of (Replied form (Err refusal)) = refusal_text refusal
 body_of (outcomes.Found form (Ok found)) = found_body form found
-body_of (outcomes.Found form (Err refusal)) = json_text (refusal_members refusal)
+body_of (outcomes.Found form (Err refusal)) = refusal_text refusal

@@ -1,60 +1,53 @@
-//! Arrays of JSON, written as they stand: no value is made of what stands in them.
+//! Lists of JSON, written as they stand: no value is made of what stands in them.
 
-ghost use Rattle.std.specs.Prelude.{◌≡◌, ◌++◌, ◌∷◌, IfOk, OnOk, [], codes, decimal, if◌then◌else◌};
-ghost use Rattle.std.specs.Prelude.{map};
-ghost use Rattle.serde_json.specs.Written.{compact_text};
-ghost use Rattle.desk_messages.specs.reply.Members.{array_of};
+ghost use Rattle.std.specs.Prelude.{◌≡◌, ◌++◌, ◌∷◌, IfOk, OnOk, [], if◌then◌else◌, map};
+ghost use Rattle.records.specs.List.{list_text, page_text};
 
-use itoa::Buffer;
+use records::put_name;
 use std::alloc::{AllocError, Global};
 
 // The room that the text of a page is begun with.
 const ROOM: usize = 4096;
 
-// What stands in an array.
+// What stands in a list.
 pub(crate) trait Element {
-    ghost use Rattle.serde_json.specs.Data.{Data};
-    ghost use Rattle.serde_json.specs.Written.{compact_text};
+    ghost use Rattle.std.specs.Prelude.{ℕ, List};
 
-    // The value that it is told as.
-    ghost value: { Self → Data };
+    // The text that it is told by.
+    ghost text_of: { Self → List ℕ };
 
-    // Adds its text.
-    fn put(&self, alloc: Global, text: &mut Vec<u8>) -> Result<(), AllocError>
-        ensures { OnOk result (text.new.items
-            ≡ text.old.items ++ compact_text (value self.now)) };
+    // Adds it.
+    fn put(&self, text: &mut Vec<u8>) -> Result<(), AllocError>
+        ensures { OnOk result (text.new.items ≡ text.old.items ++ text_of self.now) };
 }
 
-// The text of an object, from its front on, whose last member is this array.
-pub(crate) fn array_behind<T: Element>(
+// The page whose list has this name.
+pub(crate) fn page<T: Element>(
     alloc: Global,
-    front: &[u8],
+    name: &str,
     elements: &[T],
 ) -> Result<Vec<u8>, AllocError>
     ensures { IfOk result (λ text. text.items
-        ≡ front.now ++ (compact_text (array_of (map T.value elements.now)) ++ codes "}")) }
+        ≡ page_text name.now (list_text (map T.text_of elements.now))) }
 {
     let mut text = Vec::with_capacity(alloc, ROOM)?;
-    text.extend_from_slice(front)?;
-    put_array(alloc, &mut text, elements)?;
+    text.extend_from_slice(b"{")?;
+    put_name(&mut text, false, name)?;
+    put_list(&mut text, elements)?;
     text.extend_from_slice(b"}")?;
     Ok(text)
 }
 
-// Adds the text of an array.
-pub(crate) fn put_array<T: Element>(
-    alloc: Global,
-    text: &mut Vec<u8>,
-    elements: &[T],
-) -> Result<(), AllocError>
+// Adds the text of a list.
+pub(crate) fn put_list<T: Element>(text: &mut Vec<u8>, elements: &[T]) -> Result<(), AllocError>
     ensures { OnOk result (text.new.items
-        ≡ text.old.items ++ compact_text (array_of (map T.value elements.now))) }
+        ≡ text.old.items ++ list_text (map T.text_of elements.now)) }
 {
     text.extend_from_slice(b"[")?;
     let mut later = false;
     for element in elements {
         put_between(text, later, b',')?;
-        element.put(alloc, text)?;
+        element.put(text)?;
         later = true;
     }
     text.extend_from_slice(b"]")?;
@@ -71,12 +64,4 @@ pub(crate) fn put_between(text: &mut Vec<u8>, later: bool, separator: u8) -> Res
     } else {
         Ok(())
     }
-}
-
-// Adds the digits of a number.
-pub(crate) fn put_number(text: &mut Vec<u8>, number: u64) -> Result<(), AllocError>
-    ensures { OnOk result (text.new.items ≡ text.old.items ++ decimal number) }
-{
-    let mut digits = Buffer::new();
-    text.extend_from_slice(digits.format(number).as_bytes())
 }

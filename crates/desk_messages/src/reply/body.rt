@@ -1,19 +1,22 @@
-ghost use Rattle.std.specs.Prelude.{◌≡◌, ◌↔◌, IfOk, IfSome, IsTrue};
-ghost use Rattle.sts_token.specs.Token.{AreTwentyDigits};
-ghost use Rattle.desk_messages.specs.reply.Members.{json_text};
-ghost use Rattle.desk_messages.specs.reply.Body.{answer_body, body_of, fault_members, found_body};
-ghost use Rattle.desk_messages.specs.reply.Body.{name_members, refusal_members, row_members};
-ghost use Rattle.desk_messages.specs.reply.Body.{sale_body, sale_members};
+ghost use Rattle.std.specs.Prelude.{◌≡◌, ◌∷◌, [], IfOk, IfSome, map};
+ghost use Rattle.records.specs.Cell.{number};
+ghost use Rattle.desk_messages.specs.reply.Body.{answer_body, body_of, found_body, plain_text};
+ghost use Rattle.desk_messages.specs.reply.Body.{refusal_text, sale_body};
+ghost use Rattle.desk_messages.specs.reply.Records.{fault_text, row_cells, row_names};
+ghost use Rattle.desk_messages.specs.reply.Records.{sale_text};
+ghost use Rattle.records.specs.Record.{now, record_text};
 
+use crate::fields;
 use crate::reply::form::Form;
 use crate::reply::found::{health_body, meter_body, quote_body, totals_body};
-use crate::reply::members::{Member, object_text};
 use crate::reply::outcome::Outcome;
 use crate::reply::pages::{meters_body, sales_body, shifts_body, tariffs_body};
-use crate::reply::sale_text::{change, seconds};
+use crate::reply::record::record;
+use crate::reply::sale_text::sale_text;
 use book_states::Found;
 use office_rules::{Answer, Category, Refusal, Sale};
 use papers::{receipt, shift_report};
+use records::Cell;
 use std::alloc::{AllocError, Global};
 
 // The body for what came of a message.
@@ -33,14 +36,14 @@ pub(crate) fn body_of(alloc: Global, outcome: &Outcome) -> Result<Vec<u8>, Alloc
 
 // A fault of the desk, told by its word.
 fn fault_body(alloc: Global, word: &str) -> Result<Vec<u8>, AllocError>
-    ensures { IfOk result (λ body. body.items ≡ json_text (fault_members word.now)) }
+    ensures { IfOk result (λ body. body.items ≡ fault_text word.now) }
 {
-    object_text(alloc, &[("error", Member::Word(word))])
+    record(alloc, &fields::FAULT, &[Cell::Text(word.as_bytes())])
 }
 
 // A refusal of the office, told by its name and number.
 fn refusal_body(alloc: Global, refusal: Refusal) -> Result<Vec<u8>, AllocError>
-    ensures { IfOk result (λ body. body.items ≡ json_text (refusal_members refusal)) }
+    ensures { IfOk result (λ body. body.items ≡ refusal_text refusal) }
 {
     match refusal.category() {
         Category::UnfitRow(row, cause) => {
@@ -55,13 +58,13 @@ fn refusal_body(alloc: Global, refusal: Refusal) -> Result<Vec<u8>, AllocError>
 
 // The refusal of no row, told by its name and number alone.
 fn name_body(alloc: Global, refusal: Refusal) -> Result<Vec<u8>, AllocError>
-    ensures { IfOk result (λ body. body.items ≡ json_text (name_members refusal)) }
+    ensures { IfOk result (λ body. body.items ≡ plain_text refusal) }
 {
-    let members = [
-        ("error", Member::Word(refusal.name())),
-        ("refusal", Member::Number(u64::from(refusal.number()))),
+    let cells = [
+        Cell::Text(refusal.name().as_bytes()),
+        Cell::Number(u64::from(refusal.number())),
     ];
-    object_text(alloc, &members)
+    record(alloc, &fields::REFUSAL, &cells)
 }
 
 // The refusal of a row, told by the row and the cause too.
@@ -73,15 +76,15 @@ fn row_body<'a>(
     cause: &'a str,
 ) -> Result<Vec<u8>, AllocError>
     ensures { IfOk result (λ body. body.items
-        ≡ json_text (row_members name.now number row cause.now)) }
+        ≡ record_text row_names (row_cells name.now number row cause.now)) }
 {
-    let members = [
-        ("cause", Member::Word(cause)),
-        ("error", Member::Word(name)),
-        ("refusal", Member::Number(u64::from(number))),
-        ("row", Member::Number(u64::from(row))),
+    let cells = [
+        Cell::Text(cause.as_bytes()),
+        Cell::Text(name.as_bytes()),
+        Cell::Number(u64::from(number)),
+        Cell::Number(u64::from(row)),
     ];
-    object_text(alloc, &members)
+    record(alloc, &fields::ROW_REFUSAL, &cells)
 }
 
 // An answer of the office, where a sale is to have this form.
@@ -89,19 +92,21 @@ fn answer_body(alloc: Global, form: Form, answer: &Answer) -> Result<Vec<u8>, Al
     ensures { IfOk result (λ body. body.items ≡ answer_body form answer.now) }
 {
     match answer {
-        Answer::Done => object_text(alloc, &[("done", Member::Truth(true))]),
-        Answer::Imported(count) => {
-            object_text(alloc, &[("added", Member::Number(u64::from(*count)))])
-        }
-        Answer::Withdrawn(count) => {
-            object_text(alloc, &[("withdrawn", Member::Number(u64::from(*count)))])
-        }
-        Answer::Opened(shift) | Answer::Closed(shift) => {
-            object_text(alloc, &[("shift", Member::Number(u64::from(*shift)))])
-        }
+        Answer::Done => Vec::from_slice(alloc, b"{\"done\":true}"),
+        Answer::Imported(count) => count_body(alloc, &fields::ADDED, *count),
+        Answer::Withdrawn(count) => count_body(alloc, &fields::WITHDRAWN, *count),
+        Answer::Opened(shift) | Answer::Closed(shift) => count_body(alloc, &fields::SHIFT, *shift),
         Answer::Sold(sale) | Answer::Reprinted(sale) => sale_body(alloc, form, sale),
         Answer::Report(shift, sales) => shift_report(alloc, shift, sales.as_slice()),
     }
+}
+
+// One number, under its name.
+fn count_body(alloc: Global, names: &[&str; 1], count: u32) -> Result<Vec<u8>, AllocError>
+    ensures { IfOk result (λ body. body.items
+        ≡ record_text (map now names.now) (number count ∷ [])) }
+{
+    record(alloc, names, &[Cell::Number(u64::from(count))])
 }
 
 // What was found, where a sale is to have this form.
@@ -136,57 +141,19 @@ fn sale_body(alloc: Global, form: Form, sale: &Sale) -> Result<Vec<u8>, AllocErr
     ensures { IfOk result (λ body. body.items ≡ sale_body form sale.now) }
 {
     match form {
-        Form::Json => sale_object(alloc, sale),
+        Form::Json => Vec::from_slice(alloc, &sale_text(sale)),
         Form::Paper => receipt(alloc, sale),
     }
 }
 
-// The sale that is told as JSON, where its token is digits, as that of each sale of an office: then
-// its text needs no memory of its own.
-pub(crate) fn plain_sale(outcome: &Outcome) -> Option<&Sale>
-    ensures { IfSome result (λ sale. (body_of outcome.now ≡ json_text (sale_members sale.now))
-        × AreTwentyDigits sale.now.digits) }
+// The sale that is told as JSON: its text needs no memory of its own.
+pub(crate) fn sale_told(outcome: &Outcome) -> Option<&Sale>
+    ensures { IfSome result (λ sale. body_of outcome.now ≡ sale_text sale.now) }
 {
-    let Outcome::Replied(Form::Json, Ok(answer)) = outcome else {
-        return None;
-    };
-    match answer {
-        Answer::Sold(sale) | Answer::Reprinted(sale) if are_digits(&sale.digits) => Some(sale),
+    match outcome {
+        Outcome::Replied(Form::Json, Ok(Answer::Sold(sale) | Answer::Reprinted(sale))) => {
+            Some(sale)
+        }
         _ => None,
     }
-}
-
-// Whether each byte is a digit. None is left out, so that the processor looks at many at once.
-pub(crate) fn are_digits(text: &[u8; 20]) -> bool
-    ensures { IsTrue result ↔ AreTwentyDigits text.now }
-{
-    let mut all = true;
-    for byte in text {
-        all &= byte.is_ascii_digit();
-    }
-    all
-}
-
-// A sale as JSON, by an object of its members.
-#[cold]
-#[inline(never)]
-pub(crate) fn sale_object(alloc: Global, sale: &Sale) -> Result<Vec<u8>, AllocError>
-    ensures { IfOk result (λ body. body.items ≡ json_text (sale_members sale.now)) }
-{
-    let members = [
-        ("base", Member::Number(u64::from(sale.base.year()))),
-        ("change", Member::Number(u64::from(change(sale)))),
-        ("meter", Member::Text(sale.meter.as_bytes())),
-        ("moment", Member::Number(seconds(sale.moment))),
-        ("number", Member::Number(u64::from(sale.number))),
-        ("operator", Member::Text(sale.operator.as_bytes())),
-        ("price", Member::Number(u64::from(sale.price))),
-        ("ref", Member::Text(sale.order_ref.as_bytes())),
-        ("shift", Member::Number(u64::from(sale.shift))),
-        ("tender", Member::Number(u64::from(sale.tender.cents()))),
-        ("tenths", Member::Number(u64::from(sale.tenths.tenths()))),
-        ("tid", Member::Number(u64::from(sale.tid))),
-        ("token", Member::Text(sale.digits.as_slice())),
-    ];
-    object_text(alloc, &members)
 }

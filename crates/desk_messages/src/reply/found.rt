@@ -1,38 +1,40 @@
 //! What is found in an office, as JSON.
 
 ghost use Rattle.std.specs.Prelude.{◌≡◌, IfOk};
-ghost use Rattle.desk_messages.specs.reply.Body.{health_members, last_write, meter_members};
-ghost use Rattle.desk_messages.specs.reply.Body.{quote_members, totals_members};
-ghost use Rattle.desk_messages.specs.reply.Members.{data_of, json_text, some_number};
+ghost use Rattle.records.specs.Cell.{held};
+ghost use Rattle.desk_messages.specs.reply.Records.{health_text, last_write, meter_text};
+ghost use Rattle.desk_messages.specs.reply.Records.{quote_text, some_number, totals_text};
 
-use crate::reply::members::{Member, object_text};
+use crate::fields;
+use crate::reply::record::record;
 use crate::reply::sale_text::seconds;
 use book_states::{Health, MeterSummary, Quote};
 use book_tables::{PRESENT_FORMAT, Totals};
 use office_rules::Moment;
+use records::Cell;
 use std::alloc::{AllocError, Global};
 
 // The format of the office's file, the moment of its last sale, what became of its last change, and
 // how many sales there are.
 pub(crate) fn health_body(alloc: Global, health: &Health) -> Result<Vec<u8>, AllocError>
-    ensures { IfOk result (λ body. body.items ≡ json_text (health_members health.now)) }
+    ensures { IfOk result (λ body. body.items ≡ health_text health.now) }
 {
-    let members = [
-        ("format", Member::Number(u64::from(PRESENT_FORMAT))),
-        ("last_moment", moment_or_nothing(health.last_moment)),
-        ("last_write", Member::Word(last_write(health.write_failed))),
-        ("sales", Member::Number(health.sales)),
+    let cells = [
+        Cell::Number(u64::from(PRESENT_FORMAT)),
+        moment_cell(health.last_moment),
+        Cell::Text(last_write(health.write_failed).as_bytes()),
+        Cell::Number(health.sales),
     ];
-    object_text(alloc, &members)
+    record(alloc, &fields::HEALTH, &cells)
 }
 
 // A moment, or that there is none.
-fn moment_or_nothing<'a>(moment: Option<Moment>) -> Member<'a>
-    ensures { data_of result ≡ some_number moment }
+pub(crate) fn moment_cell<'a>(moment: Option<Moment>) -> Cell<'a>
+    ensures { held result ≡ some_number moment }
 {
     match moment {
-        Some(moment) => Member::Number(seconds(moment)),
-        None => Member::Nothing,
+        Some(moment) => Cell::Number(seconds(moment)),
+        None => Cell::Nothing,
     }
 }
 
@@ -45,56 +47,53 @@ fn last_write(failed: bool) -> &'static str
 
 // A meter, without its key.
 pub(crate) fn meter_body(alloc: Global, meter: &MeterSummary) -> Result<Vec<u8>, AllocError>
-    ensures { IfOk result (λ body. body.items ≡ json_text (meter_members meter.now)) }
+    ensures { IfOk result (λ body. body.items ≡ meter_text meter.now) }
 {
-    let members = [
-        ("base", Member::Number(u64::from(meter.base.year()))),
-        ("meter", Member::Text(meter.number.as_bytes())),
-        ("sale", number_or_nothing(meter.last_sale)),
-        ("tariff", Member::Text(meter.tariff.as_bytes())),
-        ("tenths", Member::Number(meter.tenths)),
+    let cells = [
+        Cell::Number(u64::from(meter.base.year())),
+        Cell::Text(meter.number.as_bytes()),
+        number_cell(meter.last_sale),
+        Cell::Text(meter.tariff.as_bytes()),
+        Cell::Number(meter.tenths),
     ];
-    object_text(alloc, &members)
+    record(alloc, &fields::METER, &cells)
 }
 
 // A number, or that there is none.
-fn number_or_nothing<'a>(number: Option<u32>) -> Member<'a>
-    ensures { data_of result ≡ some_number number }
+fn number_cell<'a>(number: Option<u32>) -> Cell<'a>
+    ensures { held result ≡ some_number number }
 {
     match number {
-        Some(number) => Member::Number(u64::from(number)),
-        None => Member::Nothing,
+        Some(number) => Cell::Number(u64::from(number)),
+        None => Cell::Nothing,
     }
 }
 
 // What a tender would buy. A price is at most its tender, so nothing of the change is cut off.
 pub(crate) fn quote_body(alloc: Global, quote: &Quote) -> Result<Vec<u8>, AllocError>
-    ensures { IfOk result (λ body. body.items ≡ json_text (quote_members quote.now)) }
+    ensures { IfOk result (λ body. body.items ≡ quote_text quote.now) }
 {
     let tender = quote.tender.cents();
-    let members = [
-        (
-            "change",
-            Member::Number(u64::from(tender.saturating_sub(quote.price))),
-        ),
-        ("meter", Member::Text(quote.meter.as_bytes())),
-        ("price", Member::Number(u64::from(quote.price))),
-        ("tariff", Member::Text(quote.tariff.as_bytes())),
-        ("tender", Member::Number(u64::from(tender))),
-        ("tenths", Member::Number(u64::from(quote.tenths.tenths()))),
+    let cells = [
+        Cell::Number(u64::from(tender.saturating_sub(quote.price))),
+        Cell::Text(quote.meter.as_bytes()),
+        Cell::Number(u64::from(quote.price)),
+        Cell::Text(quote.tariff.as_bytes()),
+        Cell::Number(u64::from(tender)),
+        Cell::Number(u64::from(quote.tenths.tenths())),
     ];
-    object_text(alloc, &members)
+    record(alloc, &fields::QUOTE, &cells)
 }
 
 // The running totals of the shift of a number.
 pub(crate) fn totals_body(alloc: Global, shift: u32, totals: &Totals) -> Result<Vec<u8>, AllocError>
-    ensures { IfOk result (λ body. body.items ≡ json_text (totals_members shift totals.now)) }
+    ensures { IfOk result (λ body. body.items ≡ totals_text shift totals.now) }
 {
-    let members = [
-        ("cash", Member::Number(totals.cash)),
-        ("sales", Member::Number(totals.sales)),
-        ("shift", Member::Number(u64::from(shift))),
-        ("tenths", Member::Number(totals.tenths)),
+    let cells = [
+        Cell::Number(totals.cash),
+        Cell::Number(totals.sales),
+        Cell::Number(u64::from(shift)),
+        Cell::Number(totals.tenths),
     ];
-    object_text(alloc, &members)
+    record(alloc, &fields::TOTALS, &cells)
 }

@@ -1,59 +1,62 @@
 //! The pages of an office's lists, as JSON.
 
-ghost use Rattle.std.specs.Prelude.{◌≡◌, ◌++◌, IfOk, OnOk, codes, map};
-ghost use Rattle.serde_json.specs.Written.{compact_text};
-ghost use Rattle.desk_messages.specs.reply.Body.{sale_data};
-ghost use Rattle.desk_messages.specs.reply.Lists.{list_members, listed_meter_data};
-ghost use Rattle.desk_messages.specs.reply.Lists.{listed_shift_data, tariff_data};
-ghost use Rattle.desk_messages.specs.reply.Members.{json_text, some_number};
+ghost use Rattle.std.specs.Prelude.{◌≡◌, IfOk, codes, map};
+ghost use Rattle.records.specs.List.{list_text, page_text, records_text};
+ghost use Rattle.desk_messages.specs.reply.Lists.{tariff_text};
+ghost use Rattle.desk_messages.specs.reply.Records.{listed_meter_cells, listed_meter_names};
+ghost use Rattle.desk_messages.specs.reply.Records.{listed_shift_cells, listed_shift_names};
+ghost use Rattle.desk_messages.specs.reply.Records.{sale_cells, sale_names};
 
-use crate::reply::array::{Element, array_behind, put_array, put_number};
-use crate::reply::body::{are_digits, sale_object};
-use crate::reply::dates::put_day;
+use crate::fields;
+use crate::reply::array::{Element, page, put_list};
+use crate::reply::found::moment_cell;
 use crate::reply::sale_text::{sale_text, seconds};
-use crate::reply::steps_text::put_steps;
+use asks::{put_day, put_steps};
 use book_states::{LaterSteps, ListedMeter, ListedShift, ListedTariff};
-use office_rules::{Moment, Sale};
+use office_rules::Sale;
+use records::{Cell, put_record};
 use std::alloc::{AllocError, Global};
 
 // A page of the tariffs.
-pub(crate) fn tariffs_body(alloc: Global, page: &[ListedTariff]) -> Result<Vec<u8>, AllocError>
+pub(crate) fn tariffs_body(alloc: Global, tariffs: &[ListedTariff]) -> Result<Vec<u8>, AllocError>
     ensures { IfOk result (λ body. body.items
-        ≡ json_text (list_members (codes "tariffs") (map tariff_data page.now))) }
+        ≡ page_text (codes "tariffs") (list_text (map tariff_text tariffs.now))) }
 {
-    array_behind(alloc, b"{\"tariffs\":", page)
+    page(alloc, "tariffs", tariffs)
 }
 
 // A page of the meters, without their keys.
-pub(crate) fn meters_body(alloc: Global, page: &[ListedMeter]) -> Result<Vec<u8>, AllocError>
-    ensures { IfOk result (λ body. body.items
-        ≡ json_text (list_members (codes "meters") (map listed_meter_data page.now))) }
+pub(crate) fn meters_body(alloc: Global, meters: &[ListedMeter]) -> Result<Vec<u8>, AllocError>
+    ensures { IfOk result (λ body. body.items ≡ page_text (codes "meters")
+        (records_text listed_meter_names listed_meter_cells meters.now)) }
 {
-    array_behind(alloc, b"{\"meters\":", page)
+    page(alloc, "meters", meters)
 }
 
 // A page of the shifts.
-pub(crate) fn shifts_body(alloc: Global, page: &[ListedShift]) -> Result<Vec<u8>, AllocError>
-    ensures { IfOk result (λ body. body.items
-        ≡ json_text (list_members (codes "shifts") (map listed_shift_data page.now))) }
+pub(crate) fn shifts_body(alloc: Global, shifts: &[ListedShift]) -> Result<Vec<u8>, AllocError>
+    ensures { IfOk result (λ body. body.items ≡ page_text (codes "shifts")
+        (records_text listed_shift_names listed_shift_cells shifts.now)) }
 {
-    array_behind(alloc, b"{\"shifts\":", page)
+    page(alloc, "shifts", shifts)
 }
 
 // A page of the sales.
-pub(crate) fn sales_body(alloc: Global, page: &[Sale]) -> Result<Vec<u8>, AllocError>
-    ensures { IfOk result (λ body. body.items
-        ≡ json_text (list_members (codes "sales") (map sale_data page.now))) }
+pub(crate) fn sales_body(alloc: Global, sales: &[Sale]) -> Result<Vec<u8>, AllocError>
+    ensures { IfOk result (λ body. body.items ≡ page_text (codes "sales")
+        (records_text sale_names sale_cells sales.now)) }
 {
-    array_behind(alloc, b"{\"sales\":", page)
+    page(alloc, "sales", sales)
 }
 
+// Steps from a later day on, written as they stand: their text has no bound.
 impl Element for LaterSteps {
-    ghost use Rattle.desk_messages.specs.reply.Lists.{later_data};
+    ghost use Rattle.records.specs.Record.{record_text};
+    ghost use Rattle.desk_messages.specs.reply.Lists.{later_cells, later_names};
 
-    ghost value = { later_data };
+    ghost text_of = { λ later. record_text later_names (later_cells later) };
 
-    fn put(&self, _alloc: Global, text: &mut Vec<u8>) -> Result<(), AllocError> {
+    fn put(&self, text: &mut Vec<u8>) -> Result<(), AllocError> {
         text.extend_from_slice(b"{\"from\":\"")?;
         put_day(text, self.from)?;
         text.extend_from_slice(b"\",\"steps\":\"")?;
@@ -64,13 +67,13 @@ impl Element for LaterSteps {
 }
 
 impl Element for ListedTariff {
-    ghost use Rattle.desk_messages.specs.reply.Lists.{tariff_data};
+    ghost use Rattle.desk_messages.specs.reply.Lists.{tariff_text};
 
-    ghost value = { tariff_data };
+    ghost text_of = { tariff_text };
 
-    fn put(&self, alloc: Global, text: &mut Vec<u8>) -> Result<(), AllocError> {
+    fn put(&self, text: &mut Vec<u8>) -> Result<(), AllocError> {
         text.extend_from_slice(b"{\"later\":")?;
-        put_array(alloc, text, &self.later)?;
+        put_list(text, &self.later)?;
         text.extend_from_slice(b",\"name\":\"")?;
         text.extend_from_slice(self.name.as_bytes())?;
         text.extend_from_slice(b"\",\"steps\":\"")?;
@@ -81,71 +84,45 @@ impl Element for ListedTariff {
 }
 
 impl Element for ListedMeter {
-    ghost use Rattle.desk_messages.specs.reply.Lists.{listed_meter_data};
+    ghost use Rattle.desk_messages.specs.reply.Records.{listed_meter_text};
 
-    ghost value = { listed_meter_data };
+    ghost text_of = { listed_meter_text };
 
-    fn put(&self, _alloc: Global, text: &mut Vec<u8>) -> Result<(), AllocError> {
-        text.extend_from_slice(b"{\"base\":")?;
-        put_number(text, u64::from(self.base.year()))?;
-        text.extend_from_slice(b",\"meter\":\"")?;
-        text.extend_from_slice(self.number.as_bytes())?;
-        text.extend_from_slice(b"\",\"tariff\":\"")?;
-        text.extend_from_slice(self.tariff.as_bytes())?;
-        text.extend_from_slice(b"\"}")?;
-        Ok(())
+    fn put(&self, text: &mut Vec<u8>) -> Result<(), AllocError> {
+        let cells = [
+            Cell::Number(u64::from(self.base.year())),
+            Cell::Text(self.number.as_bytes()),
+            Cell::Text(self.tariff.as_bytes()),
+        ];
+        put_record(text, &fields::LISTED_METER, &cells)
     }
 }
 
 impl Element for ListedShift {
-    ghost use Rattle.desk_messages.specs.reply.Lists.{listed_shift_data};
+    ghost use Rattle.desk_messages.specs.reply.Records.{listed_shift_text};
 
-    ghost value = { listed_shift_data };
+    ghost text_of = { listed_shift_text };
 
-    fn put(&self, _alloc: Global, text: &mut Vec<u8>) -> Result<(), AllocError> {
-        text.extend_from_slice(b"{\"cash\":")?;
-        put_number(text, self.totals.cash)?;
-        text.extend_from_slice(b",\"closed\":")?;
-        put_closed(text, self.shift.closed)?;
-        text.extend_from_slice(b",\"number\":")?;
-        put_number(text, u64::from(self.shift.number))?;
-        text.extend_from_slice(b",\"opened\":")?;
-        put_number(text, seconds(self.shift.opened))?;
-        text.extend_from_slice(b",\"operator\":\"")?;
-        text.extend_from_slice(self.shift.operator.as_bytes())?;
-        text.extend_from_slice(b"\",\"sales\":")?;
-        put_number(text, self.totals.sales)?;
-        text.extend_from_slice(b",\"tenths\":")?;
-        put_number(text, self.totals.tenths)?;
-        text.extend_from_slice(b"}")?;
-        Ok(())
+    fn put(&self, text: &mut Vec<u8>) -> Result<(), AllocError> {
+        let cells = [
+            Cell::Number(self.totals.cash),
+            moment_cell(self.shift.closed),
+            Cell::Number(u64::from(self.shift.number)),
+            Cell::Number(seconds(self.shift.opened)),
+            Cell::Text(self.shift.operator.as_bytes()),
+            Cell::Number(self.totals.sales),
+            Cell::Number(self.totals.tenths),
+        ];
+        put_record(text, &fields::LISTED_SHIFT, &cells)
     }
 }
 
 impl Element for Sale {
-    ghost use Rattle.desk_messages.specs.reply.Body.{sale_data};
+    ghost use Rattle.desk_messages.specs.reply.Records.{sale_text};
 
-    ghost value = { sale_data };
+    ghost text_of = { sale_text };
 
-    fn put(&self, alloc: Global, text: &mut Vec<u8>) -> Result<(), AllocError> {
-        if are_digits(&self.digits) {
-            text.extend_from_slice(&sale_text(self))?;
-            Ok(())
-        } else {
-            let object = sale_object(alloc, self)?;
-            text.extend_from_slice(&object)?;
-            Ok(())
-        }
-    }
-}
-
-// Adds when a shift was closed, or null while it is open.
-fn put_closed(text: &mut Vec<u8>, closed: Option<Moment>) -> Result<(), AllocError>
-    ensures { OnOk result (text.new.items
-        ≡ text.old.items ++ compact_text (some_number closed)) }
-{
-    match closed {
-        Some(moment) => put_number(text, seconds(moment)),
-        None => text.extend_from_slice(b"null"),
+    fn put(&self, text: &mut Vec<u8>) -> Result<(), AllocError> {
+        text.extend_from_slice(&sale_text(self))
     }
 }

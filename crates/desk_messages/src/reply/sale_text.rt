@@ -1,12 +1,9 @@
-//! A sale as JSON, written as it stands in room of its own: it takes no memory, and no object of
-//! its members is made.
+//! A sale as JSON, written as it stands in room of its own: it takes no memory.
 
 ghost use Rattle.std.specs.Prelude.{◌≡◌, ◌+◌, ◌≤◌, ◌++◌, length, decimal};
 ghost use Rattle.arrayvec.specs.ArrayVec.{array_vec_len};
 ghost use Rattle.papers.specs.Text.{change_of};
-ghost use Rattle.sts_token.specs.Token.{AreTwentyDigits};
-ghost use Rattle.desk_messages.specs.reply.Members.{json_text};
-ghost use Rattle.desk_messages.specs.reply.Body.{sale_members};
+ghost use Rattle.desk_messages.specs.reply.Records.{sale_text};
 
 use arrayvec::ArrayVec;
 use itoa::Buffer;
@@ -15,10 +12,9 @@ use office_rules::{Moment, Sale};
 // The text of a sale has this room, and needs less.
 pub(crate) const SALE_ROOM: usize = 400;
 
-// The text of a sale whose token is digits: no byte of it has to be escaped.
+// The text of a sale.
 pub(crate) fn sale_text(sale: &Sale) -> ArrayVec<u8, SALE_ROOM>
-    requires { AreTwentyDigits sale.now.digits }
-    ensures { result.items ≡ json_text (sale_members sale.now) }
+    ensures { result.items ≡ sale_text sale.now }
 {
     let mut text = ArrayVec::new();
     put(&mut text, b"{\"base\":");

@@ -7,7 +7,7 @@ ghost use Rattle.desk_messages.specs.reply.Text.{field_line, head_text, media_ty
 ghost use Rattle.desk_messages.specs.reply.Text.{reply_bytes_of, reply_text, reply_to};
 ghost use Rattle.desk_messages.specs.reply.Text.{status_line};
 
-use crate::reply::body::{body_of, plain_sale};
+use crate::reply::body::{body_of, sale_told};
 use crate::reply::form::Form;
 use crate::reply::head::ReplyHead;
 use crate::reply::http_date::http_date;
@@ -35,7 +35,7 @@ pub fn reply_bytes(
     ensures { IfOk result (λ text. text.items ≡ reply_bytes_of dated outcome.now closes) }
 {
     let head = ReplyHead::of(dated, outcome, closes);
-    if let Some(sale) = plain_sale(outcome) {
+    if let Some(sale) = sale_told(outcome) {
         return reply_text(alloc, head, &sale_text(sale));
     }
     let body = body_of(alloc, outcome)?;

@@ -1,6 +1,6 @@
 //! Look-ups: what each finds, each refusal, and targets and methods that lead to none.
 
-/// After `asks`, of which the refs are `A-1` to `A-5`. Both of its shifts are closed.
+/// After `requests`, of which the refs are `A-1` to `A-5`. Both of its shifts are closed.
 pub(crate) fn looks() -> &'static str {
     "\
 Each

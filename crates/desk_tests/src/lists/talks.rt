@@ -1,8 +1,8 @@
 //! Conversations by their bytes.
 
-/// After `asks`: what it left of the first sale and of the first shift, each fault of the desk,
+/// After `requests`: what it left of the first sale and of the first shift, each fault of the desk,
 /// messages that are refused, and files that are no imports.
-pub(crate) fn after_asks() -> &'static str {
+pub(crate) fn after_requests() -> &'static str {
     "\
 Each
 > Closed 1388534430

@@ -22,10 +22,10 @@ use Rattle.office_commands.specs.office.Served.{IsServedAndTold, TellsReply}
 use Rattle.vend_ports.specs.print.Told.{IsTold, Outputs}
 use Rattle.office_commands.specs.print.Totalled.{IsTotalled, TellsTotals}
 use Rattle.office_commands.specs.office.Visited.{IsVisited}
-use Rattle.command_line.specs.declared.commands.report.Paper.{Paper}
-use Rattle.command_line.specs.declared.commands.report.Paper.TheVariants.{Shift, Receipt, Totals}
-use Rattle.command_line.specs.declared.commands.report.Paper.TheVariants.{Sales}
-use Rattle.command_line.specs.declared.commands.report.ReportWords.{ReportWords}
+use Rattle.office_commands.specs.declared.office.paper.Paper.{Paper}
+use Rattle.office_commands.specs.declared.office.paper.Paper.TheVariants.{Shift, Receipt, Totals}
+use Rattle.office_commands.specs.declared.office.paper.Paper.TheVariants.{Sales}
+use Rattle.command_line.specs.declared.place.FilePlace.{FilePlace}
 use Rattle.command_line.specs.declared.transform.Shipped.TheVariants.{Plain}
 use Rattle.vend_ports.specs.declared.command_end.CommandEnd.{CommandEnd}
 use Rattle.vend_ports.specs.declared.command_end.CommandEnd.TheVariants.{Done, Refused}
@@ -59,15 +59,15 @@ PrintsEmpty Sales o end =
 
 -- ---- the command
 
--- The file of the words is not there, and is not made, and that is told; or it has none of the
--- office's tables, and is left as it was, and their paper is printed of the empty office; or it is
--- printed of the office in the file, where no token is written.
-pub data IsReported {S : Type 0} (store : Ghosts S) (at : Places) (words : ReportWords)
+-- The file is not there, and is not made, and that is told; or it has none of the office's tables,
+-- and is left as it was, and the paper is printed of the empty office; or it is printed of the
+-- office in the file, where no token is written.
+pub data IsReported {S : Type 0} (store : Ghosts S) (at : Places) (file : FilePlace) (paper : Paper)
     (o : Outputs) (end : CommandEnd) : Type 0 where
-  absent : (at words.file.now words.wait).misses → IsTold o [] file_line Refused end
-      → IsReported store at words o end
-  vacant : (at words.file.now words.wait).vacant → PrintsEmpty words.paper o end
-      → IsReported store at words o end
-  present : IsVisited store (where_present (at words.file.now words.wait)) Plain
-      (λ old new. PrintsPaper words.paper old new o end) o end
-      → IsReported store at words o end
+  absent : (at file.path.now file.wait).misses → IsTold o [] file_line Refused end
+      → IsReported store at file paper o end
+  vacant : (at file.path.now file.wait).vacant → PrintsEmpty paper o end
+      → IsReported store at file paper o end
+  present : IsVisited store (where_present (at file.path.now file.wait)) Plain
+      (λ old new. PrintsPaper paper old new o end) o end
+      → IsReported store at file paper o end

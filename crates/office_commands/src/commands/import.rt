@@ -13,7 +13,8 @@ ghost use Rattle.vend_ports.specs.print.Told.{outputs};
 use crate::commands::request::ask_at;
 use crate::port::ended::Ended;
 use crate::port::ports::OfficeFile;
-use command_line::{ImportWords, RequestWords};
+use asks::Csv;
+use command_line::FilePlace;
 use conversation::Clock;
 use office_rules::{Refusal, Request, Rows};
 use papers::{FileKind, RowFault, read_meters, read_tariffs};
@@ -28,8 +29,10 @@ use vend_ports::{
 
 /// Reads the file of rows, adds them to the office, at the moment of the words or else of the
 /// clock, and prints how many were new.
-pub fn run<H: OfficeFile, F: TextFiles, C: Clock, O: Write, E: Write>(
-    words: &ImportWords,
+pub(crate) fn run<H: OfficeFile, F: TextFiles, C: Clock, O: Write, E: Write>(
+    file: &FilePlace<'_>,
+    kind: FileKind,
+    csv: &str,
     alloc: Global,
     office: H,
     texts: F,
@@ -38,15 +41,15 @@ pub fn run<H: OfficeFile, F: TextFiles, C: Clock, O: Write, E: Write>(
     err: &mut Watched<'_, E>,
 ) -> Ended<H::Medium>
     ensures { let o = outputs out.old out.new err.old err.new in
-        IsTimed (is_untouched H.OfficeFile office result.back × F.leaves F texts) words.now.at
+        IsTimed (is_untouched H.OfficeFile office result.back × F.leaves F texts) file.now.at
         (dial_of C.Clock clock.old)
         (λ moment. IsFileImported ⟦<FileStore<H::Medium> as Store>⟧
         (places_of H.Medium.Disk H.Salts.SaltSource H.OfficeFile office result.back)
-        (is_untouched H.OfficeFile office result.back) (texts_of F.TextFiles texts) words.now
-        moment o result.end) o result.end }
+        (is_untouched H.OfficeFile office result.back) (texts_of F.TextFiles texts) file.now kind
+        csv.now moment o result.end) o result.end }
 {
-    match moment_or_now(words.at, clock) {
-        Some(moment) => import_at(words, alloc, office, texts, moment, out, err),
+    match moment_or_now(file.at, clock) {
+        Some(moment) => import_at(file, kind, csv, alloc, office, texts, moment, out, err),
         None => {
             H::leave(office);
             F::leave(texts);
@@ -59,9 +62,43 @@ pub fn run<H: OfficeFile, F: TextFiles, C: Clock, O: Write, E: Write>(
     }
 }
 
+/// Adds these rows to the office in the same way.
+pub(crate) fn run_rows<H: OfficeFile, C: Clock, O: Write, E: Write>(
+    file: &FilePlace<'_>,
+    kind: FileKind,
+    csv: &Csv<'_>,
+    alloc: Global,
+    office: H,
+    clock: &mut C,
+    out: &mut Watched<'_, O>,
+    err: &mut Watched<'_, E>,
+) -> Ended<H::Medium>
+    ensures { let o = outputs out.old out.new err.old err.new in
+        IsTimed (is_untouched H.OfficeFile office result.back) file.now.at
+        (dial_of C.Clock clock.old)
+        (λ moment. IsImported ⟦<FileStore<H::Medium> as Store>⟧
+        (places_of H.Medium.Disk H.Salts.SaltSource H.OfficeFile office result.back)
+        (is_untouched H.OfficeFile office result.back) file.now kind moment csv.now o
+        result.end) o result.end }
+{
+    match moment_or_now(file.at, clock) {
+        Some(moment) => add(file, kind, alloc, office, moment, csv.bytes(), out, err),
+        None => {
+            H::leave(office);
+            put_no_moment(err);
+            Ended {
+                end: CommandEnd::Refused,
+                back: None,
+            }
+        }
+    }
+}
+
 // Reads the file and adds its rows, at this moment.
 fn import_at<H: OfficeFile, F: TextFiles, O: Write, E: Write>(
-    words: &ImportWords,
+    file: &FilePlace<'_>,
+    kind: FileKind,
+    csv: &str,
     alloc: Global,
     office: H,
     texts: F,
@@ -71,11 +108,11 @@ fn import_at<H: OfficeFile, F: TextFiles, O: Write, E: Write>(
 ) -> Ended<H::Medium>
     ensures { IsFileImported ⟦<FileStore<H::Medium> as Store>⟧
         (places_of H.Medium.Disk H.Salts.SaltSource H.OfficeFile office result.back)
-        (is_untouched H.OfficeFile office result.back) (texts_of F.TextFiles texts) words.now moment
-        (outputs out.old out.new err.old err.new) result.end }
+        (is_untouched H.OfficeFile office result.back) (texts_of F.TextFiles texts) file.now kind
+        csv.now moment (outputs out.old out.new err.old err.new) result.end }
 {
-    match texts.read(words.csv) {
-        Ok(bytes) => add(words, alloc, office, moment, &bytes, out, err),
+    match texts.read(csv) {
+        Ok(bytes) => add(file, kind, alloc, office, moment, &bytes, out, err),
         Err(fault) => {
             H::leave(office);
             put_read_fault(fault, err);
@@ -89,7 +126,8 @@ fn import_at<H: OfficeFile, F: TextFiles, O: Write, E: Write>(
 
 // Adds the rows that these bytes have.
 fn add<H: OfficeFile, O: Write, E: Write>(
-    words: &ImportWords,
+    file: &FilePlace<'_>,
+    kind: FileKind,
     alloc: Global,
     office: H,
     moment: Moment,
@@ -99,20 +137,11 @@ fn add<H: OfficeFile, O: Write, E: Write>(
 ) -> Ended<H::Medium>
     ensures { IsImported ⟦<FileStore<H::Medium> as Store>⟧
         (places_of H.Medium.Disk H.Salts.SaltSource H.OfficeFile office result.back)
-        (is_untouched H.OfficeFile office result.back) words.now moment bytes.now
+        (is_untouched H.OfficeFile office result.back) file.now kind moment bytes.now
         (outputs out.old out.new err.old err.new) result.end }
 {
-    match rows_of(words, alloc, bytes) {
-        Ok(rows) => {
-            let words = RequestWords {
-                transform: words.transform,
-                file: words.file,
-                wait: words.wait,
-                at: words.at,
-                request: Request::Import(rows),
-            };
-            ask_at(words, alloc, office, moment, out, err)
-        }
+    match rows_of(alloc, kind, bytes) {
+        Ok(rows) => ask_at(file, Request::Import(rows), alloc, office, moment, out, err),
         Err(fault) => {
             H::leave(office);
             put_refusal(refusal_of(fault), err);
@@ -125,11 +154,11 @@ fn add<H: OfficeFile, O: Write, E: Write>(
 }
 
 // The rows that these bytes have, or their first fault.
-fn rows_of(words: &ImportWords, alloc: Global, bytes: &[u8]) -> Result<Rows, RowFault>
+fn rows_of(alloc: Global, kind: FileKind, bytes: &[u8]) -> Result<Rows, RowFault>
     ensures { (records : List Fields) × AreFileRecords bytes.now records
-        × IsReading words.now.kind records result }
+        × IsReading kind records result }
 {
-    match words.kind {
+    match kind {
         FileKind::Meters => read_meters(alloc, bytes),
         FileKind::Tariffs => read_tariffs(alloc, bytes),
     }

@@ -10,11 +10,11 @@ use crate::office::empty::read_empty;
 use crate::office::looking::read;
 use crate::office::met::Met;
 use crate::office::opening::{close_office, open_present_office};
-use crate::office::wanted::Wanted;
 use crate::port::ended::Ended;
 use crate::port::ports::OfficeFile;
 use crate::print::opening::put_opening;
-use command_line::Shipped;
+use asks::Lookup;
+use command_line::{FilePlace, Shipped};
 use conversation::Clock;
 use sqlite::FileStore;
 use sqlite_trees::store::Store;
@@ -23,21 +23,12 @@ use std::io::Write;
 use sts_fields::Moment;
 use vend_ports::{CommandEnd, Watched, moment_or_now, put_line, put_no_moment};
 
-/// What is wanted of the office in which file.
-#[derive(Clone, Copy)]
-pub(crate) struct FileLookup<'a> {
-    /// The file that keeps the office. It is not made.
-    pub(crate) file: &'a str,
-    /// For how many seconds it waits while another program has the file, 0 to 3600.
-    pub(crate) wait: u32,
-    /// The machine's clock where it is left out.
-    pub(crate) at: Option<Moment>,
-    pub(crate) wanted: Wanted,
-}
-
 /// Looks something up at the moment that is given or else at the clock's, and prints what is found.
 pub(crate) fn run<H: OfficeFile, C: Clock, O: Write, E: Write>(
-    asked: &FileLookup,
+    file: &FilePlace<'_>,
+    paged: bool,
+    lookup: &Lookup,
+    json: bool,
     alloc: Global,
     office: H,
     clock: &mut C,
@@ -47,11 +38,10 @@ pub(crate) fn run<H: OfficeFile, C: Clock, O: Write, E: Write>(
     ensures { IsShown ⟦<FileStore<H::Medium> as Store>⟧
         (places_of H.Medium.Disk H.Salts.SaltSource H.OfficeFile office result.back)
         (is_untouched H.OfficeFile office result.back) (dial_of C.Clock clock.old)
-        asked.now.at asked.now.file.now asked.now.wait asked.now.wanted
-        (outputs out.old out.new err.old err.new) result.end }
+        file.now paged lookup.now json (outputs out.old out.new err.old err.new) result.end }
 {
-    match moment_or_now(asked.at, clock) {
-        Some(moment) => run_at(asked, alloc, office, moment, out, err),
+    match moment_or_now(file.at, clock) {
+        Some(moment) => run_at(file, paged, lookup, json, alloc, office, moment, out, err),
         None => {
             H::leave(office);
             put_no_moment(err);
@@ -67,7 +57,10 @@ pub(crate) fn run<H: OfficeFile, C: Clock, O: Write, E: Write>(
 // and closes its file; or tells why it is not opened. Where the file has no office, it is left as it
 // was, and the empty one is looked at. No token is written, so any transform serves.
 fn run_at<H: OfficeFile, O: Write, E: Write>(
-    asked: &FileLookup,
+    file: &FilePlace<'_>,
+    paged: bool,
+    lookup: &Lookup,
+    json: bool,
     alloc: Global,
     office: H,
     moment: Moment,
@@ -76,25 +69,18 @@ fn run_at<H: OfficeFile, O: Write, E: Write>(
 ) -> Ended<H::Medium>
     ensures { IsShownAt ⟦<FileStore<H::Medium> as Store>⟧
         (places_of H.Medium.Disk H.Salts.SaltSource H.OfficeFile office result.back)
-        asked.now.file.now asked.now.wait moment asked.now.wanted
+        file.now.path.now file.now.wait moment paged lookup.now json
         (outputs out.old out.new err.old err.new) result.end }
 {
     let salts = office.salts();
-    match open_present_office(
-        alloc,
-        office,
-        &salts,
-        asked.file,
-        asked.wait,
-        Shipped::Plain,
-    ) {
+    match open_present_office(alloc, office, &salts, file.path, file.wait, Shipped::Plain) {
         Ok(Met::There(mut books)) => {
-            let end = read(alloc, &mut books, moment, &asked.wanted, out, err);
+            let end = read(alloc, &mut books, moment, paged, lookup, json, out, err);
             let back = close_office::<H>(books);
             Ended { end, back }
         }
         Ok(Met::NoOffice) => {
-            let end = read_empty(alloc, moment, &asked.wanted, out, err);
+            let end = read_empty(alloc, moment, paged, lookup, json, out, err);
             Ended { end, back: None }
         }
         Ok(Met::Nothing) => {

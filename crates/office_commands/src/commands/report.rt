@@ -9,6 +9,7 @@ use crate::office::asking::ask;
 use crate::office::empty::print_empty;
 use crate::office::met::Met;
 use crate::office::opening::{close_office, open_present_office};
+use crate::office::paper::Paper;
 use crate::port::ended::Ended;
 use crate::port::ports::OfficeFile;
 use crate::port::progress::Progress;
@@ -16,7 +17,7 @@ use crate::print::opening::put_opening;
 use crate::print::sales::print_sales;
 use crate::print::totals::print_totals;
 use books::Books;
-use command_line::{Paper, ReportWords, Shipped};
+use command_line::{FilePlace, Shipped};
 use office_rules::Request;
 use sqlite::{Alter, FileStore};
 use sqlite_trees::store::Store;
@@ -28,8 +29,9 @@ use vend_ports::{CommandEnd, Watched, put_line};
 /// Opens the office where its file is there, prints a paper of it, and closes its file; or tells
 /// why it is not opened. A file that has no office is left as it was, and the paper is that of the
 /// empty one. No token is written, so any transform serves.
-pub fn run<H: OfficeFile, P: Progress, O: Write, E: Write>(
-    words: &ReportWords,
+pub(crate) fn run<H: OfficeFile, P: Progress, O: Write, E: Write>(
+    file: &FilePlace<'_>,
+    paper: Paper,
     alloc: Global,
     office: H,
     progress: &mut P,
@@ -37,25 +39,18 @@ pub fn run<H: OfficeFile, P: Progress, O: Write, E: Write>(
     err: &mut Watched<'_, E>,
 ) -> Ended<H::Medium>
     ensures { IsReported ⟦<FileStore<H::Medium> as Store>⟧
-        (places_of H.Medium.Disk H.Salts.SaltSource H.OfficeFile office result.back) words.now
-        (outputs out.old out.new err.old err.new) result.end }
+        (places_of H.Medium.Disk H.Salts.SaltSource H.OfficeFile office result.back) file.now
+        paper (outputs out.old out.new err.old err.new) result.end }
 {
     let salts = office.salts();
-    match open_present_office(
-        alloc,
-        office,
-        &salts,
-        words.file,
-        words.wait,
-        Shipped::Plain,
-    ) {
+    match open_present_office(alloc, office, &salts, file.path, file.wait, Shipped::Plain) {
         Ok(Met::There(mut books)) => {
-            let end = print(alloc, &mut books, words.paper, progress, out, err);
+            let end = print(alloc, &mut books, paper, progress, out, err);
             let back = close_office::<H>(books);
             Ended { end, back }
         }
         Ok(Met::NoOffice) => {
-            let end = print_empty(alloc, words.paper, out, err);
+            let end = print_empty(alloc, paper, out, err);
             Ended { end, back: None }
         }
         Ok(Met::Nothing) => {

@@ -7,11 +7,9 @@ ghost use Rattle.office_commands.specs.commands.LookedUp.{ReadsEmpty, TellsPage}
 ghost use Rattle.office_commands.specs.commands.Reported.{PrintsEmpty};
 ghost use Rattle.vend_ports.specs.print.Told.{outputs};
 
-use crate::office::listing::page_lookup;
 use crate::office::looking::tell_found;
-use crate::office::wanted::Wanted;
+use crate::office::paper::Paper;
 use books::{Found, Health, Lookup};
-use command_line::Paper;
 use desk_commands::put_page;
 use office_rules::{Moment, Refusal, Sale};
 use papers::export;
@@ -19,27 +17,28 @@ use std::alloc::Global;
 use std::io::Write;
 use vend_ports::{CommandEnd, Watched, put_refusal};
 
-/// Prints what is wanted of the empty office at a moment, or tells why it is not there.
+/// Prints what is looked up in the empty office at a moment, which is one page of a list, or tells
+/// why it is not there.
 pub(crate) fn read_empty<O: Write, E: Write>(
     alloc: Global,
     _moment: Moment,
-    wanted: &Wanted,
+    paged: bool,
+    lookup: &Lookup,
+    json: bool,
     out: &mut Watched<'_, O>,
     err: &mut Watched<'_, E>,
 ) -> CommandEnd
-    ensures { ReadsEmpty _moment wanted.now (outputs out.old out.new err.old err.new) result }
+    ensures { ReadsEmpty _moment paged lookup.now json (outputs out.old out.new err.old err.new) result }
 {
-    match wanted {
-        Wanted::One(lookup, json) => match find_in_empty(alloc, lookup) {
-            Ok(found) => tell_found(alloc, lookup, &found, *json, out, err),
-            Err(refusal) => {
-                put_refusal(refusal, err);
-                CommandEnd::Refused
-            }
-        },
-        Wanted::Listing(list, json) => {
-            let page = find_in_empty(alloc, &page_lookup(*list));
-            tell_page(alloc, &page, *json, out, err)
+    let found = find_in_empty(alloc, lookup);
+    if paged {
+        return tell_page(alloc, &found, json, out, err);
+    }
+    match found {
+        Ok(found) => tell_found(alloc, lookup, &found, json, out, err),
+        Err(refusal) => {
+            put_refusal(refusal, err);
+            CommandEnd::Refused
         }
     }
 }

@@ -1,14 +1,11 @@
 //! The members of a list of an open office, printed page by page.
 
-ghost use Rattle.std.specs.Prelude.{◌≡◌};
 ghost use Rattle.books.specs.Keeps.{seen};
 ghost use Rattle.office_commands.specs.office.OnlyRead.{AreOnlyRead};
 ghost use Rattle.office_commands.specs.print.Listing.{IsListPage, IsListed};
-ghost use Rattle.desk_commands.specs.print.Pages.{page_lookup};
 ghost use Rattle.vend_ports.specs.print.Told.{outputs};
 
 use books::{Books, Lookup};
-use command_line::Listed;
 use desk_commands::put_page;
 use office_rules::{Moment, Refusal};
 use sqlite::Alter;
@@ -23,7 +20,7 @@ pub(crate) fn list<S: Alter, T: BlockTransform, O: Write, E: Write>(
     alloc: Global,
     books: &mut Books<S, T>,
     moment: Moment,
-    list: Listed,
+    list: Lookup,
     json: bool,
     out: &mut Watched<'_, O>,
     err: &mut Watched<'_, E>,
@@ -52,33 +49,21 @@ fn print_page<S: Alter, T: BlockTransform, O: Write>(
     alloc: Global,
     books: &mut Books<S, T>,
     moment: Moment,
-    list: Listed,
+    list: Lookup,
     json: bool,
     is_first: bool,
     out: &mut Watched<'_, O>,
-) -> Result<Option<Listed>, Refusal>
+) -> Result<Option<Lookup>, Refusal>
     ensures page { IsListPage moment list json is_first (seen books.old) (seen books.new)
         out.old out.new result }
     ensures reads { AreOnlyRead (seen books.old) (seen books.new) }
 {
-    let page = match books.look_up(moment, &page_lookup(list)) {
+    let page = match books.look_up(moment, &list) {
         Ok(page) => page,
         Err(refusal) => return Err(refusal),
     };
     match put_page(alloc, &page, json, is_first, out) {
         Ok(behind) => Ok(behind),
         Err(_) => Err(Refusal::Memory),
-    }
-}
-
-/// What is looked up for the first page of a list.
-pub(crate) fn page_lookup(list: Listed) -> Lookup
-    ensures { result ≡ page_lookup list }
-{
-    match list {
-        Listed::Tariffs(after) => Lookup::Tariffs(after),
-        Listed::Meters(after) => Lookup::Meters(after),
-        Listed::Shifts(after) => Lookup::Shifts(after),
-        Listed::Sales(after) => Lookup::Sales(after),
     }
 }

@@ -5,7 +5,6 @@ ghost use Rattle.office_commands.specs.commands.LookedUp.{IsLookedUp, IsRead, Te
 ghost use Rattle.vend_ports.specs.print.Told.{outputs};
 
 use crate::office::listing::list;
-use crate::office::wanted::Wanted;
 use books::{Books, Found, Lookup};
 use desk_commands::put_found;
 use office_rules::{Moment, Refusal};
@@ -15,21 +14,25 @@ use std::io::Write;
 use sts_token::BlockTransform;
 use vend_ports::{CommandEnd, Watched, put_refusal};
 
-/// Prints what is wanted of books at a moment, or tells why it is not there.
+/// Prints what is looked up in books at a moment, or all pages from there on, or tells why it is not
+/// there.
 pub(crate) fn read<S: Alter, T: BlockTransform, O: Write, E: Write>(
     alloc: Global,
     books: &mut Books<S, T>,
     moment: Moment,
-    wanted: &Wanted,
+    paged: bool,
+    lookup: &Lookup,
+    json: bool,
     out: &mut Watched<'_, O>,
     err: &mut Watched<'_, E>,
 ) -> CommandEnd
-    ensures { IsRead moment wanted.now (seen books.old) (seen books.new)
+    ensures { IsRead moment paged lookup.now json (seen books.old) (seen books.new)
         (outputs out.old out.new err.old err.new) result }
 {
-    match wanted {
-        Wanted::One(lookup, json) => look_up(alloc, books, moment, lookup, *json, out, err),
-        Wanted::Listing(listed, json) => list(alloc, books, moment, *listed, *json, out, err),
+    if paged {
+        list(alloc, books, moment, *lookup, json, out, err)
+    } else {
+        look_up(alloc, books, moment, lookup, json, out, err)
     }
 }
 

@@ -20,6 +20,7 @@ use Rattle.office_rules.specs.declared.decision.refusal.Refusal.TheVariants.{Sto
 use Rattle.office_rules.specs.declared.decision.request.Stamped.{Stamped}
 use Rattle.vend_core.specs.Law.Life.{Exchange, IsLife, Life, StopsAtDoubt, acknowledged, acknowledges, replies_acknowledged}
 use Rattle.vend_core.specs.Law.LifeLaws.{extended, opened}
+use Rattle.program_laws.proofs.CourseLemmas.{answered_on}
 use Rattle.program_laws.proofs.AtDeskLemmas.RuleLemmas.{front_keeps}
 
 abbrev Reply : Type 0
@@ -113,10 +114,10 @@ opening_from old new (more, is) = ap (λ (l : Life). l.opening) is
 
 -- a life goes on by an exchange
 pub answered_goes : (old new : Timed Life) (x : MessageExchange) → timed (answers_by life_serves) old x new → GoesFrom old.0 new.0
-answered_goes old new x ((outcome, inl (idle, same), told), clock) = goes_none old.0 new.0 same
-answered_goes old new x ((outcome, inr (inl (form, moment, request, reply, is, asks, (at, stamped, goes))), told), clock) =
-    (record { request = at; reply = reply } ∷ [], goes)
-answered_goes old new x ((outcome, inr (inr (form, moment, lookup, found, is, looks, (finds, same))), told), clock) = goes_none old.0 new.0 same
+answered_goes old new x step = elim (answered_on old new x step) [
+  | inl (at, reply, goes) ↦ (record { request = at; reply = reply } ∷ [], goes)
+  | inr same ↦ goes_none old.0 new.0 same
+]
 
 -- by many
 pub exchanged_goes : (old new : Timed Life) (xs : List MessageExchange) → Exchanged (timed (answers_by life_serves)) old xs new → GoesFrom old.0 new.0

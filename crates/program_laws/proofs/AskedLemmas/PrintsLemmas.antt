@@ -7,6 +7,11 @@ use Rattle.std.proofs.lemmas.List.Elements.{Contains-append_cases}
 use Rattle.office_rules.specs.Office.{IsOffice}
 use Rattle.office_rules.specs.declared.office.sale.Sale.{Sale}
 use Rattle.vend_core.specs.Law.Life.{IsLife, Life}
+use Rattle.asks.specs.Ask.{message_of}
+use Rattle.asks.specs.declared.ask.Ask.{Ask}
+use Rattle.asks.specs.declared.ask.Ask.TheVariants.{Look}
+use Rattle.asks.specs.declared.lookup.Lookup.{Lookup}
+use Rattle.asks.specs.declared.lookup.Lookup.TheVariants as lookups
 use Rattle.book_states.specs.declared.lookup.Found.{Found}
 use Rattle.conversation.specs.Conversation.{messages_of, replies_of, text_of}
 use Rattle.conversation.specs.Exchanges.{Exchanged, MessageExchange, Timed, timed}
@@ -14,29 +19,25 @@ use Rattle.conversation.specs.message.Messages.{BeginsMessage, Message}
 use Rattle.conversation.proofs.InterimLemmas.{expects_none, reply_alone}
 use Rattle.conversation.proofs.ReadingLemmas.{message_unique}
 use Rattle.desk.specs.Answering.{answers_by, life_serves}
-use Rattle.desk_client.specs.Asks.{IsAskable, question_message}
-use Rattle.desk_client.specs.Question.{question_text, wanted_by}
+use Rattle.desk_client.specs.Sent.{CanSend, ask_text, wanted_by}
 use Rattle.desk_client.specs.Reply.{IsReply, longest_reply_body, reply_text}
 use Rattle.desk_client.specs.Start.{IsDated}
 use Rattle.desk_client.specs.Told.{told_text}
-use Rattle.desk_client.specs.declared.question.Question.{Question}
 use Rattle.desk_client.specs.declared.told.Granted.TheVariants as granted
 use Rattle.desk_client.specs.declared.told.Told.{Told}
 use Rattle.desk_client.specs.declared.told.Told.TheVariants as told
-use Rattle.desk_client.specs.declared.told.Wanted.TheVariants as wants
-use Rattle.command_line.specs.declared.commands.list.Listed.{Listed}
 use Rattle.desk_commands.specs.AskedOfDesk.{TellsTold}
 use Rattle.desk_commands.specs.Exchanged.{Round}
-use Rattle.desk_commands.specs.ListedAtDesk.{TellPages, page_question}
+use Rattle.desk_commands.specs.ListedAtDesk.{TellPages}
 use Rattle.desk_commands.specs.print.ListTexts.{pages_text}
 use Rattle.desk_commands.specs.print.Pages.{list_behind}
 use Rattle.vend_ports.specs.print.Told.{IsTold, Outputs}
 use Rattle.vend_ports.specs.declared.command_end.CommandEnd.{CommandEnd}
-use Rattle.program_laws.specs.AtDesk.{IsAskedByOne, came_in, sent_in}
+use Rattle.program_laws.specs.AtDesk.{AsksNoHealth, IsAskedByOne, came_in, sent_in}
 use Rattle.program_laws.specs.SalesTold.{ExchangeTells, ExchangesTell, sales_found}
 use Rattle.program_laws.specs.runs.Asked.{PrintsOfDesk}
 use Rattle.program_laws.specs.runs.Asked.PrintsOfDesk.{a_find, a_reply, nothing, some_pages, totals}
-use Rattle.program_laws.proofs.AtDeskLemmas.ListLemmas.{AreSame, OnePage, page_wanted, same_pages}
+use Rattle.program_laws.proofs.AtDeskLemmas.ListLemmas.{AreSame, OnePage, has_order, same_pages}
 use Rattle.program_laws.proofs.AtDeskLemmas.OneLemmas.{DeskLaws, reply_length, same_body}
 use Rattle.program_laws.proofs.AtDeskLemmas.PageLemmas.{CanAsk}
 use Rattle.program_laws.proofs.AtDeskLemmas.PrintedLemmas.{tell_alike}
@@ -92,64 +93,69 @@ first_came d f t u reply came behind more dated date short is says text few =
     cut_reply d f t u behind more dated date short
     (subst (λ (bytes : List ℕ). length bytes < 2 ^ 64) (ap (λ (bytes : List ℕ). bytes ++ behind) is ∙ both) few) both
 
+-- what is asked by one message is no health
+asks_none : (json : Bool) (ask : Ask) → IsAskedByOne json ask → AsksNoHealth ask
+asks_none json (Look lookups.Health) one = one
+asks_none json ask one = tt
+
 module _ (laws : DeskLaws) where
-  -- ---- one question
-  module _ (q : Question) (json : Bool) (askable : IsAskable q) (one : IsAskedByOne json q) (old new : Timed Life) (opening : IsOffice old.0.opening)
-      (life : IsLife new.0) (came : List ℕ) (t : Told) (o : Outputs) (end : CommandEnd) (is : IsReply (wanted_by q) came t)
-      (printed : TellsTold json q t o end) where
+  -- ---- one ask
+  module _ (ask : Ask) (json : Bool) (can : CanSend ask) (one : IsAskedByOne json ask) (old new : Timed Life) (opening : IsOffice old.0.opening)
+      (life : IsLife new.0) (came : List ℕ) (t : Told) (o : Outputs) (end : CommandEnd) (is : IsReply (wanted_by ask) came t)
+      (printed : TellsTold json ask t o end) where
     by_exchanges : (xs : List MessageExchange) (mid : Timed Life) (served : Exchanged (timed (answers_by life_serves)) old xs mid) → GoesFrom mid.0 new.0
         → (later tail behind : List ℕ)
-        → Reads (question_text q ++ later) (messages_of xs) (λ rest. Stops rest tail mid new) → came ++ behind ≡ replies_of xs ++ tail
+        → Reads (ask_text ask ++ later) (messages_of xs) (λ rest. Stops rest tail mid new) → came ++ behind ≡ replies_of xs ++ tail
         → length (came ++ behind) < 2 ^ 64
-        → PrintsOfDesk (ExchangesTell old xs mid served) o end × Sells q new.0 o end
+        → PrintsOfDesk (ExchangesTell old xs mid served) o end × Sells ask new.0 o end
     by_exchanges [] mid same goes later tail behind (no_more none) text few =
-        absurd (none (question_message q) later (laws.sent q later askable))
+        absurd (none (message_of ask) later (laws.sent ask later can))
     by_exchanges [] mid same goes later tail behind (unsaid none) text few = absurd (some_reply is.dated t came behind tail is.is_text text none)
     by_exchanges [] mid same goes later tail behind (cut_short x after begins step part shorter most cut) text few =
-        let asked = (message_unique (question_text q ++ later) x.message (question_message q) after later begins (laws.sent q later askable)).0 in
+        let asked = (message_unique (ask_text ask ++ later) x.message (message_of ask) after later begins (laws.sent ask later can)).0 in
         let begun : IsOffice mid.0.opening = subst (λ (l : Timed Life). IsOffice l.0.opening) (sym same) opening in
-        let says = exchange_says laws mid new x begun life q askable asked step in
+        let says = exchange_says laws mid new x begun life ask can asked (asks_none json ask one) step in
         let alone : text_of x ≡ x.reply = reply_alone x (ap (λ (m : Message). m.expects) asked) in
         absurd (not_cut is.dated says.date t says.said (text_of x) came behind part is.is_dated says.is_date is.short is.is_text (alone ∙ says.text)
         shorter most (text ∙ cut))
     by_exchanges [] mid same goes later tail behind (expecting expects) text few =
-        absurd (expects_none (question_text q ++ later) (question_message q) later (laws.sent q later askable) refl expects)
+        absurd (expects_none (ask_text ask ++ later) (message_of ask) later (laws.sent ask later can) refl expects)
     by_exchanges (x ∷ xs) mid (next, step, rest) goes later tail behind (after, begins, on) text few =
-        let asked = (message_unique (question_text q ++ later) x.message (question_message q) after later begins (laws.sent q later askable)).0 in
+        let asked = (message_unique (ask_text ask ++ later) x.message (message_of ask) after later begins (laws.sent ask later can)).0 in
         let its_life = life_from next.0 new.0 (goes_through next.0 mid.0 new.0 (exchanged_goes next mid xs rest) goes) life in
-        let says = exchange_says laws old next x opening its_life q askable asked step in
+        let says = exchange_says laws old next x opening its_life ask can asked (asks_none json ask one) step in
         let first =
         first_came is.dated says.date t says.said (text_of x) came behind (replies_of xs ++ tail) is.is_dated says.is_date is.short is.is_text
         (reply_alone x (ap (λ (m : Message). m.expects) asked) ∙ says.text) (text ∙ append_assoc (text_of x) (replies_of xs) tail) few in
-        let other : IsReply (wanted_by q) came says.said = record {
+        let other : IsReply (wanted_by ask) came says.said = record {
           tellable = says.tellable;
           short = same_body is.dated says.date t says.said is.is_dated says.is_date is.short first.0;
           dated = says.date;
           is_dated = says.is_date;
           is_text = is.is_text ∙ first.0;
         } in
-        let alike = laws.alike (wanted_by q) came t says.said is other in
-        let prints = says.prints json o end one (tell_alike json q o end t says.said alike printed) in (
+        let alike = laws.alike (wanted_by ask) came t says.said is other in
+        let prints = says.prints json o end one (tell_alike json ask o end t says.said alike printed) in (
           map_prints (ExchangeTells old.0 x next.0) (ExchangesTell old (x ∷ xs) mid (next, step, rest)) o end (λ s tells. inl tells) prints.0,
-          sells_later q next.0 new.0 o end (goes_through next.0 mid.0 new.0 (exchanged_goes next mid xs rest) goes) prints.1,
+          sells_later ask next.0 new.0 o end (goes_through next.0 mid.0 new.0 (exchanged_goes next mid xs rest) goes) prints.1,
         )
 
-    -- what a command printed of its question's conversation
-    pub question_prints : (Tells : Sale → Type 0) → Talk old new (question_text q) came Tells → PrintsOfDesk Tells o end × Sells q new.0 o end
-    question_prints Tells talk =
+    -- what a command printed of the conversation of its ask
+    pub ask_prints : (Tells : Sale → Type 0) → Talk old new (ask_text ask) came Tells → PrintsOfDesk Tells o end × Sells ask new.0 o end
+    ask_prints Tells talk =
         let prints = by_exchanges talk.exchanges talk.mid talk.served talk.goes talk.later talk.tail talk.behind talk.reads talk.text talk.few in
         (map_prints (ExchangesTell old talk.exchanges talk.mid talk.served) Tells o end talk.tells prints.0, prints.1)
 
   -- ---- the pages of a list
 
   -- what was sent begins with the message that asks for the first page
-  sent_first : (list : Listed) → CanAsk list → (round : Round) (rounds : List Round) (later : List ℕ) → round.message ≡ question_text (page_question list)
-      → BeginsMessage (sent_in (round ∷ rounds) ++ later) (question_message (page_question list)) (sent_in rounds ++ later)
+  sent_first : (list : Lookup) → CanAsk list → (round : Round) (rounds : List Round) (later : List ℕ) → round.message ≡ ask_text (Look list)
+      → BeginsMessage (sent_in (round ∷ rounds) ++ later) (message_of (Look list)) (sent_in rounds ++ later)
   sent_first list askable round rounds later message =
-      let m = question_message (page_question list) in
+      let m = message_of (Look list) in
       let rest = sent_in rounds ++ later in
       subst (λ (bytes : List ℕ). BeginsMessage bytes m rest) (sym (append_assoc round.message (sent_in rounds) later))
-      (subst (λ (text : List ℕ). BeginsMessage (text ++ rest) m rest) (sym message) (laws.sent (page_question list) rest askable))
+      (subst (λ (text : List ℕ). BeginsMessage (text ++ rest) m rest) (sym message) (laws.sent (Look list) rest askable))
 
   module _ (one : OnePage) where
     -- the pages that the desk found, as they were told, and the sales in them
@@ -159,7 +165,7 @@ module _ (laws : DeskLaws) where
       pub alike : AreSame pages found
       pub tells : (s : Sale) → Contains (flat_map (λ page. sales_found (Ok page)) found) s → ExchangesTell old xs mid served s
 
-    rounds_tell : (new : Timed Life) → IsLife new.0 → (old : Timed Life) → IsOffice old.0.opening → (list left : Option Listed) → IfSome list CanAsk
+    rounds_tell : (new : Timed Life) → IsLife new.0 → (old : Timed Life) → IsOffice old.0.opening → (list left : Option Lookup) → IfSome list CanAsk
         → (rounds : List Round) (pages : List Found) → TellPages list rounds pages left
         → (xs : List MessageExchange) (mid : Timed Life) (served : Exchanged (timed (answers_by life_serves)) old xs mid) → GoesFrom mid.0 new.0
         → (later tail behind : List ℕ)
@@ -170,37 +176,37 @@ module _ (laws : DeskLaws) where
         record { found = []; alike = tt; tells = λ s there. absurd (omega (arith, there.1)) }
     rounds_tell new life old opening (Some list) left askable (round ∷ rounds) (page ∷ pages) (message, tell, tells) [] mid same goes later tail behind
         (no_more none) text few =
-        absurd (none (question_message (page_question list)) (sent_in rounds ++ later) (sent_first list askable round rounds later message))
+        absurd (none (message_of (Look list)) (sent_in rounds ++ later) (sent_first list askable round rounds later message))
     rounds_tell new life old opening (Some list) left askable (round ∷ rounds) (page ∷ pages) (message, tell, tells) [] mid same goes later tail behind
         (unsaid none) text few =
         absurd (some_reply tell.reply.reply.dated (told.Granted (granted.Page tell.body)) round.came (came_in rounds ++ behind) tail tell.reply.reply.is_text
         (sym (append_assoc round.came (came_in rounds) behind) ∙ text) none)
     rounds_tell new life old opening (Some list) left askable (round ∷ rounds) (page ∷ pages) (message, tell, tells) [] mid same goes later tail behind
         (cut_short x after begins step part shorter most cut) text few =
-        let q = page_question list in
+        let ask = Look list in
         let t = told.Granted (granted.Page tell.body) in
         let asked =
-        (message_unique (sent_in (round ∷ rounds) ++ later) x.message (question_message q) after (sent_in rounds ++ later) begins
+        (message_unique (sent_in (round ∷ rounds) ++ later) x.message (message_of ask) after (sent_in rounds ++ later) begins
         (sent_first list askable round rounds later message)).0 in
         let begun : IsOffice mid.0.opening = subst (λ (l : Timed Life). IsOffice l.0.opening) (sym same) opening in
-        let says = page_says laws mid new x begun life one list askable asked step in
+        let says = page_says laws mid new x begun life one list askable (has_order list page tell.order) asked step in
         let alone : text_of x ≡ x.reply = reply_alone x (ap (λ (m : Message). m.expects) asked) in
         absurd (not_cut tell.reply.reply.dated says.date t says.said (text_of x) round.came (came_in rounds ++ behind) part
         tell.reply.reply.is_dated says.is_date tell.reply.reply.short tell.reply.reply.is_text (alone ∙ says.text)
         shorter most (sym (append_assoc round.came (came_in rounds) behind) ∙ text ∙ cut))
     rounds_tell new life old opening (Some list) left askable (round ∷ rounds) (page ∷ pages) (message, tell, tells) [] mid same goes later tail behind
         (expecting expects) text few =
-        absurd (expects_none (sent_in (round ∷ rounds) ++ later) (question_message (page_question list)) (sent_in rounds ++ later)
+        absurd (expects_none (sent_in (round ∷ rounds) ++ later) (message_of (Look list)) (sent_in rounds ++ later)
         (sent_first list askable round rounds later message) refl expects)
     rounds_tell new life old opening (Some list) left askable (round ∷ rounds) (page ∷ pages) (message, tell, tells) (x ∷ xs) mid (next, step, rest) goes later
         tail behind (after, begins, on) text few =
-        let q = page_question list in
+        let ask = Look list in
         let t = told.Granted (granted.Page tell.body) in
         let same =
-        message_unique (sent_in (round ∷ rounds) ++ later) x.message (question_message q) after (sent_in rounds ++ later) begins
+        message_unique (sent_in (round ∷ rounds) ++ later) x.message (message_of ask) after (sent_in rounds ++ later) begins
         (sent_first list askable round rounds later message) in
         let its_life = life_from next.0 new.0 (goes_through next.0 mid.0 new.0 (exchanged_goes next mid xs rest) goes) life in
-        let says = page_says laws old next x opening its_life one list askable same.0 step in
+        let says = page_says laws old next x opening its_life one list askable (has_order list page tell.order) same.0 step in
         let whole : length (round.came ++ (came_in rounds ++ behind)) < 2 ^ 64 =
         subst (λ (bytes : List ℕ). length bytes < 2 ^ 64) (append_assoc round.came (came_in rounds) behind) few in
         let first =
@@ -208,8 +214,7 @@ module _ (laws : DeskLaws) where
         tell.reply.reply.is_dated says.is_date tell.reply.reply.short tell.reply.reply.is_text
         (reply_alone x (ap (λ (m : Message). m.expects) same.0) ∙ says.text)
         (sym (append_assoc round.came (came_in rounds) behind) ∙ text ∙ append_assoc (text_of x) (replies_of xs) tail) whole in
-        let wanted : IsReply wants.Page round.came t = subst (λ w. IsReply w round.came t) (page_wanted list) tell.reply.reply in
-        let other : IsReply wants.Page round.came says.said = record {
+        let other : IsReply (wanted_by ask) round.came says.said = record {
           tellable = says.tellable;
           short =
               same_body tell.reply.reply.dated says.date t says.said tell.reply.reply.is_dated says.is_date tell.reply.reply.short
@@ -218,7 +223,7 @@ module _ (laws : DeskLaws) where
           is_dated = says.is_date;
           is_text = tell.reply.reply.is_text ∙ first.0;
         } in
-        let here = says.page tell.body page (laws.alike wants.Page round.came t says.said wanted other) tell.told tell.text in
+        let here = says.page tell.body page (laws.alike (wanted_by ask) round.came t says.said tell.reply.reply other) tell.told tell.text in
         let closes : x.message.closes ≡ false = ap (λ (m : Message). m.closes) same.0 in
         let others : Reads (sent_in rounds ++ later) (messages_of xs) (λ rest. Stops rest tail mid new) =
         subst (λ (bytes : List ℕ). Reads bytes (messages_of xs) (λ rest. Stops rest tail mid new)) same.1 (on closes) in
@@ -236,8 +241,8 @@ module _ (laws : DeskLaws) where
     rounds_tell new life old opening list left askable rounds pages tells xs mid served goes later tail behind reads text few = absurd tells
 
     -- what a command printed of the conversation of its list
-    pub pages_print : (list : Listed) → CanAsk list → (json : Bool) (old new : Timed Life) → IsOffice old.0.opening → IsLife new.0 → (rounds : List Round)
-        (pages : List Found) (left : Option Listed) → TellPages (Some list) rounds pages left → (o : Outputs) (end meant : CommandEnd) (errors : List ℕ)
+    pub pages_print : (list : Lookup) → CanAsk list → (json : Bool) (old new : Timed Life) → IsOffice old.0.opening → IsLife new.0 → (rounds : List Round)
+        (pages : List Found) (left : Option Lookup) → TellPages (Some list) rounds pages left → (o : Outputs) (end meant : CommandEnd) (errors : List ℕ)
         → IsTold o (pages_text json pages) errors meant end
         → (Tells : Sale → Type 0) → Talk old new (sent_in rounds) (came_in rounds) Tells → PrintsOfDesk Tells o end
     pages_print list askable json old new opening life rounds pages left tells o end meant errors is Tells talk =

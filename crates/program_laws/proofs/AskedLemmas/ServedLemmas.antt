@@ -9,9 +9,10 @@ use Rattle.office_rules.specs.declared.office.sale.Sale.{Sale}
 use Rattle.vend_core.specs.Law.Life.{IsHanded, IsLife, LeadTo, Life}
 use Rattle.vend_core.specs.Law.LifeLaws.{opened}
 use Rattle.office_rules.specs.declared.decision.request.Order.{Order}
-use Rattle.command_line.specs.declared.commands.at_desk.DeskQuestion.{DeskQuestion}
-use Rattle.command_line.specs.declared.commands.at_desk.DeskQuestion.TheVariants as questions
-use Rattle.desk_client.specs.declared.question.Question.TheVariants as asked
+use Rattle.office_rules.specs.declared.decision.request.Request.TheVariants as requests
+use Rattle.asks.specs.declared.ask.Ask.TheVariants.{Do}
+use Rattle.command_line.specs.declared.office_words.AskWords.{AskWords}
+use Rattle.command_line.specs.declared.office_words.AskWords.TheVariants as ask_words
 use Rattle.desk_commands.specs.Exchanged.{Round}
 use Rattle.vend_commands.specs.port.Machines.{Way}
 use Rattle.vend_commands.specs.serving.Connections.{Service, service}
@@ -24,6 +25,7 @@ use Rattle.program_laws.specs.runs.Asked.{AsksDesk, CarriesIn, ConnectionsCarry,
 use Rattle.program_laws.specs.runs.Here.{Here, ProgramRun, use_of}
 use Rattle.program_laws.specs.runs.Steps.{AreSoldFor, Goes, LivesIn, TellsIn}
 use Rattle.program_laws.specs.runs.Uses.{RunUse, asking_life, connected, idle_life, many_lives, no_life, reading_life, unconnected, unseen}
+use Rattle.program_laws.specs.runs.Words.{selling}
 use Rattle.program_laws.proofs.AgainLemmas.{life_opens}
 use Rattle.program_laws.proofs.LeadLemmas.{LeadingLaws}
 use Rattle.program_laws.proofs.AtDeskLemmas.ListLemmas.{OnePage}
@@ -94,63 +96,63 @@ module _ (leading : LeadingLaws) (start : Office) (all : List Life) (o : Office)
         ]
 
 -- what a command printed that asked to sell, of lives
-abbrev SoldInAll : DeskQuestion → List Life → Outputs → CommandEnd → Type 0
-SoldInAll (questions.Sell order) all o end = PrintsSaleOrWhy (AreSoldFor all order) o end
-SoldInAll question all o end = ⊤
+abbrev SoldInAll : AskWords → List Life → Outputs → CommandEnd → Type 0
+SoldInAll (ask_words.Ask (Do (requests.Sell order))) all o end = PrintsSaleOrWhy (AreSoldFor all order) o end
+SoldInAll ask all o end = ⊤
 
-sold_in_all : (question : DeskQuestion) (all : List Life) (o : Outputs) (end : CommandEnd) (before after : Life) → GoesFrom before after → Contains all after
-    → SellsFor question before o end → SoldInAll question all o end
-sold_in_all (questions.Sell order) all o end before after goes there sells = elim (sells_later (asked.Sell order) before after o end goes sells) [
+sold_in_all : (ask : AskWords) (all : List Life) (o : Outputs) (end : CommandEnd) (before after : Life) → GoesFrom before after → Contains all after
+    → SellsFor ask before o end → SoldInAll ask all o end
+sold_in_all (ask_words.Ask (Do (requests.Sell order))) all o end before after goes there sells = elim (sells_later (Do (requests.Sell order)) before after o end goes sells) [
   | inl (s, prints, (at, asks, sold)) ↦ inl (s, prints, (after, there, at, asks, sold))
   | inr why ↦ inr why
 ]
-sold_in_all question all o end before after goes there sells = tt
+sold_in_all ask all o end before after goes there sells = tt
 
 -- what a run carried it told
 use_tells : {M : Type 0} {g : disk.Ghosts M} (leading : LeadingLaws) (start : Office) (begun : IsOffice start) (o : Office) (made : RunUse g)
     (before own : List Life) → LeadTo start (before ++ own) o
-    → (lived : LivesIn made before own) (question : DeskQuestion) (rounds : List Round) (out : Outputs) (end : CommandEnd)
-    → PrintsOfRounds (λ life. SellsFor question life out end) rounds out end
+    → (lived : LivesIn made before own) (ask : AskWords) (rounds : List Round) (out : Outputs) (end : CommandEnd)
+    → PrintsOfRounds (λ life. SellsFor ask life out end) rounds out end
     → CarriesIn made before own lived (sent_in rounds) (came_in rounds)
-    → PrintsOfDesk (TellsIn made before own lived) out end × SoldInAll question (before ++ own) out end
-use_tells leading start begun o unseen before own lead lived question rounds out end prints carries = absurd carries
-use_tells leading start begun o (unconnected found left) before own lead lived question rounds out end prints carries = absurd carries
-use_tells leading start begun o (connected image no_life last) before own lead lived question rounds out end prints carries = absurd carries
-use_tells leading start begun o (connected image (idle_life transform) last) before own lead lived question rounds out end prints carries = absurd carries
-use_tells leading start begun o (connected image (reading_life moment reading) last) before own lead lived question rounds out end prints carries =
+    → PrintsOfDesk (TellsIn made before own lived) out end × SoldInAll ask (before ++ own) out end
+use_tells leading start begun o unseen before own lead lived ask rounds out end prints carries = absurd carries
+use_tells leading start begun o (unconnected found left) before own lead lived ask rounds out end prints carries = absurd carries
+use_tells leading start begun o (connected image no_life last) before own lead lived ask rounds out end prints carries = absurd carries
+use_tells leading start begun o (connected image (idle_life transform) last) before own lead lived ask rounds out end prints carries = absurd carries
+use_tells leading start begun o (connected image (reading_life moment reading) last) before own lead lived ask rounds out end prints carries =
     absurd carries
-use_tells leading start begun o (connected image (asking_life q) last) before own lead lived question rounds out end prints carries = absurd carries
+use_tells leading start begun o (connected image (asking_life q) last) before own lead lived ask rounds out end prints carries = absurd carries
 use_tells leading start begun o (connected image (many_lives way forward count door answers last_door left) last) before own lead
-    (office, ends, next, lived, follows, are) question rounds out end prints carries =
+    (office, ends, next, lived, follows, are) ask rounds out end prints carries =
     let all = before ++ own in
     let among : IsAmong all next = record { life = next.life; later = []; goes = goes_none next.life next.life refl; all_are = are } in
-    connections_tell leading start all o begun lead way forward (λ life. SellsFor question life out end) (SoldInAll question all out end) rounds out end prints
-    (sold_in_all question all out end) count (service door (course before (opened forward office)) answers) (service last_door ends left) lived
+    connections_tell leading start all o begun lead way forward (λ life. SellsFor ask life out end) (SoldInAll ask all out end) rounds out end prints
+    (sold_in_all ask all out end) count (service door (course before (opened forward office)) answers) (service last_door ends left) lived
     (before_next all forward ends next follows among) carries
 
 module _ {P D R W Q E S T : Type 0} (here : Here P D R W) (there : Here Q E S T) (laws : DeskLaws) (one : OnePage) (leading : LeadingLaws) (start : Office)
     (run : ProgramRun here) (lives more : List Life) (command : ProgramRun there) where
-  both_told : (question : DeskQuestion) (rounds : List Round) → IsOffice start → (goes : Goes here start run lives more)
-      → AsksDesk there command question rounds
+  both_told : (ask : AskWords) (rounds : List Round) → IsOffice start → (goes : Goes here start run lives more)
+      → AsksDesk there command ask rounds
       → CarriesIn (use_of here run) lives more goes.lived (sent_in rounds) (came_in rounds)
-      → PrintsOfDesk (TellsIn (use_of here run) lives more goes.lived) command.o command.end × SoldInAll question (lives ++ more) command.o command.end
-  both_told question rounds begun goes asks carries =
-      use_tells leading start begun goes.lead.0 (use_of here run) lives more goes.lead.1 goes.lived question rounds command.o command.end
-      (command_said laws one command.words command.o command.end command.ran question rounds asks) carries
+      → PrintsOfDesk (TellsIn (use_of here run) lives more goes.lived) command.o command.end × SoldInAll ask (lives ++ more) command.o command.end
+  both_told ask rounds begun goes asks carries =
+      use_tells leading start begun goes.lead.0 (use_of here run) lives more goes.lead.1 goes.lived ask rounds command.o command.end
+      (command_said laws one command.words command.o command.end command.ran ask rounds asks) carries
 
   -- What a command printed of a desk that a run served is what that run told, and so was handed out.
-  pub desk_told : (question : DeskQuestion) (rounds : List Round) → IsOffice start → (goes : Goes here start run lives more)
-      → AsksDesk there command question rounds
+  pub desk_told : (ask : AskWords) (rounds : List Round) → IsOffice start → (goes : Goes here start run lives more)
+      → AsksDesk there command ask rounds
       → CarriesIn (use_of here run) lives more goes.lived (sent_in rounds) (came_in rounds)
       → PrintsOfDesk (λ s. TellsIn (use_of here run) lives more goes.lived s × IsHanded (lives ++ more) s) command.o command.end
-  desk_told question rounds begun goes asks carries =
+  desk_told ask rounds begun goes asks carries =
       let made = use_of here run in
       map_prints (TellsIn made lives more goes.lived) (λ s. TellsIn made lives more goes.lived s × IsHanded (lives ++ more) s) command.o command.end
-      (λ s told. (told, goes.handed s (inr told))) (both_told question rounds begun goes asks carries).0
+      (λ s told. (told, goes.handed s (inr told))) (both_told ask rounds begun goes asks carries).0
 
   -- Where it asked to sell it printed the receipt of a sale that these lives sold for the order.
   pub desk_sold : (order : Order) (rounds : List Round) → IsOffice start → (goes : Goes here start run lives more)
-      → AsksDesk there command (questions.Sell order) rounds
+      → AsksDesk there command (selling order) rounds
       → CarriesIn (use_of here run) lives more goes.lived (sent_in rounds) (came_in rounds)
       → PrintsSaleOrWhy (AreSoldFor (lives ++ more) order) command.o command.end
-  desk_sold order rounds begun goes asks carries = (both_told (questions.Sell order) rounds begun goes asks carries).1
+  desk_sold order rounds begun goes asks carries = (both_told (selling order) rounds begun goes asks carries).1

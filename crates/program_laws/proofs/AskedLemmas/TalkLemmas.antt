@@ -1,5 +1,5 @@
 -- What the conversation of a connection is for the one who asked on it, however it ended.
-use Rattle.std.proofs.Common.{◌≡◌, ◌⊎◌, ◌∙◌, ℕ, ◌<◌, ◌^◌, Bool, true, false, List, [], ◌∷◌, ◌++◌, length, take, Option, inl, inr, refl, sym, ap, subst, append-nil, length-append, arith}
+use Rattle.std.proofs.Common.{◌≡◌, ◌∙◌, ℕ, ◌<◌, ◌^◌, Bool, true, false, List, [], ◌∷◌, ◌++◌, length, take, Option, inl, inr, refl, sym, ap, subst, append-nil, length-append, arith}
 use Rattle.std.specs.Prelude.{MatchBool}
 use Rattle.std.proofs.lemmas.List.{length-take-le}
 use Rattle.conversation.specs.Conversation.{Conversation, IsCutOff, IsGivenUp, IsNextText, interim_for, last_words, messages_of, replies_of, text_of}

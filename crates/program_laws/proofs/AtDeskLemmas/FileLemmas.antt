@@ -14,12 +14,12 @@ use Rattle.office_rules.specs.declared.decision.refusal.Refusal.TheVariants.{Mem
 use Rattle.office_rules.specs.declared.decision.request.Request.{Request}
 use Rattle.office_rules.specs.declared.decision.request.Stamped.{Stamped}
 use Rattle.book_facts.specs.Lookups.{Finds, IsOfRules}
+use Rattle.asks.specs.declared.lookup.Lookup.{Lookup}
+use Rattle.asks.specs.declared.lookup.Lookup.TheVariants as lookups
 use Rattle.book_states.specs.Health.{IsHealthOf}
 use Rattle.book_states.specs.declared.lookup.Found.{Found}
 use Rattle.book_states.specs.declared.lookup.Found.TheVariants as found
 use Rattle.book_states.specs.declared.lookup.Health.{Health}
-use Rattle.book_states.specs.declared.lookup.Lookup.{Lookup}
-use Rattle.book_states.specs.declared.lookup.Lookup.TheVariants as lookups
 use Rattle.books.specs.Looking.{IsFoundAt}
 use Rattle.desk.specs.Answering.{LifeReplies}
 use Rattle.program_laws.specs.AtDesk.{IsOneLookup}
@@ -67,7 +67,7 @@ same_reply life one other moment later request a b when (at, stamped, goes) (bt,
 -- ---- look-ups
 
 -- what is found is by the rules
-by_finds : (life : Life) (moment : ℕ) (lookup : Lookup) (r : Result Found Refusal) → IfErr r IsOfRules → IsFoundAt life moment lookup r
+pub by_finds : (life : Life) (moment : ℕ) (lookup : Lookup) (r : Result Found Refusal) → IfErr r IsOfRules → IsFoundAt life moment lookup r
     → Finds (present life) moment lookup r
 by_finds life moment lookup r rules (inl finds) = finds
 by_finds life moment lookup r rules (inr (inl is)) = absurd ((subst (λ (r : Result Found Refusal). IfErr r IsOfRules) is rules).not_memory refl)

@@ -1,192 +1,158 @@
 -- A sale that a desk told is one that the desk's life handed out.
-use Rattle.std.proofs.Common.{◌≡◌, ◌≢◌, ◌∙◌, ◌⊎◌, ℕ, pos, ◌≤◌, false, List, [], ◌∷◌, ◌++◌, length, take, Option, None, Some, Result, Ok, Err, inl, inr, refl, sym, ap, subst, arith}
-use Rattle.std.specs.Prelude.{All, Contains}
-use Rattle.std.proofs.lemmas.List.{take_all}
-use Rattle.std.proofs.lemmas.List.Elements.{All-head, Contains-push}
+use Rattle.std.proofs.Common.{◌≡◌, ◌⊎◌, ℕ, pos, List, [], ◌∷◌, Result, Ok, Err, inl, inr, refl, sym, subst, arith}
+use Rattle.std.specs.Borrow.{Bor}
+use Rattle.std.specs.Prelude.{Contains}
+use Rattle.std.proofs.lemmas.List.Elements.{Contains-push}
 use Rattle.sts_fields.specs.Moment.{IsMoment}
-use Rattle.office_rules.specs.Law.Handed.{sales_of}
+use Rattle.papers.specs.Receipt.{receipt_of}
 use Rattle.office_rules.specs.Office.{IsOffice}
-use Rattle.office_rules.specs.Office.Lookup.{sale_of_ref}
-use Rattle.office_rules.specs.Decision.Fold.{after}
 use Rattle.office_rules.specs.declared.decision.answer.Answer.{Answer}
 use Rattle.office_rules.specs.declared.decision.answer.Answer.TheVariants as answers
 use Rattle.office_rules.specs.declared.decision.refusal.Refusal.{Refusal}
-use Rattle.office_rules.specs.declared.decision.refusal.Refusal.TheVariants as refusals
 use Rattle.office_rules.specs.declared.decision.request.Order.{Order}
-use Rattle.office_rules.specs.declared.decision.request.Request.{Request}
 use Rattle.office_rules.specs.declared.decision.request.Request.TheVariants as requests
-use Rattle.office_rules.specs.declared.decision.request.Stamped.{Stamped}
 use Rattle.office_rules.specs.declared.office.sale.Sale.{Sale}
-use Rattle.vend_core.specs.Law.Life.{Exchange, HandsOut, IsLife, Life, acknowledged, present}
+use Rattle.vend_core.specs.Law.Life.{HandsOut, IsLife, Life}
 use Rattle.vend_core.specs.Law.LifeLaws.{extended_by}
-use Rattle.book_facts.specs.Lookups.{sale_found}
+use Rattle.asks.specs.declared.ask.Ask.{Ask}
+use Rattle.asks.specs.declared.ask.Ask.TheVariants.{Do, Look, Receipt}
+use Rattle.asks.specs.declared.lookup.Lookup.TheVariants as lookups
 use Rattle.book_states.specs.declared.lookup.Found.{Found}
 use Rattle.book_states.specs.declared.lookup.Found.TheVariants as found
-use Rattle.book_states.specs.declared.lookup.Lookup.{Lookup}
-use Rattle.book_states.specs.declared.lookup.Lookup.TheVariants as lookups
-use Rattle.books.specs.Looking.{IsFoundAt}
 use Rattle.conversation.specs.Exchanges.{Timed}
-use Rattle.desk.specs.Answering.{LifeReplies}
-use Rattle.desk_messages.specs.Meaning.{MessageAsks, lookup_form}
+use Rattle.desk.specs.Answering.{IsServed, life_serves}
+use Rattle.desk_messages.specs.declared.reply.form.Form.{Form}
 use Rattle.desk_messages.specs.declared.reply.form.Form.TheVariants as forms
 use Rattle.desk_messages.specs.declared.reply.outcome.Outcome.{Outcome}
 use Rattle.desk_messages.specs.declared.reply.outcome.Outcome.TheVariants as outcomes
-use Rattle.desk_messages.specs.reply.HttpDate.{moment_given}
-use Rattle.desk_messages.specs.reply.Text.{reply_bytes_of}
 use Rattle.desk_client.specs.Alike.{TellAlike}
-use Rattle.desk_client.specs.Asks.{IsAskable, question_message}
-use Rattle.desk_client.specs.Question.{question_text, wanted_by}
 use Rattle.desk_client.specs.Reply.{IsReply}
+use Rattle.desk_client.specs.Sent.{CanSend, ask_text, wanted_by}
 use Rattle.desk_client.specs.Tells.{as_told}
-use Rattle.desk_client.specs.Told.{IsTellable}
-use Rattle.desk_client.specs.declared.question.Question.{Question}
-use Rattle.desk_client.specs.declared.question.Question.TheVariants as questions
+use Rattle.desk_client.specs.Told.{IsGrantOf}
 use Rattle.desk_client.specs.declared.told.Granted.TheVariants as granted
 use Rattle.desk_client.specs.declared.told.Told.{Told}
 use Rattle.desk_client.specs.declared.told.Told.TheVariants as told
-use Rattle.desk_client.specs.declared.told.Wanted.{Wanted}
-use Rattle.office_rules.proofs.OfficeLemmas.RowLemmas as rows_of
-use Rattle.program_laws.specs.AtDesk.{IsAnsweredAt, IsSoldIn}
-use Rattle.program_laws.proofs.AtDeskLemmas.MeaningLemmas.{looked, replied}
-use Rattle.program_laws.proofs.AtDeskLemmas.OneLemmas.{Came, DeskLaws, came_of, may_be, same_told}
-use Rattle.program_laws.proofs.AtDeskLemmas.RuleLemmas.{MayReplyTo, present_is}
-use Rattle.program_laws.proofs.AtDeskLemmas.TellableLemmas.{MayAsk, look_tells, no_health, reply_tells, tellable_look, tellable_reply, told_look, told_reply, wanted_for}
+use Rattle.program_laws.specs.AtDesk.{AsksNoHealth, IsAnsweredAt, IsSoldIn}
+use Rattle.program_laws.specs.SalesTold.{sales_came}
+use Rattle.program_laws.proofs.DeskLemmas.{HandingLaws, served_hands}
+use Rattle.program_laws.proofs.AtDeskLemmas.OneLemmas.{DeskLaws, alike_came, came_of, may_be, served_at}
+use Rattle.program_laws.proofs.AtDeskLemmas.RuleLemmas.{MayReplyTo}
+use Rattle.program_laws.proofs.AtDeskLemmas.TellableLemmas.{told_look, told_of, told_reply}
 
 -- the sale that is told
 abbrev it_tells : Sale → Told
 it_tells s = told.Granted (granted.Sale s)
 
 -- the reply that told a sale has it
-told_as : (s : Sale) (r : Result Answer Refusal) → TellAlike (it_tells s) (told_reply forms.Json r)
+told_as : (s : Sale) (form : Form) (r : Result Answer Refusal) → TellAlike (it_tells s) (told_reply form r)
     → (t : Sale) × (as_told t ≡ s) × ((r ≡ Ok (answers.Sold t)) ⊎ (r ≡ Ok (answers.Reprinted t)))
-told_as s (Ok (answers.Sold t)) alike = (t, sym alike, inl refl)
-told_as s (Ok (answers.Reprinted t)) alike = (t, sym alike, inr refl)
-told_as s (Ok answer) alike = absurd alike
-told_as s (Err refusal) alike = absurd alike
+told_as s forms.Json (Ok (answers.Sold t)) alike = (t, sym alike, inl refl)
+told_as s forms.Json (Ok (answers.Reprinted t)) alike = (t, sym alike, inr refl)
+told_as s forms.Paper (Ok (answers.Sold t)) alike = absurd alike
+told_as s forms.Paper (Ok (answers.Reprinted t)) alike = absurd alike
+told_as s form (Ok answer) alike = absurd alike
+told_as s form (Err refusal) alike = absurd alike
 
 -- what was found and told as a sale is one
-found_as : (s : Sale) (r : Result Found Refusal) → TellAlike (it_tells s) (told_look forms.Json r) → (t : Sale) × (as_told t ≡ s) × (r ≡ Ok (found.Sale t))
-found_as s (Ok (found.Sale t)) alike = (t, sym alike, refl)
-found_as s (Ok it) alike = absurd alike
-found_as s (Err refusal) alike = absurd alike
+found_as : (s : Sale) (form : Form) (r : Result Found Refusal) → TellAlike (it_tells s) (told_look form r)
+    → (t : Sale) × (as_told t ≡ s) × (r ≡ Ok (found.Sale t))
+found_as s forms.Json (Ok (found.Sale t)) alike = (t, sym alike, refl)
+found_as s forms.Paper (Ok (found.Sale t)) alike = absurd alike
+found_as s form (Ok it) alike = absurd alike
+found_as s form (Err refusal) alike = absurd alike
 
-handed_in : (r : Result Answer Refusal) (t : Sale) → (r ≡ Ok (answers.Sold t)) ⊎ (r ≡ Ok (answers.Reprinted t)) → Contains (sales_of r) t
-handed_in r t (inl is) = subst (λ (r : Result Answer Refusal). Contains (sales_of r) t) (sym is) (Contains-push [] t)
-handed_in r t (inr is) = subst (λ (r : Result Answer Refusal). Contains (sales_of r) t) (sym is) (Contains-push [] t)
-
--- a sale that stands in the present office of a life was handed out by it
-stands_handed : (life : Life) (t : Sale) → Contains (present life).sales t → HandsOut life t
-stands_handed life t there =
-    inr (
-      length (acknowledged life),
-      subst (λ (ats : List Stamped). Contains (after life.forward life.opening ats).sales t) (sym (take_all (length (acknowledged life)) (acknowledged life) (omega arith)))
-          there,
-    )
-
--- the sale of a ref stands in the office
-ref_stands : (life : Life) (moment : ℕ) (operator order_ref : List ℕ) (t : Sale)
-    → IsFoundAt life moment (lookups.SaleOfRef operator order_ref) (Ok (found.Sale t)) → Contains (present life).sales t
-ref_stands life moment operator order_ref t (inl finds) = by_sale (sale_of_ref (present life) operator order_ref) refl finds
+-- so what came has the sale that is told of it
+came_as : (s : Sale) (outcome : Outcome) → TellAlike (it_tells s) (told_of outcome) → (t : Sale) × (as_told t ≡ s) × Contains (sales_came outcome) t
+came_as s (outcomes.Replied form r) alike =
+    let there = told_as s form r alike in
+    (there.0, there.1, stands there.0 r there.2)
   where
-    by_sale : (there : Option Sale) → sale_of_ref (present life) operator order_ref ≡ there → Ok (found.Sale t) ≡ sale_found there
-        → Contains (present life).sales t
-    by_sale None is finds = absurd cc
-    by_sale (Some s) is finds =
-        let same : t ≡ s = cc in
-        subst (Contains (present life).sales) (sym same) (rows_of.found _ (present life).sales s is).0
-ref_stands life moment operator order_ref t (inr (inl is)) = absurd cc
-ref_stands life moment operator order_ref t (inr (inr (inl is))) = absurd cc
-ref_stands life moment operator order_ref t (inr (inr (inr is))) = absurd cc
+    stands : (t : Sale) (r : Result Answer Refusal) → (r ≡ Ok (answers.Sold t)) ⊎ (r ≡ Ok (answers.Reprinted t))
+        → Contains (sales_came (outcomes.Replied form r)) t
+    stands t r (inl is) = subst (λ r. Contains (sales_came (outcomes.Replied form r)) t) (sym is) (0, omega arith, refl)
+    stands t r (inr is) = subst (λ r. Contains (sales_came (outcomes.Replied form r)) t) (sym is) (0, omega arith, refl)
+came_as s (outcomes.Found form r) alike =
+    let there = found_as s form r alike in
+    (there.0, there.1, subst (λ r. Contains (sales_came (outcomes.Found form r)) there.0) (sym there.2) (0, omega arith, refl))
+came_as s (outcomes.Faulty fault) alike = absurd alike
+came_as s (outcomes.Refused fault) alike = absurd alike
 
-module _ (laws : DeskLaws) (hands : (life : Life) (at : Stamped) (reply : Result Answer Refusal) (s : Sale) → Contains (sales_of reply) s
-    → HandsOut (extended_by life at reply) s)
-    (moment : ℕ) (is_moment : IsMoment moment) (old new : Timed Life) (came : List ℕ) (opening : IsOffice old.0.opening) (life : IsLife new.0) (s : Sale) where
-  -- the reply to a request told the sale
-  record ToldBy (request : Request) : Type 0 where
-    pub sale : Sale
-    pub same : as_told sale ≡ s
-    pub reply : Result Answer Refusal
-    pub is : (reply ≡ Ok (answers.Sold sale)) ⊎ (reply ≡ Ok (answers.Reprinted sale))
-    pub replies : LifeReplies moment request reply old.0 new.0
+-- a sale is not what a health grants
+sale_asked : (s : Sale) (ask : Ask) → IsGrantOf (wanted_by ask) (granted.Sale s) → AsksNoHealth ask
+sale_asked s (Look lookups.Health) grants = grants
+sale_asked s ask grants = tt
 
-  told_by : (q : Question) (request : Request) → MessageAsks (question_message q) (Some (pos moment)) forms.Json moment request → MayAsk request
-      → wanted_by q ≡ wanted_for request
-      → Came laws q (pos moment) old new came → IsReply (wanted_by q) came (it_tells s) → ToldBy request
-  told_by q request asks ask wanted c is =
-      let m = question_message q in
-      let now = Some (pos moment) in
-      let r = replied m now (laws.meaning m now) forms.Json moment request asks c.outcome old.0 new.0 c.comes in
-      let may = may_be laws old.0 new.0 moment request r.0 life opening r.2 in
-      let u = told_reply forms.Json r.0 in
-      let tellable : IsTellable (wanted_by q) u = subst (λ (w : Wanted). IsTellable w u) (sym wanted) (tellable_reply request r.0 ask may.1 may.0) in
-      let text : IsReply (wanted_by q) (reply_bytes_of (moment_given (Some (pos moment))) (outcomes.Replied forms.Json r.0) false) (it_tells s) =
-      subst (λ (x : List ℕ). IsReply (wanted_by q) x (it_tells s)) (c.text ∙ ap (λ (x : Outcome). reply_bytes_of (moment_given (Some (pos moment))) x false) r.1) is in
-      let alike = same_told laws (wanted_by q) (Some (pos moment)) (outcomes.Replied forms.Json r.0) (it_tells s) u text tellable (reply_tells forms.Json r.0) in
-      let t = told_as s r.0 alike in
-      record { sale = t.0; same = t.1; reply = r.0; is = t.2; replies = r.2 }
-
-  handed_by : (request : Request) → ToldBy request → (t : Sale) × (as_told t ≡ s) × HandsOut new.0 t
-  handed_by request it =
-      let at = it.replies.0 in
-      let goes = it.replies.2 in
-      (it.sale, it.same, subst (λ (l : Life). HandsOut l it.sale) (sym goes) (hands old.0 at it.reply it.sale (handed_in it.reply it.sale it.is)))
-
-  ref_handed : (operator order_ref : List ℕ) → IsAskable (questions.SaleOfRef operator order_ref)
-      → Came laws (questions.SaleOfRef operator order_ref) (pos moment) old new came
-      → IsReply (wanted_by (questions.SaleOfRef operator order_ref)) came (it_tells s) → (t : Sale) × (as_told t ≡ s) × HandsOut new.0 t
-  ref_handed operator order_ref askable c is =
-      let q = questions.SaleOfRef operator order_ref in
-      let lookup = lookups.SaleOfRef operator order_ref in
-      let m = question_message q in
-      let now = Some (pos moment) in
-      let r = looked m now (laws.meaning m now) forms.Json moment lookup (laws.means q moment askable is_moment) c.outcome old.0 new.0 c.comes in
-      let office : IsOffice (present old.0) = present_is laws.along old.0 (subst IsLife r.3 life) opening in
-      let u = told_look forms.Json r.0 in
-      let keeps : IsTellable (wanted_by q) u = tellable_look laws.ranges old.0 office moment lookup r.0 tt r.2 in
-      let text : IsReply (wanted_by q) (reply_bytes_of (moment_given (Some (pos moment))) (outcomes.Found forms.Json r.0) false) (it_tells s) =
-      subst (λ (x : List ℕ). IsReply (wanted_by q) x (it_tells s)) (c.text ∙ ap (λ (x : Outcome). reply_bytes_of (moment_given (Some (pos moment))) x false) r.1) is in
-      let alike =
-      same_told laws (wanted_by q) (Some (pos moment)) (outcomes.Found forms.Json r.0) (it_tells s) u text keeps
-      (look_tells forms.Json r.0 (no_health forms.Json (wanted_by q) r.0 (λ e. absurd cc) keeps)) in
-      let t = found_as s r.0 alike in
-      let there = ref_stands old.0 moment operator order_ref t.0 (subst (IsFoundAt old.0 moment lookup) t.2 r.2) in
-      (t.0, t.1, subst (λ (l : Life). HandsOut l t.0) (sym r.3) (stands_handed old.0 t.0 there))
-
-  by_question : (q : Question) → IsAskable q → Came laws q (pos moment) old new came → IsReply (wanted_by q) came (it_tells s)
-      → (t : Sale) × (as_told t ≡ s) × HandsOut new.0 t
-  by_question (questions.Sell order) askable c is =
-      handed_by (requests.Sell order)
-      (told_by (questions.Sell order) (requests.Sell order) (laws.means (questions.Sell order) moment askable is_moment) tt refl c is)
-  by_question (questions.Receipt number) askable c is =
-      handed_by (requests.Reprint number)
-      (told_by (questions.Receipt number) (requests.Reprint number) (laws.means (questions.Receipt number) moment askable is_moment) tt refl c is)
-  by_question (questions.SaleOfRef operator order_ref) askable c is = ref_handed operator order_ref askable c is
-  by_question q askable c is = absurd (let kind = is.tellable.1 in cc)
-
+module _ (laws : DeskLaws) (handing : HandingLaws) (moment : ℕ) (is_moment : IsMoment moment) (old new : Timed Life) (came : List ℕ)
+    (opening : IsOffice old.0.opening) (life : IsLife new.0) where
   -- a sale that is told was handed out
-  pub sale_handed : (q : Question) → IsAskable q → IsAnsweredAt (pos moment) old (question_text q) came new → IsReply (wanted_by q) came (it_tells s)
+  pub sale_handed : (ask : Ask) (s : Sale) → CanSend ask → IsAnsweredAt (pos moment) old (ask_text ask) came new → IsReply (wanted_by ask) came (it_tells s)
       → (t : Sale) × (as_told t ≡ s) × HandsOut new.0 t
-  sale_handed q askable at is = by_question q askable (came_of laws q (pos moment) old new came askable at) is
+  sale_handed ask s can at is =
+      let c = came_of laws ask (pos moment) old new came can at in
+      let none = sale_asked s ask is.tellable.1 in
+      let there = came_as s c.outcome (alike_came laws ask none can.askable moment is_moment old new came (it_tells s) opening life c is) in
+      let serves = served_at laws ask can.askable moment is_moment old new came c in
+      (there.0, there.1, served_hands handing there.0 moment ask c.outcome old.0 new.0 serves there.2)
 
   -- that of an order was sold for it
-  pub sale_sold : (order : Order) → IsAskable (questions.Sell order) → IsAnsweredAt (pos moment) old (question_text (questions.Sell order)) came new
-      → IsReply (wanted_by (questions.Sell order)) came (it_tells s)
+  pub sale_sold : (order : Order) (s : Sale) → CanSend (Do (requests.Sell order)) → IsAnsweredAt (pos moment) old (ask_text (Do (requests.Sell order))) came new
+      → IsReply (wanted_by (Do (requests.Sell order))) came (it_tells s)
       → (t : Sale) × (as_told t ≡ s) × IsSoldIn new.0 order t
-  sale_sold order askable at is =
-      let q = questions.Sell order in
-      let c = came_of laws q (pos moment) old new came askable at in
-      let it = told_by q (requests.Sell order) (laws.means q moment askable is_moment) tt refl c is in
-      let may = may_be laws old.0 new.0 moment (requests.Sell order) it.reply life opening it.replies in
-      (it.sale, it.same, (it.replies.0, it.replies.1.for_request, sold_there it (only_sold it.sale it.reply it.is (may.0 tt))))
+  sale_sold order s can at is =
+      let ask = Do (requests.Sell order) in
+      let c = came_of laws ask (pos moment) old new came can at in
+      by_reply c.outcome (served_at laws ask can.askable moment is_moment old new came c)
+      (alike_came laws ask tt can.askable moment is_moment old new came (it_tells s) opening life c is)
     where
       only_sold : (t : Sale) (r : Result Answer Refusal) → (r ≡ Ok (answers.Sold t)) ⊎ (r ≡ Ok (answers.Reprinted t))
           → MayReplyTo (requests.Sell order) r → r ≡ Ok (answers.Sold t)
       only_sold t r (inl is) may = is
       only_sold t r (inr is) may = absurd (subst (MayReplyTo (requests.Sell order)) is may)
 
-      sold_there : (it : ToldBy (requests.Sell order)) → it.reply ≡ Ok (answers.Sold it.sale)
-          → Contains new.0.exchanges (record { request = it.replies.0; reply = Ok (answers.Sold it.sale) })
-      sold_there it is =
-          subst (λ (l : Life). Contains l.exchanges (record { request = it.replies.0; reply = Ok (answers.Sold it.sale) })) (sym it.replies.2)
-          (subst (λ (r : Result Answer Refusal). Contains (extended_by old.0 it.replies.0 it.reply).exchanges (record { request = it.replies.0; reply = r })) is
-          (Contains-push old.0.exchanges (record { request = it.replies.0; reply = it.reply })))
+      by_reply : (outcome : Outcome) → IsServed life_serves moment (Do (requests.Sell order)) outcome old.0 new.0 → TellAlike (it_tells s) (told_of outcome)
+          → (t : Sale) × (as_told t ≡ s) × IsSoldIn new.0 order t
+      by_reply outcome (r, same, (request, stamped, goes)) alike =
+          let there = told_as s forms.Json r (subst (λ x. TellAlike (it_tells s) (told_of x)) same alike) in
+          let may = may_be laws old.0 new.0 moment (requests.Sell order) r life opening (request, stamped, goes) in
+          let sold = only_sold there.0 r there.2 may.0 in (
+            there.0,
+            there.1,
+            (
+              request,
+              stamped.for_request,
+              subst (λ (l : Life). Contains l.exchanges (record { request = request; reply = Ok (answers.Sold there.0) })) (sym goes)
+                  (subst (λ (told : Result Answer Refusal). Contains (extended_by old.0 request r).exchanges (record { request = request; reply = told })) sold
+                  (Contains-push old.0.exchanges (record { request = request; reply = r }))),
+            ),
+          )
+
+  -- and a receipt that is told is that of a sale that was handed out
+  pub receipt_handed : (number : ℕ) (text : Bor (List ℕ)) → CanSend (Receipt number) → IsAnsweredAt (pos moment) old (ask_text (Receipt number)) came new
+      → IsReply (wanted_by (Receipt number)) came (told.Granted (granted.Paper text))
+      → (t : Sale) × (t.number ≡ number) × (text.now ≡ receipt_of t) × HandsOut new.0 t
+  receipt_handed number text can at is =
+      let ask = Receipt number in
+      let c = came_of laws ask (pos moment) old new came can at in
+      by_reply c.outcome (served_at laws ask can.askable moment is_moment old new came c)
+      (alike_came laws ask tt can.askable moment is_moment old new came (told.Granted (granted.Paper text)) opening life c is)
+    where
+      reprinted : (r : Result Answer Refusal) → MayReplyTo (requests.Reprint number) r → TellAlike (told.Granted (granted.Paper text)) (told_reply forms.Paper r)
+          → (t : Sale) × (t.number ≡ number) × (text.now ≡ receipt_of t) × (r ≡ Ok (answers.Reprinted t))
+      reprinted (Ok (answers.Reprinted t)) may alike = (t, may, alike, refl)
+      reprinted (Ok answer) may alike = absurd may
+      reprinted (Err refusal) may alike = absurd alike
+
+      by_reply : (outcome : Outcome) → IsServed life_serves moment (Receipt number) outcome old.0 new.0
+          → TellAlike (told.Granted (granted.Paper text)) (told_of outcome)
+          → (t : Sale) × (t.number ≡ number) × (text.now ≡ receipt_of t) × HandsOut new.0 t
+      by_reply outcome (r, same, replies) alike =
+          let may = may_be laws old.0 new.0 moment (requests.Reprint number) r life opening replies in
+          let there = reprinted r may.0 (subst (λ x. TellAlike (told.Granted (granted.Paper text)) (told_of x)) same alike) in (
+            there.0,
+            there.1,
+            there.2,
+            served_hands handing there.0 moment (Receipt number) outcome old.0 new.0 (r, same, replies)
+                (subst (λ x. Contains (sales_came x) there.0) (sym same)
+                (subst (λ r. Contains (sales_came (outcomes.Replied forms.Paper r)) there.0) (sym there.3) (0, omega arith, refl))),
+          )

@@ -1,16 +1,12 @@
--- What a command that asks a desk one question prints is what it prints of the desk's office.
-use Rattle.std.proofs.Common.{◌≡◌, ◌≢◌, ◌∙◌, ℕ, ℤ, pos, ◌+◌, ◌^◌, ◌<◌, ◌≤◌, Bool, true, false, List, [], ◌++◌, length, Option, Some, Result, Ok, Err, refl, sym, ap, subst, arith, append-nil, length-append}
-use Rattle.std.specs.Prelude.{All, Contains, codes, decimal}
-use Rattle.std.specs.Borrow.{Bor}
-use Rattle.std.proofs.lemmas.Fmt.{length-decimal-le}
+-- What a command that asks a desk one thing prints is what it prints of the desk's office.
+use Rattle.std.proofs.Common.{◌≡◌, ◌∙◌, ℕ, ℤ, pos, ◌+◌, ◌^◌, ◌<◌, ◌≤◌, Bool, true, false, List, [], ◌++◌, length, Option, Some, Result, Ok, Err, refl, sym, ap, subst, arith, append-nil, length-append}
+use Rattle.std.specs.Prelude.{All, Contains, decimal}
 use Rattle.std.proofs.lemmas.List.Elements.{All-contains, All-nil, All-weaker, Contains-push}
 use Rattle.sts_fields.specs.Moment.{IsMoment}
 use Rattle.sts_token.specs.Token.{BlockFunction, KeepsRange}
-use Rattle.papers.specs.File.{AreFileRecords, Fields, header_of}
+use Rattle.papers.specs.File.{Fields, header_of}
 use Rattle.papers.specs.Import.{IsNoRow}
-use Rattle.papers.specs.Receipt.{receipt_of}
 use Rattle.papers.specs.declared.file_kind.FileKind.{FileKind}
-use Rattle.papers.specs.declared.file_kind.FileKind.TheVariants as files
 use Rattle.papers.specs.declared.row_fault.RowFault.{RowFault}
 use Rattle.papers.specs.declared.row_fault.RowFault.TheVariants as row_faults
 use Rattle.office_rules.specs.Decision.Fold.{after, reply, step}
@@ -21,9 +17,6 @@ use Rattle.vend_core.specs.Law.LifeLaws.{extended_by}
 use Rattle.vend_core.specs.Law.Reached.{IsPlausible}
 use Rattle.office_rules.specs.Office.{IsOffice, Office}
 use Rattle.office_rules.specs.declared.decision.answer.Answer.{Answer}
-use Rattle.office_rules.specs.Decision.Refusals.{refusal_category}
-use Rattle.office_rules.specs.declared.decision.category.Category.{Category}
-use Rattle.office_rules.specs.declared.decision.category.Category.TheVariants as categories
 use Rattle.office_rules.specs.declared.decision.refusal.Refusal.{Refusal}
 use Rattle.office_rules.specs.declared.decision.refusal.Refusal.TheVariants.{ImportRow}
 use Rattle.office_rules.specs.declared.decision.row_cause.RowCause.{RowCause}
@@ -32,59 +25,48 @@ use Rattle.office_rules.specs.declared.decision.request.Request.{Request}
 use Rattle.office_rules.specs.declared.decision.request.Request.TheVariants as requests
 use Rattle.office_rules.specs.declared.decision.request.Stamped.{Stamped}
 use Rattle.office_rules.specs.declared.office.row.Row.{Row}
-use Rattle.office_rules.specs.declared.office.sale.Sale.{Sale}
+use Rattle.asks.specs.Ask.{Asks, IsAskable, message_of, row_by, row_method}
+use Rattle.asks.specs.declared.ask.Ask.{Ask}
+use Rattle.asks.specs.declared.ask.Ask.TheVariants.{Do, Import, Look, Receipt}
+use Rattle.asks.specs.declared.endpoint.Grants.{Grants}
+use Rattle.asks.specs.declared.lookup.Lookup.{Lookup}
+use Rattle.asks.specs.declared.lookup.Lookup.TheVariants as lookups
 use Rattle.book_states.specs.declared.lookup.Found.{Found}
-use Rattle.book_states.specs.declared.lookup.Lookup.{Lookup}
-use Rattle.book_states.specs.declared.lookup.Lookup.TheVariants as lookups
 use Rattle.books.specs.Looking.{IsFoundAt}
 use Rattle.conversation.specs.Exchanges.{Timed}
 use Rattle.conversation.specs.declared.message.method.Method.{Method}
+use Rattle.conversation.specs.declared.message.method.Method.TheVariants.{Delete, Get, Head, Post}
 use Rattle.conversation.specs.message.Messages.{BeginsMessage, Message}
 use Rattle.conversation.proofs.ReadingLemmas.{message_unique}
-use Rattle.desk.specs.Answering.{Comes, LifeReplies, life_serves}
-use Rattle.desk_messages.specs.Meaning.{IsFor, IsIdle, MessageAsks, MessageLooks, lookup_form}
-use Rattle.desk.specs.OneConversation.{HasOneMeaning}
-use Rattle.desk_messages.specs.declared.desk_fault.DeskFault.{DeskFault}
+use Rattle.desk.specs.Answering.{Comes, IsImported, IsServed, LifeReplies, life_serves}
+use Rattle.desk_messages.specs.Meaning.{MessageAsks, MessageHasFault, lookup_form}
 use Rattle.desk_messages.specs.declared.desk_fault.DeskFault.TheVariants as faults
+use Rattle.desk_messages.specs.declared.reply.form.Form.{Form}
 use Rattle.desk_messages.specs.declared.reply.form.Form.TheVariants as forms
 use Rattle.desk_messages.specs.declared.reply.outcome.Outcome.{Outcome}
 use Rattle.desk_messages.specs.declared.reply.outcome.Outcome.TheVariants as outcomes
-use Rattle.desk_messages.specs.declared.route.Route.{Route}
-use Rattle.desk_messages.specs.declared.route.Route.TheVariants.{Import}
 use Rattle.desk_messages.specs.reply.HttpDate.{IsDateAt, http_date, moment_given}
 use Rattle.desk_messages.specs.reply.Text.{reply_bytes_of, reply_to}
-use Rattle.desk_messages.specs.route.Route.{IsRouted}
 use Rattle.desk_client.specs.Alike.{TellAlike}
-use Rattle.desk_client.specs.Asks.{IsAskable, IsNoMoment, MeansAsked, asked_by, question_message}
-use Rattle.desk_client.specs.Question.{question_method, question_text, wanted_by}
 use Rattle.desk_client.specs.Reply.{IsReply, longest_reply_body, reply_text}
-use Rattle.desk_client.specs.Start.{IsDated, category_start, head_end, start_text}
+use Rattle.desk_client.specs.Sent.{CanSend, IsNoMoment, ask_text, wanted_by}
+use Rattle.desk_client.specs.Start.{IsDated, head_end, start_text}
 use Rattle.desk_client.specs.Tells.{Tells}
-use Rattle.desk_client.specs.Told.{IsTellable, granted_start, told_start, told_text, wanted_of}
-use Rattle.desk_client.specs.declared.question.Question.{Question}
-use Rattle.desk_client.specs.declared.question.Question.TheVariants as questions
-use Rattle.desk_client.specs.declared.told.Granted.{Granted}
-use Rattle.desk_client.specs.declared.told.Granted.TheVariants as granted
+use Rattle.desk_client.specs.Told.{IsTellable, IsTellableRefusal, told_start, told_text}
 use Rattle.desk_client.specs.declared.told.Told.{Told}
 use Rattle.desk_client.specs.declared.told.Told.TheVariants as told
-use Rattle.desk_client.specs.declared.told.Wanted.{Wanted}
-use Rattle.desk_client.specs.declared.told.Wanted.TheVariants as wants
-use Rattle.desk_client.proofs.HeadLemmas.{one_head, short_end}
-use Rattle.desk_client.proofs.TargetLemmas.{found_imports_meters, found_imports_tariffs}
-use Rattle.desk_client.proofs.TellsLemmas.{SalesAreTexts, date_given, given_dated, says}
-use Rattle.desk_client.proofs.WordLemmas.{seen_text}
-use Rattle.program_laws.specs.AtDesk.{IsAnsweredAt, IsAskedByOne, PrintsAdded, PrintsAsOnFile, PrintsFound, PrintsImport, PrintsReply, PrintsTotals}
-use Rattle.desk_commands.specs.AskedOfDesk.{SaleNeedsRoom, TellsTold, told_sale_text}
-use Rattle.office_commands.specs.commands.LookedUp.{TellsFound}
+use Rattle.desk_client.proofs.HeadLemmas.{head_within, one_head}
+use Rattle.desk_client.proofs.TellsLemmas.{date_given, given_dated, says}
+use Rattle.program_laws.specs.AtDesk.{AsksNoHealth, IsAnsweredAt, IsAskedByOne, PrintsAdded, PrintsAsOnFile}
+use Rattle.desk_commands.specs.AskedOfDesk.{TellsTold}
 use Rattle.vend_ports.specs.declared.command_end.CommandEnd.{CommandEnd}
 use Rattle.vend_ports.specs.declared.command_end.CommandEnd.TheVariants.{Refused}
-use Rattle.office_commands.specs.office.Served.{TellsReply}
 use Rattle.vend_ports.specs.print.Printed.{clock_line}
 use Rattle.vend_ports.specs.print.Told.{IsTold, Outputs}
-use Rattle.program_laws.proofs.AtDeskLemmas.MeaningLemmas.{ComesOfRows, IsRead, came_rows, idled, looked, replied}
+use Rattle.program_laws.proofs.AtDeskLemmas.MeaningLemmas.{IsRead, MeansOne, idled, is_read, served}
 use Rattle.program_laws.proofs.AtDeskLemmas.PrintedLemmas.{prints_last, prints_meter, prints_quote, prints_reply, prints_sale_of_ref, prints_totals, tell_alike}
-use Rattle.program_laws.proofs.AtDeskLemmas.RuleLemmas.{MayReply, by_rules, may_reply, present_before, present_is}
-use Rattle.program_laws.proofs.AtDeskLemmas.TellableLemmas.{AreToldSales, MayAsk, MayLook, RangeLaws, look_tells, no_health, reply_tells, sale_told, tellable_look, tellable_reply, told_look, told_reply, wanted_for, wanted_look}
+use Rattle.program_laws.proofs.AtDeskLemmas.RuleLemmas.{MayReplyTo, by_rules, may_reply, present_before, present_is}
+use Rattle.program_laws.proofs.AtDeskLemmas.TellableLemmas.{AreToldSales, FitsFile, RangeLaws, import_wanted, look_tells, look_wanted, no_health, reply_tells, sale_told, tellable_look, tellable_receipt, tellable_reply, told_look, told_of, told_reply}
 
 -- what the laws of the crates below say
 pub record DeskLaws : Type 0 where
@@ -95,49 +77,16 @@ pub record DeskLaws : Type 0 where
       → IsPlausible (step forward o at)
   pub stand : (forward : BlockFunction) (o : Office) (at : Stamped) → All (Contains (step forward o at).sales) (sales_of (reply forward o at))
   pub ranges : RangeLaws
-  -- of a desk
-  pub meaning : (m : Message) (now : Option ℤ) → HasOneMeaning m now
-  pub routed : (target : List ℕ) (method : Method) (a b : Result Route DeskFault) → IsRouted target method a → IsRouted target method b → a ≡ b
-  pub texts : SalesAreTexts
-  pub dates : (moment : ℕ) → IsMoment moment → IsDateAt moment (http_date moment)
+  -- of what messages ask, and what they mean
+  pub own : (ask : Ask) → IsAskable ask → Asks (message_of ask) ask
+  pub meaning : MeansOne
   -- of what a desk is sent, and what it replies
-  pub sent : (question : Question) (rest : List ℕ) → IsAskable question → BeginsMessage (question_text question ++ rest) (question_message question) rest
-  pub means : (question : Question) (moment : ℕ) → IsAskable question → IsMoment moment → MeansAsked (asked_by question) (question_message question) moment
-  pub outside : (question : Question) (second : ℤ) → IsAskable question → IsNoMoment second
-      → IsIdle (question_message question) (Some second) (outcomes.Faulty faults.Clock)
-  pub alike : (asked : Wanted) (text : List ℕ) (one other : Told) → IsReply asked text one → IsReply asked text other → TellAlike one other
-
--- the message of an import leads to its route
-pub import_for : (kind : FileKind) (csv : Bor (List ℕ)) → IsFor (question_message (questions.Import kind csv)) (Import kind)
-import_for files.Meters csv = (record { finds = record { text = seen_text (codes "/imports/meters") refl; found = found_imports_meters }; names = tt }, refl)
-import_for files.Tariffs csv = (record { finds = record { text = seen_text (codes "/imports/tariffs") refl; found = found_imports_tariffs }; names = tt }, refl)
+  pub sent : (ask : Ask) (rest : List ℕ) → CanSend ask → BeginsMessage (ask_text ask ++ rest) (message_of ask) rest
+  pub outside : (ask : Ask) (second : ℤ) → IsAskable ask → IsNoMoment second → MessageHasFault (message_of ask) (Some second) faults.Clock
+  pub dates : (moment : ℕ) → IsMoment moment → IsDateAt moment (http_date moment)
+  pub alike : (asked : Grants) (text : List ℕ) (one other : Told) → IsReply asked text one → IsReply asked text other → TellAlike one other
 
 -- ---- the reply
-
--- a reply is not much longer than its body
-short_granted : (g : Granted) → length (start_text (granted_start (wanted_of g))) ≤ 83
-short_granted granted.Done = omega arith
-short_granted (granted.Imported count) = omega arith
-short_granted (granted.Withdrawn count) = omega arith
-short_granted (granted.Shift number) = omega arith
-short_granted (granted.Sale sale) = omega arith
-short_granted (granted.Meter meter) = omega arith
-short_granted (granted.Quote quote) = omega arith
-short_granted (granted.Totals number totals) = omega arith
-short_granted (granted.Paper text) = omega arith
-short_granted (granted.Page text) = omega arith
-
-short_category : (c : Category) → length (start_text (category_start c)) ≤ 83
-short_category categories.Missing = omega arith
-short_category categories.Forbidden = omega arith
-short_category categories.Unfit = omega arith
-short_category (categories.UnfitRow row cause) = omega arith
-short_category categories.Unable = omega arith
-
-short_start : (t : Told) → length (start_text (told_start t)) ≤ 83
-short_start (told.Granted g) = short_granted g
-short_start (told.Refused refusal) = short_category (refusal_category refusal)
-short_start told.NoMoment = omega arith
 
 -- a reply is as long as its start, its length's digits, the end of its head and its body
 pub reply_length : (d : Option (List ℕ)) (t : Told)
@@ -151,33 +100,70 @@ reply_length d t =
       length-append (head_end d) (told_text t),
     )
 
-short_reply : (d : Option (List ℕ)) (t : Told) → IsDated d → length (told_text t) ≤ longest_reply_body
-    → length (reply_text d t) ≤ longest_reply_body + 132
-short_reply d t is short =
-    omega (
-      arith,
-      reply_length d t,
-      short_start t,
-      short_end d is,
-      length-decimal-le 8 (length (told_text t)) (omega arith) (omega (arith, short)) (omega (arith, short)),
-      short,
-    )
-
 -- two replies with one text have one body
 pub same_body : (d f : Option (List ℕ)) (t u : Told) → IsDated d → IsDated f → length (told_text t) ≤ longest_reply_body
     → reply_text d t ≡ reply_text f u → length (told_text u) ≤ longest_reply_body
 same_body d f t u is are short same =
-    let most : length (told_text u) < 2 ^ 64 = omega (arith, short_reply d t is short, ap length same, reply_length f u) in
+    let most : length (told_text u) < 2 ^ 64 =
+    omega (arith, head_within (told_start t) (length (told_text t)) d (told_text t) short is, short, ap length same, reply_length f u) in
     let heads =
     one_head (told_start t) (told_start u) (length (told_text t)) (length (told_text u)) d f (told_text t) (told_text u) (omega (arith, short)) most is are same in
     omega (arith, heads.1, short)
 
+-- a message with the method of its row is none of HEAD, so its reply has its body
+pub has_body : (method : Method) → method ≡ row_method method → (dated : Option ℕ) (outcome : Outcome)
+    → reply_to method dated outcome false ≡ reply_bytes_of dated outcome false
+has_body Get same dated outcome = refl
+has_body Post same dated outcome = refl
+has_body Delete same dated outcome = refl
+has_body Head same dated outcome = let none : Head ≡ Get = same in absurd cc
+
+-- what is asked by one message is no health
+asks_none : (json : Bool) (ask : Ask) → IsAskedByOne json ask → AsksNoHealth ask
+asks_none json (Look lookups.Health) one = one
+asks_none json ask one = tt
+
+-- what came of an ask is told as what is wanted
+pub record Reads (ask : Ask) (outcome : Outcome) : Type 0 where
+  pub tellable : IsTellable (wanted_by ask) (told_of outcome)
+  pub tells : Tells outcome (told_of outcome)
+
+reads_reply : (ask : Ask) (form : Form) (r : Result Answer Refusal) (outcome : Outcome) → outcome ≡ outcomes.Replied form r
+    → IsTellable (wanted_by ask) (told_reply form r) → Reads ask outcome
+reads_reply ask form r outcome is tellable = subst (Reads ask) (sym is) (record { tellable = tellable; tells = reply_tells form r })
+
+-- rows that were read are not asked to be imported
+fits_file : (request : Request) → IsAskable (Do request) → FitsFile request
+fits_file (requests.Import rows) askable = absurd askable.body.1
+fits_file request askable = tt
+
+-- no file has more rows than these
+pub few_rows : (kind : FileKind) (csv : List ℕ) (rows : List Row) → IsRead kind csv (Ok rows) → length rows ≤ 10000
+few_rows kind csv rows read = read.reading.2.few
+
+-- nor a form of files more fields than these
+pub few_fields : (kind : FileKind) (records : List Fields) (row k : ℕ) (none : IsNoRow kind records row (causes.Field k)) → length (header_of none.0) ≤ 4
+few_fields kind records row k none = grind arith
+
+-- a fault that was found in a row of a file can be told
+pub row_tellable : (kind : FileKind) (csv : List ℕ) (row : ℕ) (cause : RowCause) → IsRead kind csv (Err (row_faults.At row cause))
+    → IsTellableRefusal (ImportRow row cause)
+row_tellable kind csv row causes.Header read = (omega (arith, read.reading.here.0), tt)
+row_tellable kind csv row causes.Columns read = (omega (arith, read.reading.here.3.few), tt)
+row_tellable kind csv row (causes.Field k) read =
+    let outside = read.reading.here.4 in
+    (omega (arith, read.reading.here.3.few), omega (arith, outside.1.within, outside.0, few_fields kind read.records row k read.reading.here))
+row_tellable kind csv row causes.TooManyRows read = (omega (arith, read.reading.here.0), tt)
+row_tellable kind csv row causes.Differs read = absurd read.reading.here
+row_tellable kind csv row causes.NoTariff read = absurd read.reading.here
+row_tellable kind csv row causes.DayPast read = absurd read.reading.here
+
 module _ (laws : DeskLaws) where
   -- what was read of the reply to what came of a message is what this tells
-  pub same_told : (asked : Wanted) (now : Option ℤ) (outcome : Outcome) (t u : Told) → IsReply asked (reply_bytes_of (moment_given now) outcome false) t
+  pub same_told : (asked : Grants) (now : Option ℤ) (outcome : Outcome) (t u : Told) → IsReply asked (reply_bytes_of (moment_given now) outcome false) t
       → IsTellable asked u → Tells outcome u → TellAlike t u
   same_told asked now outcome t u is tellable tells =
-      let text = says (moment_given now) laws.texts asked outcome u tellable tells in
+      let text = says (moment_given now) outcome u tells in
       let dated = given_dated laws.dates now in
       let other : IsReply asked (reply_bytes_of (moment_given now) outcome false) u = record {
         tellable = tellable;
@@ -190,44 +176,21 @@ module _ (laws : DeskLaws) where
 
   -- ---- the message
 
-  -- no question is asked by HEAD, so its reply has its body
-  pub has_body : (question : Question) (dated : Option ℕ) (outcome : Outcome)
-      → reply_to (question_method question) dated outcome false ≡ reply_bytes_of dated outcome false
-  has_body (questions.Import kind csv) dated outcome = refl
-  has_body (questions.SetTariff meter tariff) dated outcome = refl
-  has_body (questions.WithdrawSteps name day) dated outcome = refl
-  has_body (questions.MoveBase meter base) dated outcome = refl
-  has_body (questions.SetKey meter key) dated outcome = refl
-  has_body (questions.OpenShift operator) dated outcome = refl
-  has_body (questions.CloseShift operator) dated outcome = refl
-  has_body (questions.Sell order) dated outcome = refl
-  has_body (questions.ShiftReport number) dated outcome = refl
-  has_body (questions.Receipt number) dated outcome = refl
-  has_body (questions.ShiftTotals number) dated outcome = refl
-  has_body (questions.Meter meter) dated outcome = refl
-  has_body (questions.LastSale meter) dated outcome = refl
-  has_body (questions.SaleOfRef operator order_ref) dated outcome = refl
-  has_body (questions.Quote meter tender) dated outcome = refl
-  has_body (questions.Tariffs after) dated outcome = refl
-  has_body (questions.Meters after) dated outcome = refl
-  has_body (questions.Shifts after) dated outcome = refl
-  has_body (questions.Sales after) dated outcome = refl
-
-  -- the message that a question asks came to the desk, and this came of it
-  pub record Came (question : Question) (second : ℤ) (old new : Timed Life) (came : List ℕ) : Type 0 where
+  -- the message of an ask came to the desk, and this came of it
+  pub record Came (ask : Ask) (second : ℤ) (old new : Timed Life) (came : List ℕ) : Type 0 where
     pub outcome : Outcome
-    pub comes : Comes life_serves (question_message question) (Some second) outcome old.0 new.0
+    pub comes : Comes life_serves (message_of ask) (Some second) outcome old.0 new.0
     pub text : came ≡ reply_bytes_of (moment_given (Some second)) outcome false
 
-  -- what came back for a question is the reply to its own message
-  pub came_of : (question : Question) (second : ℤ) (old new : Timed Life) (came : List ℕ) → IsAskable question
-      → IsAnsweredAt second old (question_text question) came new → Came question second old new came
-  came_of question second old new came askable at =
+  -- what came back for an ask is the reply to its own message
+  pub came_of : (ask : Ask) (second : ℤ) (old new : Timed Life) (came : List ℕ) → CanSend ask
+      → IsAnsweredAt second old (ask_text ask) came new → Came ask second old new came
+  came_of ask second old new came can at =
       let x = at.exchange in
-      let m = question_message question in
-      let whole : BeginsMessage (question_text question) m [] =
-      subst (λ (text : List ℕ). BeginsMessage text m []) (append-nil (question_text question)) (laws.sent question [] askable) in
-      let same : x.message ≡ m = (message_unique (question_text question) x.message m [] [] at.read whole).0 in
+      let m = message_of ask in
+      let whole : BeginsMessage (ask_text ask) m [] =
+      subst (λ (text : List ℕ). BeginsMessage text m []) (append-nil (ask_text ask)) (laws.sent ask [] can) in
+      let same : x.message ≡ m = (message_unique (ask_text ask) x.message m [] [] at.read whole).0 in
       let outcome = at.answered.0.0 in
       let comes : Comes life_serves m (Some second) outcome old.0 new.0 =
       subst (λ (m : Message). Comes life_serves m (Some second) outcome old.0 new.0) same
@@ -237,16 +200,26 @@ module _ (laws : DeskLaws) where
         comes = comes;
         text =
             at.whole ∙ at.answered.0.2 ∙ ap (λ (m : Message). reply_to m.method (moment_given x.now) outcome m.closes) same
-            ∙ has_body question (moment_given x.now) outcome
+            ∙ has_body (row_by ask).method (laws.own ask can.askable).method (moment_given x.now) outcome
             ∙ ap (λ (now : Option ℤ). reply_bytes_of (moment_given now) outcome false) at.given;
       }
+
+  -- what the message asks at a moment
+  pub asks_at : (ask : Ask) → IsAskable ask → (moment : ℕ) → IsMoment moment → MessageAsks (message_of ask) (Some (pos moment)) moment ask
+  asks_at ask askable moment is = record { comes = record { given = refl; is_moment = is }; asks = laws.own ask askable }
+
+  -- so what came of it is that this was served
+  pub served_at : (ask : Ask) → IsAskable ask → (moment : ℕ) → IsMoment moment → (old new : Timed Life) (came : List ℕ)
+      → (c : Came ask (pos moment) old new came) → IsServed life_serves moment ask c.outcome old.0 new.0
+  served_at ask askable moment is old new came c =
+      served laws.meaning (message_of ask) (Some (pos moment)) moment ask (asks_at ask askable moment is) c.outcome old.0 new.0 c.comes
 
   -- ---- a request
 
   -- a reply in a life keeps the rules
   pub may_be : (old new : Life) (moment : ℕ) (request : Request) (r : Result Answer Refusal) → IsLife new → IsOffice old.opening
       → LifeReplies moment request r old new
-      → MayReply request r × AreToldSales r
+      → MayReplyTo request r × AreToldSales r
   may_be old new moment request r life opening (at, stamped, goes) =
       let is : IsLife (extended_by old at r) = subst IsLife goes life in
       let office = present_before laws.along old at r is opening in
@@ -255,7 +228,7 @@ module _ (laws : DeskLaws) where
       All-contains (λ (e : Exchange). IsStamped e.request) _ (record { request = at; reply = r }) is.stamped
       (Contains-push old.exchanges (record { request = at; reply = r })) in
       let later = laws.one_step old.forward (present old) at office at_is is.range in (
-        subst (λ (q : Request). MayReply q r) stamped.for_request (may_reply (present old) old.forward at r office rules),
+        subst (λ (q : Request). MayReplyTo q r) stamped.for_request (may_reply (present old) old.forward at r office rules),
         told_sales r rules later,
       )
     where
@@ -267,220 +240,116 @@ module _ (laws : DeskLaws) where
           (laws.stand old.forward (present old) at))
       told_sales (Err refusal) rules later = All-nil _
 
-  -- ---- the rows of a file keep the rules
+  -- ---- what came is told
 
-  -- no file has more rows than these
-  pub few_rows : (kind : FileKind) (body : List ℕ) (rows : List Row) → IsRead kind body (Ok rows) → length rows ≤ 10000
-  few_rows kind body rows read = read.reading.2.few
+  -- what was looked up can be told
+  pub reads_look : (lookup : Lookup) → AsksNoHealth (Look lookup) → IsAskable (Look lookup) → (life : Life) → IsOffice (present life) → (moment : ℕ)
+      → (r : Result Found Refusal) → IsFoundAt life moment lookup r → Reads (Look lookup) (outcomes.Found (lookup_form lookup) r)
+  reads_look lookup none askable life office moment r found =
+      let keeps = tellable_look laws.ranges life office moment lookup r none askable found in
+      record { tellable = keeps; tells = look_tells (lookup_form lookup) r (no_health (lookup_form lookup) (wanted_by (Look lookup)) r (look_wanted lookup) keeps) }
 
-  -- nor a form of files more fields than these
-  pub few_fields : (kind : FileKind) (records : List Fields) (row k : ℕ) (none : IsNoRow kind records row (causes.Field k)) → length (header_of none.0) ≤ 4
-  few_fields kind records row k none = grind arith
+  module _ (moment : ℕ) (old new : Life) (opening : IsOffice old.opening) (life : IsLife new) where
+    reads_import : (kind : FileKind) (csv : List ℕ) (read : Result (List Row) RowFault) → IsRead kind csv read → (outcome : Outcome)
+        → IsImported life_serves moment read outcome old new → Reads (Import kind csv) outcome
+    reads_import kind csv (Ok rows) is outcome (r, same, replies) =
+        let may = may_be old new moment (requests.Import rows) r life opening replies in
+        reads_reply (Import kind csv) forms.Json r outcome same
+        (subst (λ (w : Grants). IsTellable w (told_reply forms.Json r)) (sym (import_wanted kind csv))
+        (tellable_reply (requests.Import rows) r (few_rows kind csv rows is) may.1 may.0))
+    reads_import kind csv (Err (row_faults.At row cause)) is outcome (same, stays) =
+        reads_reply (Import kind csv) forms.Json (Err (ImportRow row cause)) outcome same (row_tellable kind csv row cause is)
+    reads_import kind csv (Err row_faults.Memory) is outcome none = absurd none
 
-  -- a fault that was found in a row of a file can be told
-  pub row_tellable : (kind : FileKind) (body : List ℕ) (row : ℕ) (cause : RowCause) → IsRead kind body (Err (row_faults.At row cause))
-      → IsTellable wants.Imported (told.Refused (ImportRow row cause))
-  row_tellable kind body row causes.Header read = (omega (arith, read.reading.here.0), tt)
-  row_tellable kind body row causes.Columns read = (omega (arith, read.reading.here.3.few), tt)
-  row_tellable kind body row (causes.Field k) read =
-      let outside = read.reading.here.4 in
-      (omega (arith, read.reading.here.3.few), omega (arith, outside.1.within, outside.0, few_fields kind read.records row k read.reading.here))
-  row_tellable kind body row causes.TooManyRows read = (omega (arith, read.reading.here.0), tt)
-  row_tellable kind body row causes.Differs read = absurd read.reading.here
-  row_tellable kind body row causes.NoTariff read = absurd read.reading.here
-  row_tellable kind body row causes.DayPast read = absurd read.reading.here
+    -- what came of an ask, but for a health, can be told as what is wanted
+    pub what_came : (ask : Ask) → AsksNoHealth ask → IsAskable ask → (outcome : Outcome) → IsServed life_serves moment ask outcome old new
+        → Reads ask outcome
+    what_came (Import kind csv) none askable outcome (read, is, imported) = reads_import kind csv read (is_read kind csv read is) outcome imported
+    what_came (Do request) none askable outcome (r, same, replies) =
+        let may = may_be old new moment request r life opening replies in
+        reads_reply (Do request) forms.Json r outcome same (tellable_reply request r (fits_file request askable) may.1 may.0)
+    what_came (Receipt number) none askable outcome (r, same, replies) =
+        let may = may_be old new moment (requests.Reprint number) r life opening replies in
+        reads_reply (Receipt number) forms.Paper r outcome same (tellable_receipt number r may.0)
+    what_came (Look lookup) none askable outcome (r, same, (found, stays)) =
+        subst (Reads (Look lookup)) (sym same)
+        (reads_look lookup none askable old (present_is laws.along old (subst IsLife stays life) opening) moment r found)
 
-  module _ (json : Bool) (moment : ℕ) (is_moment : IsMoment moment) (old new : Timed Life) (came : List ℕ) (opening : IsOffice old.0.opening)
-      (life : IsLife new.0)
-      (t : Told) (o : Outputs) (end : CommandEnd) where
-    -- what came of a request is printed as its reply is
-    request_prints : (q : Question) (request : Request) → MessageAsks (question_message q) (Some (pos moment)) forms.Json moment request
-        → MayAsk request
-        → wanted_by q ≡ wanted_for request → ((s : Sale) → told_sale_text json q s ≡ receipt_of s) → ((s : Sale) → SaleNeedsRoom json q s → ⊥)
-        → Came q (pos moment) old new came → IsReply (wanted_by q) came t → TellsTold json q t o end → PrintsReply moment request old.0 new.0 o end
-    request_prints q request asks ask wanted sold small c is told =
-        let m = question_message q in
-        let now = Some (pos moment) in
-        let r = replied m now (laws.meaning m now) forms.Json moment request asks c.outcome old.0 new.0 c.comes in
-        let may = may_be old.0 new.0 moment request r.0 life opening r.2 in
-        let u = told_reply forms.Json r.0 in
-        let tellable : IsTellable (wanted_by q) u = subst (λ (w : Wanted). IsTellable w u) (sym wanted) (tellable_reply request r.0 ask may.1 may.0) in
-        let text : IsReply (wanted_by q) (reply_bytes_of (moment_given (Some (pos moment))) (outcomes.Replied forms.Json r.0) false) t =
-        subst (λ (x : List ℕ). IsReply (wanted_by q) x t) (c.text ∙ ap (λ (x : Outcome). reply_bytes_of (moment_given (Some (pos moment))) x false) r.1) is in
-        let alike = same_told (wanted_by q) (Some (pos moment)) (outcomes.Replied forms.Json r.0) t u text tellable (reply_tells forms.Json r.0) in
+  -- so what was read of a reply to it is what is told of that
+  pub alike_came : (ask : Ask) → AsksNoHealth ask → IsAskable ask → (moment : ℕ) → IsMoment moment → (old new : Timed Life) (came : List ℕ) (t : Told)
+      → IsOffice old.0.opening → IsLife new.0 → (c : Came ask (pos moment) old new came) → IsReply (wanted_by ask) came t → TellAlike t (told_of c.outcome)
+  alike_came ask none askable moment is_moment old new came t opening life c is =
+      let reads = what_came moment old.0 new.0 opening life ask none askable c.outcome (served_at ask askable moment is_moment old new came c) in
+      same_told (wanted_by ask) (Some (pos moment)) c.outcome t (told_of c.outcome) (subst (λ (x : List ℕ). IsReply (wanted_by ask) x t) c.text is)
+      reads.tellable reads.tells
+
+  -- ---- what is told is printed
+
+  module _ (json : Bool) (moment : ℕ) (old new : Life) (o : Outputs) (end : CommandEnd) where
+    -- what is told of what came of an ask is printed
+    abbrev Prints : Ask → Outcome → Type 0
+    Prints ask outcome = TellsTold json ask (told_of outcome) o end
+
+    prints_import : (kind : FileKind) (csv : List ℕ) (read : Result (List Row) RowFault) (outcome : Outcome)
+        → IsImported life_serves moment read outcome old new → Prints (Import kind csv) outcome → PrintsAdded moment read old new o end
+    prints_import kind csv (Ok rows) outcome (r, same, replies) printed =
+        record { reply = r; replied = replies; told = prints_reply json (Import kind csv) (λ s. refl) (λ s none. none) o end forms.Json r (subst (Prints (Import kind csv)) same printed) }
+    prints_import kind csv (Err (row_faults.At row cause)) outcome (same, stays) printed = (subst (Prints (Import kind csv)) same printed, stays)
+    prints_import kind csv (Err row_faults.Memory) outcome none printed = absurd none
+
+    prints_look : (lookup : Lookup) → IsAskedByOne json (Look lookup) → (r : Result Found Refusal) → IsFoundAt old moment lookup r → new ≡ old
+        → TellsTold json (Look lookup) (told_look (lookup_form lookup) r) o end → PrintsAsOnFile json (Look lookup) moment old new o end
+    prints_look lookups.Health one r found same printed = absurd one
+    prints_look (lookups.Meter number) one r found same printed =
+        record { found = r; is_found = found; told = prints_meter json o end old moment number r found printed; same = same }
+    prints_look (lookups.LastSale number) one r found same printed =
+        record { found = r; is_found = found; told = prints_last json o end one old moment number r found printed; same = same }
+    prints_look (lookups.SaleOfRef operator order_ref) one r found same printed =
+        record { found = r; is_found = found; told = prints_sale_of_ref json o end old moment operator order_ref r found printed; same = same }
+    prints_look (lookups.Quote number tender) one r found same printed =
+        record { found = r; is_found = found; told = prints_quote json o end old moment number tender r found printed; same = same }
+    prints_look (lookups.ShiftTotals number) one r found same printed =
+        let totals = prints_totals o end json old moment number r found printed in
         record {
-          reply = r.0;
-          replied = r.2;
-          told = prints_reply json q sold small o end forms.Json r.0 (tell_alike json q o end t u alike told);
+          totals = totals.0;
+          are_totals = subst (λ (r : Result Found Refusal). IsFoundAt old moment (lookups.ShiftTotals number) r) totals.1 found;
+          told = totals.2;
+          same = same;
         }
+    prints_look (lookups.Tariffs after) one r found same printed = absurd one
+    prints_look (lookups.Meters after) one r found same printed = absurd one
+    prints_look (lookups.Shifts after) one r found same printed = absurd one
+    prints_look (lookups.Sales after) one r found same printed = absurd one
 
-    -- what came of a look-up is what was found, and this is what is told of it
-    pub record LookPrints (q : Question) (lookup : Lookup) : Type 0 where
-      pub result : Result Found Refusal
-      pub found : IsFoundAt old.0 moment lookup result
-      pub same : new.0 ≡ old.0
-      pub printed : TellsTold json q (told_look (lookup_form lookup) result) o end
-
-    look_prints : (q : Question) (lookup : Lookup) → MessageLooks (question_message q) (Some (pos moment)) (lookup_form lookup) moment lookup → MayLook lookup
-        → wanted_by q ≡ wanted_look lookup → wanted_look lookup ≢ wants.Done
-        → Came q (pos moment) old new came → IsReply (wanted_by q) came t → TellsTold json q t o end → LookPrints q lookup
-    look_prints q lookup looks may wanted some c is told =
-        let m = question_message q in
-        let now = Some (pos moment) in
-        let r = looked m now (laws.meaning m now) (lookup_form lookup) moment lookup looks c.outcome old.0 new.0 c.comes in
-        let office : IsOffice (present old.0) = present_is laws.along old.0 (subst IsLife r.3 life) opening in
-        let u = told_look (lookup_form lookup) r.0 in
-        let keeps : IsTellable (wanted_look lookup) u = tellable_look laws.ranges old.0 office moment lookup r.0 may r.2 in
-        let tellable : IsTellable (wanted_by q) u = subst (λ (w : Wanted). IsTellable w u) (sym wanted) keeps in
-        let text : IsReply (wanted_by q) (reply_bytes_of (moment_given (Some (pos moment))) (outcomes.Found (lookup_form lookup) r.0) false) t =
-        subst (λ (x : List ℕ). IsReply (wanted_by q) x t) (c.text ∙ ap (λ (x : Outcome). reply_bytes_of (moment_given (Some (pos moment))) x false) r.1) is in
-        let alike =
-        same_told (wanted_by q) (Some (pos moment)) (outcomes.Found (lookup_form lookup) r.0) t u text tellable
-        (look_tells (lookup_form lookup) r.0 (no_health (lookup_form lookup) (wanted_look lookup) r.0 some keeps)) in
-        record { result = r.0; found = r.2; same = r.3; printed = tell_alike json q o end t u alike told }
-
-    -- ---- the rows of a file
-
-    -- a reply to the rows of a file is printed as it is told
-    json_prints : (kind : FileKind) (csv : Bor (List ℕ)) (r : Result Answer Refusal) → IsTellable wants.Imported (told_reply forms.Json r)
-        → came ≡ reply_bytes_of (moment_given (Some (pos moment))) (outcomes.Replied forms.Json r) false → IsReply wants.Imported came t → TellsTold json (questions.Import kind csv) t o end
-        → TellsReply r o end
-    json_prints kind csv r tellable text is told =
-        let q = questions.Import kind csv in
-        let reply : IsReply wants.Imported (reply_bytes_of (moment_given (Some (pos moment))) (outcomes.Replied forms.Json r) false) t =
-        subst (λ (x : List ℕ). IsReply wants.Imported x t) text is in
-        let alike = same_told wants.Imported (Some (pos moment)) (outcomes.Replied forms.Json r) t (told_reply forms.Json r) reply tellable (reply_tells forms.Json r) in
-        prints_reply json q (λ s. refl) (λ s none. none) o end forms.Json r (tell_alike json q o end t (told_reply forms.Json r) alike told)
-
-    -- what came of the rows of a file is printed as `import` prints it
-    import_prints : (kind : FileKind) (csv : Bor (List ℕ)) → Came (questions.Import kind csv) (pos moment) old new came
-        → IsReply wants.Imported came t → TellsTold json (questions.Import kind csv) t o end → PrintsImport moment kind csv.now old.0 new.0 o end
-    import_prints kind csv c is told =
-        let m = question_message (questions.Import kind csv) in
-        let rows = came_rows laws.routed m kind (import_for kind csv) moment old.0 new.0 is_moment c.outcome c.comes in
-        let records : AreFileRecords csv.now rows.1.records = subst (λ (bytes : List ℕ). AreFileRecords bytes rows.1.records) (append-nil csv.now) rows.1.are in
-        (rows.1.records, rows.0, records, rows.1.reading, by_rows rows.0 rows.1 rows.2)
-      where
-        by_rows : (read : Result (List Row) RowFault) → IsRead kind (question_message (questions.Import kind csv)).body read
-            → ComesOfRows moment read c.outcome old.0 new.0 → PrintsAdded moment read old.0 new.0 o end
-        by_rows (Ok rows) read (r, outcome, replies) =
-            let may = may_be old.0 new.0 moment (requests.Import rows) r life opening replies in
-            let tellable = tellable_reply (requests.Import rows) r (few_rows kind _ rows read) may.1 may.0 in
-            record {
-              reply = r;
-              replied = replies;
-              told = json_prints kind csv r tellable
-                  (c.text ∙ ap (λ (x : Outcome). reply_bytes_of (moment_given (Some (pos moment))) x false) outcome) is told;
-            }
-        by_rows (Err (row_faults.At row cause)) read (outcome, same) = (
-          json_prints kind csv (Err (ImportRow row cause)) (row_tellable kind _ row cause read)
-              (c.text ∙ ap (λ (x : Outcome). reply_bytes_of (moment_given (Some (pos moment))) x false) outcome) is told,
-          same,
-        )
-        by_rows (Err row_faults.Memory) read none = absurd none
-
-    -- ---- by the question
-
-    whole_look : (q : Question) (lookup : Lookup) → LookPrints q lookup
-        → ((r : Result Found Refusal) → IsFoundAt old.0 moment lookup r → TellsTold json q
-        (told_look (lookup_form lookup) r) o end → TellsFound json lookup r o end)
-        → PrintsFound moment lookup json old.0 new.0 o end
-    whole_look q lookup looked prints =
-        record { found = looked.result; is_found = looked.found; told = prints looked.result looked.found looked.printed; same = looked.same }
-
-    whole_totals : (number : ℕ) → LookPrints (questions.ShiftTotals number) (lookups.ShiftTotals number) → PrintsTotals moment number old.0 new.0 o end
-    whole_totals number looked =
-        let printed = prints_totals o end json old.0 moment number looked.result looked.found looked.printed in
-        record {
-          totals = printed.0;
-          are_totals = subst (λ (r : Result Found Refusal). IsFoundAt old.0 moment (lookups.ShiftTotals number) r) printed.1 looked.found;
-          told = printed.2;
-          same = looked.same;
-        }
-
-    last_prints : (number : List ℕ) → json ≡ false → (r : Result Found Refusal) → IsFoundAt old.0 moment (lookups.LastSale number) r
-        → TellsTold json (questions.LastSale number) (told_look forms.Paper r) o end → TellsFound json (lookups.LastSale number) r o end
-    last_prints number lines r found told =
-        subst (λ (b : Bool). TellsFound b (lookups.LastSale number) r o end) (sym lines)
-        (prints_last o end old.0 moment number r found
-        (subst (λ (b : Bool). TellsTold b (questions.LastSale number) (told_look forms.Paper r) o end) lines told))
-
-    prints : (q : Question) → IsAskedByOne json q → IsAskable q → Came q (pos moment) old new came → IsReply (wanted_by q) came t → TellsTold json q t o end
-        → PrintsAsOnFile json q moment old.0 new.0 o end
-    prints (questions.Import kind csv) one askable c is told = import_prints kind csv c is told
-    prints (questions.SetTariff meter tariff) one askable c is told =
-        let q = questions.SetTariff meter tariff in
-        request_prints q (requests.SetTariff meter tariff) (laws.means q moment askable is_moment) tt refl (λ s. refl) (λ s none. none) c is told
-    prints (questions.WithdrawSteps name day) one askable c is told =
-        let q = questions.WithdrawSteps name day in
-        request_prints q (requests.WithdrawSteps name day) (laws.means q moment askable is_moment) tt refl (λ s. refl) (λ s none. none) c is told
-    prints (questions.MoveBase meter base) one askable c is told =
-        let q = questions.MoveBase meter base in
-        request_prints q (requests.MoveBase meter base) (laws.means q moment askable is_moment) tt refl (λ s. refl) (λ s none. none) c is told
-    prints (questions.SetKey meter key) one askable c is told =
-        let q = questions.SetKey meter key in
-        request_prints q (requests.SetKey meter key) (laws.means q moment askable is_moment) tt refl (λ s. refl) (λ s none. none) c is told
-    prints (questions.OpenShift operator) one askable c is told =
-        let q = questions.OpenShift operator in
-        request_prints q (requests.OpenShift operator) (laws.means q moment askable is_moment) tt refl (λ s. refl) (λ s none. none) c is told
-    prints (questions.CloseShift operator) one askable c is told =
-        let q = questions.CloseShift operator in
-        request_prints q (requests.CloseShift operator) (laws.means q moment askable is_moment) tt refl (λ s. refl) (λ s none. none) c is told
-    prints (questions.Sell order) one askable c is told =
-        let q = questions.Sell order in
-        request_prints q (requests.Sell order) (laws.means q moment askable is_moment) tt refl (λ s. refl) (λ s none. none) c is told
-    prints (questions.ShiftReport number) one askable c is told =
-        let q = questions.ShiftReport number in
-        request_prints q (requests.ShiftReport number) (laws.means q moment askable is_moment) tt refl (λ s. refl) (λ s none. none) c is told
-    prints (questions.Receipt number) one askable c is told =
-        let q = questions.Receipt number in
-        request_prints q (requests.Reprint number) (laws.means q moment askable is_moment) tt refl (λ s. refl) (λ s none. none) c is told
-    prints (questions.ShiftTotals number) one askable c is told =
-        let q = questions.ShiftTotals number in
-        whole_totals number (look_prints q (lookups.ShiftTotals number) (laws.means q moment askable is_moment) askable refl
-        (λ e. absurd cc) c is told)
-    prints (questions.Meter number) one askable c is told =
-        let q = questions.Meter number in
-        whole_look q (lookups.Meter number) (look_prints q (lookups.Meter number) (laws.means q moment askable is_moment) tt refl (λ e. absurd cc) c is told)
-        (prints_meter json o end old.0 moment number)
-    prints (questions.LastSale number) one askable c is told =
-        let q = questions.LastSale number in
-        whole_look q (lookups.LastSale number)
-        (look_prints q (lookups.LastSale number) (laws.means q moment askable is_moment) tt refl (λ e. absurd cc) c is told)
-        (last_prints number one)
-    prints (questions.SaleOfRef operator order_ref) one askable c is told =
-        let q = questions.SaleOfRef operator order_ref in
-        let lookup = lookups.SaleOfRef operator order_ref in
-        whole_look q lookup (look_prints q lookup (laws.means q moment askable is_moment) tt refl (λ e. absurd cc) c is told)
-        (prints_sale_of_ref json o end old.0 moment operator order_ref)
-    prints (questions.Quote number tender) one askable c is told =
-        let q = questions.Quote number tender in
-        let lookup = lookups.Quote number tender in
-        whole_look q lookup (look_prints q lookup (laws.means q moment askable is_moment) askable refl (λ e. absurd cc) c is told)
-        (prints_quote json o end old.0 moment number tender)
-    prints (questions.Tariffs after) one askable c is told = absurd one
-    prints (questions.Meters after) one askable c is told = absurd one
-    prints (questions.Shifts after) one askable c is told = absurd one
-    prints (questions.Sales after) one askable c is told = absurd one
+    prints : (ask : Ask) → IsAskedByOne json ask → (outcome : Outcome) → IsServed life_serves moment ask outcome old new → Prints ask outcome
+        → PrintsAsOnFile json ask moment old new o end
+    prints (Import kind csv) one outcome (read, is, imported) printed =
+        let file = is_read kind csv read is in
+        (file.records, read, file.are, file.reading, prints_import kind csv read outcome imported printed)
+    prints (Do request) one outcome (r, same, replies) printed =
+        record { reply = r; replied = replies; told = prints_reply json (Do request) (λ s. refl) (λ s none. none) o end forms.Json r (subst (Prints (Do request)) same printed) }
+    prints (Receipt number) one outcome (r, same, replies) printed =
+        record { reply = r; replied = replies; told = prints_reply json (Receipt number) (λ s. refl) (λ s none. none) o end forms.Paper r (subst (Prints (Receipt number)) same printed) }
+    prints (Look lookup) one outcome (r, same, (found, stays)) printed = prints_look lookup one r found stays (subst (Prints (Look lookup)) same printed)
 
   -- what the command prints is what it prints of the desk's office
-  pub one_prints : (json : Bool) (q : Question) (moment : ℕ) (old new : Timed Life) (came : List ℕ) (t : Told) (o : Outputs) (end : CommandEnd)
-      → IsAskedByOne json q → IsAskable q → IsMoment moment → IsOffice old.0.opening → IsLife new.0 → IsAnsweredAt (pos moment) old (question_text q) came new
-      → IsReply (wanted_by q) came t → TellsTold json q t o end → PrintsAsOnFile json q moment old.0 new.0 o end
-  one_prints json q moment old new came t o end one askable is_moment opening life at is told =
-      prints json moment is_moment old new came opening life t o end q one askable (came_of q (pos moment) old new came askable at) is told
+  pub one_prints : (ask : Ask) (json : Bool) (moment : ℕ) (old new : Timed Life) (came : List ℕ) (t : Told) (o : Outputs) (end : CommandEnd)
+      → IsAskedByOne json ask → CanSend ask → IsMoment moment → IsOffice old.0.opening → IsLife new.0 → IsAnsweredAt (pos moment) old (ask_text ask) came new
+      → IsReply (wanted_by ask) came t → TellsTold json ask t o end → PrintsAsOnFile json ask moment old.0 new.0 o end
+  one_prints ask json moment old new came t o end one can is_moment opening life at is printed =
+      let c = came_of ask (pos moment) old new came can at in
+      let alike = alike_came ask (asks_none json ask one) can.askable moment is_moment old new came t opening life c is in
+      prints json moment old.0 new.0 o end ask one c.outcome (served_at ask can.askable moment is_moment old new came c)
+      (tell_alike json ask o end t (told_of c.outcome) alike printed)
 
   -- a desk whose clock is outside the moments tells that, and its office is as it was
-  pub clock_prints : (json : Bool) (q : Question) (second : ℤ) (old new : Timed Life) (came : List ℕ) (t : Told) (o : Outputs) (end : CommandEnd)
-      → IsAskable q → IsNoMoment second → IsAnsweredAt second old (question_text q) came new → IsReply (wanted_by q) came t → TellsTold json q t o end
+  pub clock_prints : (ask : Ask) (json : Bool) (second : ℤ) (old new : Timed Life) (came : List ℕ) (t : Told) (o : Outputs) (end : CommandEnd)
+      → CanSend ask → IsNoMoment second → IsAnsweredAt second old (ask_text ask) came new → IsReply (wanted_by ask) came t → TellsTold json ask t o end
       → IsTold o [] clock_line Refused end × (new.0 ≡ old.0)
-  clock_prints json q second old new came t o end askable none at is printed =
-      let c = came_of q second old new came askable at in
-      let m = question_message q in
-      let idle =
-      idled m (Some second) (laws.meaning m (Some second)) (outcomes.Faulty faults.Clock)
-      (laws.outside q second askable none) c.outcome old.0 new.0 c.comes in
-      let text : IsReply (wanted_by q) (reply_bytes_of (moment_given (Some second)) (outcomes.Faulty faults.Clock) false) t =
-      subst (λ (x : List ℕ). IsReply (wanted_by q) x t) (c.text ∙ ap (λ (x : Outcome). reply_bytes_of (moment_given (Some second)) x false) idle.0) is in
-      let alike = same_told (wanted_by q) (Some second) (outcomes.Faulty faults.Clock) t told.NoMoment text tt refl in
-      (tell_alike json q o end t told.NoMoment alike printed, idle.1)
+  clock_prints ask json second old new came t o end can none at is printed =
+      let c = came_of ask second old new came can at in
+      let idle = idled laws.meaning (message_of ask) (Some second) faults.Clock (laws.outside ask second can.askable none) c.outcome old.0 new.0 c.comes in
+      let text : IsReply (wanted_by ask) (reply_bytes_of (moment_given (Some second)) (outcomes.Faulty faults.Clock) false) t =
+      subst (λ (x : List ℕ). IsReply (wanted_by ask) x t) (c.text ∙ ap (λ (x : Outcome). reply_bytes_of (moment_given (Some second)) x false) idle.0) is in
+      let alike = same_told (wanted_by ask) (Some second) (outcomes.Faulty faults.Clock) t told.NoMoment text tt refl in
+      (tell_alike json ask o end t told.NoMoment alike printed, idle.1)

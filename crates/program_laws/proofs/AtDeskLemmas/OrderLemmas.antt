@@ -1,5 +1,5 @@
 -- The members of an office's page come after what was asked for, in order.
-use Rattle.std.proofs.Common.{◌≡◌, ◌∙◌, ℕ, ◌<◌, true, List, [], ◌∷◌, length, map, take, get_or, Option, Some, Ok, refl, sym, ap, subst, arith}
+use Rattle.std.proofs.Common.{◌≡◌, ◌∙◌, ℕ, ◌<◌, true, List, [], ◌∷◌, map, take, get_or, refl, sym, subst, arith}
 use Rattle.std.specs.Prelude.{All, AllPairs, IsSome, filter, nat_lt, unwrap_or}
 use Rattle.std.proofs.lemmas.Bool.Decides.{nat_tests}
 use Rattle.std.proofs.lemmas.List.{get_or-take, length-take}
@@ -9,18 +9,17 @@ use Rattle.office_rules.specs.Office.{IsOffice, Office}
 use Rattle.office_rules.specs.declared.office.sale.Sale.{Sale}
 use Rattle.office_rules.specs.declared.office.shift.Shift.{Shift}
 use Rattle.book_lists.specs.Pages.{ComesBefore, page_size}
-use Rattle.book_facts.specs.Lookups.{Finds, listed_shift}
+use Rattle.book_facts.specs.Lookups.{listed_shift}
 use Rattle.book_states.specs.declared.lookup.Found.{Found}
 use Rattle.book_states.specs.declared.lookup.Found.TheVariants as found
 use Rattle.book_states.specs.declared.lookup.ListedMeter.{ListedMeter}
 use Rattle.book_states.specs.declared.lookup.ListedShift.{ListedShift}
 use Rattle.book_states.specs.declared.lookup.ListedTariff.{ListedTariff}
-use Rattle.command_line.specs.declared.commands.list.Listed.{Listed}
-use Rattle.command_line.specs.declared.commands.list.Listed.TheVariants as listed
+use Rattle.asks.specs.declared.lookup.Lookup.{Lookup}
+use Rattle.asks.specs.declared.lookup.Lookup.TheVariants as lookups
 use Rattle.desk_client.specs.Tells.{as_told}
 use Rattle.desk_commands.specs.PageOrder.{ComesAfter, Rise}
-use Rattle.desk_commands.specs.print.Pages.{page_lookup}
-use Rattle.program_laws.proofs.AtDeskLemmas.PageLemmas.{page_as_told}
+use Rattle.program_laws.proofs.AtDeskLemmas.PageLemmas.{FindsPage, page_as_told}
 use Rattle.program_laws.proofs.AtDeskLemmas.PaperLemmas.{numbered_pairs, pairs_head, pairs_tail}
 
 -- ---- pairs
@@ -64,19 +63,19 @@ page_rises number f seen same after xs pairs =
 -- ---- pages
 
 -- the members of a page of an office, as they are told, come after what was asked for
-pub page_after : (o : Office) → IsOffice o → (moment : ℕ) (list : Listed) (page : Found) → Finds o moment (page_lookup list) (Ok page)
+pub page_after : (o : Office) → IsOffice o → (moment : ℕ) (list : Lookup) (page : Found) → FindsPage o moment list page
     → ComesAfter list (page_as_told page)
-page_after o office moment (listed.Tariffs after) (found.Tariffs page) is =
+page_after o office moment (lookups.Tariffs after) (found.Tariffs page) is =
     keys_rise ComesBefore (unwrap_or after []) (map (λ (t : ListedTariff). t.name) page.items)
     (All-weaker (λ key. IsSome (o.tariffs key) × ComesBefore (unwrap_or after []) key) (ComesBefore (unwrap_or after [])) (λ key h. h.1) _ is.first.there) is.first.in_order
-page_after o office moment (listed.Meters after) (found.Meters page) is =
+page_after o office moment (lookups.Meters after) (found.Meters page) is =
     keys_rise ComesBefore (unwrap_or after []) (map (λ (m : ListedMeter). m.number) page.items)
     (All-weaker (λ key. IsSome (o.meters key) × ComesBefore (unwrap_or after []) key) (ComesBefore (unwrap_or after [])) (λ key h. h.1) _ is.first.there) is.first.in_order
-page_after o office moment (listed.Shifts after) (found.Shifts page) is =
+page_after o office moment (lookups.Shifts after) (found.Shifts page) is =
     subst (λ (items : List ListedShift). Rise (λ a b. a < b) after (map (λ (l : ListedShift). l.shift.number) items)) (sym is)
     (page_rises (λ (s : Shift). s.number) (listed_shift o) (λ (l : ListedShift). l.shift.number) (λ s. refl) after o.shifts
     (numbered_pairs (λ (s : Shift). s.number) o.shifts office.shift_numbers))
-page_after o office moment (listed.Sales after) (found.Sales page) is =
+page_after o office moment (lookups.Sales after) (found.Sales page) is =
     subst (λ (items : List Sale). Rise (λ a b. a < b) after (map (λ (s : Sale). s.number) (map as_told items))) (sym is)
     (page_rises (λ (s : Sale). s.number) as_told (λ (s : Sale). s.number) (λ s. refl) after o.sales
     (numbered_pairs (λ (s : Sale). s.number) o.sales office.sale_numbers))

@@ -11,6 +11,7 @@ use Rattle.sts_fields.specs.Day.{day_at}
 use Rattle.sts_fields.specs.Moment.{IsMoment}
 use Rattle.tariff.specs.Steps.{IsSteps}
 use Rattle.tariff.specs.declared.step.Step.{Step}
+use Rattle.office_rules.specs.Name.{IsMeterNo, IsName}
 use Rattle.office_rules.specs.Office.{IsOffice, Office}
 use Rattle.office_rules.specs.Office.Lookup.{latest, steps_on}
 use Rattle.office_rules.specs.declared.office.sale.Sale.{Sale}
@@ -22,10 +23,12 @@ use Rattle.book_states.specs.declared.lookup.ListedMeter.{ListedMeter}
 use Rattle.book_states.specs.declared.lookup.ListedShift.{ListedShift}
 use Rattle.book_states.specs.declared.lookup.ListedTariff.{ListedTariff}
 use Rattle.book_lists.specs.Pages.{page_size}
-use Rattle.desk_messages.specs.reply.Body.{sale_data}
-use Rattle.desk_messages.specs.reply.Lists.{list_members}
-use Rattle.desk_messages.specs.reply.Members.{json_text}
-use Rattle.desk_client.specs.Asks.{IsAskable}
+use Rattle.asks.specs.declared.ask.Ask.TheVariants.{Look}
+use Rattle.asks.specs.declared.lookup.Lookup.{Lookup}
+use Rattle.asks.specs.declared.lookup.Lookup.TheVariants as lookups
+use Rattle.records.specs.List.{list_text, page_text as list_page}
+use Rattle.desk_messages.specs.reply.Records.{sale_text}
+use Rattle.desk_client.specs.Sent.{CanSend}
 use Rattle.desk_client.specs.Page.{AreAlike, AreTold, HasTokens, HaveTokens, IsToldEnd, IsToldLater, IsToldListedMeter, IsToldListedShift, IsToldPage, IsToldTariff, tariff_view}
 use Rattle.desk_client.specs.Page as pages
 use Rattle.desk_client.specs.declared.page.PageKind.{PageKind}
@@ -34,13 +37,11 @@ use Rattle.desk_client.specs.Sale.{IsSaleTold}
 use Rattle.std.proofs.lemmas.List.Elements.{recursion_from_All}
 use Rattle.vend_core.specs.Law.Reached.{IsPlausible}
 use Rattle.desk_client.specs.Tells.{as_told}
-use Rattle.command_line.specs.declared.commands.list.Listed.{Listed}
-use Rattle.command_line.specs.declared.commands.list.Listed.TheVariants as listed
-use Rattle.desk_commands.specs.ListedAtDesk.{page_kind, page_question}
+use Rattle.desk_commands.specs.ListedAtDesk.{IsNoList, page_kind}
 use Rattle.tariff.specs.StepsText.{steps_text}
 use Rattle.vend_ports.specs.print.Printed.{table_row_of}
 use Rattle.desk_commands.specs.print.ListTexts.{later_line, meter_line, meter_names, page_text, shift_rows_text, table_text, tariff_names}
-use Rattle.desk_commands.specs.print.Pages.{last_of_full, list_behind, page_lookup}
+use Rattle.desk_commands.specs.print.Pages.{last_of_full, list_behind}
 use Rattle.program_laws.proofs.AtDeskLemmas.RangeLemmas.{or_keeps, sale_numbered, shift_numbered, shift_row, tariff_named, there_is, totals_within}
 use Rattle.program_laws.proofs.AtDeskLemmas.TellableLemmas.{RangeLaws, sale_told}
 use Rattle.program_laws.proofs.AtDeskLemmas.TokenLemmas.{HasToken, token_there}
@@ -130,9 +131,30 @@ mapped_some : {A B : Type 0} (P : A → Type 0) (Q : B → Type 0) (f : A → B)
 mapped_some P Q f None h each = tt
 mapped_some P Q f (Some x) h each = each x h
 
--- the question for a list can be asked
-abbrev pub CanAsk : Listed → Type 0
-CanAsk list = IsAskable (page_question list)
+-- the first page of a list can be asked for
+abbrev pub CanAsk : Lookup → Type 0
+CanAsk list = CanSend (Look list)
+
+-- a page of a list of an office
+abbrev pub FindsPage : Office → ℕ → Lookup → Found → Type 0
+FindsPage o moment (lookups.Tariffs after) page = Finds o moment (lookups.Tariffs after) (Ok page)
+FindsPage o moment (lookups.Meters after) page = Finds o moment (lookups.Meters after) (Ok page)
+FindsPage o moment (lookups.Shifts after) page = Finds o moment (lookups.Shifts after) (Ok page)
+FindsPage o moment (lookups.Sales after) page = Finds o moment (lookups.Sales after) (Ok page)
+FindsPage o moment lookup page = ⊥
+
+-- what is found of a list is a page of it
+pub finds_page : (o : Office) (moment : ℕ) (list : Lookup) → ¬ IsNoList list → (page : Found) → Finds o moment list (Ok page) → FindsPage o moment list page
+finds_page o moment lookups.Health some page finds = absurd (some tt)
+finds_page o moment (lookups.Meter number) some page finds = absurd (some tt)
+finds_page o moment (lookups.LastSale number) some page finds = absurd (some tt)
+finds_page o moment (lookups.SaleOfRef operator order_ref) some page finds = absurd (some tt)
+finds_page o moment (lookups.Quote number tender) some page finds = absurd (some tt)
+finds_page o moment (lookups.ShiftTotals number) some page finds = absurd (some tt)
+finds_page o moment (lookups.Tariffs after) some page finds = finds
+finds_page o moment (lookups.Meters after) some page finds = finds
+finds_page o moment (lookups.Shifts after) some page finds = finds
+finds_page o moment (lookups.Sales after) some page finds = finds
 
 -- ---- the last member of a full page
 
@@ -163,7 +185,7 @@ mapped_twice f g None = refl
 mapped_twice f g (Some x) = refl
 
 -- lists that are seen to have the same members have the same list behind them
-same_behind : {A B : Type 0} (view : A → B) (next : B → Listed) (xs ys : List A) → map view xs ≡ map view ys
+same_behind : {A B : Type 0} (view : A → B) (next : B → Lookup) (xs ys : List A) → map view xs ≡ map view ys
     → option_map (λ x. next (view x)) (last_of_full xs) ≡ option_map (λ x. next (view x)) (last_of_full ys)
 same_behind view next xs ys same =
     sym (mapped_twice view next (last_of_full xs)) ∙ ap (λ there. option_map next there) (sym (last_seen view xs)) ∙ ap
@@ -182,22 +204,22 @@ same_lines view line xs ys same = lines_seen view line xs ∙ ap (λ zs. flat_ma
 -- ---- a page of an office
 
 -- its members keep the rules of what is told
-pub page_told : RangeLaws → (o : Office) → IsOffice o → (moment : ℕ) (list : Listed) (page : Found) → Finds o moment (page_lookup list) (Ok page)
+pub page_told : RangeLaws → (o : Office) → IsOffice o → (moment : ℕ) (list : Lookup) (page : Found) → FindsPage o moment list page
     → IsToldPage (page_kind list) (page_as_told page)
-page_told laws o office moment (listed.Tariffs after) (found.Tariffs page) is = record {
+page_told laws o office moment (lookups.Tariffs after) (found.Tariffs page) is = record {
   each = All-weaker (IsListedTariff o (day_at moment)) IsToldTariff (λ t there. tariff_told o (day_at moment) t office there) page.items is.each;
   few = omega (arith, is.first.few, length-map page.items (λ (t : ListedTariff). t.name));
 }
-page_told laws o office moment (listed.Meters after) (found.Meters page) is = record {
+page_told laws o office moment (lookups.Meters after) (found.Meters page) is = record {
   each = All-weaker (IsListedMeter o) IsToldListedMeter (λ m there. meter_told o m office there) page.items is.each;
   few = omega (arith, is.first.few, length-map page.items (λ (m : ListedMeter). m.number));
 }
-page_told laws o office moment (listed.Shifts after) (found.Shifts page) is =
+page_told laws o office moment (lookups.Shifts after) (found.Shifts page) is =
     subst (AreTold IsToldListedShift) (sym is) (record {
       each = told_each IsToldListedShift (listed_shift o) o.shifts (λ s. nat_lt after s.number) (λ s there. shift_told laws o s office there);
       few = few_told (listed_shift o) o.shifts (λ s. nat_lt after s.number);
     })
-page_told laws o office moment (listed.Sales after) (found.Sales page) is =
+page_told laws o office moment (lookups.Sales after) (found.Sales page) is =
     subst (λ (items : List Sale). AreTold IsSaleTold (map as_told items)) (sym is) (record {
       each = told_each IsSaleTold as_told o.sales (λ s. nat_lt after s.number) (λ s there. sale_told o s office there);
       few = few_told as_told o.sales (λ s. nat_lt after s.number);
@@ -205,12 +227,12 @@ page_told laws o office moment (listed.Sales after) (found.Sales page) is =
 page_told laws o office moment list page is = absurd is
 
 -- the digits of its sales can be a token's, where those of the office's can
-pub page_tokens : (o : Office) → IsPlausible o → (moment : ℕ) (list : Listed) (page : Found) → Finds o moment (page_lookup list) (Ok page)
+pub page_tokens : (o : Office) → IsPlausible o → (moment : ℕ) (list : Lookup) (page : Found) → FindsPage o moment list page
     → HasTokens (page_as_told page)
-page_tokens o plausible moment (listed.Tariffs after) (found.Tariffs page) is = tt
-page_tokens o plausible moment (listed.Meters after) (found.Meters page) is = tt
-page_tokens o plausible moment (listed.Shifts after) (found.Shifts page) is = tt
-page_tokens o plausible moment (listed.Sales after) (found.Sales page) is =
+page_tokens o plausible moment (lookups.Tariffs after) (found.Tariffs page) is = tt
+page_tokens o plausible moment (lookups.Meters after) (found.Meters page) is = tt
+page_tokens o plausible moment (lookups.Shifts after) (found.Shifts page) is = tt
+page_tokens o plausible moment (lookups.Sales after) (found.Sales page) is =
     subst (λ (items : List Sale). HaveTokens (map as_told items)) (sym is)
     (recursion_from_All HasToken (map as_told (take page_size (filter (λ s. nat_lt after s.number) o.sales)))
     (told_each HasToken as_told o.sales (λ s. nat_lt after s.number) (λ s there. token_there o s plausible there)))
@@ -222,32 +244,50 @@ SmallShift l = l.shift.number ≤ 1000000000
 small_shifts : (o : Office) → IsOffice o → (after : ℕ) → All SmallShift (map (listed_shift o) (take page_size (filter (λ s. nat_lt after s.number) o.shifts)))
 small_shifts o office after = told_each SmallShift (listed_shift o) o.shifts (λ s. nat_lt after s.number) (λ s there. (shift_numbered o s office there).most)
 
--- the question for the list behind it can be asked
-pub behind_askable : (o : Office) → IsOffice o → (moment : ℕ) (list : Listed) (page : Found) → Finds o moment (page_lookup list) (Ok page)
+-- a list after a value of its rule can be asked for
+pub can_list_tariffs : (name : List ℕ) → IsName name → CanAsk (lookups.Tariffs (Some name))
+can_list_tariffs name named =
+    record { askable = record { target = (record { of_kind = refl; kept = named }, tt); body = (tt, tt) }; fits = tt }
+
+-- so can one after a meter
+pub can_list_meters : (number : List ℕ) → IsMeterNo number → CanAsk (lookups.Meters (Some number))
+can_list_meters number numbered =
+    record { askable = record { target = (record { of_kind = refl; kept = numbered }, tt); body = (tt, tt) }; fits = tt }
+
+-- after a shift
+pub can_list_shifts : (after : ℕ) → after ≤ 1000000000 → CanAsk (lookups.Shifts after)
+can_list_shifts after most =
+    record { askable = record { target = (record { of_kind = refl; kept = record { most = most } }, tt); body = (tt, tt) }; fits = tt }
+
+-- and after a sale
+pub can_list_sales : (after : ℕ) → after ≤ 1000000000 → CanAsk (lookups.Sales after)
+can_list_sales after most =
+    record { askable = record { target = (record { of_kind = refl; kept = record { most = most } }, tt); body = (tt, tt) }; fits = tt }
+
+-- that behind it can
+pub behind_askable : (o : Office) → IsOffice o → (moment : ℕ) (list : Lookup) (page : Found) → FindsPage o moment list page
     → IfSome (list_behind page) CanAsk
-behind_askable o office moment (listed.Tariffs after) (found.Tariffs page) is =
-    mapped_some (Contains page.items) CanAsk (λ (t : ListedTariff). listed.Tariffs (Some t.name)) (last_of_full page.items) (last_there page.items)
-    (λ t there. tariff_named o t.name office (All-contains (IsListedTariff o (day_at moment)) page.items t is.each there).there)
-behind_askable o office moment (listed.Meters after) (found.Meters page) is =
-    mapped_some (Contains page.items) CanAsk (λ (m : ListedMeter). listed.Meters (Some m.number)) (last_of_full page.items) (last_there page.items)
-    (λ m there. (meter_told o m office (All-contains (IsListedMeter o) page.items m is.each there)).number)
-behind_askable o office moment (listed.Shifts after) (found.Shifts page) is =
-    mapped_some (Contains page.items) CanAsk (λ (l : ListedShift). listed.Shifts l.shift.number) (last_of_full page.items) (last_there page.items)
-    (λ l there. record { most = All-contains SmallShift page.items l (subst (All SmallShift) (sym is) (small_shifts o office after)) there })
-behind_askable o office moment (listed.Sales after) (found.Sales page) is =
-    mapped_some (Contains page.items) CanAsk (λ (s : Sale). listed.Sales s.number) (last_of_full page.items) (last_there page.items)
-    (λ s there. record {
-      most = (sale_numbered o s office
-          (All-contains (Contains o.sales) page.items s (subst (All (Contains o.sales)) (sym is) (each_of _ o.sales)) there)).most;
-    })
+behind_askable o office moment (lookups.Tariffs after) (found.Tariffs page) is =
+    mapped_some (Contains page.items) CanAsk (λ (t : ListedTariff). lookups.Tariffs (Some t.name)) (last_of_full page.items) (last_there page.items)
+    (λ t there. can_list_tariffs t.name (tariff_named o t.name office (All-contains (IsListedTariff o (day_at moment)) page.items t is.each there).there))
+behind_askable o office moment (lookups.Meters after) (found.Meters page) is =
+    mapped_some (Contains page.items) CanAsk (λ (m : ListedMeter). lookups.Meters (Some m.number)) (last_of_full page.items) (last_there page.items)
+    (λ m there. can_list_meters m.number (meter_told o m office (All-contains (IsListedMeter o) page.items m is.each there)).number)
+behind_askable o office moment (lookups.Shifts after) (found.Shifts page) is =
+    mapped_some (Contains page.items) CanAsk (λ (l : ListedShift). lookups.Shifts l.shift.number) (last_of_full page.items) (last_there page.items)
+    (λ l there. can_list_shifts l.shift.number (All-contains SmallShift page.items l (subst (All SmallShift) (sym is) (small_shifts o office after)) there))
+behind_askable o office moment (lookups.Sales after) (found.Sales page) is =
+    mapped_some (Contains page.items) CanAsk (λ (s : Sale). lookups.Sales s.number) (last_of_full page.items) (last_there page.items)
+    (λ s there. can_list_sales s.number (sale_numbered o s office
+    (All-contains (Contains o.sales) page.items s (subst (All (Contains o.sales)) (sym is) (each_of _ o.sales)) there)).most)
 behind_askable o office moment list page is = absurd is
 
 -- ---- two pages alike
 
 -- the nibbles of sales are not told
-same_data : (items : List Sale) → map sale_data (map as_told items) ≡ map sale_data items
+same_data : (items : List Sale) → map sale_text (map as_told items) ≡ map sale_text items
 same_data [] = refl
-same_data (s ∷ items) = ap (λ rest. sale_data s ∷ rest) (same_data items)
+same_data (s ∷ items) = ap (λ rest. sale_text s ∷ rest) (same_data items)
 
 -- the text of a page is the same without the nibbles of its sales
 pub told_text : (page : Found) → pages.page_as_read (page_as_told page) ≡ pages.page_as_read page
@@ -259,7 +299,7 @@ told_text (found.ShiftTotals n totals) = refl
 told_text (found.Tariffs page) = refl
 told_text (found.Meters page) = refl
 told_text (found.Shifts page) = refl
-told_text (found.Sales page) = ap (λ items. json_text (list_members (codes "sales") items)) (same_data page.items)
+told_text (found.Sales page) = ap (λ items. list_page (codes "sales") (list_text items)) (same_data page.items)
 
 numbers_told : (items : List Sale) → map (λ (s : Sale). s.number) (map as_told items) ≡ map (λ (s : Sale). s.number) items
 numbers_told [] = refl
@@ -285,7 +325,7 @@ same_json page other same first = ap (λ (text : List ℕ). text ++ 10 ∷ []) s
 same_tariffs : (page : Vec ListedTariff Global) (other : Found) → AreAlike (found.Tariffs page) (page_as_told other)
     → pages.page_as_read (found.Tariffs page) ≡ pages.page_as_read other → IsSamePage (found.Tariffs page) other
 same_tariffs page (found.Tariffs other) alike text = record {
-  behind = same_behind tariff_view (λ view. listed.Tariffs (Some view.0)) page.items other.items alike;
+  behind = same_behind tariff_view (λ view. lookups.Tariffs (Some view.0)) page.items other.items alike;
   lines = λ first. ap (λ (lines : List ℕ). table_text first tariff_names lines)
       (same_lines tariff_view
       (λ view. table_row_of (view.0 ∷ codes "-" ∷ steps_text view.1 ∷ []) ++ flat_map (later_line view.0) view.2) page.items other.items alike);
@@ -296,7 +336,7 @@ same_tariffs page other alike text = absurd alike
 same_meters : (page : Vec ListedMeter Global) (other : Found) → AreAlike (found.Meters page) (page_as_told other)
     → pages.page_as_read (found.Meters page) ≡ pages.page_as_read other → IsSamePage (found.Meters page) other
 same_meters page (found.Meters other) alike text = record {
-  behind = ap (λ items. option_map (λ m. listed.Meters (Some m.number)) (last_of_full items)) alike;
+  behind = ap (λ items. option_map (λ m. lookups.Meters (Some m.number)) (last_of_full items)) alike;
   lines = λ first. ap (λ items. table_text first meter_names (flat_map meter_line items)) alike;
   json = same_json (found.Meters page) (found.Meters other) text;
 }
@@ -305,7 +345,7 @@ same_meters page other alike text = absurd alike
 same_shifts : (page : Vec ListedShift Global) (other : Found) → AreAlike (found.Shifts page) (page_as_told other)
     → pages.page_as_read (found.Shifts page) ≡ pages.page_as_read other → IsSamePage (found.Shifts page) other
 same_shifts page (found.Shifts other) alike text = record {
-  behind = ap (λ items. option_map (λ l. listed.Shifts l.shift.number) (last_of_full items)) alike;
+  behind = ap (λ items. option_map (λ l. lookups.Shifts l.shift.number) (last_of_full items)) alike;
   lines = λ first. ap (λ items. shift_rows_text first items) alike;
   json = same_json (found.Shifts page) (found.Shifts other) text;
 }
@@ -315,7 +355,7 @@ same_sales : (page : Vec Sale Global) (other : Found) → AreAlike (found.Sales 
     → pages.page_as_read (found.Sales page) ≡ pages.page_as_read other → IsSamePage (found.Sales page) other
 same_sales page (found.Sales other) alike text = record {
   behind =
-      same_behind (λ (s : Sale). s.number) (λ (n : ℕ). listed.Sales n) page.items other.items
+      same_behind (λ (s : Sale). s.number) (λ (n : ℕ). lookups.Sales n) page.items other.items
       (ap (λ items. map (λ (s : Sale). s.number) items) alike ∙ numbers_told other.items);
   lines = λ first. ap (λ items. export_of first items) alike ∙ export_told first other.items;
   json = same_json (found.Sales page) (found.Sales other) text;

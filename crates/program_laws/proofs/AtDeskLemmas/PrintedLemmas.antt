@@ -16,10 +16,12 @@ use Rattle.office_rules.specs.declared.office.sale.Sale.{Sale}
 use Rattle.book_tables.specs.declared.row.totals.Totals.{Totals}
 use Rattle.book_facts.specs.Lookups.{last_found, meter_found, quote_for, sale_found, totals_found}
 use Rattle.book_facts.specs.Totals.{shift_totals}
+use Rattle.asks.specs.declared.ask.Ask.{Ask}
+use Rattle.asks.specs.declared.ask.Ask.TheVariants.{Look}
+use Rattle.asks.specs.declared.lookup.Lookup.{Lookup}
+use Rattle.asks.specs.declared.lookup.Lookup.TheVariants as lookups
 use Rattle.book_states.specs.declared.lookup.Found.{Found}
 use Rattle.book_states.specs.declared.lookup.Found.TheVariants as found
-use Rattle.book_states.specs.declared.lookup.Lookup.{Lookup}
-use Rattle.book_states.specs.declared.lookup.Lookup.TheVariants as lookups
 use Rattle.book_states.specs.declared.lookup.MeterSummary.{MeterSummary}
 use Rattle.book_states.specs.declared.lookup.Quote.{Quote}
 use Rattle.books.specs.Looking.{IsFoundAt}
@@ -28,8 +30,6 @@ use Rattle.desk_messages.specs.declared.reply.form.Form.{Form}
 use Rattle.desk_messages.specs.declared.reply.form.Form.TheVariants as forms
 use Rattle.desk_client.specs.Alike.{TellAlike}
 use Rattle.desk_client.specs.Tells.{as_told}
-use Rattle.desk_client.specs.declared.question.Question.{Question}
-use Rattle.desk_client.specs.declared.question.Question.TheVariants as questions
 use Rattle.desk_client.specs.declared.told.Granted.{Granted}
 use Rattle.desk_client.specs.declared.told.Granted.TheVariants as granted
 use Rattle.desk_client.specs.declared.told.Told.{Told}
@@ -47,17 +47,17 @@ use Rattle.program_laws.proofs.AtDeskLemmas.TellableLemmas.{told_answer, told_lo
 
 -- ---- the same is told
 
-module _ (json : Bool) (q : Question) (o : Outputs) (end : CommandEnd) where
+module _ (json : Bool) (ask : Ask) (o : Outputs) (end : CommandEnd) where
   -- a text that is the same is printed as well
-  same_text : (g h : Granted) → granted_output json q g ≡ granted_output json q h → (NeedsRoom json q g → NeedsRoom json q h) → TellsGranted json q g o end
-      → TellsGranted json q h o end
+  same_text : (g h : Granted) → granted_output json ask g ≡ granted_output json ask h → (NeedsRoom json ask g → NeedsRoom json ask h) → TellsGranted json ask g o end
+      → TellsGranted json ask h o end
   same_text g h same room (inl is) = inl (subst (λ text. IsTold o text [] Done end) same is)
   same_text g h same room (inr (needs, is)) = inr (room needs, is)
 
-  same_granted : (g h : Granted) → g ≡ h → TellsGranted json q g o end → TellsGranted json q h o end
-  same_granted g h same is = subst (λ (g : Granted). TellsGranted json q g o end) same is
+  same_granted : (g h : Granted) → g ≡ h → TellsGranted json ask g o end → TellsGranted json ask h o end
+  same_granted g h same is = subst (λ (g : Granted). TellsGranted json ask g o end) same is
 
-  grant_alike : (g h : Granted) → TellAlike (told.Granted g) (told.Granted h) → TellsGranted json q g o end → TellsGranted json q h o end
+  grant_alike : (g h : Granted) → TellAlike (told.Granted g) (told.Granted h) → TellsGranted json ask g o end → TellsGranted json ask h o end
   grant_alike granted.Done granted.Done same is = is
   grant_alike (granted.Imported n) (granted.Imported m) same is =
       same_granted (granted.Imported n) (granted.Imported m) (ap (λ (n : ℕ). granted.Imported n) same) is
@@ -75,7 +75,7 @@ module _ (json : Bool) (q : Question) (o : Outputs) (end : CommandEnd) where
   grant_alike g h same is = absurd same
 
   -- what is told alike is printed alike
-  pub tell_alike : (one other : Told) → TellAlike one other → TellsTold json q one o end → TellsTold json q other o end
+  pub tell_alike : (one other : Told) → TellAlike one other → TellsTold json ask one o end → TellsTold json ask other o end
   tell_alike (told.Granted g) (told.Granted h) same is = grant_alike g h same is
   tell_alike (told.Refused r) (told.Refused s) same is = subst (λ (r : Refusal). IsTold o [] (refusal_line r) Refused end) same is
   tell_alike told.NoMoment told.NoMoment same is = is
@@ -95,15 +95,15 @@ same_export header s = refl
 
 -- ---- replies
 
-module _ (json : Bool) (q : Question) (sold : (s : Sale) → told_sale_text json q s ≡ receipt_of s) (small : (s : Sale) → SaleNeedsRoom json q s → ⊥)
+module _ (json : Bool) (ask : Ask) (sold : (s : Sale) → told_sale_text json ask s ≡ receipt_of s) (small : (s : Sale) → SaleNeedsRoom json ask s → ⊥)
     (o : Outputs) (end : CommandEnd) where
-  prints_sale : (form : Form) (s : Sale) → TellsTold json q (told_sale form s) o end → IsTold o (receipt_of s) [] Done end
+  prints_sale : (form : Form) (s : Sale) → TellsTold json ask (told_sale form s) o end → IsTold o (receipt_of s) [] Done end
   prints_sale forms.Json s (inl is) = subst (λ text. IsTold o text [] Done end) (sold (as_told s) ∙ same_receipt s) is
   prints_sale forms.Json s (inr (room, is)) = absurd (small (as_told s) room)
   prints_sale forms.Paper s (inl is) = is
   prints_sale forms.Paper s (inr (none, is)) = absurd none
 
-  prints_answer : (form : Form) (answer : Answer) → TellsTold json q (told_answer form answer) o end → TellsAnswer answer o end
+  prints_answer : (form : Form) (answer : Answer) → TellsTold json ask (told_answer form answer) o end → TellsAnswer answer o end
   prints_answer form answers.Done is = is
   prints_answer form (answers.Imported n) is = is
   prints_answer form (answers.Withdrawn n) is = is
@@ -115,7 +115,7 @@ module _ (json : Bool) (q : Question) (sold : (s : Sale) → told_sale_text json
   prints_answer form (answers.Report shift sales) (inr (none, is)) = absurd none
 
   -- what is told of a reply is printed of it
-  pub prints_reply : (form : Form) (r : Result Answer Refusal) → TellsTold json q (told_reply form r) o end → TellsReply r o end
+  pub prints_reply : (form : Form) (r : Result Answer Refusal) → TellsTold json ask (told_reply form r) o end → TellsReply r o end
   prints_reply form (Ok answer) is = prints_answer form answer is
   prints_reply form (Err refusal) is = is
 
@@ -123,116 +123,111 @@ module _ (json : Bool) (q : Question) (sold : (s : Sale) → told_sale_text json
 
 module _ (json : Bool) (o : Outputs) (end : CommandEnd) where
   -- where this is told, that is printed
-  abbrev Prints : Question → Lookup → Result Found Refusal → Type 0
-  Prints q lookup r = TellsTold json q (told_look (lookup_form lookup) r) o end → TellsFound json lookup r o end
+  abbrev Prints : Lookup → Result Found Refusal → Type 0
+  Prints lookup r = TellsTold json (Look lookup) (told_look (lookup_form lookup) r) o end → TellsFound json lookup r o end
 
-  then_prints : {A : Type 0} (q : Question) (lookup : Lookup) (r : Result A Refusal) (f : A → Result Found Refusal) → ((x : A) → Prints q lookup (f x))
-      → Prints q lookup (r >>= f)
-  then_prints q lookup (Ok x) f rest = rest x
-  then_prints q lookup (Err why) f rest = λ is. is
+  then_prints : {A : Type 0} (lookup : Lookup) (r : Result A Refusal) (f : A → Result Found Refusal) → ((x : A) → Prints lookup (f x))
+      → Prints lookup (r >>= f)
+  then_prints lookup (Ok x) f rest = rest x
+  then_prints lookup (Err why) f rest = λ is. is
 
-  refused_prints : (q : Question) (lookup : Lookup) (r : Result Found Refusal) (why : Refusal) → r ≡ Err why → Prints q lookup r
-  refused_prints q lookup r why is = subst (Prints q lookup) (sym is) (λ is. is)
+  refused_prints : (lookup : Lookup) (r : Result Found Refusal) (why : Refusal) → r ≡ Err why → Prints lookup r
+  refused_prints lookup r why is = subst (Prints lookup) (sym is) (λ is. is)
 
-  meter_prints : (b : Bool) (number : List ℕ) (it : MeterSummary) → TellsTold b (questions.Meter number) (told.Granted (granted.Meter it)) o end
+  meter_prints : (b : Bool) (number : List ℕ) (it : MeterSummary) → TellsTold b (Look (lookups.Meter number)) (told.Granted (granted.Meter it)) o end
       → TellsFound b (lookups.Meter number) (Ok (found.Meter it)) o end
   meter_prints true number it is = is
   meter_prints false number it is = is
 
-  quote_prints : (b : Bool) (number : List ℕ) (tender : ℕ) (it : Quote) → TellsTold b (questions.Quote number tender) (told.Granted (granted.Quote it)) o end
+  quote_prints : (b : Bool) (number : List ℕ) (tender : ℕ) (it : Quote) → TellsTold b (Look (lookups.Quote number tender)) (told.Granted (granted.Quote it)) o end
       → TellsFound b (lookups.Quote number tender) (Ok (found.Quote it)) o end
   quote_prints true number tender it is = is
   quote_prints false number tender it is = is
 
   sale_prints : (b : Bool) (operator order_ref : List ℕ) (s : Sale)
-      → TellsTold b (questions.SaleOfRef operator order_ref) (told.Granted (granted.Sale (as_told s))) o end
+      → TellsTold b (Look (lookups.SaleOfRef operator order_ref)) (told.Granted (granted.Sale (as_told s))) o end
       → TellsFound b (lookups.SaleOfRef operator order_ref) (Ok (found.Sale s)) o end
   sale_prints true operator order_ref s is = is
   sale_prints false operator order_ref s (inl is) = inl (subst (λ text. IsTold o text [] Done end) (same_export true s) is)
   sale_prints false operator order_ref s (inr is) = inr is
 
   some_meter : (number : List ℕ) (there : Option Meter) (tenths : ℕ) (last : Option Sale)
-      → Prints (questions.Meter number) (lookups.Meter number) (meter_found number there tenths last)
+      → Prints (lookups.Meter number) (meter_found number there tenths last)
   some_meter number None tenths last = λ is. is
   some_meter number (Some m) tenths last = meter_prints json number _
 
   some_sale : (operator order_ref : List ℕ) (there : Option Sale)
-      → Prints (questions.SaleOfRef operator order_ref) (lookups.SaleOfRef operator order_ref) (sale_found there)
+      → Prints (lookups.SaleOfRef operator order_ref) (sale_found there)
   some_sale operator order_ref None = λ is. is
   some_sale operator order_ref (Some s) = sale_prints json operator order_ref s
 
   some_quote : (moment : ℕ) (number : List ℕ) (tender : ℕ) (account : Option MeterAccount) (count : ℕ)
-      → Prints (questions.Quote number tender) (lookups.Quote number tender) (quote_for moment number tender account count)
+      → Prints (lookups.Quote number tender) (quote_for moment number tender account count)
   some_quote moment number tender account count =
-      let q = questions.Quote number tender in
       let lookup = lookups.Quote number tender in
-      then_prints q lookup (ok_or account refusals.NoMeter) _ (λ m. then_prints q lookup (or_refusal (minute_of m.meter.base moment)) _ (λ now.
-      then_prints q lookup (or_refusal (fresh_after now m.last)) _
-      (λ tid. then_prints q lookup (ok_or (purchase_of m.steps m.prior tender) refusals.TooLittle) _ (λ bought.
-      then_prints q lookup (next_number count) _ (λ next. quote_prints json number tender _)))))
+      then_prints lookup (ok_or account refusals.NoMeter) _ (λ m. then_prints lookup (or_refusal (minute_of m.meter.base moment)) _ (λ now.
+      then_prints lookup (or_refusal (fresh_after now m.last)) _
+      (λ tid. then_prints lookup (ok_or (purchase_of m.steps m.prior tender) refusals.TooLittle) _ (λ bought.
+      then_prints lookup (next_number count) _ (λ next. quote_prints json number tender _)))))
 
   -- what was found is printed as it is told, or the refusal is
-  none_prints : (q : Question) (lookup : Lookup) (r : Result Found Refusal)
-      → (r ≡ Err refusals.Memory) ⊎ ((r ≡ Err refusals.Store) ⊎ (r ≡ Err refusals.Stopped)) → Prints q lookup r
-  none_prints q lookup r (inl is) = refused_prints q lookup r refusals.Memory is
-  none_prints q lookup r (inr (inl is)) = refused_prints q lookup r refusals.Store is
-  none_prints q lookup r (inr (inr is)) = refused_prints q lookup r refusals.Stopped is
+  none_prints : (lookup : Lookup) (r : Result Found Refusal) → (r ≡ Err refusals.Memory) ⊎ ((r ≡ Err refusals.Store) ⊎ (r ≡ Err refusals.Stopped))
+      → Prints lookup r
+  none_prints lookup r (inl is) = refused_prints lookup r refusals.Memory is
+  none_prints lookup r (inr (inl is)) = refused_prints lookup r refusals.Store is
+  none_prints lookup r (inr (inr is)) = refused_prints lookup r refusals.Stopped is
 
   -- what a desk tells of a meter is printed as what a file has of it
   pub prints_meter : (life : Life) (moment : ℕ) (number : List ℕ) (r : Result Found Refusal) → IsFoundAt life moment (lookups.Meter number) r
-      → Prints (questions.Meter number) (lookups.Meter number) r
-  prints_meter life moment number r (inl is) = subst (Prints (questions.Meter number) (lookups.Meter number)) (sym is) (some_meter number _ _ _)
-  prints_meter life moment number r (inr none) = none_prints (questions.Meter number) (lookups.Meter number) r none
+      → Prints (lookups.Meter number) r
+  prints_meter life moment number r (inl is) = subst (Prints (lookups.Meter number)) (sym is) (some_meter number _ _ _)
+  prints_meter life moment number r (inr none) = none_prints (lookups.Meter number) r none
 
   -- the same of a sale by its operator and ref
   pub prints_sale_of_ref : (life : Life) (moment : ℕ) (operator order_ref : List ℕ) (r : Result Found Refusal)
       → IsFoundAt life moment (lookups.SaleOfRef operator order_ref) r
-      → Prints (questions.SaleOfRef operator order_ref) (lookups.SaleOfRef operator order_ref) r
+      → Prints (lookups.SaleOfRef operator order_ref) r
   prints_sale_of_ref life moment operator order_ref r (inl is) =
-      subst (Prints (questions.SaleOfRef operator order_ref) (lookups.SaleOfRef operator order_ref)) (sym is) (some_sale operator order_ref _)
+      subst (Prints (lookups.SaleOfRef operator order_ref)) (sym is) (some_sale operator order_ref _)
   prints_sale_of_ref life moment operator order_ref r (inr none) =
-      none_prints (questions.SaleOfRef operator order_ref) (lookups.SaleOfRef operator order_ref) r none
+      none_prints (lookups.SaleOfRef operator order_ref) r none
 
   -- the same of a quote
   pub prints_quote : (life : Life) (moment : ℕ) (number : List ℕ) (tender : ℕ) (r : Result Found Refusal)
       → IsFoundAt life moment (lookups.Quote number tender) r
-      → Prints (questions.Quote number tender) (lookups.Quote number tender) r
+      → Prints (lookups.Quote number tender) r
   prints_quote life moment number tender r (inl is) =
-      subst (Prints (questions.Quote number tender) (lookups.Quote number tender)) (sym is) (some_quote moment number tender _ _)
-  prints_quote life moment number tender r (inr none) = none_prints (questions.Quote number tender) (lookups.Quote number tender) r none
+      subst (Prints (lookups.Quote number tender)) (sym is) (some_quote moment number tender _ _)
+  prints_quote life moment number tender r (inr none) = none_prints (lookups.Quote number tender) r none
 
--- a receipt is no JSON
-module _ (o : Outputs) (end : CommandEnd) where
-  abbrev PrintsLast : List ℕ → Result Found Refusal → Type 0
-  PrintsLast number r = TellsTold false (questions.LastSale number) (told_look forms.Paper r) o end → TellsFound false (lookups.LastSale number) r o end
-
-  some_last : (number : List ℕ) (there : Option Meter) (last : Option Sale) → PrintsLast number (last_found there last)
-  some_last number None last = λ is. is
-  some_last number (Some m) None = λ is. is
-  some_last number (Some m) (Some s) = λ is. is
-
-  none_last : (number : List ℕ) (r : Result Found Refusal) → (r ≡ Err refusals.Memory) ⊎ ((r ≡ Err refusals.Store) ⊎ (r ≡ Err refusals.Stopped))
-      → PrintsLast number r
-  none_last number r (inl is) = subst (PrintsLast number) (sym is) (λ is. is)
-  none_last number r (inr (inl is)) = subst (PrintsLast number) (sym is) (λ is. is)
-  none_last number r (inr (inr is)) = subst (PrintsLast number) (sym is) (λ is. is)
+  -- a receipt is no JSON
+  last_prints : json ≡ false → (number : List ℕ) (there : Option Meter) (last : Option Sale) → Prints (lookups.LastSale number) (last_found there last)
+  last_prints lines number None last = λ is. is
+  last_prints lines number (Some m) None = λ is. is
+  last_prints lines number (Some m) (Some s) = by_lines json lines
+    where
+      by_lines : (b : Bool) → b ≡ false → TellsTold b (Look (lookups.LastSale number)) (told_sale forms.Paper s) o end
+          → TellsFound b (lookups.LastSale number) (Ok (found.Sale s)) o end
+      by_lines false lines is = is
+      by_lines true lines is = absurd cc
 
   -- what a desk tells of a meter's last sale is printed as the receipt of it
-  pub prints_last : (life : Life) (moment : ℕ) (number : List ℕ) (r : Result Found Refusal) → IsFoundAt life moment (lookups.LastSale number) r
-      → PrintsLast number r
-  prints_last life moment number r (inl is) = subst (PrintsLast number) (sym is) (some_last number _ _)
-  prints_last life moment number r (inr none) = none_last number r none
+  pub prints_last : json ≡ false → (life : Life) (moment : ℕ) (number : List ℕ) (r : Result Found Refusal) → IsFoundAt life moment (lookups.LastSale number) r
+      → Prints (lookups.LastSale number) r
+  prints_last lines life moment number r (inl is) = subst (Prints (lookups.LastSale number)) (sym is) (last_prints lines number _ _)
+  prints_last lines life moment number r (inr none) = none_prints (lookups.LastSale number) r none
 
+module _ (o : Outputs) (end : CommandEnd) where
   -- the totals of a shift are printed as `report` prints them
   abbrev PrintsAsTotals : (json : Bool) → ℕ → Result Found Refusal → Type 0
-  PrintsAsTotals json number r = TellsTold json (questions.ShiftTotals number) (told_look forms.Json r) o end
+  PrintsAsTotals json number r = TellsTold json (Look (lookups.ShiftTotals number)) (told_look forms.Json r) o end
       → (totals : Result Totals Refusal) × (r ≡ totals_looked_up number totals) × TellsTotals number totals o end
 
   refused_totals : (json : Bool) (number : ℕ) (r : Result Found Refusal) (why : Refusal) → r ≡ Err why → PrintsAsTotals json number r
   refused_totals json number r why is = subst (PrintsAsTotals json number) (sym is) (λ told. (Err why, refl, told))
 
   whole_totals : (json : Bool) (number : ℕ) (totals : Totals)
-      → TellsTold json (questions.ShiftTotals number) (told.Granted (granted.Totals number totals)) o end → TellsTotals number (Ok totals) o end
+      → TellsTold json (Look (lookups.ShiftTotals number)) (told.Granted (granted.Totals number totals)) o end → TellsTotals number (Ok totals) o end
   whole_totals json number totals (inl is) = is
   whole_totals json number totals (inr (none, is)) = absurd none
 

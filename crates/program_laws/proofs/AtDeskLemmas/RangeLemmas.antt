@@ -12,7 +12,7 @@ use Rattle.office_rules.specs.Office.Lookup.{sales_of_shift}
 use Rattle.office_rules.specs.declared.office.sale.Sale.{Sale}
 use Rattle.office_rules.specs.declared.office.shift.Shift.{Shift}
 use Rattle.book_tables.specs.Stands.{all_totals}
-use Rattle.desk_messages.specs.route.Route.{IsTargetNumber}
+use Rattle.asks.specs.Value.{IsTargetNumber}
 use Rattle.desk_client.specs.Totals.{AreTotals}
 use Rattle.office_rules.proofs.OfficeLemmas.RowLemmas.{found, number_within}
 

@@ -17,8 +17,11 @@ use Rattle.conversation.specs.message.Messages.{BeginsMessage, BeginsFaulty, End
 use Rattle.conversation.proofs.InterimLemmas.{reply_alone}
 use Rattle.conversation.proofs.ReadingLemmas.{head_unique, message_unique, no_empty_head}
 use Rattle.desk.specs.Answering.{answers_by, life_serves, message_refusal_of}
-use Rattle.desk_client.specs.Asks.{IsAskable, question_message}
-use Rattle.desk_client.specs.Question.{question_text}
+use Rattle.asks.specs.Ask.{message_of}
+use Rattle.asks.specs.declared.ask.Ask.{Ask}
+use Rattle.asks.specs.declared.ask.Ask.TheVariants.{Look}
+use Rattle.asks.specs.declared.lookup.Lookup.{Lookup}
+use Rattle.desk_client.specs.Sent.{CanSend, ask_text}
 use Rattle.desk_client.specs.Reply.{longest_reply_body, reply_text}
 use Rattle.desk_client.specs.Start.{IsDated, head_end, start_text}
 use Rattle.desk_client.specs.Told.{told_start, told_text}
@@ -27,16 +30,14 @@ use Rattle.desk_client.specs.declared.told.Told.{Told}
 use Rattle.desk_client.specs.declared.told.Told.TheVariants as told
 use Rattle.desk_client.proofs.HeadLemmas.{one_head}
 use Rattle.desk_client.proofs.TellsLemmas.{date_given, given_dated, says}
-use Rattle.command_line.specs.declared.commands.list.Listed.{Listed}
-use Rattle.desk_client.specs.declared.told.Wanted.TheVariants as wants
-use Rattle.desk_messages.specs.declared.reply.form.Form.TheVariants as forms
+use Rattle.desk_messages.specs.Meaning.{lookup_form}
 use Rattle.desk_messages.specs.declared.reply.outcome.Outcome.TheVariants as outcomes
 use Rattle.desk_messages.specs.reply.HttpDate.{moment_given}
 use Rattle.program_laws.specs.AtDesk.{AreAnsweredOn, IsAnsweredAt, IsGivenOn, came_in, sent_in}
-use Rattle.desk_commands.specs.ListedAtDesk.{TellPages, page_question}
+use Rattle.desk_commands.specs.ListedAtDesk.{TellPages}
 use Rattle.desk_commands.specs.Exchanged.{Round}
 use Rattle.desk_commands.specs.print.Pages.{list_behind}
-use Rattle.program_laws.proofs.AtDeskLemmas.ListLemmas.{OnePage, looks_up, one_page}
+use Rattle.program_laws.proofs.AtDeskLemmas.ListLemmas.{OnePage, has_order, looks_up, one_page}
 use Rattle.program_laws.proofs.AtDeskLemmas.OneLemmas.{DeskLaws, reply_length}
 use Rattle.program_laws.proofs.AtDeskLemmas.PageLemmas.{CanAsk, behind_askable}
 use Rattle.program_laws.proofs.AtDeskLemmas.RuleLemmas.{present_is}
@@ -114,7 +115,7 @@ pub some_text : (text : List ℕ) (m : Message) (rest : List ℕ) → BeginsMess
 some_text text m rest begins none =
     no_empty_head begins.head (m.body ++ rest) (subst (λ (x : List ℕ). BeginsWithHead x begins.head (m.body ++ rest)) none begins.begins)
 
--- what was sent is what the question sends
+-- what was sent is what the ask sends
 sent_so : (second : ℤ) (old mid : Timed Life) (text sent came : List ℕ) → sent ≡ text → IsAnsweredAt second old text came mid
     → IsAnsweredAt second old sent came mid
 sent_so second old mid text sent came same at = subst (λ (bytes : List ℕ). IsAnsweredAt second old bytes came mid) (sym same) at
@@ -130,7 +131,7 @@ some_length [] some = absurd (some refl)
 some_length (c ∷ text) some = omega arith
 
 module _ (laws : DeskLaws) (one : OnePage) (day : ℕ) where
-  rounds_answer : (old new : Timed Life) → IsOffice (present old.0) → (list left : Option Listed) → IfSome list CanAsk
+  rounds_answer : (old new : Timed Life) → IsOffice (present old.0) → (list left : Option Lookup) → IfSome list CanAsk
       → (rounds : List Round) (pages : List Found) (xs : List MessageExchange) (ending : Ending)
       → TellPages list rounds pages left → length (came_in rounds) < 2 ^ 64 → Messages ended (sent_in rounds) (messages_of xs) ending
       → Exchanged (timed (answers_by life_serves)) old xs new
@@ -140,18 +141,18 @@ module _ (laws : DeskLaws) (one : OnePage) (day : ℕ) where
   rounds_answer old new office list left askable [] [] (x ∷ xs) ending tells few messages served text given =
       absurd (some_text [] x.message messages.0 messages.1 refl)
   rounds_answer old new office (Some list) left askable (round ∷ rounds) (page ∷ pages) [] ending (message, tell, tells) few messages served text given =
-      let q = page_question list in
-      let sent : BeginsMessage (round.message ++ sent_in rounds) (question_message q) (sent_in rounds) =
-      subst (λ (text : List ℕ). BeginsMessage (text ++ sent_in rounds) (question_message q) (sent_in rounds)) (sym message)
-      (laws.sent q (sent_in rounds) askable) in
-      absurd (not_end (round.message ++ sent_in rounds) (question_message q) (sent_in rounds) ending (some_length _ (some_text _ _ _ sent)) sent messages)
+      let ask : Ask = Look list in
+      let sent : BeginsMessage (round.message ++ sent_in rounds) (message_of ask) (sent_in rounds) =
+      subst (λ (text : List ℕ). BeginsMessage (text ++ sent_in rounds) (message_of ask) (sent_in rounds)) (sym message)
+      (laws.sent ask (sent_in rounds) askable) in
+      absurd (not_end (round.message ++ sent_in rounds) (message_of ask) (sent_in rounds) ending (some_length _ (some_text _ _ _ sent)) sent messages)
   rounds_answer old new office (Some list) left askable (round ∷ rounds) (page ∷ pages) (x ∷ xs) ending (message, tell, tells) few (rest, begins, match)
       (mid, step, later) text given =
-      let q = page_question list in
-      let m = question_message q in
+      let ask : Ask = Look list in
+      let m = message_of ask in
       let input = round.message ++ sent_in rounds in
       let sent : BeginsMessage input m (sent_in rounds) =
-      subst (λ (text : List ℕ). BeginsMessage (text ++ sent_in rounds) m (sent_in rounds)) (sym message) (laws.sent q (sent_in rounds) askable) in
+      subst (λ (text : List ℕ). BeginsMessage (text ++ sent_in rounds) m (sent_in rounds)) (sym message) (laws.sent ask (sent_in rounds) askable) in
       let same = message_unique input x.message m rest (sent_in rounds) begins sent in
       let closes : x.message.closes ≡ false = ap (λ (m : Message). m.closes) same.0 in
       let no_more : text_of x ≡ x.reply = reply_alone x (ap (λ (m : Message). m.expects) same.0) in
@@ -159,22 +160,22 @@ module _ (laws : DeskLaws) (one : OnePage) (day : ℕ) where
       subst (λ (bytes : List ℕ). Messages ended bytes (messages_of xs) ending) same.1
       (subst (λ (b : Bool). MatchBool b ((messages_of xs ≡ []) × (ending ≡ closing)) (Messages ended rest (messages_of xs) ending)) closes match) in
       let at = All-head (λ (x : MessageExchange). IsGivenOn day x.now) x xs given in
-      let alone : BeginsMessage (question_text q) m [] =
-      subst (λ (text : List ℕ). BeginsMessage text m []) (append-nil (question_text q)) (laws.sent q [] askable) in
-      let mine : IsAnsweredAt (pos at.0) old (question_text q) x.reply mid = record {
+      let alone : BeginsMessage (ask_text ask) m [] =
+      subst (λ (text : List ℕ). BeginsMessage text m []) (append-nil (ask_text ask)) (laws.sent ask [] askable) in
+      let mine : IsAnsweredAt (pos at.0) old (ask_text ask) x.reply mid = record {
         exchange = x;
-        read = subst (λ (m : Message). BeginsMessage (question_text q) m []) (sym same.0) alone;
+        read = subst (λ (m : Message). BeginsMessage (ask_text ask) m []) (sym same.0) alone;
         given = at.3;
         answered = step;
         whole = refl;
       } in
-      let looked = looks_up laws at.0 old mid list x.reply at.1 office askable mine in
-      let u = told_look forms.Json looked.result in
+      let looked = looks_up laws at.0 old mid list x.reply at.1 office (has_order list page tell.order) askable mine in
+      let u = told_look (lookup_form list) looked.result in
       let t = told.Granted (granted.Page tell.body) in
       let now = Some (pos at.0) in
       let wrote = date_given now in
       let words : x.reply ≡ reply_text wrote u =
-      looked.text ∙ says (moment_given now) laws.texts wants.Page (outcomes.Found forms.Json looked.result) u looked.tellable looked.tells in
+      looked.text ∙ says (moment_given now) (outcomes.Found (lookup_form list) looked.result) u looked.reads.tells in
       let behind : List ℕ = replies_of xs ++ last_words message_refusal_of ending in
       let date = tell.reply.reply.dated in
       let both : reply_text date t ++ came_in rounds ≡ reply_text wrote u ++ behind =
@@ -194,23 +195,23 @@ module _ (laws : DeskLaws) (one : OnePage) (day : ℕ) where
       let cut =
       cut_reply date wrote t u (came_in rounds) behind tell.reply.reply.is_dated (given_dated laws.dates now) tell.reply.reply.short total both in
       let came : round.came ≡ x.reply = tell.reply.reply.is_text ∙ cut.0 ∙ sym words in
-      let answered : IsAnsweredAt (pos at.0) old (question_text q) round.came mid =
-      came_so (pos at.0) old mid (question_text q) round.came x.reply came mine in
+      let answered : IsAnsweredAt (pos at.0) old (ask_text ask) round.came mid =
+      came_so (pos at.0) old mid (ask_text ask) round.came x.reply came mine in
       let here = one_page laws one at.0 old mid list round.came page at.1 office askable answered tell in
       let next : IfSome (list_behind page) CanAsk =
-      subst (λ (next : Option Listed). IfSome next CanAsk) (sym here.alike.behind)
+      subst (λ (next : Option Lookup). IfSome next CanAsk) (sym here.alike.behind)
       (behind_askable (present old.0) office at.0 list here.there here.finds) in
       let more =
       rounds_answer mid new (subst (λ (l : Life). IsOffice (present l)) (sym here.same) office) (list_behind page) left next rounds pages xs ending tells
       (omega (arith, few, length-append round.came (came_in rounds))) others later cut.1
       (All-tail (λ (x : MessageExchange). IsGivenOn day x.now) x xs given) in
-      (at.0, at.1, at.2, (mid, sent_so (pos at.0) old mid (question_text q) round.message round.came message answered, more))
+      (at.0, at.1, at.2, (mid, sent_so (pos at.0) old mid (ask_text ask) round.message round.came message answered, more))
   rounds_answer old new office list left askable rounds pages xs ending tells few messages served text given = absurd tells
 
 -- so where a desk read just what a list sends, and all that it wrote came, it answered each round
 pub lines_answer : (laws : DeskLaws) → OnePage
-    → (list : Listed) (day : ℕ) (old new : Timed Life) (rounds : List Round) (pages : List Found) (left : Option Listed) (ending : Ending)
-    → IsAskable (page_question list) → IsOffice old.0.opening → IsLife old.0 → TellPages (Some list) rounds pages left → length (came_in rounds) < 2 ^ 64
+    → (list : Lookup) (day : ℕ) (old new : Timed Life) (rounds : List Round) (pages : List Found) (left : Option Lookup) (ending : Ending)
+    → CanSend (Look list) → IsOffice old.0.opening → IsLife old.0 → TellPages (Some list) rounds pages left → length (came_in rounds) < 2 ^ 64
     → (held : Conversation (timed (answers_by life_serves)) message_refusal_of ended (sent_in rounds) old (came_in rounds) ending new)
     → All (λ (x : MessageExchange). IsGivenOn day x.now) held.exchanges
     → AreAnsweredOn day old rounds new

@@ -38,11 +38,11 @@ use Rattle.office_rules.specs.declared.office.row.Row.{Row}
 use Rattle.office_rules.specs.declared.office.row.Row.TheVariants as kinds
 use Rattle.office_rules.specs.declared.office.sale.Sale.{Sale}
 use Rattle.office_rules.specs.declared.office.shift.Shift.{Shift}
-use Rattle.desk_messages.specs.route.Route.{IsTargetNumber}
+use Rattle.asks.specs.Value.{IsTargetNumber}
+use Rattle.asks.specs.declared.ask.Ask.{Ask}
+use Rattle.asks.specs.declared.ask.Ask.TheVariants.{Do}
 use Rattle.desk_client.specs.Answers.{IsSaleFor, MayRefuse}
 use Rattle.desk_client.specs.Report.{AreToldLines, IsToldShift}
-use Rattle.desk_client.specs.declared.question.Question.{Question}
-use Rattle.desk_client.specs.declared.question.Question.TheVariants as questions
 use Rattle.office_rules.proofs.OfficeLemmas.RowLemmas.{found, number_within, parts_true}
 use Rattle.program_laws.proofs.AtDeskLemmas.PaperLemmas.{shift_lines, shift_reported}
 
@@ -152,8 +152,11 @@ RefusesRows most refusals.Store = ⊤
 RefusesRows most refusals.Stopped = ⊤
 RefusesRows most refusal = ⊥
 
--- what an office with its rules may answer to a request that a command asks of a desk
+-- what an office with its rules may answer to a request
 abbrev pub MayAnswer : Request → Answer → Type 0
+MayAnswer (requests.AddTariff name steps) answers.Done = ⊤
+MayAnswer (requests.AddSteps name day steps) answers.Done = ⊤
+MayAnswer (requests.AddMeter number m) answers.Done = ⊤
 MayAnswer (requests.Import rows) (answers.Imported count) = count ≤ length rows
 MayAnswer (requests.SetTariff number name) answers.Done = ⊤
 MayAnswer (requests.WithdrawSteps name day) (answers.Withdrawn count) = count ≤ 1
@@ -166,35 +169,15 @@ MayAnswer (requests.Reprint number) (answers.Reprinted sale) = sale.number ≡ n
 MayAnswer (requests.ShiftReport number) (answers.Report shift sales) = (shift.number ≡ number) × IsToldShift shift × AreToldLines 0 sales
 MayAnswer request answer = ⊥
 
--- what an office with its rules may refuse such a request for
+-- what it may refuse it for
 abbrev pub MayRefuseSo : Request → Refusal → Type 0
 MayRefuseSo (requests.Import rows) refusal = RefusesRows (length rows) refusal
-MayRefuseSo (requests.SetTariff number name) refusal = MayRefuse refusal (questions.SetTariff number name)
-MayRefuseSo (requests.WithdrawSteps name day) refusal = MayRefuse refusal (questions.WithdrawSteps name day)
-MayRefuseSo (requests.MoveBase number base) refusal = MayRefuse refusal (questions.MoveBase number base)
-MayRefuseSo (requests.SetKey number key) refusal = MayRefuse refusal (questions.SetKey number key)
-MayRefuseSo (requests.OpenShift operator) refusal = MayRefuse refusal (questions.OpenShift operator)
-MayRefuseSo (requests.CloseShift operator) refusal = MayRefuse refusal (questions.CloseShift operator)
-MayRefuseSo (requests.Sell order) refusal = MayRefuse refusal (questions.Sell order)
-MayRefuseSo (requests.Reprint number) refusal = MayRefuse refusal (questions.Receipt number)
-MayRefuseSo (requests.ShiftReport number) refusal = MayRefuse refusal (questions.ShiftReport number)
-MayRefuseSo request refusal = ⊤
-
--- a command asks it of a desk
-abbrev pub IsOfDesk : Request → Type 0
-IsOfDesk (requests.AddTariff name steps) = ⊥
-IsOfDesk (requests.AddSteps name day steps) = ⊥
-IsOfDesk (requests.AddMeter number m) = ⊥
-IsOfDesk request = ⊤
+MayRefuseSo request refusal = MayRefuse refusal (Do request)
 
 -- what an office with its rules may reply to it
 abbrev pub MayReplyTo : Request → Result Answer Refusal → Type 0
 MayReplyTo request (Ok answer) = MayAnswer request answer
 MayReplyTo request (Err refusal) = MayRefuseSo request refusal
-
--- so of a request that a desk can be sent
-abbrev pub MayReply : Request → Result Answer Refusal → Type 0
-MayReply request r = IsOfDesk request → MayReplyTo request r
 
 abbrev MayDecide : Request → Result Change Refusal → Type 0
 MayDecide request r = MayReplyTo request (reply_of r)
@@ -218,6 +201,31 @@ room_plain : (request : Request) (count : ℕ) (b : Bool) (f : ℕ → Result Ch
     → (count < greatest_count → MayDecide request (f (count + 1))) → MayDecide request ((if b then Ok (count + 1) else Err refusals.OfficeFull) >>= f)
 room_plain request count true f full is rest = rest (grind (arith, nat_tests))
 room_plain request count false f full is rest = full
+
+may_differ : (request : Request) → MayDecide request (unchanged answers.Done) → MayDecide request (Err refusals.Differs) → (b : Bool)
+    → MayDecide request (if b then unchanged answers.Done else Err refusals.Differs)
+may_differ request same other true = same
+may_differ request same other false = other
+
+may_add_tariff : (name : List ℕ) (steps : List Step) (there : Option (List Step)) → MayDecide (requests.AddTariff name steps) (add_tariff name steps there)
+may_add_tariff name steps None = tt
+may_add_tariff name steps (Some there) = may_differ (requests.AddTariff name steps) tt tt (steps_eq there steps)
+
+may_begin : (name : List ℕ) (day : ℕ) (steps : List Step) (b : Bool)
+    → MayDecide (requests.AddSteps name day steps) (if b then changed (edits.AddSteps name day steps) answers.Done else Err refusals.DayPast)
+may_begin name day steps true = tt
+may_begin name day steps false = tt
+
+may_add_steps : (name : List ℕ) (day today : ℕ) (steps : List Step) (has : Bool) (there : Option (List Step))
+    → MayDecide (requests.AddSteps name day steps) (add_steps name day steps today has there)
+may_add_steps name day today steps false there = tt
+may_add_steps name day today steps true (Some there) = may_differ (requests.AddSteps name day steps) tt tt (steps_eq there steps)
+may_add_steps name day today steps true None = may_begin name day steps (nat_lt today day)
+
+may_add_meter : (number : List ℕ) (m : Meter) (there : Option Meter) (has : Bool) → MayDecide (requests.AddMeter number m) (add_meter number m there has)
+may_add_meter number m (Some there) has = may_differ (requests.AddMeter number m) tt tt (meter_eq there m)
+may_add_meter number m None true = tt
+may_add_meter number m None false = tt
 
 may_set : (number name : List ℕ) (same : Bool)
     → MayDecide (requests.SetTariff number name) (if same then unchanged answers.Done else changed (edits.SetTariff number name) answers.Done)
@@ -406,55 +414,45 @@ may_import o today rows = by_new (new_rows o today 1 rows) (new_rows_of o today 
 -- ---- all requests
 
 -- the office is unable to answer, whatever it is asked
-unable : (why : Refusal) → ((q : Question) → MayRefuse why q) → ((most : ℕ) → RefusesRows most why) → (q : Request) → MayRefuseSo q why
-unable why any rows_any (requests.AddTariff name steps) = tt
-unable why any rows_any (requests.AddSteps name day steps) = tt
-unable why any rows_any (requests.AddMeter number m) = tt
-unable why any rows_any (requests.SetTariff number name) = any (questions.SetTariff number name)
+unable : (why : Refusal) → ((ask : Ask) → MayRefuse why ask) → ((most : ℕ) → RefusesRows most why) → (request : Request) → MayRefuseSo request why
 unable why any rows_any (requests.Import rows) = rows_any (length rows)
-unable why any rows_any (requests.WithdrawSteps name day) = any (questions.WithdrawSteps name day)
-unable why any rows_any (requests.MoveBase number base) = any (questions.MoveBase number base)
-unable why any rows_any (requests.SetKey number key) = any (questions.SetKey number key)
-unable why any rows_any (requests.OpenShift operator) = any (questions.OpenShift operator)
-unable why any rows_any (requests.CloseShift operator) = any (questions.CloseShift operator)
-unable why any rows_any (requests.Sell order) = any (questions.Sell order)
-unable why any rows_any (requests.Reprint number) = any (questions.Receipt number)
-unable why any rows_any (requests.ShiftReport number) = any (questions.ShiftReport number)
+unable why any rows_any request = any (Do request)
 
-may_decide : (forward : BlockFunction) (o : Office) → IsOffice o → (moment nibble : ℕ) (q : Request) → IsOfDesk q
-    → MayDecide q (decision_of forward o moment nibble q)
-may_decide forward o office moment nibble (requests.AddTariff name steps) of_desk = absurd of_desk
-may_decide forward o office moment nibble (requests.AddSteps name day steps) of_desk = absurd of_desk
-may_decide forward o office moment nibble (requests.AddMeter number m) of_desk = absurd of_desk
-may_decide forward o office moment nibble (requests.SetTariff number name) of_desk = may_tariff number name (o.meters number) (is_some (o.tariffs name))
-may_decide forward o office moment nibble (requests.Import rows) of_desk = may_import o (day_at moment) rows
-may_decide forward o office moment nibble (requests.WithdrawSteps name day) of_desk =
+may_decide : (forward : BlockFunction) (o : Office) → IsOffice o → (moment nibble : ℕ) (request : Request)
+    → MayDecide request (decision_of forward o moment nibble request)
+may_decide forward o office moment nibble (requests.AddTariff name steps) = may_add_tariff name steps (o.tariffs name)
+may_decide forward o office moment nibble (requests.AddSteps name day steps) =
+    may_add_steps name day (day_at moment) steps (is_some (o.tariffs name)) (o.dated_steps name day)
+may_decide forward o office moment nibble (requests.AddMeter number m) = may_add_meter number m (o.meters number) (is_some (o.tariffs m.tariff))
+may_decide forward o office moment nibble (requests.SetTariff number name) = may_tariff number name (o.meters number) (is_some (o.tariffs name))
+may_decide forward o office moment nibble (requests.Import rows) = may_import o (day_at moment) rows
+may_decide forward o office moment nibble (requests.WithdrawSteps name day) =
     may_withdraw name day (day_at moment) (is_some (o.tariffs name)) (o.dated_steps name day) (sold_since o day)
-may_decide forward o office moment nibble (requests.MoveBase number base) of_desk = may_base number base moment (o.meters number)
-may_decide forward o office moment nibble (requests.SetKey number key) of_desk = may_key number key (o.meters number) (has_sales o number)
-may_decide forward o office moment nibble (requests.OpenShift operator) of_desk = may_open moment operator (open_shift o operator) (length o.shifts)
-may_decide forward o office moment nibble (requests.CloseShift operator) of_desk = may_close o office moment operator
-may_decide forward o office moment nibble (requests.Sell order) of_desk =
+may_decide forward o office moment nibble (requests.MoveBase number base) = may_base number base moment (o.meters number)
+may_decide forward o office moment nibble (requests.SetKey number key) = may_key number key (o.meters number) (has_sales o number)
+may_decide forward o office moment nibble (requests.OpenShift operator) = may_open moment operator (open_shift o operator) (length o.shifts)
+may_decide forward o office moment nibble (requests.CloseShift operator) = may_close o office moment operator
+may_decide forward o office moment nibble (requests.Sell order) =
     may_sell forward moment nibble order (sale_of_ref o order.operator order.order_ref) (under_ref o order _ refl) (open_shift o order.operator)
     (account_of o order.meter moment) (length o.sales)
-may_decide forward o office moment nibble (requests.Reprint number) of_desk =
+may_decide forward o office moment nibble (requests.Reprint number) =
     there_plain (requests.Reprint number) (sale_numbered o number) refusals.NoSale _ tt (λ s is.
     (Decides-eqb s.number number).0 (found _ o.sales s is).1)
-may_decide forward o office moment nibble (requests.ShiftReport number) of_desk =
+may_decide forward o office moment nibble (requests.ShiftReport number) =
     there_plain (requests.ShiftReport number) (shift_numbered o number) refusals.NoSuchShift _ tt (λ s is.
     let there = found _ o.shifts s is in
     ((Decides-eqb s.number number).0 there.1, shift_reported o s office there.0, shift_lines o number office))
 
 -- a reply of a life, whatever it is, is one that an office may give
 pub may_reply : (o : Office) (forward : BlockFunction) (at : Stamped) (r : Reply) → IsOffice o → (acknowledges r ≡ true → r ≡ reply forward o at)
-    → MayReply at.request r
+    → MayReplyTo at.request r
 may_reply o forward at (Ok answer) office rules =
-    λ of_desk. subst (MayReplyTo at.request) (sym (rules refl)) (may_decide forward o office at.moment at.nibble at.request of_desk)
-may_reply o forward at (Err refusals.Memory) office rules = λ of_desk. unable refusals.Memory (λ q. tt) (λ most. tt) at.request
-may_reply o forward at (Err refusals.Store) office rules = λ of_desk. unable refusals.Store (λ q. tt) (λ most. tt) at.request
-may_reply o forward at (Err refusals.Stopped) office rules = λ of_desk. unable refusals.Stopped (λ q. tt) (λ most. tt) at.request
+    subst (MayReplyTo at.request) (sym (rules refl)) (may_decide forward o office at.moment at.nibble at.request)
+may_reply o forward at (Err refusals.Memory) office rules = unable refusals.Memory (λ ask. tt) (λ most. tt) at.request
+may_reply o forward at (Err refusals.Store) office rules = unable refusals.Store (λ ask. tt) (λ most. tt) at.request
+may_reply o forward at (Err refusals.Stopped) office rules = unable refusals.Stopped (λ ask. tt) (λ most. tt) at.request
 may_reply o forward at (Err refusal) office rules =
-    λ of_desk. subst (MayReplyTo at.request) (sym (rules refl)) (may_decide forward o office at.moment at.nibble at.request of_desk)
+    subst (MayReplyTo at.request) (sym (rules refl)) (may_decide forward o office at.moment at.nibble at.request)
 
 -- ---- a reprint and a report
 

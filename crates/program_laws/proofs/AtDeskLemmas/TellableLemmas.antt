@@ -26,44 +26,46 @@ use Rattle.office_rules.specs.declared.decision.answer.Answer.{Answer}
 use Rattle.office_rules.specs.declared.decision.answer.Answer.TheVariants as answers
 use Rattle.office_rules.specs.declared.decision.refusal.Refusal.{Refusal}
 use Rattle.office_rules.specs.declared.decision.refusal.Refusal.TheVariants as refusals
-use Rattle.office_rules.specs.declared.decision.request.Order.{Order}
 use Rattle.office_rules.specs.declared.decision.request.Request.{Request}
 use Rattle.office_rules.specs.declared.decision.request.Request.TheVariants as requests
 use Rattle.office_rules.specs.declared.decision.row_cause.RowCause.{RowCause}
 use Rattle.office_rules.specs.declared.decision.row_cause.RowCause.TheVariants as causes
 use Rattle.office_rules.specs.declared.office.meter.Meter.{Meter}
-use Rattle.office_rules.specs.declared.office.row.Row.{Row}
 use Rattle.office_rules.specs.declared.office.sale.Sale.{Sale}
 use Rattle.office_rules.specs.declared.office.shift.Shift.{Shift}
 use Rattle.book_tables.specs.Stands.{all_totals}
 use Rattle.book_facts.specs.Lookups.{Finds, FindsMeters, FindsSales, FindsShifts, FindsTariffs, last_found, last_sale, last_under, meter_found, quote_for, sale_found, sale_of_some_tid, totals_found}
+use Rattle.asks.specs.declared.lookup.Lookup.{Lookup}
+use Rattle.asks.specs.declared.lookup.Lookup.TheVariants as lookups
 use Rattle.book_states.specs.declared.lookup.Found.{Found}
 use Rattle.book_states.specs.declared.lookup.Found.TheVariants as found
-use Rattle.book_states.specs.declared.lookup.Lookup.{Lookup}
-use Rattle.book_states.specs.declared.lookup.Lookup.TheVariants as lookups
 use Rattle.books.specs.Looking.{IsFoundAt}
 use Rattle.vend_core.specs.Law.Life.{Life, present}
 use Rattle.desk_messages.specs.Meaning.{lookup_form}
 use Rattle.desk_messages.specs.declared.reply.form.Form.{Form}
 use Rattle.desk_messages.specs.declared.reply.form.Form.TheVariants as forms
+use Rattle.desk_messages.specs.declared.reply.outcome.Outcome.{Outcome}
 use Rattle.desk_messages.specs.declared.reply.outcome.Outcome.TheVariants as outcomes
-use Rattle.desk_messages.specs.route.Route.{IsTargetNumber}
-use Rattle.desk_client.specs.Answers.{MayRefuse}
+use Rattle.asks.specs.Ask.{IsAskable}
+use Rattle.asks.specs.Value.{IsTargetNumber}
+use Rattle.asks.specs.declared.ask.Ask.TheVariants.{Do, Import, Look, Receipt}
+use Rattle.asks.specs.declared.endpoint.Grants.{Grants}
+use Rattle.asks.specs.declared.endpoint.Grants.TheVariants as wanted
+use Rattle.papers.specs.declared.file_kind.FileKind.{FileKind}
+use Rattle.papers.specs.declared.file_kind.FileKind.TheVariants as files
 use Rattle.desk_client.specs.Meter.{IsLastSaleNumber}
 use Rattle.desk_client.specs.Page.{page_as_read}
 use Rattle.desk_client.specs.Sale.{IsSaleTold}
 use Rattle.desk_client.specs.Tells.{Tells, as_told}
-use Rattle.desk_client.specs.Told.{IsTellable, IsTellableRefusal}
-use Rattle.desk_client.specs.declared.question.Question.{Question}
-use Rattle.desk_client.specs.declared.question.Question.TheVariants as questions
+use Rattle.desk_client.specs.Sent.{wanted_by}
+use Rattle.desk_client.specs.Told.{IsGrantOf, IsTellable, IsTellableRefusal}
 use Rattle.desk_client.specs.declared.told.Granted.TheVariants as granted
 use Rattle.desk_client.specs.declared.told.Told.{Told}
 use Rattle.desk_client.specs.declared.told.Told.TheVariants as told
-use Rattle.desk_client.specs.declared.told.Wanted.{Wanted}
-use Rattle.desk_client.specs.declared.told.Wanted.TheVariants as wanted
 use Rattle.office_rules.proofs.OfficeLemmas.RowLemmas.{option_map_some}
+use Rattle.program_laws.specs.AtDesk.{AsksNoHealth}
 use Rattle.program_laws.proofs.AtDeskLemmas.RangeLemmas.{found_stands, meter_row, or_keeps, sale_numbered, sale_row, sale_shift, tariff_named, totals_within}
-use Rattle.program_laws.proofs.AtDeskLemmas.RuleLemmas.{IsRowFrom, MayReply, MayReplyTo, RefusesRows}
+use Rattle.program_laws.proofs.AtDeskLemmas.RuleLemmas.{IsRowFrom, MayAnswer, MayRefuseSo, MayReplyTo, RefusesRows}
 
 -- ---- what is told of a reply, and of what was looked up
 
@@ -113,6 +115,12 @@ abbrev pub told_look : Form → Result Found Refusal → Told
 told_look form (Ok it) = told_found form it
 told_look form (Err refusal) = told.Refused refusal
 
+-- what is told of what came of a message
+abbrev pub told_of : Outcome → Told
+told_of (outcomes.Replied form r) = told_reply form r
+told_of (outcomes.Found form r) = told_look form r
+told_of outcome = told.NoMoment
+
 sale_tells : (form : Form) (s : Sale) → Tells (outcomes.Replied form (Ok (answers.Sold s))) (told_sale form s)
 sale_tells forms.Json s = refl
 sale_tells forms.Paper s = refl
@@ -147,9 +155,14 @@ look_tells form (Ok (found.Shifts items)) h = refl
 look_tells form (Ok (found.Sales items)) h = refl
 look_tells form (Err refusal) h = refl
 
--- where something else is wanted than that it was done, it is told of no health
-pub no_health : (form : Form) (w : Wanted) (r : Result Found Refusal) → w ≢ wanted.Done → IsTellable w (told_look form r) → IsNoHealth r
-no_health form w (Ok (found.Health health)) other h = absurd (other (sym h.1))
+-- that it was done is told where this is wanted alone
+done_wanted : (w : Grants) → IsGrantOf w granted.Done → w ≡ wanted.Done
+done_wanted wanted.Done h = refl
+done_wanted w h = absurd h
+
+-- where something else is wanted, it is told of no health
+pub no_health : (form : Form) (w : Grants) (r : Result Found Refusal) → w ≢ wanted.Done → IsTellable w (told_look form r) → IsNoHealth r
+no_health form w (Ok (found.Health health)) other h = absurd (other (done_wanted w h.1))
 no_health form w (Ok (found.Meter m)) other h = tt
 no_health form w (Ok (found.Sale s)) other h = tt
 no_health form w (Ok (found.Quote q)) other h = tt
@@ -159,6 +172,21 @@ no_health form w (Ok (found.Meters items)) other h = tt
 no_health form w (Ok (found.Shifts items)) other h = tt
 no_health form w (Ok (found.Sales items)) other h = tt
 no_health form w (Err refusal) other h = tt
+
+-- so it is of each look-up
+pub look_wanted : (lookup : Lookup) → wanted_by (Look lookup) ≢ wanted.Done
+look_wanted lookups.Health e = absurd cc
+look_wanted (lookups.Meter number) e = absurd cc
+look_wanted (lookups.LastSale number) e = absurd cc
+look_wanted (lookups.SaleOfRef operator order_ref) e = absurd cc
+look_wanted (lookups.Quote number tender) e = absurd cc
+look_wanted (lookups.ShiftTotals number) e = absurd cc
+look_wanted (lookups.Tariffs None) e = absurd cc
+look_wanted (lookups.Tariffs (Some name)) e = absurd cc
+look_wanted (lookups.Meters None) e = absurd cc
+look_wanted (lookups.Meters (Some number)) e = absurd cc
+look_wanted (lookups.Shifts after) e = absurd cc
+look_wanted (lookups.Sales after) e = absurd cc
 
 -- ---- sales and refusals
 
@@ -195,110 +223,56 @@ tellable_rows : (most : ℕ) (refusal : Refusal) → most < 4294967295 → Refus
 tellable_rows most (refusals.ImportRow row cause) few h = tellable_row most row cause few h
 tellable_rows most refusal few h = tt
 
--- so can a refusal that a question may have, but for that of a row
-tellable_refusal : (q : Question) (refusal : Refusal) → ((row : ℕ) (cause : RowCause) → ¬ MayRefuse (refusals.ImportRow row cause) q) → MayRefuse refusal q
-    → IsTellableRefusal refusal
-tellable_refusal q (refusals.ImportRow row cause) none h = absurd (none row cause h)
-tellable_refusal q refusal none h = tt
-
 -- ---- replies
 
-tellable_tariff : (number name : List ℕ) (r : Result Answer Refusal) → MayReplyTo (requests.SetTariff number name) r
-    → IsTellable wanted.Done (told_reply forms.Json r)
-tellable_tariff number name (Ok answers.Done) h = (tt, refl)
-tellable_tariff number name (Ok answer) h = absurd h
-tellable_tariff number name (Err refusal) h = tellable_refusal (questions.SetTariff number name) refusal (λ row cause no. no) h
-
-tellable_base : (number : List ℕ) (base : Base) (r : Result Answer Refusal) → MayReplyTo (requests.MoveBase number base) r
-    → IsTellable wanted.Done (told_reply forms.Json r)
-tellable_base number base (Ok answers.Done) h = (tt, refl)
-tellable_base number base (Ok answer) h = absurd h
-tellable_base number base (Err refusal) h = tellable_refusal (questions.MoveBase number base) refusal (λ row cause no. no) h
-
-tellable_withdraw : (name : List ℕ) (day : ℕ) (r : Result Answer Refusal) → MayReplyTo (requests.WithdrawSteps name day) r
-    → IsTellable wanted.Withdrawn (told_reply forms.Json r)
-tellable_withdraw name day (Ok (answers.Withdrawn n)) h = (h, refl)
-tellable_withdraw name day (Ok answer) h = absurd h
-tellable_withdraw name day (Err refusal) h = tellable_refusal (questions.WithdrawSteps name day) refusal (λ row cause no. no) h
-
-tellable_key : (number : List ℕ) (key : ℕ) (r : Result Answer Refusal) → MayReplyTo (requests.SetKey number key) r
-    → IsTellable wanted.Done (told_reply forms.Json r)
-tellable_key number key (Ok answers.Done) h = (tt, refl)
-tellable_key number key (Ok answer) h = absurd h
-tellable_key number key (Err refusal) h = tellable_refusal (questions.SetKey number key) refusal (λ row cause no. no) h
-
-tellable_open : (operator : List ℕ) (r : Result Answer Refusal) → MayReplyTo (requests.OpenShift operator) r → IsTellable wanted.Shift (told_reply forms.Json r)
-tellable_open operator (Ok (answers.Opened n)) h = (h, refl)
-tellable_open operator (Ok answer) h = absurd h
-tellable_open operator (Err refusal) h = tellable_refusal (questions.OpenShift operator) refusal (λ row cause no. no) h
-
-tellable_close : (operator : List ℕ) (r : Result Answer Refusal) → MayReplyTo (requests.CloseShift operator) r → IsTellable wanted.Shift (told_reply forms.Json r)
-tellable_close operator (Ok (answers.Closed n)) h = (h, refl)
-tellable_close operator (Ok answer) h = absurd h
-tellable_close operator (Err refusal) h = tellable_refusal (questions.CloseShift operator) refusal (λ row cause no. no) h
+-- rows are no more than a file has
+abbrev pub FitsFile : Request → Type 0
+FitsFile (requests.Import rows) = length rows ≤ 10000
+FitsFile request = ⊤
 
 -- the sales of a reply keep the rules
 abbrev pub AreToldSales : Result Answer Refusal → Type 0
 AreToldSales r = All (λ s. IsSaleTold (as_told s)) (sales_of r)
 
-tellable_sell : (order : Order) (r : Result Answer Refusal) → AreToldSales r → MayReplyTo (requests.Sell order) r
-    → IsTellable wanted.Sale (told_reply forms.Json r)
-tellable_sell order (Ok (answers.Sold s)) sales h = (All-head (λ s. IsSaleTold (as_told s)) s [] sales, refl)
-tellable_sell order (Ok answer) sales h = absurd h
-tellable_sell order (Err refusal) sales h = tellable_refusal (questions.Sell order) refusal (λ row cause no. no) h
+tellable_refusal : (request : Request) (refusal : Refusal) → FitsFile request → MayRefuseSo request refusal → IsTellableRefusal refusal
+tellable_refusal (requests.Import rows) refusal fits may = tellable_rows (length rows) refusal (omega (arith, fits)) may
+tellable_refusal request (refusals.ImportRow row cause) fits may = absurd may
+tellable_refusal request refusal fits may = tt
 
-tellable_reprint : (number : ℕ) (r : Result Answer Refusal) → AreToldSales r → MayReplyTo (requests.Reprint number) r
-    → IsTellable wanted.Sale (told_reply forms.Json r)
-tellable_reprint number (Ok (answers.Reprinted s)) sales h = (All-head (λ s. IsSaleTold (as_told s)) s [] sales, refl)
-tellable_reprint number (Ok answer) sales h = absurd h
-tellable_reprint number (Err refusal) sales h = tellable_refusal (questions.Receipt number) refusal (λ row cause no. no) h
+tellable_answer : (request : Request) (answer : Answer) → FitsFile request → AreToldSales (Ok answer) → MayAnswer request answer
+    → IsTellable (wanted_by (Do request)) (told_answer forms.Json answer)
+tellable_answer (requests.AddTariff name steps) answers.Done fits sales may = (tt, tt)
+tellable_answer (requests.AddSteps name day steps) answers.Done fits sales may = (tt, tt)
+tellable_answer (requests.AddMeter number m) answers.Done fits sales may = (tt, tt)
+tellable_answer (requests.Import rows) (answers.Imported n) fits sales may = (omega (arith, may, fits), tt)
+tellable_answer (requests.SetTariff number name) answers.Done fits sales may = (tt, tt)
+tellable_answer (requests.WithdrawSteps name day) (answers.Withdrawn n) fits sales may = (may, tt)
+tellable_answer (requests.MoveBase number base) answers.Done fits sales may = (tt, tt)
+tellable_answer (requests.SetKey number key) answers.Done fits sales may = (tt, tt)
+tellable_answer (requests.OpenShift operator) (answers.Opened n) fits sales may = (may, tt)
+tellable_answer (requests.CloseShift operator) (answers.Closed n) fits sales may = (may, tt)
+tellable_answer (requests.Sell order) (answers.Sold s) fits sales may = (All-head (λ s. IsSaleTold (as_told s)) s [] sales, tt)
+tellable_answer (requests.Reprint number) (answers.Reprinted s) fits sales may = (All-head (λ s. IsSaleTold (as_told s)) s [] sales, tt)
+tellable_answer (requests.ShiftReport number) (answers.Report shift sold) fits sales may = (tt, tt)
+tellable_answer request answer fits sales may = absurd may
 
-tellable_report : (number : ℕ) (r : Result Answer Refusal) → MayReplyTo (requests.ShiftReport number) r → IsTellable wanted.Paper (told_reply forms.Json r)
-tellable_report number (Ok (answers.Report shift sales)) h = (tt, refl)
-tellable_report number (Ok answer) h = absurd h
-tellable_report number (Err refusal) h = tellable_refusal (questions.ShiftReport number) refusal (λ row cause no. no) h
+-- the reply to a request can be told as what is wanted
+pub tellable_reply : (request : Request) (r : Result Answer Refusal) → FitsFile request → AreToldSales r → MayReplyTo request r
+    → IsTellable (wanted_by (Do request)) (told_reply forms.Json r)
+tellable_reply request (Ok answer) fits sales may = tellable_answer request answer fits sales may
+tellable_reply request (Err refusal) fits sales may = tellable_refusal request refusal fits may
 
-tellable_import : (rows : List Row) (r : Result Answer Refusal) → length rows ≤ 10000 → MayReplyTo (requests.Import rows) r
-    → IsTellable wanted.Imported (told_reply forms.Json r)
-tellable_import rows (Ok (answers.Imported n)) few h = (omega (arith, h, few), refl)
-tellable_import rows (Ok answer) few h = absurd h
-tellable_import rows (Err refusal) few h = tellable_rows (length rows) refusal (omega (arith, few)) h
+-- so can that to a reprint, on paper
+pub tellable_receipt : (number : ℕ) (r : Result Answer Refusal) → MayReplyTo (requests.Reprint number) r
+    → IsTellable (wanted_by (Receipt number)) (told_reply forms.Paper r)
+tellable_receipt number (Ok (answers.Reprinted s)) may = (tt, tt)
+tellable_receipt number (Ok answer) may = absurd may
+tellable_receipt number (Err refusal) may = tellable_refusal (requests.Reprint number) refusal tt may
 
--- what is wanted of the reply to a request
-abbrev pub wanted_for : Request → Wanted
-wanted_for (requests.OpenShift operator) = wanted.Shift
-wanted_for (requests.CloseShift operator) = wanted.Shift
-wanted_for (requests.Sell order) = wanted.Sale
-wanted_for (requests.Reprint number) = wanted.Sale
-wanted_for (requests.ShiftReport number) = wanted.Paper
-wanted_for (requests.Import rows) = wanted.Imported
-wanted_for (requests.WithdrawSteps name day) = wanted.Withdrawn
-wanted_for request = wanted.Done
-
--- a command asks it of a desk; rows are no more than a file has
-abbrev pub MayAsk : Request → Type 0
-MayAsk (requests.AddTariff name steps) = ⊥
-MayAsk (requests.AddSteps name day steps) = ⊥
-MayAsk (requests.AddMeter number m) = ⊥
-MayAsk (requests.Import rows) = length rows ≤ 10000
-MayAsk request = ⊤
-
--- the reply to a request that a command may ask of a desk can be told as what is wanted
-pub tellable_reply : (q : Request) (r : Result Answer Refusal) → MayAsk q → AreToldSales r → MayReply q r
-    → IsTellable (wanted_for q) (told_reply forms.Json r)
-tellable_reply (requests.AddTariff name steps) r ask sales h = absurd ask
-tellable_reply (requests.AddSteps name day steps) r ask sales h = absurd ask
-tellable_reply (requests.AddMeter number m) r ask sales h = absurd ask
-tellable_reply (requests.SetTariff number name) r ask sales h = tellable_tariff number name r (h tt)
-tellable_reply (requests.Import rows) r ask sales h = tellable_import rows r ask (h tt)
-tellable_reply (requests.WithdrawSteps name day) r ask sales h = tellable_withdraw name day r (h tt)
-tellable_reply (requests.MoveBase number base) r ask sales h = tellable_base number base r (h tt)
-tellable_reply (requests.SetKey number key) r ask sales h = tellable_key number key r (h tt)
-tellable_reply (requests.OpenShift operator) r ask sales h = tellable_open operator r (h tt)
-tellable_reply (requests.CloseShift operator) r ask sales h = tellable_close operator r (h tt)
-tellable_reply (requests.Sell order) r ask sales h = tellable_sell order r sales (h tt)
-tellable_reply (requests.Reprint number) r ask sales h = tellable_reprint number r sales (h tt)
-tellable_reply (requests.ShiftReport number) r ask sales h = tellable_report number r (h tt)
+-- what is wanted of an import
+pub import_wanted : (kind : FileKind) (csv : List ℕ) → wanted_by (Import kind csv) ≡ wanted.Imported
+import_wanted files.Meters csv = refl
+import_wanted files.Tariffs csv = refl
 
 -- ---- look-ups
 
@@ -327,12 +301,12 @@ last_number o office (Some s) h = sale_numbered o s office h
 sale_or_none : (o : Office) → IsOffice o → (there : Option Sale) → IfSome there (Contains o.sales)
     → IsTellable wanted.Sale (told_look forms.Json (sale_found there))
 sale_or_none o office None h = tt
-sale_or_none o office (Some s) h = (sale_told o s office h, refl)
+sale_or_none o office (Some s) h = (sale_told o s office h, tt)
 
 receipt_or_none : (there : Option Meter) (last : Option Sale) → IsTellable wanted.Paper (told_look forms.Paper (last_found there last))
 receipt_or_none None last = tt
 receipt_or_none (Some m) None = tt
-receipt_or_none (Some m) (Some s) = (tt, refl)
+receipt_or_none (Some m) (Some s) = (tt, tt)
 
 meter_or_none : RangeLaws → (o : Office) → IsOffice o → (number : List ℕ) (moment : ℕ) (there : Option Meter) → o.meters number ≡ there
     → IsTellable wanted.Meter (told_look forms.Json (meter_found number there (prior o number (month_at moment)) (last_sale o number)))
@@ -345,7 +319,7 @@ meter_or_none laws o office number moment (Some m) is =
         tariff = tariff_named o m.tariff office row.tariff;
         tenths = omega (arith, laws.prior o number (month_at moment) office);
       },
-      refl,
+      tt,
     )
 
 totals_or_none : RangeLaws → (o : Office) → IsOffice o → (number : ℕ) → IsTargetNumber number → (there : Option Shift)
@@ -356,7 +330,7 @@ totals_or_none laws o office number small (Some shift) = (
     shift = small;
     are = totals_within laws.greatest o number office;
   },
-  refl,
+  tt,
 )
 
 -- ---- quotes
@@ -400,77 +374,59 @@ quote_or_none laws o office moment number tender is_number is_tender there is =
         tenths = bought.representable;
         price = bought.within;
       },
-      refl,
+      tt,
     ))))))
 
 -- ---- all look-ups
 
--- what is wanted of the reply to a look-up
-abbrev pub wanted_look : Lookup → Wanted
-wanted_look lookups.Health = wanted.Done
-wanted_look (lookups.Meter number) = wanted.Meter
-wanted_look (lookups.LastSale number) = wanted.Paper
-wanted_look (lookups.SaleOfRef operator order_ref) = wanted.Sale
-wanted_look (lookups.Quote number tender) = wanted.Quote
-wanted_look (lookups.ShiftTotals number) = wanted.Totals
-wanted_look (lookups.Tariffs after) = wanted.Page
-wanted_look (lookups.Meters after) = wanted.Page
-wanted_look (lookups.Shifts after) = wanted.Page
-wanted_look (lookups.Sales after) = wanted.Page
+abbrev LookTold : Lookup → Result Found Refusal → Type 0
+LookTold lookup r = IsTellable (wanted_by (Look lookup)) (told_look (lookup_form lookup) r)
 
--- a command looks it up at a desk, by names and numbers that keep their rules
-abbrev pub MayLook : Lookup → Type 0
-MayLook lookups.Health = ⊥
-MayLook (lookups.Quote number tender) = IsMeterNo number × IsTender tender
-MayLook (lookups.ShiftTotals number) = IsTargetNumber number
-MayLook lookup = ⊤
-
-tellable_tariffs : (o : Office) (day : ℕ) (after : Option (List ℕ)) (r : Result Found Refusal) → FindsTariffs o day after r
-    → IsTellable wanted.Page (told_look forms.Json r)
-tellable_tariffs o day after (Ok (found.Tariffs items)) h = (tt, refl)
+tellable_tariffs : (o : Office) (day : ℕ) (after : Option (List ℕ)) (r : Result Found Refusal) → FindsTariffs o day after r → LookTold (lookups.Tariffs after) r
+tellable_tariffs o day None (Ok (found.Tariffs items)) h = (tt, tt)
+tellable_tariffs o day (Some name) (Ok (found.Tariffs items)) h = (tt, tt)
 tellable_tariffs o day after (Ok it) h = absurd h
 tellable_tariffs o day after (Err refusal) h = absurd h
 
-tellable_meters : (o : Office) (after : Option (List ℕ)) (r : Result Found Refusal) → FindsMeters o after r → IsTellable wanted.Page (told_look forms.Json r)
-tellable_meters o after (Ok (found.Meters items)) h = (tt, refl)
+tellable_meters : (o : Office) (after : Option (List ℕ)) (r : Result Found Refusal) → FindsMeters o after r → LookTold (lookups.Meters after) r
+tellable_meters o None (Ok (found.Meters items)) h = (tt, tt)
+tellable_meters o (Some number) (Ok (found.Meters items)) h = (tt, tt)
 tellable_meters o after (Ok it) h = absurd h
 tellable_meters o after (Err refusal) h = absurd h
 
-tellable_shifts : (o : Office) (after : ℕ) (r : Result Found Refusal) → FindsShifts o after r → IsTellable wanted.Page (told_look forms.Json r)
-tellable_shifts o after (Ok (found.Shifts items)) h = (tt, refl)
+tellable_shifts : (o : Office) (after : ℕ) (r : Result Found Refusal) → FindsShifts o after r → LookTold (lookups.Shifts after) r
+tellable_shifts o after (Ok (found.Shifts items)) h = (tt, tt)
 tellable_shifts o after (Ok it) h = absurd h
 tellable_shifts o after (Err refusal) h = absurd h
 
-tellable_sales : (o : Office) (after : ℕ) (r : Result Found Refusal) → FindsSales o after r → IsTellable wanted.Page (told_look forms.Json r)
-tellable_sales o after (Ok (found.Sales items)) h = (tt, refl)
+tellable_sales : (o : Office) (after : ℕ) (r : Result Found Refusal) → FindsSales o after r → LookTold (lookups.Sales after) r
+tellable_sales o after (Ok (found.Sales items)) h = (tt, tt)
 tellable_sales o after (Ok it) h = absurd h
 tellable_sales o after (Err refusal) h = absurd h
 
-abbrev LookTold : Lookup → Result Found Refusal → Type 0
-LookTold lookup r = IsTellable (wanted_look lookup) (told_look (lookup_form lookup) r)
-
-tellable_finds : RangeLaws → (o : Office) → IsOffice o → (moment : ℕ) (lookup : Lookup) (r : Result Found Refusal) → MayLook lookup → Finds o moment lookup r
-    → LookTold lookup r
-tellable_finds laws o office moment lookups.Health r may h = absurd may
-tellable_finds laws o office moment (lookups.Meter number) r may h =
+tellable_finds : RangeLaws → (o : Office) → IsOffice o → (moment : ℕ) (lookup : Lookup) (r : Result Found Refusal) → AsksNoHealth (Look lookup)
+    → IsAskable (Look lookup) → Finds o moment lookup r → LookTold lookup r
+tellable_finds laws o office moment lookups.Health r none askable h = absurd none
+tellable_finds laws o office moment (lookups.Meter number) r none askable h =
     subst (LookTold (lookups.Meter number)) (sym h) (meter_or_none laws o office number moment (o.meters number) refl)
-tellable_finds laws o office moment (lookups.LastSale number) r may h =
+tellable_finds laws o office moment (lookups.LastSale number) r none askable h =
     subst (LookTold (lookups.LastSale number)) (sym h) (receipt_or_none (o.meters number) (last_sale o number))
-tellable_finds laws o office moment (lookups.SaleOfRef operator order_ref) r may h =
+tellable_finds laws o office moment (lookups.SaleOfRef operator order_ref) r none askable h =
     subst (LookTold (lookups.SaleOfRef operator order_ref)) (sym h) (sale_or_none o office (sale_of_ref o operator order_ref) (found_stands _ o.sales))
-tellable_finds laws o office moment (lookups.Quote number tender) r may h =
-    subst (LookTold (lookups.Quote number tender)) (sym h) (quote_or_none laws o office moment number tender may.0 may.1 (o.meters number) refl)
-tellable_finds laws o office moment (lookups.ShiftTotals number) r may h =
-    subst (LookTold (lookups.ShiftTotals number)) (sym h) (totals_or_none laws o office number may (shift_numbered o number))
-tellable_finds laws o office moment (lookups.Tariffs after) r may h = tellable_tariffs o (day_at moment) after r h
-tellable_finds laws o office moment (lookups.Meters after) r may h = tellable_meters o after r h
-tellable_finds laws o office moment (lookups.Shifts after) r may h = tellable_shifts o after r h
-tellable_finds laws o office moment (lookups.Sales after) r may h = tellable_sales o after r h
+tellable_finds laws o office moment (lookups.Quote number tender) r none askable h =
+    subst (LookTold (lookups.Quote number tender)) (sym h)
+    (quote_or_none laws o office moment number tender askable.target.0.kept askable.target.1.0.kept (o.meters number) refl)
+tellable_finds laws o office moment (lookups.ShiftTotals number) r none askable h =
+    subst (LookTold (lookups.ShiftTotals number)) (sym h) (totals_or_none laws o office number askable.target.0.kept (shift_numbered o number))
+tellable_finds laws o office moment (lookups.Tariffs after) r none askable h = tellable_tariffs o (day_at moment) after r h
+tellable_finds laws o office moment (lookups.Meters after) r none askable h = tellable_meters o after r h
+tellable_finds laws o office moment (lookups.Shifts after) r none askable h = tellable_shifts o after r h
+tellable_finds laws o office moment (lookups.Sales after) r none askable h = tellable_sales o after r h
 
 -- what was looked up keeps the rules, or the office had no answer
-pub tellable_look : RangeLaws → (life : Life) → IsOffice (present life) → (moment : ℕ) (lookup : Lookup) (r : Result Found Refusal) → MayLook lookup
-    → IsFoundAt life moment lookup r → LookTold lookup r
-tellable_look laws life office moment lookup r may (inl finds) = tellable_finds laws (present life) office moment lookup r may finds
-tellable_look laws life office moment lookup r may (inr (inl is)) = subst (LookTold lookup) (sym is) tt
-tellable_look laws life office moment lookup r may (inr (inr (inl is))) = subst (LookTold lookup) (sym is) tt
-tellable_look laws life office moment lookup r may (inr (inr (inr is))) = subst (LookTold lookup) (sym is) tt
+pub tellable_look : RangeLaws → (life : Life) → IsOffice (present life) → (moment : ℕ) (lookup : Lookup) (r : Result Found Refusal) → AsksNoHealth (Look lookup)
+    → IsAskable (Look lookup) → IsFoundAt life moment lookup r → LookTold lookup r
+tellable_look laws life office moment lookup r none askable (inl finds) = tellable_finds laws (present life) office moment lookup r none askable finds
+tellable_look laws life office moment lookup r none askable (inr (inl is)) = subst (LookTold lookup) (sym is) tt
+tellable_look laws life office moment lookup r none askable (inr (inr (inl is))) = subst (LookTold lookup) (sym is) tt
+tellable_look laws life office moment lookup r none askable (inr (inr (inr is))) = subst (LookTold lookup) (sym is) tt

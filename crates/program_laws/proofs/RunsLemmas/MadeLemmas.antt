@@ -16,12 +16,15 @@ use Rattle.sqlite_wal.specs.Recovery.{Image}
 use Rattle.vend_core.specs.Law.Life.{Life}
 use Rattle.office_rules.specs.Office.{Office}
 use Rattle.office_rules.specs.declared.decision.request.Request.{Request}
+use Rattle.office_rules.specs.declared.decision.request.Request.TheVariants as requests
 use Rattle.books.specs.Headline.{with_last}
 use Rattle.books.specs.Keeps.{Seen}
 use Rattle.office_commands.specs.office.Closed.{AreClosed, IsSeenAs}
 use Rattle.office_commands.specs.office.Closed.AreClosed.{closed, unclosed}
 use Rattle.office_commands.specs.office.Served.{TellsReply}
 use Rattle.office_commands.specs.port.Back.{lets_go_giving}
+use Rattle.office_commands.specs.declared.office.paper.Paper.{Paper}
+use Rattle.office_commands.specs.declared.office.paper.Paper.TheVariants.{Receipt, Sales, Shift, Totals}
 use Rattle.office_commands.specs.declared.port.ports.OfficeFile as file
 use Rattle.vend_ports.specs.print.Told.{Outputs}
 use Rattle.vend_ports.specs.declared.command_end.CommandEnd.{CommandEnd}
@@ -34,6 +37,13 @@ use Rattle.program_laws.proofs.RunsLemmas.KeptLemmas.{Kept, stays}
 -- the lives that a run adds to those before
 abbrev pub GoesOn : {M : Type 0} → {g : disk.Ghosts M} → (start : Office) → RunUse g → (Before : Image → Type 0) → List Life → Type 0
 GoesOn start made Before lives = (own : List Life) × LivesIn made lives own × Kept start (MayHold made Before) (lives ++ own)
+
+-- a paper asks this of an office: the report of a shift, or the sale of a receipt
+abbrev pub Reports : Paper → Request → Type 0
+Reports (Shift number) r = r ≡ requests.ShiftReport number
+Reports (Receipt number) r = r ≡ requests.Reprint number
+Reports (Totals number) r = ⊥
+Reports Sales r = ⊥
 
 -- ---- the files that are given back
 

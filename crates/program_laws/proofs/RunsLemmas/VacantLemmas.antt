@@ -1,5 +1,5 @@
 -- What a run made of a file that has none of the office's tables.
-use Rattle.std.proofs.Common.{◌≡◌, true, List, [], ◌∷◌, ◌++◌, Option, None, Ok, Err, inl, inr, refl, sym, subst, append-nil, arith}
+use Rattle.std.proofs.Common.{◌≡◌, Bool, true, false, List, [], ◌∷◌, ◌++◌, Option, None, Ok, Err, inl, inr, refl, sym, subst, append-nil, arith}
 use Rattle.std.proofs.Math.Logic.{∥∥₁_map}
 use Rattle.std.proofs.lemmas.List.Elements.{All-cons, All-nil}
 use Rattle.std.specs.Prelude.{ℕ}
@@ -11,6 +11,7 @@ use Rattle.sqlite_disk.specs.declared.Files.{Files}
 use Rattle.sqlite_store.specs.declared.store.FileStore.{FileStore}
 use Rattle.sqlite_wal.specs.Recovery.{Image}
 use Rattle.papers.specs.Export.{export_of}
+use Rattle.asks.specs.declared.lookup.Lookup.{Lookup}
 use Rattle.vend_core.specs.Law.Life.{Exchange, IsLife, LeadTo, Life, present}
 use Rattle.vend_core.specs.Law.LifeLaws.{extended_by, opened}
 use Rattle.office_rules.specs.Decision.Requests.{IsStamped}
@@ -23,26 +24,23 @@ use Rattle.sts_fields.specs.Moment.{first_moment}
 use Rattle.books.specs.Found.{FindsOffice}
 use Rattle.books.specs.Keeps.{RecoversTo, StoreStandsFor}
 use Rattle.command_line.specs.Transform.{forward_of, forward_range}
-use Rattle.command_line.specs.declared.commands.report.Paper.{Paper}
-use Rattle.command_line.specs.declared.commands.report.Paper.TheVariants.{Receipt, Sales, Shift, Totals}
+use Rattle.office_commands.specs.declared.office.paper.Paper.{Paper}
+use Rattle.office_commands.specs.declared.office.paper.Paper.TheVariants.{Receipt, Sales, Shift, Totals}
 use Rattle.command_line.specs.declared.transform.Shipped.TheVariants.{Plain}
 use Rattle.office_commands.specs.commands.LookedUp.{ReadsEmpty}
 use Rattle.office_commands.specs.commands.Reported.{PrintsEmpty, empty_reply}
 use Rattle.office_commands.specs.office.Served.{TellsReply}
 use Rattle.office_commands.specs.office.Vacant.{AreMeasured, IsVacant}
 use Rattle.office_commands.specs.office.Vacant.IsVacant.{blank, without}
-use Rattle.office_commands.specs.declared.office.wanted.Wanted.{Wanted}
-use Rattle.office_commands.specs.declared.office.wanted.Wanted.TheVariants.{One, Listing}
 use Rattle.vend_ports.specs.print.Told.{Outputs}
 use Rattle.vend_ports.specs.declared.command_end.CommandEnd.{CommandEnd}
 use Rattle.program_laws.specs.runs.Files.{AreFoundSo, IsLeftBy, MayHoldAfter}
 use Rattle.program_laws.specs.runs.Readings.{empty_reading}
 use Rattle.program_laws.specs.runs.Steps.{AsksSo}
 use Rattle.program_laws.specs.runs.Uses.{IsAskedLife, Living, LivesSo, RunQuestion, empty_question, left_blank, lives_empty, no_life, reading_life, use_vacant}
-use Rattle.program_laws.specs.runs.Words.{Reports}
 use Rattle.program_laws.proofs.RunsLemmas.CleanLemmas.{taken_clean}
 use Rattle.program_laws.proofs.RunsLemmas.KeptLemmas.{Laws, kept_by}
-use Rattle.program_laws.proofs.RunsLemmas.MadeLemmas.{IsMade, none_given}
+use Rattle.program_laws.proofs.RunsLemmas.MadeLemmas.{IsMade, Reports, none_given}
 
 -- ---- a life of the empty office
 
@@ -149,14 +147,14 @@ module _ {start : Office} (laws : Laws start) (lives : List Life) where
       (idle ∷ [], (empty_office, (export_of true [], refl), refl), on_by led idle idle_life refl idle_empty)
 
   -- something was looked up, or listed
-  pub reading_empty : (moment : ℕ) (wanted : Wanted) (o : Outputs) (end : CommandEnd) (done : ReadsEmpty moment wanted o end)
-      → StaysEmpty start lives (reading_life moment (empty_reading moment wanted o end done))
+  pub reading_empty : (moment : ℕ) (paged : Bool) (lookup : Lookup) (json : Bool) (o : Outputs) (end : CommandEnd)
+      (done : ReadsEmpty moment paged lookup json o end) → StaysEmpty start lives (reading_life moment (empty_reading moment paged lookup json o end done))
   unfolding after
-  reading_empty moment (One lookup json) o end (found, finds, told) led =
+  reading_empty moment false lookup json o end (found, finds, told) led =
       (idle ∷ [], (empty_office, inl finds, refl), on_by led idle idle_life refl idle_empty)
-  reading_empty moment (Listing list json) o end (Ok page, finds, told) led =
+  reading_empty moment true list json o end (Ok page, finds, told) led =
       (idle ∷ [], (empty_office, (finds, refl), refl), on_by led idle idle_life refl idle_empty)
-  reading_empty moment (Listing list json) o end (Err refusal, finds, told) led =
+  reading_empty moment true list json o end (Err refusal, finds, told) led =
       (idle ∷ [], (empty_office, refl, refl), on_by led idle idle_life refl idle_empty)
 
 -- a paper of the empty office that is asked for was told by its reply

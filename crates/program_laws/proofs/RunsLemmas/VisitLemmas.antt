@@ -1,5 +1,5 @@
 -- What a run made of a file that was not opened, and of one in which an office was visited.
-use Rattle.std.proofs.Common.{◌≡◌, ◌∙◌, ℕ, ◌+◌, ◌%◌, List, [], ◌∷◌, ◌++◌, length, Option, None, refl, sym, ap, subst}
+use Rattle.std.proofs.Common.{◌≡◌, ◌∙◌, ℕ, ◌+◌, ◌%◌, Bool, true, false, List, [], ◌∷◌, ◌++◌, length, Option, None, refl, sym, ap, subst}
 use Rattle.std.proofs.Math.Logic.{∥∥₁_map}
 use Rattle.sqlite.specs.Files.{file_state, image_of, over_files}
 use Rattle.sqlite.specs.State.{HasCleanDisk}
@@ -10,6 +10,7 @@ use Rattle.sqlite_trees.specs.declared.store.Store.{Ghosts}
 use Rattle.sqlite_wal.specs.Reads.{AreClean}
 use Rattle.sqlite_wal.specs.Recovery.{Image}
 use Rattle.sts_fields.specs.Moment.{first_moment}
+use Rattle.asks.specs.declared.lookup.Lookup.{Lookup}
 use Rattle.vend_core.specs.Law.Life.{LeadTo, Life}
 use Rattle.vend_core.specs.Law.LifeLaws.{extended_by, opened}
 use Rattle.office_rules.specs.Office.{Office}
@@ -21,8 +22,8 @@ use Rattle.books.specs.Path.{StandsIn}
 use Rattle.books.specs.declared.books.Books.{Books}
 use Rattle.books.specs.declared.refused_files.RefusedFiles.TheVariants.{Connected, Unconnected}
 use Rattle.command_line.specs.Transform.{forward_of, shipped}
-use Rattle.command_line.specs.declared.commands.report.Paper.{Paper}
-use Rattle.command_line.specs.declared.commands.report.Paper.TheVariants.{Receipt, Sales, Shift, Totals}
+use Rattle.office_commands.specs.declared.office.paper.Paper.{Paper}
+use Rattle.office_commands.specs.declared.office.paper.Paper.TheVariants.{Receipt, Sales, Shift, Totals}
 use Rattle.command_line.specs.declared.transform.Shipped.{Shipped}
 use Rattle.command_line.specs.declared.transform.Shipped.TheVariants.{Plain}
 use Rattle.office_commands.specs.commands.LookedUp.{IsRead}
@@ -33,8 +34,6 @@ use Rattle.office_commands.specs.office.Visited.IsVisited.{unopened as visit_uno
 use Rattle.office_commands.specs.port.Places.{IsUnopened, Place}
 use Rattle.office_commands.specs.port.Places.IsUnopened.{unfound, unopened as found_unopened}
 use Rattle.office_commands.specs.port.Places.IsUnopenedIn.{refused, unread, unsalted}
-use Rattle.office_commands.specs.declared.office.wanted.Wanted.{Wanted}
-use Rattle.office_commands.specs.declared.office.wanted.Wanted.TheVariants.{One, Listing}
 use Rattle.office_commands.specs.declared.port.ports.SaltSource as source
 use Rattle.vend_ports.specs.print.Told.{Outputs}
 use Rattle.vend_ports.specs.declared.command_end.CommandEnd.{CommandEnd}
@@ -42,11 +41,10 @@ use Rattle.program_laws.specs.runs.Files.{AreFoundSo, IsLeftBy, MayHold}
 use Rattle.program_laws.specs.runs.Readings.{IsReadIn, reading_of}
 use Rattle.program_laws.specs.runs.Steps.{AsksSo}
 use Rattle.program_laws.specs.runs.Uses.{Living, LivesSo, RunQuestion, RunUse, idle_life, lives_asking, lives_printing, reading_life, unconnected, use_refused, use_visited}
-use Rattle.program_laws.specs.runs.Words.{Reports}
 use Rattle.program_laws.proofs.RunsLemmas.CleanLemmas.{clean_left, taken_clean}
 use Rattle.program_laws.proofs.RunsLemmas.KeptLemmas.{Kept, Laws, none_more, one_more, stays}
 use Rattle.program_laws.proofs.RunsLemmas.LeftLemmas.{attempted}
-use Rattle.program_laws.proofs.RunsLemmas.MadeLemmas.{GivesBack, IsMade, none_given, unseen_made}
+use Rattle.program_laws.proofs.RunsLemmas.MadeLemmas.{GivesBack, IsMade, Reports, none_given, unseen_made}
 use Rattle.program_laws.proofs.SellLemmas.{now_is}
 
 -- ---- one life of a visit
@@ -56,16 +54,16 @@ abbrev pub LivedOne : (start : Office) → List Life → Living → Seen → Typ
 LivedOne start lives living new = (own : List Life) × LivesSo living lives own × Kept start (IsLeftBy new.state) (lives ++ own)
 
 -- what was read was so in the present office of each life, which the books keep
-is_read : (life : Life) (moment : ℕ) (wanted : Wanted) (o : Outputs) (end : CommandEnd) (old new : Seen)
-    (done : IsRead moment wanted old new o end) → HasCleanDisk new.state → Represents life old
-    → IsReadIn life moment (reading_of moment wanted old new o end done)
-is_read life moment (One lookup json) o end old new done clean kept = done.is_found clean life kept
-is_read life moment (Listing list json) o end old new done clean kept = done.are clean life kept
+is_read : (life : Life) (moment : ℕ) (paged : Bool) (lookup : Lookup) (json : Bool) (o : Outputs) (end : CommandEnd) (old new : Seen)
+    (done : IsRead moment paged lookup json old new o end) → HasCleanDisk new.state → Represents life old
+    → IsReadIn life moment (reading_of moment paged lookup json old new o end done)
+is_read life moment false lookup json o end old new done clean kept = done.is_found clean life kept
+is_read life moment true list json o end old new done clean kept = done.are clean life kept
 
-read_keeps : (moment : ℕ) (wanted : Wanted) (o : Outputs) (end : CommandEnd) (old new : Seen) → IsRead moment wanted old new o end
-    → (life : Life) → Represents life old → Represents life new
-read_keeps moment (One lookup json) o end old new done = done.reads.keeps
-read_keeps moment (Listing list json) o end old new done = done.reads.keeps
+read_keeps : (moment : ℕ) (paged : Bool) (lookup : Lookup) (json : Bool) (o : Outputs) (end : CommandEnd) (old new : Seen)
+    → IsRead moment paged lookup json old new o end → (life : Life) → Represents life old → Represents life new
+read_keeps moment false lookup json o end old new done = done.reads.keeps
+read_keeps moment true list json o end old new done = done.reads.keeps
 
 module _ {start : Office} (laws : Laws start) (lives : List Life) {S : Type 0} {store : Ghosts S} (place : Place) where
   module _ {transform : Shipped} where
@@ -125,16 +123,16 @@ module _ {start : Office} (laws : Laws start) (lives : List Life) {S : Type 0} {
       )
 
   -- something was looked up, or listed
-  pub looked_on : (moment : ℕ) (wanted : Wanted) (o : Outputs) (end : CommandEnd) (old new : Books S Shipped store shipped)
-      (begins : IsOpenedAt place Plain old) (done : IsRead moment wanted (seen_in old) (seen_in new) o end)
+  pub looked_on : (moment : ℕ) (paged : Bool) (lookup : Lookup) (json : Bool) (o : Outputs) (end : CommandEnd) (old new : Books S Shipped store shipped)
+      (begins : IsOpenedAt place Plain old) (done : IsRead moment paged lookup json (seen_in old) (seen_in new) o end)
       → HasCleanDisk (seen_in new).state → (office : Office) → StandsIn place.image office → LeadTo start lives office
-      → LivedOne start lives (reading_life moment (reading_of moment wanted (seen_in old) (seen_in new) o end done)) (seen_in new)
-  looked_on moment wanted o end old new begins done clean office stands led =
+      → LivedOne start lives (reading_life moment (reading_of moment paged lookup json (seen_in old) (seen_in new) o end done)) (seen_in new)
+  looked_on moment paged lookup json o end old new begins done clean office stands led =
       let life : Life = opened (forward_of Plain) office in
       let kept = begins.opens office stands in (
         life ∷ [],
-        (office, is_read life moment wanted o end (seen_in old) (seen_in new) done clean kept, refl),
-        one_more laws lives (seen_in new) office led life refl (read_keeps moment wanted o end (seen_in old) (seen_in new) done life kept clean),
+        (office, is_read life moment paged lookup json o end (seen_in old) (seen_in new) done clean kept, refl),
+        one_more laws lives (seen_in new) office led life refl (read_keeps moment paged lookup json o end (seen_in old) (seen_in new) done life kept clean),
       )
 
 module _ (Wants : Request → Type 0) where

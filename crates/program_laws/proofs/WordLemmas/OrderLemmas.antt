@@ -1,26 +1,29 @@
 -- The same words of `sell` ask the same order.
-use Rattle.std.proofs.Common.{◌≡◌, ◌∙◌, false, List, Option, Some, None, codes, refl, sym, ap, subst}
-use Rattle.std.specs.Borrow.{Bor}
+use Rattle.std.proofs.Common.{◌≡◌, ◌∙◌, true, List, codes, sym, ap, subst}
 use Rattle.clap.specs.Walk.{Row}
 use Rattle.sts_fields.specs.Text.{Text}
+use Rattle.asks.specs.declared.ask.Ask.{Ask}
+use Rattle.asks.specs.declared.ask.Ask.TheVariants.{Do, Import, Look, Receipt}
+use Rattle.asks.specs.declared.lookup.Lookup.{Lookup}
+use Rattle.asks.specs.declared.lookup.Lookup.TheVariants as lookups
 use Rattle.office_rules.specs.declared.decision.request.Order.{Order}
 use Rattle.office_rules.specs.declared.decision.request.Request.{Request}
 use Rattle.office_rules.specs.declared.decision.request.Request.TheVariants as requests
-use Rattle.command_line.specs.Asked.{ArgumentsSay, AskFor, CommandAsks}
-use Rattle.command_line.specs.Commands.{SaysOrder, SaysRequest}
-use Rattle.command_line.specs.Place.{lacks_place}
-use Rattle.command_line.specs.Said.{IsArgument, parsed_argument}
-use Rattle.command_line.specs.Values.{SaysMeterNo, SaysOperator, SaysRef, SaysTender, SaysText}
+use Rattle.command_line.specs.Asked.{AskFor}
+use Rattle.command_line.specs.Commands.{SaysAskWords, SaysLookup, SaysOrder, SaysRequest}
+use Rattle.command_line.specs.Place.{asks_office}
+use Rattle.command_line.specs.Values.{SaysMeterNo, SaysOperator, SaysRef, SaysTender}
 use Rattle.command_line.specs.declared.asked.Asked.{Asked}
 use Rattle.command_line.specs.declared.asked.Asked.TheVariants as asks
-use Rattle.command_line.specs.declared.commands.report.Paper.{Paper}
-use Rattle.command_line.specs.declared.commands.report.Paper.TheVariants.{Receipt, Sales, Shift, Totals}
-use Rattle.command_line.specs.declared.request_words.RequestWords.{RequestWords}
-use Rattle.program_laws.specs.runs.Words.{Reports, Requests, WordsRequest}
-use Rattle.program_laws.proofs.WordLemmas.{IsNamed, not_both, one_argument}
+use Rattle.command_line.specs.declared.office_words.AskWords.{AskWords}
+use Rattle.command_line.specs.declared.office_words.AskWords.TheVariants as ask_words
+use Rattle.command_line.specs.declared.place.Place.{Place}
+use Rattle.command_line.specs.declared.place.Place.TheVariants.{Desk, File}
+use Rattle.program_laws.specs.runs.Words.{AskWordsRequest, AsksFile, Requests, WordsRequest, selling}
+use Rattle.program_laws.proofs.WordLemmas.{IsNamed, one_argument, requested_again}
 
 -- some rows say one order
-pub one_order : (rows : List Row) (a b : Order) → SaysOrder rows a → SaysOrder rows b → a ≡ b
+one_order : (rows : List Row) (a b : Order) → SaysOrder rows a → SaysOrder rows b → a ≡ b
 one_order rows a b one other =
     let operator = one_argument SaysOperator (λ text v w x y. sym x.0 ∙ y.0) _ a.operator b.operator one.operator other.operator in
     let order_ref = one_argument SaysRef (λ text v w x y. sym x.0 ∙ y.0) _ a.order_ref b.order_ref one.order_ref other.order_ref in
@@ -32,8 +35,8 @@ abbrev IsSell : Text → Type 0
 IsSell name = IsNamed (codes "sell") name
 
 -- a request by the words of `sell` is that of the order that they say
-is_order : (rows : List Row) (order : Order) (r : Request) → SaysOrder rows order → SaysRequest (codes "sell") rows r → requests.Sell order ≡ r
-is_order rows order (requests.Sell other) one says = ap requests.Sell (one_order rows order other one says.1)
+is_order : (rows : List Row) (order : Order) (r : Request) → SaysOrder rows order → SaysRequest (codes "sell") rows r → r ≡ requests.Sell order
+is_order rows order (requests.Sell other) one says = ap requests.Sell (one_order rows other order says.1 one)
 is_order rows order (requests.MoveBase meter base) one says = absurd (subst IsSell says.0 tt)
 is_order rows order (requests.WithdrawSteps name day) one says = absurd (subst IsSell says.0 tt)
 is_order rows order (requests.SetKey meter key) one says = absurd (subst IsSell says.0 tt)
@@ -45,64 +48,72 @@ is_order rows order (requests.AddMeter number meter) one says = absurd says
 is_order rows order (requests.Import imported) one says = absurd says
 is_order rows order (requests.SetTariff number name) one says = absurd (subst IsSell says.0 tt)
 is_order rows order (requests.Reprint number) one says = absurd says
-is_order rows order (requests.ShiftReport number) one says = absurd says
+is_order rows order (requests.ShiftReport number) one says = absurd (subst IsSell says.0 tt)
 
--- by the words of `sell` on a file nothing but that order is asked for
-sells : (rows : List Row) (order : Order) (file : Bor Text) (asked : Asked) → lacks_place (codes "sell") rows ≡ false
-    → IsArgument SaysText (parsed_argument (codes "file") rows) file → SaysOrder rows order → ArgumentsSay (codes "sell") rows asked
-    → Requests asked (requests.Sell order)
-sells rows order file (asks.Request words) place there one says = is_order rows order words.request one says.request
-sells rows order file (asks.Trial words) place there one says = absurd (subst IsSell says.0 tt)
-sells rows order file (asks.Import words) place there one says = absurd (subst IsSell says.0 tt)
-sells rows order file (asks.Report words) place there one says = absurd (subst IsSell says.0 tt)
-sells rows order file (asks.Show words) place there one says = absurd (subst IsSell says.0 tt)
-sells rows order file (asks.List words) place there one says = absurd (subst IsSell says.0 tt)
-sells rows order file (asks.Meter words) place there one says = absurd (subst IsSell says.0 tt)
-sells rows order file (asks.Quote words) place there one says = absurd (subst IsSell says.0 tt)
-sells rows order file (asks.Offer words) place there one says = absurd (subst IsSell says.0 tt)
-sells rows order file (asks.Serve words) place there one says = absurd (subst IsSell says.0 tt)
-sells rows order file (asks.Selfcheck words) place there one says = absurd (subst IsSell says.0 tt)
-sells rows order file (asks.Audit words) place there one says = absurd (subst IsSell says.0 tt)
-sells rows order file (asks.Desk words) place there one says = absurd (not_both (codes "sell") rows file words.desk refl place there says.desk)
+-- nothing is looked up by them
+looks_nothing : (rows : List Row) (lookup : Lookup) → ¬ SaysLookup (codes "sell") rows lookup
+looks_nothing rows lookups.Health says = says
+looks_nothing rows (lookups.Meter meter) says = subst IsSell says.0 tt
+looks_nothing rows (lookups.LastSale meter) says = subst IsSell says.0 tt
+looks_nothing rows (lookups.SaleOfRef operator order_ref) says = subst IsSell says.0 tt
+looks_nothing rows (lookups.Quote meter tender) says = subst IsSell says.0 tt
+looks_nothing rows (lookups.ShiftTotals number) says = subst IsSell says.0 tt
+looks_nothing rows (lookups.Tariffs after) says = says
+looks_nothing rows (lookups.Meters after) says = says
+looks_nothing rows (lookups.Shifts after) says = says
+looks_nothing rows (lookups.Sales after) says = says
 
--- so words that ask for an order once ask for it each time
-same_command : (found : Option (Text × List Row)) (order : Order) (words : RequestWords) (asked : Asked) → CommandAsks found (asks.Request words)
-    → words.request ≡ requests.Sell order → CommandAsks found asked → Requests asked (requests.Sell order)
-same_command None order words asked one request says = absurd one
-same_command (Some (name, rows)) order words asked one request says =
-    let sold = subst (λ (r : Request). SaysRequest name rows r) request one.1.request in
-    sells rows order words.file asked (subst (λ (n : Text). lacks_place n rows ≡ false) sold.0 one.0) one.1.file sold.1
-    (subst (λ (n : Text). ArgumentsSay n rows asked) sold.0 says.1)
+-- nothing but that order is asked by them
+sells : (rows : List Row) (order : Order) (other : AskWords) → SaysOrder rows order → SaysAskWords (codes "sell") rows other → other ≡ selling order
+sells rows order (ask_words.Ask (Do request)) one says = ap (λ (r : Request). ask_words.Ask (Do r)) (is_order rows order request one says)
+sells rows order (ask_words.Ask (Import kind csv)) one says = absurd says
+sells rows order (ask_words.Ask (Receipt number)) one says = absurd (subst IsSell says.0 tt)
+sells rows order (ask_words.Ask (Look lookup)) one says = absurd (looks_nothing rows lookup says)
+sells rows order (ask_words.Import kind csv) one says = absurd (subst IsSell says.0 tt)
+sells rows order (ask_words.List lookup) one says = absurd (subst IsSell says.0 tt)
+sells rows order ask_words.Export one says = absurd (subst IsSell says.0 tt)
 
--- no paper asks an order
-sells_nothing : (paper : Paper) (order : Order) → ¬ Reports paper (requests.Sell order)
-sells_nothing (Shift number) order is = cc
-sells_nothing (Receipt number) order is = cc
-sells_nothing (Totals number) order is = is
-sells_nothing Sales order is = is
+-- words that say an order say nothing else
+pub only_sells : (order : Order) (name : Text) (rows : List Row) (other : AskWords) → SaysAskWords name rows (selling order) → SaysAskWords name rows other
+    → other ≡ selling order
+only_sells order name rows other one says = sells rows order other one.1 (subst (λ (n : Text). SaysAskWords n rows other) one.0 says)
 
--- words by which an order was asked are those of a request
-ordered_by : (words : List Text) (order : Order) → WordsRequest words (requests.Sell order)
-    → (one : RequestWords) × AskFor words (asks.Request one) × (one.request ≡ requests.Sell order)
-ordered_by words order (asked, for, wanted) = by_asked asked for wanted
-  where
-    by_asked : (asked : Asked) → AskFor words asked → Requests asked (requests.Sell order)
-        → (one : RequestWords) × AskFor words (asks.Request one) × (one.request ≡ requests.Sell order)
-    by_asked (asks.Request one) for wanted = (one, for, sym wanted)
-    by_asked (asks.Import one) for (rows, wanted) = absurd (cc)
-    by_asked (asks.Report one) for wanted = absurd (sells_nothing one.paper order wanted)
-    by_asked asked for wanted = absurd wanted
+-- `sell` asks an office
+pub sells_of_office : (order : Order) (name : Text) (rows : List Row) → SaysAskWords name rows (selling order) → asks_office name ≡ true
+sells_of_office order name rows says = ap asks_office says.0
+
+-- words that request an order say `sell`
+sell_asked : (order : Order) (name : Text) (rows : List Row) (other : AskWords) → SaysAskWords name rows other → AskWordsRequest other (requests.Sell order)
+    → other ≡ selling order
+sell_asked order name rows (ask_words.Ask (Do request)) says wanted = ap (λ (r : Request). ask_words.Ask (Do r)) (sym wanted)
+sell_asked order name rows (ask_words.Ask (Import kind csv)) says wanted = absurd says
+sell_asked order name rows (ask_words.Ask (Receipt number)) says wanted = absurd (cc)
+sell_asked order name rows (ask_words.Ask (Look lookup)) says wanted = absurd wanted
+sell_asked order name rows (ask_words.Import kind csv) says (added, wanted) = absurd (cc)
+sell_asked order name rows (ask_words.List lookup) says wanted = absurd wanted
+sell_asked order name rows ask_words.Export says wanted = absurd wanted
 
 -- they ask for nothing else, wherever the program is run
 pub sells_again : (words : List Text) (order : Order) → WordsRequest words (requests.Sell order) → (asked : Asked) → AskFor words asked
     → Requests asked (requests.Sell order)
 sells_again words order wanted asked for =
-    let one = ordered_by words order wanted in
-    same_command _ order one.0 asked one.1.asks one.2 for.asks
+    requested_again (requests.Sell order) (selling order) (sells_of_office order) (only_sells order) (sell_asked order) words wanted asked for
 
 -- so words say one order
+one_requested : (place : Place) (ask : AskWords) (a b : Order) → AsksFile place ask (requests.Sell a) → AsksFile place ask (requests.Sell b) → a ≡ b
+one_requested (File file) (ask_words.Ask (Do request)) a b one other = let same : requests.Sell a ≡ requests.Sell b = one ∙ sym other in cc
+one_requested (File file) (ask_words.Ask (Import kind csv)) a b (rows, one) other = absurd (cc)
+one_requested (File file) (ask_words.Ask (Receipt number)) a b one other = absurd (cc)
+one_requested (File file) (ask_words.Ask (Look lookup)) a b one other = absurd one
+one_requested (File file) (ask_words.Import kind csv) a b (rows, one) other = absurd (cc)
+one_requested (File file) (ask_words.List lookup) a b one other = absurd one
+one_requested (File file) ask_words.Export a b one other = absurd one
+one_requested (Desk desk) ask a b one other = absurd one
+
+both_requested : (asked : Asked) (a b : Order) → Requests asked (requests.Sell a) → Requests asked (requests.Sell b) → a ≡ b
+both_requested (asks.Office it) a b one other = one_requested it.place it.ask a b one other
+both_requested asked a b one other = absurd one
+
+-- words request one order
 pub same_order : (words : List Text) (a b : Order) → WordsRequest words (requests.Sell a) → WordsRequest words (requests.Sell b) → a ≡ b
-same_order words a b one other =
-    let again = ordered_by words b other in
-    let same : requests.Sell a ≡ requests.Sell b = sells_again words a one (asks.Request again.0) again.1 ∙ again.2 in
-    cc
+same_order words a b one (asked, for, wanted) = both_requested asked a b (sells_again words a one asked for) wanted

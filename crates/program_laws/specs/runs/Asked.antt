@@ -16,24 +16,26 @@ use Rattle.office_rules.specs.declared.office.sale.Sale.{Sale}
 use Rattle.vend_core.specs.Law.Life.{Life}
 use Rattle.vend_core.specs.Law.LifeLaws.{opened}
 use Rattle.book_tables.specs.declared.row.totals.Totals.{Totals}
+use Rattle.asks.specs.declared.lookup.Lookup.{Lookup}
 use Rattle.book_states.specs.declared.lookup.Found.{Found}
-use Rattle.book_states.specs.declared.lookup.Lookup.{Lookup}
 use Rattle.conversation.specs.Exchanges.{Timed}
 use Rattle.conversation.specs.Run.{IsRun}
 use Rattle.conversation.specs.declared.end.End.{End}
 use Rattle.conversation.specs.declared.end.End.TheVariants.{Closed, BadMessage, ReadFault}
 use Rattle.conversation.specs.declared.end.End.TheVariants.{WriteFault, Memory}
 use Rattle.desk.specs.Answering.{answers_by, life_serves, message_refusal_of}
-use Rattle.desk_client.specs.Question.{question_text}
-use Rattle.desk_client.specs.declared.question.Question.{Question}
+use Rattle.asks.specs.declared.ask.Ask.{Ask}
+use Rattle.desk_client.specs.Sent.{ask_text}
 use Rattle.command_line.specs.Asked.{AskFor}
 use Rattle.command_line.specs.declared.address.Address.{Address}
 use Rattle.command_line.specs.declared.asked.Asked.{Asked}
-use Rattle.command_line.specs.declared.asked.Asked.TheVariants as asks
-use Rattle.command_line.specs.declared.commands.at_desk.DeskQuestion.{DeskQuestion}
-use Rattle.command_line.specs.declared.commands.at_desk.DeskQuestion.TheVariants as desk_asks
-use Rattle.command_line.specs.declared.commands.at_desk.DeskWords.{DeskWords}
-use Rattle.desk_commands.specs.AskedOfDesk.{IsAnswered, IsAsked, IsAskedOnce, question_of}
+use Rattle.command_line.specs.declared.asked.Asked.TheVariants.{Office}
+use Rattle.command_line.specs.declared.office_words.AskWords.{AskWords}
+use Rattle.command_line.specs.declared.office_words.AskWords.TheVariants as ask_words
+use Rattle.command_line.specs.declared.office_words.OfficeWords.{OfficeWords}
+use Rattle.command_line.specs.declared.place.Place.{Place}
+use Rattle.command_line.specs.declared.place.Place.TheVariants.{Desk}
+use Rattle.desk_commands.specs.AskedOfDesk.{IsAsked, IsAskedOfDesk, IsAskedOnce}
 use Rattle.desk_commands.specs.AskedOfDesk.IsAsked.{broken, no_room, replied, unsent}
 use Rattle.desk_commands.specs.AskedOfDesk.IsAskedOnce.{asked, without_rows}
 use Rattle.desk_commands.specs.Exchanged.{Calls, Round, one_round}
@@ -41,7 +43,7 @@ use Rattle.desk_commands.specs.print.ListTexts.{pages_text}
 use Rattle.office_commands.specs.commands.LookedUp.{TellsFound}
 use Rattle.office_commands.specs.office.Served.{TellsReply}
 use Rattle.office_commands.specs.print.Totalled.{TellsTotals}
-use Rattle.vend_commands.specs.Run.{IsCarriedOut, IsProgramRun}
+use Rattle.vend_commands.specs.Run.{IsCarriedOut, IsOfficeAsked, IsProgramRun}
 use Rattle.vend_commands.specs.Run.IsProgramRun.{answered, bad_word, explained}
 use Rattle.vend_commands.specs.Run.IsProgramRun.{no_room as no_room_for_words}
 use Rattle.vend_commands.specs.port.Machines.{Machine, Way}
@@ -57,6 +59,7 @@ use Rattle.program_laws.specs.runs.Here.{Here, ProgramRun}
 use Rattle.program_laws.specs.runs.Steps.{LivesIn}
 use Rattle.program_laws.specs.runs.Uses.{Living, LivesSo, RunUse, asking_life, connected, idle_life}
 use Rattle.program_laws.specs.runs.Uses.{many_lives, no_life, reading_life, unconnected, unseen}
+use Rattle.program_laws.specs.runs.Words.{selling}
 
 -- ---- what a connection carried
 
@@ -121,59 +124,68 @@ module _ {M : Type 0} {g : disk.Ghosts M} where
 
 -- ---- what a command asked
 
--- the rounds of one question: none where no message was sent whole and nothing came
+-- the rounds of one ask: none where no message was sent whole and nothing came
 abbrev pub rounds_of_one : {calls : Calls} → {uncalled : Type 0} → {desk : Address}
-    → {json : Bool} → (question : Question) → (o : Outputs) → (end : CommandEnd)
-    → IsAsked calls uncalled desk json question o end → List Round
-rounds_of_one question o end (replied came had told is tells) =
-    one_round (question_text question) came
-rounds_of_one question o end (broken came had none tells) =
-    one_round (question_text question) came
-rounds_of_one question o end (unsent why tells) = []
-rounds_of_one question o end (no_room idle tells) = []
+    → {json : Bool} → (ask : Ask) → (o : Outputs) → (end : CommandEnd)
+    → IsAsked calls uncalled desk json ask o end → List Round
+rounds_of_one ask o end (replied came had told is tells) = one_round (ask_text ask) came
+rounds_of_one ask o end (broken came had none tells) = one_round (ask_text ask) came
+rounds_of_one ask o end (unsent why tells) = []
+rounds_of_one ask o end (no_room idle tells) = []
 
-abbrev pub rounds_asked : {texts : Texts} → {calls : Calls} → {uncalled : Type 0}
-    → {desk : Address} → (question : DeskQuestion) → (o : Outputs) → (end : CommandEnd)
-    → IsAskedOnce texts calls uncalled desk question o end → List Round
-rounds_asked question o end (asked rows are is) =
-    rounds_of_one (question_of question rows) o end is
-rounds_asked question o end (without_rows fault lacks idle tells) = []
+abbrev pub rounds_once : {texts : Texts} → {calls : Calls} → {uncalled : Type 0}
+    → {desk : Address} → {asked_by : AskWords} → {json : Bool} → (o : Outputs) → (end : CommandEnd)
+    → IsAskedOnce texts calls uncalled desk asked_by json o end → List Round
+rounds_once o end (asked ask says is) = rounds_of_one ask o end is
+rounds_once o end (without_rows fault lacks idle tells) = []
 
 -- the rounds of a list are those that told the pages which are printed
-abbrev pub rounds_answered : (texts : Texts) → (calls : Calls) → (uncalled : Type 0)
-    → (desk : Address) → (question : DeskQuestion) → (o : Outputs) → (end : CommandEnd)
-    → IsAnswered texts calls uncalled desk question o end → List Round
-rounds_answered texts calls uncalled desk (desk_asks.List list json) o end (leaves, listed) =
+abbrev pub rounds_asked : (texts : Texts) → (calls : Calls) → (uncalled : Type 0)
+    → (desk : Address) → (asked_by : AskWords) → (json : Bool) → (o : Outputs)
+    → (end : CommandEnd) → IsAskedOfDesk texts calls uncalled desk asked_by json o end
+    → List Round
+rounds_asked texts calls uncalled desk (ask_words.List list) json o end (leaves, listed) =
     listed.rounds
-rounds_answered texts calls uncalled desk question o end is = rounds_asked question o end is
+rounds_asked texts calls uncalled desk ask_words.Export json o end (leaves, listed) =
+    listed.rounds
+rounds_asked texts calls uncalled desk asked_by json o end is = rounds_once o end is
+
+-- so of a command that asked an office
+abbrev pub AsksAt : {S D R W : Type 0} → (store : Ghosts S) → (m : Machine D R W)
+    → (place : Place) → (asked_by : AskWords) → (json : Bool) → (o : Outputs)
+    → (end : CommandEnd) → IsOfficeAsked store m place asked_by json o end → AskWords
+    → List Round → Type 0
+AsksAt store m (Desk desk) asked_by json o end (untouched, shut, done) ask rounds =
+    (ask ≡ asked_by) × (rounds
+    ≡ rounds_asked m.texts m.loop.calls m.loop.leaves desk asked_by json o end done)
+AsksAt store m place asked_by json o end done ask rounds = ⊥
 
 -- a command asked a desk this, and these were its rounds
 abbrev pub AsksIn : {S D R W : Type 0} → (store : Ghosts S) → (m : Machine D R W)
     → (it : Asked) → (o : Outputs) → (end : CommandEnd) → IsCarriedOut store m it o end
-    → DeskQuestion → List Round → Type 0
-AsksIn store m (asks.Desk words) o end (untouched, shut, done) question rounds =
-    (question ≡ words.question) × (rounds
-    ≡ rounds_answered m.texts m.loop.calls m.loop.leaves words.desk words.question o end done)
-AsksIn store m it o end done question rounds = ⊥
+    → AskWords → List Round → Type 0
+AsksIn store m (Office it) o end done ask rounds =
+    AsksAt store m it.place it.ask it.json o end done ask rounds
+AsksIn store m it o end done ask rounds = ⊥
 
 abbrev pub AsksDeskSo : {S D R W : Type 0} → {store : Ghosts S} → {m : Machine D R W}
     → (words : List Text) → (o : Outputs) → (end : CommandEnd)
-    → IsProgramRun store m words o end → DeskQuestion → List Round → Type 0
-AsksDeskSo {store = store} {m = m} words o end (answered it for done) question rounds =
-    AsksIn store m it o end done question rounds
-AsksDeskSo words o end (bad_word idle none asks_none told) question rounds = ⊥
-AsksDeskSo words o end (explained idle kind text among some says) question rounds = ⊥
-AsksDeskSo words o end (no_room_for_words idle told) question rounds = ⊥
+    → IsProgramRun store m words o end → AskWords → List Round → Type 0
+AsksDeskSo {store = store} {m = m} words o end (answered it for done) ask rounds =
+    AsksIn store m it o end done ask rounds
+AsksDeskSo words o end (bad_word idle none asks_none told) ask rounds = ⊥
+AsksDeskSo words o end (explained idle kind text among some says) ask rounds = ⊥
+AsksDeskSo words o end (no_room_for_words idle told) ask rounds = ⊥
 
 -- so in a run
 abbrev pub AsksDesk : {P D R W : Type 0} → (here : Here P D R W) → ProgramRun here
-    → DeskQuestion → List Round → Type 0
-AsksDesk here run question rounds = AsksDeskSo run.words run.o run.end run.ran question rounds
+    → AskWords → List Round → Type 0
+AsksDesk here run ask rounds = AsksDeskSo run.words run.o run.end run.ran ask rounds
 
 -- the words ask a desk to sell this order
 abbrev pub WordsSellAtDesk : List Text → Order → Type 0
-WordsSellAtDesk words order = (it : DeskWords) × AskFor words (asks.Desk it)
-    × (it.question ≡ desk_asks.Sell order)
+WordsSellAtDesk words order = (it : OfficeWords) × AskFor words (Office it)
+    × ((desk : Address) × (it.place ≡ Desk desk)) × (it.ask ≡ selling order)
 
 -- ---- what it printed
 

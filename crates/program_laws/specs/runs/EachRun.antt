@@ -9,7 +9,6 @@ use Rattle.office_rules.specs.declared.decision.request.Order.{Order}
 use Rattle.office_rules.specs.declared.decision.request.Request.TheVariants.{Reprint, Sell}
 use Rattle.office_rules.specs.declared.office.sale.Sale.{Sale}
 use Rattle.office_rules.specs.declared.decision.refusal.Refusal.TheVariants.{Memory}
-use Rattle.command_line.specs.declared.commands.at_desk.DeskQuestion.TheVariants as questions
 use Rattle.desk_commands.specs.Exchanged.{Round}
 use Rattle.books.specs.Path.{StandsIn}
 use Rattle.office_commands.specs.office.Served.{TellsReply}
@@ -22,7 +21,7 @@ use Rattle.program_laws.specs.runs.Files.{FindsImage, IsClean, LetsGoClean}
 use Rattle.program_laws.specs.runs.Here.{Here, HoldsSo, ProgramRun, use_of}
 use Rattle.program_laws.specs.runs.Steps.{Asks, AsksOrTells, Goes, IsOf}
 use Rattle.program_laws.specs.runs.Uses.{RunQuestion}
-use Rattle.program_laws.specs.runs.Words.{WordsRequest}
+use Rattle.program_laws.specs.runs.Words.{WordsRequest, selling}
 
 pub record KeepsEachRun {P D R W : Type 0} (here : Here P D R W) : Type 0 where
   -- Where nothing was made yet there were no lives, and those to come begin with the empty office.
@@ -52,7 +51,7 @@ pub record KeepsEachRun {P D R W : Type 0} (here : Here P D R W) : Type 0 where
       → AsksOrTells here run (Reprint number)
   -- If they ask a desk to sell an order, it asks that, or tells that there was no room for them.
   pub sells_at_desk : (run : ProgramRun here) (order : Order) → WordsSellAtDesk run.words order
-      → ((rounds : List Round) × AsksDesk here run (questions.Sell order) rounds)
+      → ((rounds : List Round) × AsksDesk here run (selling order) rounds)
       ⊎ IsTold run.o [] (refusal_line Memory) Refused run.end
   -- It tells the reply that it got, and nothing else: of a sale and of a reprint the receipt.
   pub told : (run : ProgramRun here) (q : RunQuestion) → Asks here run q

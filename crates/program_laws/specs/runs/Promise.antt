@@ -16,8 +16,7 @@ use Rattle.office_rules.specs.declared.decision.request.Request.TheVariants.{Rep
 use Rattle.office_rules.specs.declared.decision.request.Stamped.{Stamped}
 use Rattle.office_rules.specs.declared.office.sale.Sale.{Sale}
 use Rattle.books.specs.Path.{StandsIn}
-use Rattle.command_line.specs.declared.commands.at_desk.DeskQuestion.{DeskQuestion}
-use Rattle.command_line.specs.declared.commands.at_desk.DeskQuestion.TheVariants as questions
+use Rattle.command_line.specs.declared.office_words.AskWords.{AskWords}
 use Rattle.desk_commands.specs.Exchanged.{Round}
 use Rattle.program_laws.specs.AtDesk.{came_in, sent_in}
 use Rattle.program_laws.specs.Selling.{PrintsSale}
@@ -28,7 +27,7 @@ use Rattle.program_laws.specs.runs.Here.{Here, ProgramRun, use_of}
 use Rattle.program_laws.specs.runs.Steps.{AreSoldFor, Asks, FailsToPrint, Goes, IsOf}
 use Rattle.program_laws.specs.runs.Steps.{IsUnlessFailed, Tells, TellsIn}
 use Rattle.program_laws.specs.runs.Uses.{RunQuestion}
-use Rattle.program_laws.specs.runs.Words.{WordsRequest}
+use Rattle.program_laws.specs.runs.Words.{WordsRequest, selling}
 
 -- a run on one machine, and a later one, maybe on another machine, that went on from it by lives of
 -- runs between them
@@ -101,9 +100,9 @@ pub record KeepsPromise {P D R W Q E S T : Type 0} (here : Here P D R W) (there 
   -- the run's connections carried what the command sent and what came to it. So it is handed out in
   -- the lives of that run.
   pub at_desk : (start : Office) (run : ProgramRun here) (lives more : List Life)
-      (command : ProgramRun there) (question : DeskQuestion) (rounds : List Round)
+      (command : ProgramRun there) (ask : AskWords) (rounds : List Round)
       → IsOffice start → (goes : Goes here start run lives more)
-      → AsksDesk there command question rounds
+      → AsksDesk there command ask rounds
       → CarriesIn (use_of here run) lives more goes.lived (sent_in rounds) (came_in rounds)
       → PrintsOfDesk (λ s. TellsIn (use_of here run) lives more goes.lived s
       × IsHanded (lives ++ more) s) command.o command.end
@@ -112,7 +111,7 @@ pub record KeepsPromise {P D R W Q E S T : Type 0} (here : Here P D R W) (there 
   pub sold_at_desk : (start : Office) (run : ProgramRun here) (lives more : List Life)
       (command : ProgramRun there) (order : Order) (rounds : List Round)
       → IsOffice start → (goes : Goes here start run lives more)
-      → AsksDesk there command (questions.Sell order) rounds
+      → AsksDesk there command (selling order) rounds
       → CarriesIn (use_of here run) lives more goes.lived (sent_in rounds) (came_in rounds)
       → PrintsSaleOrWhy (AreSoldFor (lives ++ more) order) command.o command.end
   -- the reports of all shifts hold the money of all sales

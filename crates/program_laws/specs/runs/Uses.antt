@@ -25,25 +25,29 @@ use Rattle.office_rules.specs.declared.decision.request.Stamped.{Stamped}
 use Rattle.office_rules.specs.declared.office.row.Row.{Row}
 use Rattle.office_rules.specs.declared.office.sale.Sale.{Sale}
 use Rattle.papers.specs.Export.{export_of}
+use Rattle.papers.specs.declared.file_kind.FileKind.{FileKind}
 use Rattle.papers.specs.declared.row_fault.RowFault.{RowFault}
-use Rattle.book_states.specs.declared.lookup.Lookup.TheVariants as lookups
+use Rattle.asks.specs.declared.ask.Ask.{Ask}
+use Rattle.asks.specs.declared.ask.Ask.TheVariants as asks
+use Rattle.asks.specs.declared.lookup.Lookup.{Lookup}
+use Rattle.asks.specs.declared.lookup.Lookup.TheVariants as lookups
 use Rattle.book_opening.specs.declared.fault.OpenFault.{OpenFault}
 use Rattle.books.specs.Headline.{with_last}
 use Rattle.books.specs.Keeps.{Seen}
 use Rattle.books.specs.declared.refused_files.RefusedFiles.TheVariants.{Connected, Unconnected}
 use Rattle.command_line.specs.Transform.{forward_of}
 use Rattle.command_line.specs.declared.asked.Asked.{Asked}
-use Rattle.command_line.specs.declared.asked.Asked.TheVariants as asks
+use Rattle.command_line.specs.declared.asked.Asked.TheVariants as asked_for
 use Rattle.command_line.specs.declared.commands.audit.AuditWords.{AuditWords}
-use Rattle.command_line.specs.declared.commands.import.ImportWords.{ImportWords}
-use Rattle.command_line.specs.declared.commands.report.Paper.{Paper}
-use Rattle.command_line.specs.declared.commands.report.Paper.TheVariants.{Receipt, Sales, Shift}
-use Rattle.command_line.specs.declared.commands.report.Paper.TheVariants.{Totals}
-use Rattle.command_line.specs.declared.commands.report.ReportWords.{ReportWords}
 use Rattle.command_line.specs.declared.commands.serve.ServeWords.{ServeWords}
+use Rattle.command_line.specs.declared.office_words.AskWords.{AskWords}
+use Rattle.command_line.specs.declared.office_words.AskWords.TheVariants as ask_words
+use Rattle.command_line.specs.declared.place.FilePlace.{FilePlace}
+use Rattle.command_line.specs.declared.place.Place.{Place as AskedPlace}
+use Rattle.command_line.specs.declared.place.Place.TheVariants.{Desk, File}
 use Rattle.command_line.specs.declared.transform.Shipped.{Shipped}
 use Rattle.command_line.specs.declared.transform.Shipped.TheVariants.{Plain}
-use Rattle.vend_commands.specs.Run.{IsCarriedOut, IsProgramRun}
+use Rattle.vend_commands.specs.Run.{IsCarriedOut, IsOfficeAsked, IsProgramRun}
 use Rattle.vend_commands.specs.Run.IsProgramRun.{answered, bad_word, explained, no_room}
 use Rattle.office_commands.specs.commands.Asked.{IsAskedAt}
 use Rattle.office_commands.specs.commands.Audited.{IsAudited}
@@ -51,8 +55,10 @@ use Rattle.office_commands.specs.commands.Audited.IsAudited.{absent as audit_abs
 use Rattle.office_commands.specs.commands.Audited.IsAudited.{looked as audit_looked}
 use Rattle.office_commands.specs.commands.Audited.IsAudited.{unopened as audit_unopened}
 use Rattle.office_commands.specs.commands.Audited.IsAudited.{vacant as audit_vacant}
-use Rattle.office_commands.specs.commands.Imported.{AreAdded, IsFileImported}
-use Rattle.office_commands.specs.commands.LookedUp.{IsShownAt, lookup_of}
+use Rattle.office_commands.specs.commands.AtFile.{IsAskedOfFile, IsFoundInFile, IsOneAskedOfFile}
+use Rattle.office_commands.specs.commands.AtFile.{IsRequestedOfFile}
+use Rattle.office_commands.specs.commands.Imported.{AreAdded, IsFileImported, IsImported}
+use Rattle.office_commands.specs.commands.LookedUp.{IsShown, IsShownAt}
 use Rattle.office_commands.specs.commands.LookedUp.IsShownAt.{absent as shown_absent}
 use Rattle.office_commands.specs.commands.LookedUp.IsShownAt.{present as shown_present}
 use Rattle.office_commands.specs.commands.LookedUp.IsShownAt.{vacant as shown_vacant}
@@ -60,7 +66,7 @@ use Rattle.office_commands.specs.commands.Reported.{IsReported, PrintsEmpty, Pri
 use Rattle.office_commands.specs.commands.Reported.IsReported.{absent as report_absent}
 use Rattle.office_commands.specs.commands.Reported.IsReported.{present as report_present}
 use Rattle.office_commands.specs.commands.Reported.IsReported.{vacant as report_vacant}
-use Rattle.vend_ports.specs.commands.Timed.{IsDoneAt}
+use Rattle.vend_ports.specs.commands.Timed.{IsTimed}
 use Rattle.office_commands.specs.office.Served.{IsServedAndTold}
 use Rattle.office_commands.specs.office.Closed.{AreClosed, IsClosed}
 use Rattle.office_commands.specs.office.Closed.AreClosed.{closed, unclosed}
@@ -78,6 +84,7 @@ use Rattle.office_commands.specs.port.Places.{IsUnopened, Place, places_of, wher
 use Rattle.vend_commands.specs.port.Machines.{Machine, Way}
 use Rattle.office_commands.specs.port.Places.IsUnopened.{unfound, unopened as found_unopened}
 use Rattle.office_commands.specs.port.Places.IsUnopenedIn.{refused, unread as not_read, unsalted}
+use Rattle.vend_ports.specs.port.Dial.{Dial}
 use Rattle.vend_ports.specs.print.Sink.{Sink}
 use Rattle.vend_ports.specs.print.Told.{Outputs}
 use Rattle.program_laws.specs.runs.Readings.{IsReadIn, IsSaleRead, Reading, empty_reading, exported}
@@ -89,10 +96,11 @@ use Rattle.vend_commands.specs.serving.Listening.IsServing.{unheard as serve_unh
 use Rattle.vend_commands.specs.serving.Listening.IsServing.{unopened as serve_unopened}
 use Rattle.vend_commands.specs.serving.Listening.IsServing.{was_open as serve_open}
 use Rattle.program_laws.specs.SalesTold.{ConnectionsTell}
-use Rattle.office_commands.specs.declared.office.wanted.Wanted.{Wanted}
-use Rattle.office_commands.specs.declared.office.wanted.Wanted.TheVariants.{One, Listing}
+use Rattle.office_commands.specs.declared.office.paper.Paper.{Paper}
+use Rattle.office_commands.specs.declared.office.paper.Paper.TheVariants.{Receipt, Sales, Shift}
+use Rattle.office_commands.specs.declared.office.paper.Paper.TheVariants.{Totals}
 use Rattle.vend_ports.specs.declared.command_end.CommandEnd.{CommandEnd}
-use Rattle.office_commands.specs.declared.port.ports.OfficeFile as file
+use Rattle.office_commands.specs.declared.port.ports.OfficeFile as office_files
 use Rattle.office_commands.specs.declared.port.ports.SaltSource as source
 
 -- ---- the lives of a run
@@ -261,11 +269,11 @@ lives_empty Sales o end (inr told) = reading_life first_moment (exported [])
 
 -- what is done at a moment, if there is one
 abbrev pub use_timed : {M : Type 0} → {disk : disk.Ghosts M} → (Idle : Type 0)
-    → (At : ℕ → Type 0) → (o : Outputs) → (end : CommandEnd)
-    → ((moment : ℕ) → At moment → RunUse disk) → (moment : Option ℕ)
-    → IsDoneAt Idle At o end moment → RunUse disk
-use_timed Idle At o end at (Some moment) done = at moment done
-use_timed Idle At o end at None idle = unseen
+    → (given : Option ℕ) → (clock : Dial) → (At : ℕ → Type 0) → (o : Outputs)
+    → (end : CommandEnd) → ((moment : ℕ) → At moment → RunUse disk)
+    → IsTimed Idle given clock At o end → RunUse disk
+use_timed Idle given clock At o end at (Some moment, taken, done) = at moment done
+use_timed Idle given clock At o end at (None, taken, idle) = unseen
 
 -- the end of stopped books whose file was not opened again
 abbrev pub ends_lost : {M S : Type 0} → {disk : disk.Ghosts M} → {salts : source.Ghosts S}
@@ -303,7 +311,7 @@ use_served way gives forward see loses ends closes left wanted old door answers 
     (ends (see lost.last.books) fault lost.lost.1)
 
 module _ {M S H D R W : Type 0} (disk : disk.Ghosts M) (salts : source.Ghosts S)
-    (of : file.Ghosts H M S) (office : H) (back : Option (M × M)) (m : Machine D R W) where
+    (of : office_files.Ghosts H M S) (office : H) (back : Option (M × M)) (m : Machine D R W) where
   -- the machine, with this file of an office, of which this was given back
   abbrev pub with_file : Machine D R W
   with_file = record m {
@@ -324,43 +332,104 @@ module _ {M S H D R W : Type 0} (disk : disk.Ghosts M) (salts : source.Ghosts S)
       use_visited {place = with_file.at path wait} use_refused
       (lives_asking transform moment request o end) files_let_go asks
 
-  abbrev pub use_added : (words : ImportWords) → (moment : ℕ)
+  abbrev pub use_added : (file : FilePlace) → (moment : ℕ)
       → (rows : Result (List Row) RowFault) → (o : Outputs) → (end : CommandEnd)
-      → AreAdded (over_files {g = disk}) with_file.at with_file.untouched words moment rows o end
+      → AreAdded (over_files {g = disk}) with_file.at with_file.untouched file moment rows o end
       → RunUse disk
-  use_added words moment (Ok rows) o end added =
-      use_asked words.transform words.file.now words.wait moment (requests.Import rows) o end added
-  use_added words moment (Err fault) o end told = unseen
+  use_added file moment (Ok rows) o end added =
+      use_asked file.transform file.path.now file.wait moment (requests.Import rows) o end added
+  use_added file moment (Err fault) o end told = unseen
 
-  abbrev pub use_imported : (words : ImportWords) → (moment : ℕ) → (o : Outputs)
-      → (end : CommandEnd)
-      → IsFileImported (over_files {g = disk}) with_file.at with_file.untouched m.texts words
-      moment o end → RunUse disk
-  use_imported words moment o end (inl (bytes, reads, (records, rows, are, reading, added))) =
-      use_added words moment rows o end added
-  use_imported words moment o end (inr unread) = unseen
+  abbrev pub use_rows : (file : FilePlace) → (kind : FileKind) → (moment : ℕ)
+      → (bytes : List ℕ) → (o : Outputs) → (end : CommandEnd)
+      → IsImported (over_files {g = disk}) with_file.at with_file.untouched file kind moment bytes
+      o end → RunUse disk
+  use_rows file kind moment bytes o end (records, rows, are, reading, added) =
+      use_added file moment rows o end added
 
-  abbrev pub use_reported : (words : ReportWords) → (o : Outputs) → (end : CommandEnd)
-      → IsReported (over_files {g = disk}) with_file.at words o end → RunUse disk
-  use_reported words o end (report_absent misses told) = unseen
-  use_reported words o end (report_vacant (meets, vacant) printed) =
-      use_vacant (of.image office words.file.now) (lives_empty words.paper o end printed) vacant
-  use_reported words o end (report_present visit) =
-      use_visited {place = where_present (with_file.at words.file.now words.wait)} use_refused
-      (lives_printing words.paper o end) files_let_go visit
+  abbrev pub use_imported : (file : FilePlace) → (kind : FileKind) → (csv : Text)
+      → (moment : ℕ) → (o : Outputs) → (end : CommandEnd)
+      → IsFileImported (over_files {g = disk}) with_file.at with_file.untouched m.texts file kind
+      csv moment o end → RunUse disk
+  use_imported file kind csv moment o end (inl (bytes, reads, imported)) =
+      use_rows file kind moment bytes o end imported
+  use_imported file kind csv moment o end (inr unread) = unseen
+
+  abbrev pub use_reported : (file : FilePlace) → (paper : Paper) → (o : Outputs)
+      → (end : CommandEnd) → IsReported (over_files {g = disk}) with_file.at file paper o end
+      → RunUse disk
+  use_reported file paper o end (report_absent misses told) = unseen
+  use_reported file paper o end (report_vacant (meets, vacant) printed) =
+      use_vacant (of.image office file.path.now) (lives_empty paper o end printed) vacant
+  use_reported file paper o end (report_present visit) =
+      use_visited {place = where_present (with_file.at file.path.now file.wait)} use_refused
+      (lives_printing paper o end) files_let_go visit
 
   -- a look-up, or a list
-  abbrev pub use_shown : (path : Text) → (wait moment : ℕ) → (wanted : Wanted) → (o : Outputs)
-      → (end : CommandEnd)
-      → IsShownAt (over_files {g = disk}) with_file.at path wait moment wanted o end → RunUse disk
-  use_shown path wait moment wanted o end (shown_absent misses told) = unseen
-  use_shown path wait moment wanted o end (shown_vacant (meets, vacant) read) =
+  abbrev pub use_shown_at : (path : Text) → (wait moment : ℕ) → (paged : Bool)
+      → (lookup : Lookup) → (json : Bool) → (o : Outputs) → (end : CommandEnd)
+      → IsShownAt (over_files {g = disk}) with_file.at path wait moment paged lookup json o end
+      → RunUse disk
+  use_shown_at path wait moment paged lookup json o end (shown_absent misses told) = unseen
+  use_shown_at path wait moment paged lookup json o end (shown_vacant (meets, vacant) read) =
       use_vacant (of.image office path)
-      (reading_life moment (empty_reading moment wanted o end read)) vacant
-  use_shown path wait moment wanted o end (shown_present visit) =
+      (reading_life moment (empty_reading moment paged lookup json o end read)) vacant
+  use_shown_at path wait moment paged lookup json o end (shown_present visit) =
       use_visited {place = where_present (with_file.at path wait)} use_refused
-      (λ old new done. reading_life moment (reading_of moment wanted old new o end done))
-      files_let_go visit
+      (λ old new done. reading_life moment
+      (reading_of moment paged lookup json old new o end done)) files_let_go visit
+
+  abbrev pub use_shown : (file : FilePlace) → (paged : Bool) → (lookup : Lookup)
+      → (json : Bool) → (o : Outputs) → (end : CommandEnd)
+      → IsShown (over_files {g = disk}) with_file.at with_file.untouched m.clock file paged lookup
+      json o end → RunUse disk
+  use_shown file paged lookup json o end done =
+      use_timed with_file.untouched file.at m.clock _ o end
+      (λ at it. use_shown_at file.path.now file.wait at paged lookup json o end it) done
+
+  -- what is asked of the office in the file
+  abbrev pub use_requested : (file : FilePlace) → (request : Request) → (o : Outputs)
+      → (end : CommandEnd)
+      → IsRequestedOfFile (over_files {g = disk}) with_file.at with_file.untouched m.clock file
+      request o end → RunUse disk
+  use_requested file (requests.ShiftReport number) o end done =
+      use_reported file (Shift number) o end done
+  use_requested file request o end done =
+      use_timed with_file.untouched file.at m.clock _ o end
+      (λ at it. use_asked file.transform file.path.now file.wait at request o end it) done
+
+  abbrev pub use_found : (file : FilePlace) → (lookup : Lookup) → (json : Bool)
+      → (o : Outputs) → (end : CommandEnd)
+      → IsFoundInFile (over_files {g = disk}) with_file.at with_file.untouched m.clock file lookup
+      json o end → RunUse disk
+  use_found file (lookups.ShiftTotals number) json o end done =
+      use_reported file (Totals number) o end done
+  use_found file lookup json o end done = use_shown file false lookup json o end done
+
+  abbrev pub use_one : (file : FilePlace) → (ask : Ask) → (json : Bool) → (o : Outputs)
+      → (end : CommandEnd)
+      → IsOneAskedOfFile (over_files {g = disk}) with_file.at with_file.untouched m.clock file ask
+      json o end → RunUse disk
+  use_one file (asks.Import kind rows) json o end done =
+      use_timed with_file.untouched file.at m.clock _ o end
+      (λ at it. use_rows file kind at rows o end it) done
+  use_one file (asks.Do request) json o end done = use_requested file request o end done
+  use_one file (asks.Receipt number) json o end done =
+      use_reported file (Receipt number) o end done
+  use_one file (asks.Look lookup) json o end done = use_found file lookup json o end done
+
+  abbrev pub use_of_file : (file : FilePlace) → (ask : AskWords) → (json : Bool)
+      → (o : Outputs) → (end : CommandEnd)
+      → IsAskedOfFile (over_files {g = disk}) with_file.at with_file.untouched m.texts m.clock
+      file ask json o end → RunUse disk
+  use_of_file file (ask_words.Import kind csv) json o end done =
+      use_timed (with_file.untouched × m.texts.leaves) file.at m.clock _ o end
+      (λ at it. use_imported file kind csv.now at o end it) done
+  use_of_file file (ask_words.Ask ask) json o end (unread, done) =
+      use_one file ask json o end done
+  use_of_file file (ask_words.List list) json o end (unread, done) =
+      use_shown file true list json o end done
+  use_of_file file ask_words.Export json o end (unread, done) = use_reported file Sales o end done
 
   abbrev pub use_serving : (words : ServeWords) → (err_old err_new : Sink) → (end : CommandEnd)
       → IsServing (over_files {g = disk}) m.way with_file.at m.door m.clock words err_old
@@ -389,34 +458,25 @@ module _ {M S H D R W : Type 0} (disk : disk.Ghosts M) (salts : source.Ghosts S)
       connected (of.image office words.file.now) no_life
       (let_go (file_state audit.last) (closed_files audit.closed))
 
+  -- of an office at a desk nothing is seen
+  abbrev pub use_of_office : (place : AskedPlace) → (ask : AskWords) → (json : Bool)
+      → (o : Outputs) → (end : CommandEnd)
+      → IsOfficeAsked (over_files {g = disk}) with_file place ask json o end → RunUse disk
+  use_of_office (File file) ask json o end (offline, done) = use_of_file file ask json o end done
+  use_of_office (Desk desk) ask json o end done = unseen
+
   -- what is asked for
   abbrev pub use_carried : (asked : Asked) → (o : Outputs) → (end : CommandEnd)
       → IsCarriedOut (over_files {g = disk}) with_file asked o end → RunUse disk
-  use_carried (asks.Trial words) o end done = unseen
-  use_carried (asks.Import words) o end (shut, (moment, taken, done)) =
-      use_timed (with_file.untouched × m.texts.leaves) _ o end
-      (λ at it. use_imported words at o end it) moment done
-  use_carried (asks.Request words) o end (shut, (moment, taken, done)) =
-      use_timed with_file.untouched _ o end
-      (λ at it. use_asked words.transform words.file.now words.wait at words.request o end it)
-      moment done
-  use_carried (asks.Report words) o end (shut, done) = use_reported words o end done
-  use_carried (asks.Show words) o end (shut, (moment, taken, done)) =
-      use_timed with_file.untouched _ o end (λ at it. use_shown words.file.now words.wait at
-      (One (lookup_of words.shown) words.json) o end it) moment done
-  use_carried (asks.List words) o end (shut, (moment, taken, done)) =
-      use_timed with_file.untouched _ o end (λ at it. use_shown words.file.now words.wait at
-      (Listing words.listed words.json) o end it) moment done
-  use_carried (asks.Offer words) o end (shut, (moment, taken, done)) =
-      use_timed with_file.untouched _ o end (λ at it. use_shown words.file.now words.wait at
-      (One (lookups.Quote words.meter words.tender) words.json) o end it) moment done
-  use_carried (asks.Meter words) o end done = unseen
-  use_carried (asks.Quote words) o end done = unseen
-  use_carried (asks.Serve words) o end (left, (silent, done)) =
+  use_carried (asked_for.Office words) o end done =
+      use_of_office words.place words.ask words.json o end done
+  use_carried (asked_for.Trial words) o end done = unseen
+  use_carried (asked_for.Meter words) o end done = unseen
+  use_carried (asked_for.Quote words) o end done = unseen
+  use_carried (asked_for.Serve words) o end (left, (silent, done)) =
       use_serving words o.err_old o.err_new end done
-  use_carried (asks.Selfcheck words) o end done = unseen
-  use_carried (asks.Desk words) o end done = unseen
-  use_carried (asks.Audit words) o end (shut, done) = use_audited words o end done
+  use_carried (asked_for.Selfcheck words) o end done = unseen
+  use_carried (asked_for.Audit words) o end (shut, done) = use_audited words o end done
 
   -- a run, whatever its words are
   abbrev pub use_run : (words : List Text) → (o : Outputs) → (end : CommandEnd)

@@ -2,7 +2,7 @@ use Rattle.std.proofs.Common.{Some, None, map}
 use Rattle.std.proofs.lemmas.Bool.Decides.{Decides-eqb}
 use Rattle.std.proofs.lemmas.List.Elements.{recursion_from_All}
 use Rattle.std.proofs.lemmas.Slice.Eq.{strip_prefix_is}
-use Rattle.desk_client.proofs.ItemLemmas.{begins_not, begins_with, behind_first, closed_by, front_found, led_by, neither, no_list, none_found, told_push}
+use Rattle.records.proofs.ItemLemmas.{begins_not, begins_with, behind_first, closed_by, front_found, led_by, neither, no_list, none_found, told_push}
 use Rattle.desk_client.proofs.items.read_items.Goals as goal
 
 pub returns-in_default-2 : goal.returns-in_default-2

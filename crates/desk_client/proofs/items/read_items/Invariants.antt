@@ -1,5 +1,5 @@
 use Rattle.std.specs.Prelude.{◌≡◌, All, length, map}
-use Rattle.desk_client.proofs.ItemLemmas.{led}
+use Rattle.records.proofs.ItemLemmas.{led}
 use Rattle.desk_client.proofs.items.read_items.Given as goal
 
 -- the items so far, each with a comma behind it

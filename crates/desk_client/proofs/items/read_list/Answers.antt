@@ -1,26 +1,27 @@
-use Rattle.std.proofs.Common.{◌∙◌, ℕ, List, ◌++◌, Some, None, codes, length, map, ap, sym, arith}
+use Rattle.std.proofs.Common.{◌∙◌, ℕ, false, List, ◌++◌, Some, None, codes, length, map, ap, sym, arith}
 use Rattle.std.specs.Prelude.{All}
 use Rattle.std.proofs.lemmas.Bool.Decides.{Decides-eqb}
 use Rattle.std.proofs.lemmas.List.{length-map}
 use Rattle.std.proofs.lemmas.List.Elements.{recursion_from_All}
 use Rattle.std.proofs.lemmas.Slice.Eq.{strip_prefix_is}
-use Rattle.desk_client.specs.Items.{closed_list_text}
-use Rattle.desk_client.proofs.ItemLemmas.{front_found, listed, listed_so}
+use Rattle.records.specs.List.{items_text}
+use Rattle.records.proofs.ItemLemmas.{front_found}
+use Rattle.desk_client.proofs.ListLemmas.{listed, listed_so}
 use Rattle.desk_client.proofs.NumberLemmas.{not_unlike, unlike_not}
 use Rattle.desk_client.proofs.items.read_list.Goals as goal
 
 pub returns-in_default : goal.returns-in_default
 returns-in_default g c = λ v h.
     let texts = map g.T.Item.text_of v.items in
-    strip_prefix_is Decides-eqb c.args.text.now c.as_bytes.result.now None c.in_default.ensures.cases (closed_list_text texts ++ codes "}")
-    (h.1 ∙ ap (λ (f : List ℕ). f ++ (closed_list_text texts ++ codes "}")) (sym c.as_bytes.ensures.value))
+    strip_prefix_is Decides-eqb c.args.text.now c.as_bytes.result.now None c.in_default.ensures.cases (items_text false texts ++ codes "}")
+    (h.1 ∙ ap (λ (f : List ℕ). f ++ (items_text false texts ++ codes "}")) (sym c.as_bytes.ensures.value))
 
 pub returns-then-ne : goal.returns-then-ne
 returns-then-ne g c = λ v h.
     let is_told = g.T.Item.is_told in
     let text_of = g.T.Item.text_of in
     let front = c.as_bytes.result.now in
-    let found = front_found (λ items. All is_told items.items) (λ items. closed_list_text (map text_of items.items)) c.in-Some.rest.now c.in_ok-items.field-0
+    let found = front_found (λ items. All is_told items.items) (λ items. items_text false (map text_of items.items)) c.in-Some.rest.now c.in_ok-items.field-0
     c.in-Some-2.items c.in-Some-2.behind c.in-Some-2.is c.in_ok-items.ensures in
     let whole = strip_prefix_is Decides-eqb c.args.text.now front (Some c.in-Some.rest) c.in-Some.ensures.cases in
     let same = listed is_told text_of c.item_law.ensures c.args.text.now front c.args.front.now c.in-Some.rest.now c.in-Some-2.behind.now
@@ -33,7 +34,7 @@ returns-then-len g c = λ v h.
     let is_told = g.T.Item.is_told in
     let text_of = g.T.Item.text_of in
     let front = c.as_bytes.result.now in
-    let found = front_found (λ items. All is_told items.items) (λ items. closed_list_text (map text_of items.items)) c.in-Some.rest.now c.in_ok-items.field-0
+    let found = front_found (λ items. All is_told items.items) (λ items. items_text false (map text_of items.items)) c.in-Some.rest.now c.in_ok-items.field-0
     c.in-Some-2.items c.in-Some-2.behind c.in-Some-2.is c.in_ok-items.ensures in
     let whole = strip_prefix_is Decides-eqb c.args.text.now front (Some c.in-Some.rest) c.in-Some.ensures.cases in
     let same = listed is_told text_of c.item_law.ensures c.args.text.now front c.args.front.now c.in-Some.rest.now c.in-Some-2.behind.now
@@ -46,11 +47,11 @@ pub returns : goal.returns
 returns g c =
     let is_told = g.T.Item.is_told in
     let text_of = g.T.Item.text_of in
-    let found = front_found (λ items. All is_told items.items) (λ items. closed_list_text (map text_of items.items)) c.in-Some.rest.now c.in_ok-items.field-0
+    let found = front_found (λ items. All is_told items.items) (λ items. items_text false (map text_of items.items)) c.in-Some.rest.now c.in_ok-items.field-0
     c.in-Some-2.items c.in-Some-2.behind c.in-Some-2.is c.in_ok-items.ensures in
     let whole = strip_prefix_is Decides-eqb c.args.text.now c.as_bytes.result.now (Some c.in-Some.rest) c.in-Some.ensures.cases in
     let brace = not_unlike c.in-Some-2.behind.now c.as_slice.result.now c.if-ne.ensures in (
       record { each = found.0; few = omega (arith, c.if-len.false, c.len.ensures, c.in-Some-2.items.ok.0) },
-      listed_so c.args.text.now c.as_bytes.result.now c.args.front.now c.in-Some.rest.now (closed_list_text (map text_of c.in-Some-2.items.items))
+      listed_so c.args.text.now c.as_bytes.result.now c.args.front.now c.in-Some.rest.now (items_text false (map text_of c.in-Some-2.items.items))
           c.in-Some-2.behind.now (codes "}") c.as_bytes.ensures.value whole found.1 (brace ∙ c.as_slice.ensures),
     )

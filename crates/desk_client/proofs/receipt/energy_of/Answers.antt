@@ -1,6 +1,6 @@
 use Rattle.std.proofs.Common.{◌≡◌, ◌∙◌, ◌%◌, ◌/◌, List, ◌++◌, ◌∷◌, ◌+◌, [], length, decimal, ap, sym, subst, ℕ, ◌*◌, arith}
 use Rattle.sts_fields.specs.Amount.{IsRepresentable}
-use Rattle.desk_client.specs.Text.{IsFound}
+use Rattle.records.specs.Front.{IsFound}
 use Rattle.std.proofs.lemmas.List.{length-append}
 use Rattle.desk_client.proofs.ReceiptLemmas.{kwh-digit, kwh_found, kwh_parts}
 use Rattle.desk_client.proofs.TimeLemmas.{two_parts}

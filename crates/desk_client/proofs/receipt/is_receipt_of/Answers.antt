@@ -1,7 +1,8 @@
 use Rattle.std.proofs.Common.{◌≡◌, ◌∙◌, List, ℕ, [], ◌++◌, codes, map, take, ap, sym, refl, arith}
 use Rattle.std.proofs.lemmas.List.{length-map}
 use Rattle.desk_client.specs.Receipt.{receipt_ends, receipt_values}
-use Rattle.desk_client.specs.Text.{now, woven}
+use Rattle.records.specs.Record.{now}
+use Rattle.desk_client.specs.Text.{woven}
 use Rattle.desk_client.proofs.ReadingLemmas.{cut_off}
 use Rattle.desk_client.proofs.ReceiptLemmas.{plain_receipt, receipt-woven}
 use Rattle.desk_client.proofs.TimeLemmas.{plain_time}

@@ -10,7 +10,7 @@ returns c =
     let granted = untold c.begins_as.result c.begins_as.ensures c.if-begins_as.false in (
       λ there. (Unable, tt, c.begins_as-3.ensures.0 there),
       λ may. c.begins_as-3.ensures.1 (begins_last c.args.wanted input
-          (λ begins. granted (subst (BeginsAs input) (sym c.start.ensures) begins))
+          (λ begins. granted (subst (BeginsAs input) (sym c.granted_start.ensures) begins))
           (untold c.begins_as-else-begins_as.result c.begins_as-else-begins_as.ensures c.if-begins_as-2.false)
           (untold c.begins_as-2.result c.begins_as-2.ensures c.if-begins_as-3.false)
           (untold c.begins_as-else-begins_as-3.result c.begins_as-else-begins_as-3.ensures c.if-begins_as-4.false) may),

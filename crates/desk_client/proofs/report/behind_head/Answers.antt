@@ -3,7 +3,8 @@ use Rattle.std.specs.Prelude.{decimal}
 use Rattle.std.proofs.lemmas.List.{append_cancel_left}
 use Rattle.office_rules.specs.declared.office.shift.Shift.{Shift}
 use Rattle.desk_client.specs.Report.{head_ends, head_values}
-use Rattle.desk_client.specs.Text.{now, woven}
+use Rattle.records.specs.Record.{now}
+use Rattle.desk_client.specs.Text.{woven}
 use Rattle.desk_client.proofs.ReportLemmas.{behind_number, head-parts, head_again, head_read, plain_head}
 use Rattle.desk_client.proofs.TimeLemmas.{plain_time}
 use Rattle.desk_client.proofs.report.behind_head.Goals as goal

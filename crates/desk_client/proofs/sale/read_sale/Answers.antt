@@ -1,13 +1,10 @@
-use Rattle.std.proofs.Common.{refl}
-use Rattle.desk_client.specs.Sale.{sale_values}
-use Rattle.desk_client.proofs.SaleLemmas.{plain_sale, read_of_values}
+use Rattle.desk_client.proofs.RecordLemmas.{found_whole, none_whole, sale_read}
 use Rattle.desk_client.proofs.sale.read_sale.Goals as goal
 
 pub returns-in-Some : goal.returns-in-Some
 returns-in-Some c =
-    read_of_values c.amount_law.ensures.greatest c.args.text.now c.in-Some.values.of c.sale_of.result c.in-Some.ensures.2
-    c.in-Some.ensures.0 c.in-Some.ensures.1 c.sale_of.ensures
+    found_whole c.columns_law.ensures sale_read c.args.text.now c.in-Some.columns c.in-Some.ensures.0 c.in-Some.ensures.1
+    c.sale_of.result c.sale_of.ensures
 
 pub returns-in-None : goal.returns-in-None
-returns-in-None c = λ sale h.
-    c.in-None.ensures (sale_values sale) refl (plain_sale c.amount_law.ensures.greatest sale h.0) h.1
+returns-in-None c = none_whole c.columns_law.ensures sale_read c.args.text.now c.in-None.ensures

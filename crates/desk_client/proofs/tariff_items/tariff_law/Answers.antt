@@ -4,7 +4,7 @@ use Rattle.desk_client.proofs.tariff_items.tariff_law.Goals as goal
 
 pub returns : goal.returns
 returns c =
-    one_tariff c.list_law.ensures.array c.list_law.ensures.later c.item_law.ensures
-    (one_day c.list_law.ensures.days c.day_law.ensures.one_read)
+    one_tariff c.item_law.ensures
+    (one_day c.day_text_law.ensures.days c.day_law.ensures.one_read)
     (one_steps c.steps_text_law.ensures.each_list c.steps_text_law.ensures.one_list)
     (plain_day c.calendar_law.ensures.each_moment c.calendar_law.ensures.ranges)

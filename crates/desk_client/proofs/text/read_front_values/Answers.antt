@@ -3,7 +3,8 @@ use Rattle.std.specs.Borrow.{Bor}
 use Rattle.std.proofs.lemmas.Bool.Decides.{Decides-eqb}
 use Rattle.std.proofs.lemmas.List.{get_or-map, length-map, map-set}
 use Rattle.std.proofs.lemmas.Slice.Eq.{strip_prefix_is}
-use Rattle.desk_client.specs.Text.{now, woven}
+use Rattle.records.specs.Record.{now}
+use Rattle.desk_client.specs.Text.{woven}
 use Rattle.desk_client.proofs.ReadingLemmas.{Stands, all_begin, are_all, none_more, stands-more}
 use Rattle.desk_client.proofs.text.read_front_values.Goals as goal
 

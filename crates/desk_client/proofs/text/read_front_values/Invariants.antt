@@ -1,5 +1,5 @@
 use Rattle.std.specs.Prelude.{map}
-use Rattle.desk_client.specs.Text.{now}
+use Rattle.records.specs.Record.{now}
 use Rattle.desk_client.proofs.ReadingLemmas.{Stands}
 use Rattle.desk_client.proofs.text.read_front_values.Given as goal
 

@@ -1,7 +1,7 @@
 use Rattle.std.proofs.Common.{[], ◌∙◌, ap, length, map, sym, arith}
 use Rattle.std.proofs.lemmas.Bool.Decides.{nat_tests}
 use Rattle.std.proofs.lemmas.List.{length-map}
-use Rattle.desk_client.specs.Text.{now}
+use Rattle.records.specs.Record.{now}
 use Rattle.desk_client.proofs.ReadingLemmas.{all_begin}
 use Rattle.desk_client.proofs.WovenLemmas.{one_front}
 use Rattle.desk_client.proofs.text.read_values.Goals as goal

@@ -3,12 +3,12 @@ use Rattle.desk_client.specs.Reply.{IsReply, IsReplyReading}
 use Rattle.desk_client.specs.declared.reply.Reading.{Reading}
 use Rattle.desk_client.specs.declared.reply.Reading.TheVariants as readings
 use Rattle.desk_client.specs.declared.told.Told.{Told}
-use Rattle.desk_client.specs.declared.told.Wanted.{Wanted}
+use Rattle.asks.specs.declared.endpoint.Grants.{Grants}
 use Rattle.desk_commands.proofs.exchange.lacking.Goals as goal
 
 -- no reply goes on behind a whole one, nor behind what is out of form
-goes_no_further : ((asked : Wanted) (text more : List ℕ) (told other : Told) → IsReply asked text told → IsReply asked (text ++ more) other → more ≡ [])
-    → (asked : Wanted) (came : List ℕ) (reading : Reading) → ((told : Told) × (reading ≡ readings.Whole told)) ⊎ (reading ≡ readings.OutOfForm)
+goes_no_further : ((asked : Grants) (text more : List ℕ) (told other : Told) → IsReply asked text told → IsReply asked (text ++ more) other → more ≡ [])
+    → (asked : Grants) (came : List ℕ) (reading : Reading) → ((told : Told) × (reading ≡ readings.Whole told)) ⊎ (reading ≡ readings.OutOfForm)
     → IsReplyReading asked came reading
     → (more : List ℕ) (told : Told) → IsReply asked (came ++ more) told → more ≡ []
 goes_no_further alone asked came reading (inl (whole, is)) reads more told reply =
@@ -17,7 +17,7 @@ goes_no_further alone asked came reading (inr is) reads more told reply =
     absurd ((subst (λ (r : Reading). IsReplyReading asked came r) is reads) more told reply)
 
 -- what lacks bytes is no reply yet
-lacks_bytes : (asked : Wanted) (came : List ℕ) (missing : ℕ) → IsReplyReading asked came (readings.NeedBody missing)
+lacks_bytes : (asked : Grants) (came : List ℕ) (missing : ℕ) → IsReplyReading asked came (readings.NeedBody missing)
     → (told : Told) → ¬ IsReply asked came told
 lacks_bytes asked came missing reads told reply =
     let none : 0 ≡ missing = reads.1 [] told (subst (λ (text : List ℕ). IsReply asked text told) (sym (append-nil came)) reply) in

@@ -4,8 +4,7 @@ use Rattle.std.proofs.Math.Logic.{∥∥₁_elim}
 use denote.Struct.Props.{props}
 use Rattle.sqlite_disk.specs.declared.Files.{Files}
 use Rattle.sqlite_disk.specs.declared.memory.Memory.{Memory}
-use Rattle.desk_client.specs.Question.{question_text}
-use Rattle.desk_client.specs.declared.question.Question.TheVariants as questions
+use Rattle.desk_client.specs.Sent.{ask_text}
 use Rattle.desk_commands.specs.Exchanged.{Round}
 use Rattle.office_rules.specs.Office.{empty_office}
 use Rattle.office_rules.specs.declared.decision.request.Order.{Order}
@@ -16,6 +15,7 @@ use Rattle.program_laws.specs.runs.Steps.{AreSoldFor}
 use Rattle.sts_fields.specs.Text.{Text}
 use Rattle.vend_core.specs.Law.Life.{present}
 use Rattle.vend_ports.specs.declared.command_end.CommandEnd.TheVariants.{Done, Refused}
+use Rattle.law_witnesses.specs.Asking.{ask_to_sell}
 use Rattle.law_witnesses.specs.declared.answering.WaitingDoor.{WaitingDoor}
 use Rattle.law_witnesses.specs.declared.asking.Line.{Line}
 use Rattle.law_witnesses.proofs.AnsweringLemmas.{carries_first, same_order}
@@ -32,7 +32,7 @@ returns-in-Done-end-2 c =
     let last = c.run_law-3.ensures in
     let wanted = c.in-Some.wanted in
     let said = c.in-Some-order_said.said in
-    let question = questions.Sell wanted in
+    let ask = ask_to_sell wanted in
     let sold = c.in-Some-sold_on_files.files in
     let left = (c.in-Some-sold_on_files.ensures {u = tt}).left in
     let text = c.in-Some-rehearsed.text.items in
@@ -56,9 +56,9 @@ returns-in-Done-end-2 c =
     elim (asking.sells_at_desk command.run wanted says) [
       | inl asks ↦ ∥∥₁_elim went one (λ goes.
           let replied = desk_replied _ command wanted asks.0 asks.1 c.in-Done-end.is in
-          let front = came_front _ unread sent _ replied.desk (question_text question) replied.came text replied.had
+          let front = came_front _ unread sent _ replied.desk (ask_text ask) replied.came text replied.had
           (λ line called. called ∙ c.calling_ports.ensures ∙ c.deref-4.ensures.value) in
-          let carried = carries_first _ it (question_text question ++ []) (replied.came ++ [])
+          let carried = carries_first _ it (ask_text ask ++ []) (replied.came ++ [])
           (λ address port door heard. record {
             sees = λ reader writer line holding read written used end between next other second last accepts ends after.
                 let whole = ends.1 (after.4 (ends.0 ∙ accepts.2)) in (
@@ -73,7 +73,7 @@ returns-in-Done-end-2 c =
                       later = [];
                       reads =
                           accepts.0 ∙ ap text_of heard ∙ ports.text ∙ c.deref-2.ensures.value ∙ c.in-Ok.ensures {u = tt}
-                          ∙ sym (append-nil (question_text question)) ∙ sym (append-nil (question_text question ++ []));
+                          ∙ sym (append-nil (ask_text ask)) ∙ sym (append-nil (ask_text ask ++ []));
                       behind = front.0;
                       writes =
                           whole.1 ∙ accepts.3 ∙ ap wanted_of heard ∙ ports.wanted ∙ c.deref-3.ensures.value ∙ front.1

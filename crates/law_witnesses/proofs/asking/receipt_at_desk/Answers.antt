@@ -1,11 +1,10 @@
 use Rattle.std.proofs.Common.{◌≡◌, ◌∙◌, ℕ, ℤ, pos, of_z, to_z, w64, List, [], ◌∷◌, ◌++◌, Ok, ap, append-nil, inl, inr, refl, sym, subst, arith}
 use Rattle.std.proofs.lemmas.Int.{ints, to_z-of_z}
 use Rattle.sqlite.proofs.Callers.{memory_is_clean}
-use Rattle.book_states.specs.declared.lookup.Lookup.TheVariants.{SaleOfRef}
+use Rattle.asks.specs.declared.lookup.Lookup.TheVariants.{SaleOfRef}
 use Rattle.books.specs.Keeps.{seen}
-use Rattle.desk_client.specs.Question.{question_text, wanted_by}
+use Rattle.desk_client.specs.Sent.{ask_text, wanted_by}
 use Rattle.desk_client.specs.Reply.{IsReply}
-use Rattle.desk_client.specs.declared.question.Question.TheVariants as questions
 use Rattle.desk_client.specs.declared.told.Granted.TheVariants as grants
 use Rattle.desk_client.specs.declared.told.Told.TheVariants as tells
 use Rattle.office_rules.specs.declared.decision.answer.Answer.TheVariants.{Sold}
@@ -14,6 +13,7 @@ use Rattle.program_laws.specs.runs.Asked.{WordsSellAtDesk}
 use Rattle.sts_fields.specs.Text.{Text}
 use Rattle.vend_core.specs.Law.Life.{IsLife, present}
 use Rattle.vend_ports.specs.declared.command_end.CommandEnd.TheVariants.{Done, Refused}
+use Rattle.law_witnesses.specs.Asking.{ask_to_sell}
 use Rattle.law_witnesses.specs.Offices.{life_of}
 use Rattle.law_witnesses.specs.declared.asking.Line.{Line}
 use Rattle.law_witnesses.proofs.AskingLemmas.{HasSoldFor, came_front, desk_replied, for_told, has_sold, sale_told, same_receipt}
@@ -25,7 +25,7 @@ use Rattle.law_witnesses.proofs.asking.receipt_at_desk.Goals as goal
 pub returns-in-Some-sale_of : goal.returns-in-Some-sale_of
 returns-in-Some-sale_of c =
     let order = c.in-Some.order in
-    let question = questions.Sell order in
+    let ask = ask_to_sell order in
     let moment = c.args.moment in
     let law = c.run_law.ensures in
     let last = c.secs.ensures.range.1 in
@@ -45,18 +45,18 @@ returns-in-Some-sale_of c =
     elim (law.sells_at_desk it.run order says) [
       | inl asks ↦
           let replied = desk_replied _ it order asks.0 asks.1 c.in-Done.is in
-          let front = came_front _ unread sent _ replied.desk (question_text question) replied.came text replied.had
+          let front = came_front _ unread sent _ replied.desk (ask_text ask) replied.came text replied.had
           (λ line called. called ∙ c.calling_ports.ensures ∙ c.deref-3.ensures.value) in
-          let told = sale_told order replied.came replied.told it.run.o it.run.end replied.is replied.telling done in
+          let told = sale_told order replied.json replied.came replied.told it.run.o it.run.end replied.is replied.telling done in
           let whole = c.in-Some-answer_in.ensures {u = tt} in
-          let ReplyOf : List ℕ → Type 0 = λ bytes. IsReply (wanted_by question) bytes c.in-Some-answer_in._told in
+          let ReplyOf : List ℕ → Type 0 = λ bytes. IsReply (wanted_by ask) bytes c.in-Some-answer_in._told in
           let whole_reply : ReplyOf (replied.came ++ front.0) = subst ReplyOf (c.deref-2.ensures.value ∙ front.1) whole.reply in
           let none =
-          c.told_law.ensures.alone (wanted_by question) replied.came front.0 (tells.Granted (grants.Sale told.0)) c.in-Some-answer_in._told told.1 whole_reply in
+          c.told_law.ensures.alone (wanted_by ask) replied.came front.0 (tells.Granted (grants.Sale told.0)) c.in-Some-answer_in._told told.1 whole_reply in
           let all : text ≡ replied.came = front.1 ∙ ap (λ (more : List ℕ). replied.came ++ more) none ∙ append-nil replied.came in
-          let SaleIn : List ℕ → Type 0 = λ bytes. IsReply (wanted_by question) bytes (tells.Granted (grants.Sale told.0)) in
+          let SaleIn : List ℕ → Type 0 = λ bytes. IsReply (wanted_by ask) bytes (tells.Granted (grants.Sale told.0)) in
           let sold : HasSoldFor order told.0 (seen behind) life.opening =
-          has_sold c.desk_law.ensures c.at_desk_law.ensures.line IsLife c.at_desk_law.ensures.sold order moment _ secs
+          has_sold c.at_desk_law.ensures.line IsLife c.at_desk_law.ensures.sold order moment _ secs
           c.secs.ensures.range c.keeps_rules.ensures (seen old) (seen behind) life served.keeps.kept
           (c.history_law.ensures.offices [] life.opening served.keeps.led) (λ after kept. (kept (memory_is_clean behind.conn)).is_life) c.deref.result.now text
           (c.deref.ensures.value ∙ c.in-Ok.ensures {u = tt}) (c.in-Some-answered_at.ensures {u = tt}) told.0 (subst SaleIn (sym all) told.1) in

@@ -1,4 +1,4 @@
-use Rattle.std.proofs.Common.{◌≡◌, [], ◌∷◌, true, codes, refl, subst, sym}
+use Rattle.std.proofs.Common.{◌≡◌, [], ◌∷◌, false, true, refl, subst, sym}
 use Rattle.std.specs.Prelude.{IsTrue}
 use Rattle.std.proofs.Math.Logic.{∥∥₁_elim}
 use denote.Struct.Props.{props}
@@ -20,21 +20,20 @@ pub returns-in-Some-printed_by_sell : goal.returns-in-Some-printed_by_sell
 returns-in-Some-printed_by_sell c =
     let all : (it : Memory) → IsTrue true = λ it. refl in
     let order = c.args.order.now in
-    let moment = c.args.moment in
     let sale = c.in-Some.sale in
     let files = c.in-Some.files in
     let left = (c.in-Some.ensures {u = tt}).left in
     let lives = left.life ∷ [] in
-    let file = c.new.result in
+    let file = c.new-office.result in
     let text = c.in-Some-printed_by_sell.text.items in
     let printed = c.in-Some-printed_by_sell.ensures {u = tt} in
     let is_for = c.is_sale_for.ensures c.if-not-is_sale_for.false in
     let Of : Image → Type 0 = λ image. IsOf empty_office lives image in
-    let of = subst Of (sym (same_image file.log file.db files c.new.ensures.log c.new.ensures.db)) left.found.0 in
+    let of = subst Of (sym (same_image file.log file.db files c.new-office.ensures.log c.new-office.ensures.db)) left.found.0 in
     let one : IsProp (text ≡ receipt_of sale) = hlevel props in
     ∥∥₁_elim of one (λ it.
     let o = it.office in
-    let ends = c.sell_law.ensures.done file printed.0 (codes "office.db") 0 Plain order moment o printed.1.o it.stands printed.1.did in
-    printed_again c.office_law.ensures.again text printed.1 (forward_of Plain) o order moment (seen_in ends.0) sale
+    let ends = c.sell_law.ensures.done file printed.0 _ c.new-clock.result _ order false o printed.1.o it.stands printed.1.did in
+    printed_again c.office_law.ensures.again text printed.1 (forward_of Plain) o order ends.0 (seen_in ends.2) sale
     (c.history_law.ensures.offices lives o it.lead) (c.history_law.ensures.stands lives o sale it.lead (sold_handed lives order sale left.sold)) is_for
-    (ends.2 (clean_files all ends.0.conn)))
+    (ends.4 (clean_files all ends.2.conn)))

@@ -1,7 +1,7 @@
 use Rattle.std.proofs.Common.{◌≡◌, ◌∙◌, [], ◌∷◌, Ok, ap, refl, sym}
 use Rattle.sqlite.proofs.Callers.{memory_is_clean}
 use Rattle.book_facts.specs.Lookups.{last_sale}
-use Rattle.book_states.specs.declared.lookup.Lookup.TheVariants.{LastSale}
+use Rattle.asks.specs.declared.lookup.Lookup.TheVariants.{LastSale}
 use Rattle.vend_core.specs.Law.Life.{present}
 use Rattle.law_witnesses.specs.Offices.{life_of}
 use Rattle.law_witnesses.proofs.OfficeLemmas.{finds_by_rules, found_last, leads}

@@ -1,8 +1,8 @@
 use Rattle.std.proofs.Common.{◌≡◌, ◌∙◌, Ok, Result, ap, inl, sym}
 use Rattle.sqlite.proofs.Callers.{memory_is_clean}
+use Rattle.asks.specs.declared.lookup.Lookup.TheVariants.{LastSale}
 use Rattle.book_states.specs.declared.lookup.Found.{Found}
 use Rattle.book_states.specs.declared.lookup.Found.TheVariants as found
-use Rattle.book_states.specs.declared.lookup.Lookup.TheVariants.{LastSale}
 use Rattle.office_rules.specs.declared.decision.refusal.Refusal.{Refusal}
 use Rattle.vend_core.specs.Law.Life.{present}
 use Rattle.law_witnesses.specs.Offices.{life_of}

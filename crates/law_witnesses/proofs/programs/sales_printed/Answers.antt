@@ -1,6 +1,6 @@
 use Rattle.std.proofs.Common.{◌≡◌, ◌∙◌, [], ◌∷◌, inl, refl, sym}
 use Rattle.sqlite.proofs.Callers.{memory_is_clean}
-use Rattle.book_states.specs.declared.lookup.Lookup.TheVariants.{Sales}
+use Rattle.asks.specs.declared.lookup.Lookup.TheVariants.{Sales}
 use Rattle.vend_core.specs.Law.Life.{present}
 use Rattle.law_witnesses.specs.Offices.{life_of}
 use Rattle.law_witnesses.proofs.OfficeLemmas.{finds_by_rules}

@@ -1,8 +1,8 @@
 use Rattle.std.proofs.Common.{◌≡◌, ◌∙◌, ℕ, List, Option, subst, sym}
 use Rattle.book_states.specs.declared.lookup.Found.{Found}
 use Rattle.desk_client.specs.Page.{IsToldPage, page_as_read}
-use Rattle.desk_client.specs.Text.{IsFound}
 use Rattle.desk_client.specs.declared.page.PageKind.TheVariants.{Meters}
+use Rattle.records.specs.Front.{IsFound}
 use Rattle.law_witnesses.proofs.ToldLemmas.{same_meters}
 use Rattle.law_witnesses.proofs.questions.page_again.Goals as goal
 

@@ -1,9 +1,9 @@
 use Rattle.std.proofs.Common.{◌≡◌, ◌∙◌, Some, ap, subst, sym, w64, to_z, of_z}
+use Rattle.asks.specs.declared.endpoint.Grants.TheVariants as wanted
 use Rattle.desk_client.specs.Reply.{IsReply}
 use Rattle.desk_client.specs.declared.told.Granted.TheVariants as granted
 use Rattle.desk_client.specs.declared.told.Told.{Told}
 use Rattle.desk_client.specs.declared.told.Told.TheVariants as told
-use Rattle.desk_client.specs.declared.told.Wanted.TheVariants as wanted
 use Rattle.law_witnesses.specs.Sold.{told_sold}
 use Rattle.law_witnesses.proofs.ToldLemmas.{told_as_it_is}
 use Rattle.law_witnesses.proofs.questions.sale_again.Goals as goal

@@ -2,7 +2,7 @@ use Rattle.std.proofs.Common.{◌≡◌, ◌∙◌, [], ◌∷◌, List, Option,
 use Rattle.std.specs.Prelude.{IsTrue}
 use Rattle.std.proofs.Math.Logic.{∥∥₁_elim}
 use denote.Struct.Props.{props}
-use Rattle.book_states.specs.declared.lookup.Lookup.TheVariants.{SaleOfRef}
+use Rattle.asks.specs.declared.lookup.Lookup.TheVariants.{SaleOfRef}
 use Rattle.books.specs.Headline.{with_last}
 use Rattle.command_line.specs.Transform.{forward_of}
 use Rattle.conversation.specs.Uses.{Use}

@@ -1,9 +1,10 @@
+use Rattle.program_laws.proofs.DeskLemmas.{HandingLaws}
 use Rattle.program_laws.proofs.AtDeskLemmas.LineLemmas.{line_answers}
 use Rattle.program_laws.proofs.AtDeskLemmas.RoundLemmas.{lines_answer}
 use Rattle.program_laws.proofs.AtDeskLemmas.FileLemmas.{same_found, same_health, same_reply}
-use Rattle.program_laws.proofs.AtDeskLemmas.SaidLemmas.{says_askable, says_by_one}
-use Rattle.program_laws.proofs.AtDeskLemmas.HandedLemmas.{sale_handed, sale_sold}
-use Rattle.program_laws.proofs.AtDeskLemmas.ReadLemmas.{question_read}
+use Rattle.program_laws.proofs.AtDeskLemmas.SaidLemmas.{says_askable, says_listed}
+use Rattle.program_laws.proofs.AtDeskLemmas.HandedLemmas.{receipt_handed, sale_handed, sale_sold}
+use Rattle.program_laws.proofs.AtDeskLemmas.ReadLemmas.{ask_read}
 use Rattle.program_laws.proofs.AtDeskLemmas.ListLemmas.{list_prints, page_read}
 use Rattle.program_laws.proofs.AtDeskLemmas.OneLemmas.{DeskLaws, clock_prints, one_prints}
 use Rattle.program_laws.proofs.laws.at_desk_law.Goals as goal
@@ -12,38 +13,36 @@ pub returns : goal.returns
 returns c =
     let office = c.office_law.ensures in
     let question = c.question_law.ensures in
+    let handing : HandingLaws = record { replied = c.life_law.ensures.replied; for_good = c.life_law.ensures.for_good } in
     let laws : DeskLaws = record {
       along = office.keeps_along;
       one_step = office.keeps_office;
       plausible = c.reached_law.ensures.keeps;
       stand = office.answers_stand;
       ranges = record { greatest = c.amount_law.ensures.greatest; prior = c.store_law.ensures.prior_range; purchase = c.purchase_law.ensures.computed };
-      meaning = c.conversation_law.ensures.meaning;
-      routed = c.route_law.ensures.one;
-      texts = c.reply_law.ensures;
-      dates = c.date_law.ensures;
+      own = c.ask_law.ensures.own;
+      meaning = c.meaning_law.ensures.one;
       sent = question.sent;
-      means = question.means;
       outside = question.outside;
+      dates = c.date_law.ensures;
       alike = c.told_law.ensures.alike;
     } in
     record {
-      one = λ q json moment old new came told o end one askable is_moment opening life at is says. one_prints laws json q moment old new
-          came told o end one askable is_moment opening life at is says;
+      one = one_prints laws;
       pages = list_prints laws c.page_law.ensures.one;
-      read = question_read laws;
+      read = ask_read laws;
       page_read = page_read laws;
-      handed = λ q moment old new came s askable is_moment opening life at is.
-          sale_handed laws c.life_law.ensures.replied moment is_moment old new came opening life s q askable at is;
-      sold = λ order moment old new came s askable is_moment opening life at is.
-          sale_sold laws c.life_law.ensures.replied moment is_moment old new came opening life s order askable at is;
+      handed = λ ask moment old new came s can is_moment opening life at is. sale_handed laws handing moment is_moment old new came opening life ask s can at is;
+      sold = λ order moment old new came s can is_moment opening life at is. sale_sold laws handing moment is_moment old new came opening life order s can at is;
+      receipt = λ number moment old new came text can is_moment opening life at is.
+          receipt_handed laws handing moment is_moment old new came opening life number text can at is;
       askable = says_askable;
-      by_one = says_by_one;
-      line = λ q old new came ending askable held. line_answers laws q askable old new came ending held;
-      lines = λ list day old new rounds pages left ending askable opening life tells few held given. lines_answer laws
-          c.page_law.ensures.one list day old new rounds pages left ending askable opening life tells few held given;
+      list_askable = says_listed;
+      line = λ ask old new came ending can held. line_answers laws ask can old new came ending held;
+      lines = λ list day old new rounds pages left ending can opening life tells few held given. lines_answer laws
+          c.page_law.ensures.one list day old new rounds pages left ending can opening life tells few held given;
       same_reply = same_reply;
       same_found = same_found;
       same_health = same_health;
-      clock = λ q json second old new came told o end askable none at is says. clock_prints laws json q second old new came told o end askable none at is says;
+      clock = clock_prints laws;
     }

@@ -41,12 +41,10 @@ returns g c =
       plausible = c.reached_law.ensures.keeps;
       stand = office.answers_stand;
       ranges = record { greatest = c.amount_law.ensures.greatest; prior = c.store_law.ensures.prior_range; purchase = c.purchase_law.ensures.computed };
-      meaning = c.conversation_law.ensures.meaning;
-      routed = c.route_law.ensures.one;
-      texts = c.reply_law.ensures;
+      own = c.ask_law.ensures.own;
+      meaning = c.meaning_law.ensures.one;
       dates = c.date_law.ensures;
       sent = question.sent;
-      means = question.means;
       outside = question.outside;
       alike = c.told_law.ensures.alike;
     } in

@@ -6,5 +6,5 @@ returns c =
     let plain = c.export_fields_law.ensures.plain in
     record {
       receipt = λ o s t is here there. receipt_names plain o s t is here there;
-      json = λ o s t is here there. json_names plain o s t is here there c.reply_law.ensures;
+      json = λ o s t is here there. json_names plain o s t is here there;
     }

@@ -1,4 +1,4 @@
-use Rattle.std.proofs.Common.{◌≡◌, ◌∙◌, ◌++◌, List, ℕ, ap}
+use Rattle.std.proofs.Common.{◌∙◌, ◌++◌, List, ℕ, ap}
 use Rattle.std.specs.Prelude.{codes}
 use Rattle.terminal_advice.proofs.DoubtLemmas.{doubt_taken}
 use Rattle.terminal_advice.proofs.doubt.put_doubt.Goals as goal

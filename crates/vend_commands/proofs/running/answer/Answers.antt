@@ -10,20 +10,11 @@ use Rattle.vend_commands.proofs.running.answer.Goals as goal
 pub returns-in-Serve : goal.returns-in-Serve
 returns-in-Serve g c =
     let store = over_files {g = g.M.Office.Medium.Disk} in
-    let m = machine_of c.args.ports c.run-in-Serve.result.back in
+    let m = machine_of c.args.ports c.run.result.back in
     let out = c.args.out.now in
-    let o = outputs out out c.args.err.now c.run-in-Serve.new.err in
-    done_so store m c.args.asked (asks.Serve c.in-Serve.words) o c.run-in-Serve.result.end c.in-Serve.is
-    ((c.leave-in-Serve.ensures, c.leave.ensures), (refl, c.run-in-Serve.ensures))
-
-pub returns-in-Report : goal.returns-in-Report
-returns-in-Report g c =
-    let store = over_files {g = g.M.Office.Medium.Disk} in
-    let m = machine_of c.args.ports c.run-in-Report.result.back in
-    let o = outputs c.args.out.now c.run-in-Report.new.out
-    c.args.err.now c.run-in-Report.new.err in
-    done_so store m c.args.asked (asks.Report c.in-Report.words) o c.run-in-Report.result.end c.in-Report.is
-    (((c.be_alone-in-Report.ensures.door, c.be_alone-in-Report.ensures.loopback), c.be_alone-in-Report.ensures.texts), c.run-in-Report.ensures)
+    let o = outputs out out c.args.err.now c.run.new.err in
+    done_so store m c.args.asked (asks.Serve c.in-Serve.words) o c.run.result.end c.in-Serve.is
+    ((c.leave-in-Serve.ensures, c.leave.ensures), (refl, c.run.ensures))
 
 pub returns-in-Meter : goal.returns-in-Meter
 returns-in-Meter g c =
@@ -58,13 +49,4 @@ returns-in-Audit g c =
     let o = outputs c.args.out.now c.run-in-Audit.new.out
     c.args.err.now c.run-in-Audit.new.err in
     done_so store m c.args.asked (asks.Audit c.in-Audit.words) o c.run-in-Audit.result.end c.in-Audit.is
-    (((c.be_alone-in-Audit.ensures.door, c.be_alone-in-Audit.ensures.loopback), c.be_alone-in-Audit.ensures.texts), c.run-in-Audit.ensures)
-
-pub returns-in-Desk : goal.returns-in-Desk
-returns-in-Desk g c =
-    let store = over_files {g = g.M.Office.Medium.Disk} in
-    let m = machine_of c.args.ports None in
-    let o = outputs c.args.out.now c.run-end-in-Desk.new.out
-    c.args.err.now c.run-end-in-Desk.new.err in
-    done_so store m c.args.asked (asks.Desk c.in-Desk.words) o c.run-end-in-Desk.result c.in-Desk.is
-    ((c.leave-in-Desk.ensures, refl), c.leave-in-Desk-2.ensures, c.run-end-in-Desk.ensures)
+    (((c.be_alone.ensures.door, c.be_alone.ensures.loopback), c.be_alone.ensures.texts), c.run-in-Audit.ensures)

@@ -1,7 +1,6 @@
 use Rattle.std.proofs.Common.{◌≡◌, ◌∙◌, ap, rules, sym}
 use Rattle.vend_ports.specs.Status.{status_of}
-use Rattle.vend_commands.proofs.RunLemmas.{asked_ends}
-use Rattle.vend_commands.proofs.SameLemmas.{run_same}
+use Rattle.vend_commands.proofs.RunLemmas.{asked_ends, run_same}
 use Rattle.vend_commands.proofs.UnwatchedLemmas.{run_of, writer_left}
 use Rattle.vend_commands.proofs.running.run.Goals as goal
 

@@ -1,17 +1,10 @@
 use Rattle.std.proofs.Common.{◌∙◌, refl, sym}
-use Rattle.desk_messages.specs.reply.SaleText.{IsTellableSale}
 use Rattle.desk_messages.proofs.SaleTextLemmas.{sale_text-made, sale_text-pieces}
 use Rattle.desk_messages.proofs.reply.sale_text.sale_text.Goals as goal
 
 pub returns : goal.returns
 returns c =
-    let told : IsTellableSale c.args.sale.now = record {
-      operator = c.as_bytes-2.ensures.rule;
-      order_ref = c.as_bytes-3.ensures.rule;
-      meter = c.as_bytes.ensures.rule;
-      digits = c.requires;
-    } in
-    let pieces = sale_text-pieces c.args.sale.now told _ _ _ _ _ _ _ _ _ _ _ _ _
+    let pieces = sale_text-pieces c.args.sale.now _ _ _ _ _ _ _ _ _ _ _ _ _
     (c.from.ensures ∙ c.year.ensures)
     (c.from-2.ensures ∙ c.change.ensures)
     c.as_bytes.ensures.view

@@ -11,7 +11,7 @@ pub returns-in-Some : goal.returns-in-Some
 returns-in-Some g c =
     let o = outputs c.args.out.now c.import_at.new.out
     c.args.err.now c.import_at.new.err in
-    timed (is_untouched g.H.OfficeFile c.args.office c.import_at.result.back × g.F.TextFiles.leaves _ c.args.texts) c.args.words.now.at
+    timed (is_untouched g.H.OfficeFile c.args.office c.import_at.result.back × g.F.TextFiles.leaves _ c.args.texts) c.args.file.now.at
     (dial_of g.C.Clock c.args.clock.now) c.moment_or_now.result c.in-Some.moment _ o c.import_at.result.end c.moment_or_now.ensures
     c.in-Some.is c.import_at.ensures
 
@@ -19,6 +19,6 @@ pub returns-in-None : goal.returns-in-None
 returns-in-None g c =
     let out = c.args.out.now in
     let o = outputs out out c.args.err.now c.put_no_moment.new.out in
-    untimed (is_untouched g.H.OfficeFile c.args.office None × g.F.TextFiles.leaves _ c.args.texts) c.args.words.now.at
+    untimed (is_untouched g.H.OfficeFile c.args.office None × g.F.TextFiles.leaves _ c.args.texts) c.args.file.now.at
     (dial_of g.C.Clock c.args.clock.now) c.moment_or_now.result _ o Refused c.moment_or_now.ensures c.in-None.is
     ((c.leave.ensures, refl), c.leave-in-None.ensures) (takes_none out, c.put_no_moment.ensures, refl)

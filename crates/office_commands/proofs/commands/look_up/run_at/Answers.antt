@@ -10,13 +10,13 @@ use Rattle.office_commands.proofs.commands.look_up.run_at.Goals as goal
 
 pub returns-in-Ok-There : goal.returns-in-Ok-There
 returns-in-Ok-There g c =
-    let at = places_of g.H.Medium.Disk g.H.Salts.SaltSource g.H.OfficeFile c.args.office None c.args.asked.now.file.now c.args.asked.now.wait in
+    let at = places_of g.H.Medium.Disk g.H.Salts.SaltSource g.H.OfficeFile c.args.office None c.args.file.now.path.now c.args.file.now.wait in
     let opened = subst (IsMet at (IsOpenedThere at Plain)) c.in-Ok-There.field-0-is c.in-Ok-There.ensures.met in
     present (visited c.in-Ok-There.books c.read-end.new.books opened.0 opened.1 c.read-end.ensures c.close_office-back.ensures)
 
 pub returns-in-Ok-NoOffice : goal.returns-in-Ok-NoOffice
 returns-in-Ok-NoOffice g c =
-    let at = places_of g.H.Medium.Disk g.H.Salts.SaltSource g.H.OfficeFile c.args.office None c.args.asked.now.file.now c.args.asked.now.wait in
+    let at = places_of g.H.Medium.Disk g.H.Salts.SaltSource g.H.OfficeFile c.args.office None c.args.file.now.path.now c.args.file.now.wait in
     vacant (subst (IsMet at (IsOpenedThere at Plain)) c.in-Ok-NoOffice.field-0-is c.in-Ok-NoOffice.ensures.met) c.read_empty-end.ensures
 
 pub returns : goal.returns

@@ -1,15 +1,9 @@
-use Rattle.std.proofs.Common.{Ok, Err, inl, refl, subst}
+use Rattle.std.proofs.Common.{inl, refl}
 use Rattle.book_facts.specs.Lookups.{IsOfRules}
-use Rattle.book_facts.specs.LookupsSeen.{IsFoundSeen}
-use Rattle.book_facts.specs.LookupsSpoilt.{LookupSpoilt}
-use Rattle.book_states.specs.declared.lookup.Lookup.{Lookup}
 use Rattle.books.specs.Keeps.{health_of, seen}
-use Rattle.books.specs.Looking.{IsFoundAt}
-use Rattle.desk_commands.specs.print.Pages.{page_lookup}
 use Rattle.office_commands.proofs.ListingLemmas.{any_refusal, page_found, page_refusal, page_shown, seen_refusal}
 use Rattle.office_commands.proofs.OnlyReadLemmas.{read_once}
 use Rattle.office_commands.proofs.RefusedLemmas.{fails_only, stopped_as_before, tells_no_memory, tells_refusal}
-use Rattle.office_commands.specs.office.Refused.{FailsOnlyFor}
 use Rattle.vend_ports.proofs.TakeLemmas.{takes_none}
 use Rattle.office_commands.proofs.office.listing.print_page.Goals as goal
 
@@ -18,34 +12,25 @@ returns-in-Err-clause-page g c =
     let old = seen c.args.books.now in
     let new = seen c.look_up.new.self in (
       takes_none c.args.out.now,
-      λ clean life kept.
-          let found = subst (λ (lookup : Lookup). IsFoundAt life c.args.moment lookup (Err c.in-Err.refusal)) {y = page_lookup c.args.list}
-          c.page_lookup.ensures (c.in-Err.ensures.says.of_life clean life kept) in
-          page_refusal life c.args.moment c.args.list c.in-Err.refusal found,
-      λ clean tables.
+      λ is clean life kept.
+          page_refusal life c.args.moment c.args.list c.in-Err.refusal is (c.in-Err.ensures.says.of_life clean life kept),
+      λ is clean tables.
           any_refusal old new c.in-Err.refusal
           (tells_refusal old new c.in-Err.refusal (c.in-Err.ensures.says.reads.stopped, c.in-Err.ensures.says.reads.stops))
           (λ runs.
-          let found = subst (λ (lookup : Lookup). IsFoundSeen (health_of old) c.args.moment lookup old.state.now (Err c.in-Err.refusal))
-          {y = page_lookup c.args.list} c.page_lookup.ensures (c.in-Err.ensures.says.reads.seen clean tables runs) in
-          seen_refusal (health_of old) c.args.moment old.state.now c.args.list c.in-Err.refusal found),
+          seen_refusal (health_of old) c.args.moment old.state.now c.args.list c.in-Err.refusal is
+          (c.in-Err.ensures.says.reads.seen clean tables runs)),
       tells_refusal old new c.in-Err.refusal (c.in-Err.ensures.says.reads.stopped, c.in-Err.ensures.says.reads.stops),
-      subst (λ (lookup : Lookup). FailsOnlyFor (LookupSpoilt c.args.moment lookup) old new c.in-Err.refusal) {y = page_lookup c.args.list}
-          c.page_lookup.ensures (fails_only IsOfRules old new c.in-Err.refusal (λ own. own.not_store refl) c.in-Err.ensures.says.reads.failures),
+      fails_only IsOfRules old new c.in-Err.refusal (λ own. own.not_store refl) c.in-Err.ensures.says.reads.failures,
     )
 
 pub returns-in-Ok-put_page-clause-page : goal.returns-in-Ok-put_page-clause-page
 returns-in-Ok-put_page-clause-page g c = (
   c.in-Ok.page,
-  λ clean life kept.
-      let found = subst (λ (lookup : Lookup). IsFoundAt life c.args.moment lookup (Ok c.in-Ok.page)) {y = page_lookup c.args.list}
-      c.page_lookup.ensures (c.in-Ok.ensures.says.of_life clean life kept) in
-      page_found life c.args.moment (page_lookup c.args.list) c.in-Ok.page found,
+  λ clean life kept. page_found life c.args.moment c.args.list c.in-Ok.page (c.in-Ok.ensures.says.of_life clean life kept),
   λ clean tables runs.
       let old = seen c.args.books.now in
-      let found = subst (λ (lookup : Lookup). IsFoundSeen (health_of old) c.args.moment lookup old.state.now (Ok c.in-Ok.page))
-      {y = page_lookup c.args.list} c.page_lookup.ensures (c.in-Ok.ensures.says.reads.seen clean tables runs) in
-      page_shown (health_of old) c.args.moment old.state.now c.args.list c.in-Ok.page found,
+      page_shown (health_of old) c.args.moment old.state.now c.args.list c.in-Ok.page (c.in-Ok.ensures.says.reads.seen clean tables runs),
   c.in-Ok-put_page.ensures.0,
   c.in-Ok-put_page.ensures.1,
   stopped_as_before (seen c.args.books.now) (seen c.look_up.new.self) c.in-Ok.page (c.in-Ok.ensures.says.reads.stopped, c.in-Ok.ensures.says.reads.stops),
@@ -56,8 +41,8 @@ returns-clause-page g c =
     let old = seen c.args.books.now in
     let new = seen c.look_up.new.self in (
       c.in-Err-put_page.ensures,
-      λ clean life kept. inl refl,
-      λ clean tables. inl refl,
+      λ is clean life kept. inl refl,
+      λ is clean tables. inl refl,
       tells_no_memory old new c.in-Ok.page (c.in-Ok.ensures.says.reads.stopped, c.in-Ok.ensures.says.reads.stops),
       λ clean tables running is. absurd cc,
     )

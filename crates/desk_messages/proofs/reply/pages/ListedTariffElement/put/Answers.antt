@@ -3,11 +3,11 @@ use Rattle.desk_messages.proofs.reply.pages.ListedTariffElement.put.Goals as goa
 
 pub returns : goal.returns
 returns c =
-    tariff-made c.args.self.now c.as_bytes.ensures.rule c.put_steps.ensures.steps _ _ _ _ _ _ _ _ _ _
+    tariff-made c.args.self.now _ _ _ _ _ _ _ _ _ _
     c.deref.ensures.value
     c.as_bytes.ensures.view
     c.in_ok-extend_from_slice.ensures.items
-    c.in_ok-put_array.ensures
+    c.in_ok-put_list.ensures
     c.in_ok-extend_from_slice-2.ensures.items
     c.in_ok-extend_from_slice-3.ensures.items
     c.in_ok-extend_from_slice-4.ensures.items

@@ -1,0 +1,11 @@
+pub mod ApartLemmas
+pub mod BodyLemmas
+pub mod LawLemmas
+pub mod OwnLemmas
+pub mod PartLemmas
+pub mod PlaceLemmas
+pub mod ReadingLemmas
+pub mod StepsLemmas
+pub mod ValueLemmas
+pub mod WitnessLemmas
+pub mod WritingLemmas

@@ -1,7 +1,0 @@
-use Rattle.desk_messages.proofs.BodyLemmas.{count_is}
-use Rattle.serde_json.specs.View.{view}
-use Rattle.desk_messages.proofs.json_body.value.has_count.Goals as goal
-
-pub returns-in-Some : goal.returns-in-Some
-returns-in-Some c =
-    count_is (view c.args.value.now) c.in-Some.members.now.entries c.len.result c.args.count c.in-Some.ensures c.len.ensures.len

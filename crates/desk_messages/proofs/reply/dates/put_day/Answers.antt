@@ -1,7 +1,0 @@
-use Rattle.std.proofs.Common.{arith, append_assoc}
-use Rattle.sts_fields.specs.Day.{iso_date}
-use Rattle.desk_messages.proofs.reply.dates.put_day.Goals as goal
-
-pub returns-clause-text : goal.returns-clause-text
-unfolding iso_date
-returns-clause-text c = grind (arith, append_assoc)

@@ -1,2 +1,0 @@
-pub mod Endpoint
-pub mod Route
