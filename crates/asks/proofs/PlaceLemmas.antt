@@ -44,6 +44,7 @@ pub end_rest : (end : List ℕ) → IsRest (end_text end)
 end_rest [] = tt
 end_rest (b ∷ words) = refl
 
+-- so is what the places behind it are told by
 pub places_rest : (places : List Place) (end : List ℕ) (values : List Value) → IsRest (places_text places end values)
 places_rest [] end values = end_rest end
 places_rest (p ∷ places) end [] = end_rest end

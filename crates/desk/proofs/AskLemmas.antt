@@ -19,14 +19,17 @@ use Rattle.desk_messages.specs.declared.reply.outcome.Outcome.TheVariants as out
 use Rattle.desk.specs.Answering.{IsServed, Serving}
 
 module _ {O : Type 0} (serves : Serving O) (moment : ℕ) (ask : Ask) (old new : O) where
+  -- a request, on JSON
   pub served_do : (request : Request) (reply : Result Answer Refusal) → ask ≡ asks.Do request → serves.replies moment request reply old new
       → IsServed serves moment ask (Replied Json reply) old new
   served_do request reply same is = subst (λ a. IsServed serves moment a (Replied Json reply) old new) (sym same) (reply, refl, is)
 
+  -- a reprint, on paper
   pub served_receipt : (sale : ℕ) (reply : Result Answer Refusal) → ask ≡ asks.Receipt sale
       → serves.replies moment (requests.Reprint sale) reply old new → IsServed serves moment ask (Replied Paper reply) old new
   served_receipt sale reply same is = subst (λ a. IsServed serves moment a (Replied Paper reply) old new) (sym same) (reply, refl, is)
 
+  -- a look-up, in its form
   pub served_look : (lookup : Lookup) (form : Form) (found : Result Found Refusal) → ask ≡ asks.Look lookup → form ≡ lookup_form lookup
       → serves.finds moment lookup found old new → IsServed serves moment ask (outcomes.Found form found) old new
   served_look lookup form found same told is =
@@ -34,6 +37,7 @@ module _ {O : Type 0} (serves : Serving O) (moment : ℕ) (ask : Ask) (old new :
 
 -- a file that reads as rows is imported
 module _ {O : Type 0} (serves : Serving O) (moment : ℕ) (kind : FileKind) (csv : List ℕ) (read : Result (List Row) RowFault) (is : AreRead kind csv read) where
+  -- its rows are handed to the office
   pub imported : (rows : List Row) (reply : Result Answer Refusal) (old new : O) → read ≡ Ok rows
       → serves.replies moment (requests.Import rows) reply old new → IsServed serves moment (asks.Import kind csv) (Replied Json reply) old new
   imported rows reply old new same replies = (Ok rows, subst (λ r. AreRead kind csv r) same is, (reply, refl, replies))

@@ -118,6 +118,7 @@ one_fault m now faults.Body faults.Body x y = refl
 abbrev AsksOne : Type 0
 AsksOne = (m : Message) (a b : Ask) → Asks m a → Asks m b → a ≡ b
 
+-- so it has one meaning, where no memory lacks
 pub one_meaning : AsksOne → (m : Message) (now : Option ℤ) (a b : Meaning) → IsMeaning m now a → IsMeaning m now b
     → a ≢ meanings.Memory → b ≢ meanings.Memory → a ≡ b
 one_meaning one m now (meanings.Asks moment a) (meanings.Asks later b) x y u v =
@@ -155,6 +156,7 @@ one_reading are kind records (Err (row_faults.At n c)) (Err row_faults.Memory) x
     absurd (v refl)
 one_reading are kind records (Err row_faults.Memory) b x y u v = absurd (u refl)
 
+-- its bytes are read in one way
 pub one_rows : FilesAreOne → (kind : FileKind) (csv : List ℕ) (a b : Result (List Row) RowFault) → AreRead kind csv a → AreRead kind csv b
     → a ≢ Err row_faults.Memory → b ≢ Err row_faults.Memory → a ≡ b
 one_rows are kind csv a b x y u v =

@@ -27,6 +27,7 @@ inserted (Ok scan) kind old new u is = is.1
 inserted (Err error) kind old new u (same, inl e) = absurd (cc)
 inserted (Err error) kind old new u (same, inr e) = absurd (cc)
 
+-- so the pattern of a kind leaves its row in the table
 pub with_inserted : (pattern : List ℕ) (kind : AskKind) (old new : Table) (u : Unit {0}) → pattern ≡ pattern_of kind
     → InsertsRead (parse_route pattern) kind old new (Ok u) → new ≡ with_kind old kind
 with_inserted pattern kind old new u same is =

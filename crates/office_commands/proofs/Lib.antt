@@ -1,4 +1,3 @@
-pub mod AtFileLemmas
 pub mod AuditLemmas
 pub mod ClosingLemmas
 pub mod ExportLemmas

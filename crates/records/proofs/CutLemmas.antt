@@ -6,6 +6,7 @@ use Rattle.std.proofs.lemmas.List.{take-append-drop, take_all}
 use Rattle.std.proofs.lemmas.List.Elements.{recursion_from_All}
 
 module _ (test : ℕ → Bool) (inside outside : Bool) (apart : inside ≢ outside) where
+  -- so the fronts are the same, and what follows them
   pub cut : (a b : List ℕ) (c d : ℕ) (x y : List ℕ) → AllByRecursion (λ n. test n ≡ inside) a → AllByRecursion (λ n. test n ≡ inside) b
       → test c ≡ outside → test d ≡ outside → a ++ (c ∷ x) ≡ b ++ (d ∷ y) → (a ≡ b) × (c ∷ x ≡ d ∷ y)
   cut [] [] c d x y la lb u v e = (refl, e)

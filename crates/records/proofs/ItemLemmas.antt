@@ -5,12 +5,8 @@ use Rattle.std.specs.Prelude.{All, slice_index}
 use Rattle.std.specs.List.{AllByRecursion}
 use Rattle.std.proofs.lemmas.List.{append_cancel_left, map-append}
 use Rattle.std.proofs.lemmas.List.Elements.{All-push}
-use Rattle.records.specs.Cell.{Held}
-use Rattle.records.specs.Column.{AreColumns, IsNamed}
 use Rattle.records.specs.Front.{IsFrontItem}
 use Rattle.records.specs.List.{AreReadInOneWay, items_text}
-use Rattle.records.specs.Record.{record_text}
-use Rattle.records.proofs.MemberLemmas.{one_value}
 
 -- each text with a comma behind it, and then the rest
 abbrev pub led : List (List ℕ) → List ℕ → List ℕ
@@ -87,6 +83,7 @@ module _ {A : Type 0} (text_of : A → List ℕ) where
       so ∙ ap (led (map text_of xs)) (found ∙ ap (λ (b : List ℕ). text_of x ++ b) bracket)
       ∙ led-closed (map text_of xs) (text_of x) after ∙ ap (λ (ts : List (List ℕ)). items_text false ts ++ after) (texts-push xs x pushed is)
 
+-- lists that begin alike go on alike, and with one head each
 pub tails : (a b : ℕ) (x y : List ℕ) → a ∷ x ≡ b ∷ y → x ≡ y
 tails a b x y e = cc
 
@@ -164,12 +161,3 @@ module _ {A : Type 0} (is_told : A → Type 0) (text_of : A → List ℕ) (way :
   neither item rest after told is comma bracket v [] more tv e = bracket more (behind item v after (93 ∷ more) told tv (sym is ∙ e))
   neither item rest after told is comma bracket v (w ∷ ws) more tv e =
       comma (text_of w ++ behind_first (map text_of ws) more) (behind item v after (behind_first (map text_of (w ∷ ws)) more) told tv (sym is ∙ e))
-
--- records are read in one way
-pub in_one_way : {A : Type 0} (keep : A → Type 0) (cells_of : A → List Held) (names : List (List ℕ)) → AreColumns keep cells_of
-    → AreReadInOneWay (IsNamed keep cells_of names) (λ a. record_text names (cells_of a))
-in_one_way keep cells_of names columns = record {
-  one = λ a b rest more is are e.
-      ap (λ c. record_text names (cells_of c)) (one_value keep cells_of columns names a b rest more is are e).0;
-  braced = λ a is. refl;
-}

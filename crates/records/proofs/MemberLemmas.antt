@@ -14,6 +14,7 @@ use Rattle.records.proofs.ReadLemmas.{behind_named, one_rest, tails}
 abbrev pub others : List (Bor (List ℕ)) → List (Bor (List ℕ))
 others names = take (length names - 1) (drop 1 names)
 
+-- they are the rest of the list
 pub others-cons : (n : Bor (List ℕ)) (ns : List (Bor (List ℕ))) → others (n ∷ ns) ≡ ns
 others-cons n ns = take_all (length (n ∷ ns) - 1) ns (omega arith)
 
@@ -62,11 +63,6 @@ one_record names cells told rest more fits fit e =
     (tails 123 123 (members_text false names cells ++ rest) (members_text false names told ++ more) e)
 
 -- ---- values
-
--- a brace alone is written where there is no cell
-pub no_members : (later : Bool) (names : List (List ℕ)) → members_text later names [] ≡ 125 ∷ []
-no_members later [] = refl
-no_members later (n ∷ names) = refl
 
 module _ {A : Type 0} (keep : A → Type 0) (cells_of : A → List Held) (columns : AreColumns keep cells_of) where
   -- values by their rules have a record

@@ -22,6 +22,7 @@ quoted_cell whole quoted None is h = λ cell rest tellable begins e. no_quoted q
 abbrev pub behind_named : Bool → List ℕ → List ℕ → List ℕ
 behind_named later name rest = comma_if later ++ (in_quotes name ++ (58 ∷ rest))
 
+-- lists that are the same with a head each are the same behind it
 pub tails : (a b : ℕ) (x y : List ℕ) → a ∷ x ≡ b ∷ y → x ≡ y
 tails a b x y e = cc
 

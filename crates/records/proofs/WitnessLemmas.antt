@@ -16,13 +16,16 @@ abbrev pub One : Type 0
 One = (names : List (List ℕ)) (cells others : List Held) (rest more : List ℕ) → Fits names cells → Fits names others
     → record_text names cells ++ rest ≡ record_text names others ++ more → (cells ≡ others) × (rest ≡ more)
 
+-- ... and that the text is JSON of the record's members
 abbrev pub AsJson : Type 0
 AsJson = (names : List (List ℕ)) (cells : List Held) → AllByRecursion IsPlain names → rise names ≡ true → Fits names cells
     → read (record_text names cells) ≡ Some (record_data names cells)
 
+-- a record of one number
 abbrev pub shift_names : List (List ℕ)
 shift_names = codes "shift" ∷ []
 
+-- its text
 abbrev pub shift_text : ℕ → List ℕ
 shift_text n = record_text shift_names (number n ∷ [])
 

@@ -92,6 +92,7 @@ pub record IsAnswered (o : Outputs) (end : CommandEnd) : Type 0 where
 
 -- ---- what is told
 
+-- what is told goes out by one writer each
 pub told_same : (o : Outputs) (text errors : Text) (meant end : CommandEnd) → IsTold o text errors meant end → AreSame o
 told_same o text errors meant end (put, told, is) = record { out = put.same; err = told.same }
 
@@ -107,6 +108,7 @@ told_answered o text errors meant end low told =
 done : (o : Outputs) (text errors : Text) (end : CommandEnd) → IsTold o text errors how.Done end → IsAnswered o end
 done o text errors end told = told_answered o text errors how.Done end (omega arith) told
 
+-- a refusal ends with 1
 pub refused : (o : Outputs) (text errors : Text) (end : CommandEnd) → IsTold o text errors how.Refused end → IsAnswered o end
 refused o text errors end told = told_answered o text errors how.Refused end (omega arith) told
 
