@@ -4,8 +4,8 @@ tools/check_pages. It is no script of its own.
 A small name in square brackets is a clause; behind the name of a law it is a clause of that law, or a field of a
 record that the law's contract names. A small name in round brackets is a definition, a function, a field, a lemma or
 a crate. A capitalised name is a definition or a type of this repository, a module of definitions or lemmas, or one of
-the toolchain, and then the page says so. A pair `CRATE/EDIT` is an edit, and so is each name under 'Wrong bodies' on
-a crate's page.
+the toolchain, and then the page says so. A pair `CRATE/EDIT` is an edit, and so is each name under
+'Wrong implementations' on a crate's page.
 
 CONTRIBUTING.md shows a whole change, and docs/DEVELOPING.md lists the files of such a change and the idioms of proofs:
 each line stands in its file, each file is in the list, and each idiom has its example."""
@@ -113,7 +113,7 @@ def wrong_names(texts):
             if not (word in OTHERS or word in sources.crates or word in sources.fields or sources.is_name(word)
                     or word in sources.contracts or word in sources.lemmas):
                 yield f"{page}: ({word}) is nothing that the crates have"
-        for names in re.findall(r"\[Wrong bodies\]\([^)]*\): ([^\n]*?)\.(?: |$)", whole, ):
+        for names in re.findall(r"\[Wrong implementations\]\([^)]*\): ([^\n]*?)\.(?: |$)", whole, ):
             for edit in quoted(names):
                 count += 1
                 if edit not in sources.edits:
