@@ -1,5 +1,5 @@
-"""Each row of the tables of docs/COMMANDS.md, and the bounds of docs/OFFICE.md, beside the program: a part of
-tools/check_pages. It is no script of its own.
+"""Each row of the tables of docs/COMMANDS.md and docs/AUDIT.md, and the bounds of docs/OFFICE.md, beside the program:
+a part of tools/check_pages. It is no script of its own.
 
 Most rows are run here. A row that takes more than a run names the script that runs it (`ELSEWHERE`), in which the
 named text has to stand. A row that is neither is wrong."""
@@ -15,10 +15,10 @@ import audited_offices
 from help_texts import helps_of
 from page_bounds import check_bounds
 from program import AT, KEY, METER, NO_METER, RECEIPT, SPENT, TOP, VEND, begin_desk, change, expect, prepare, vend
-from shared import back_to, quoted, rows_of_page, same, wrong
+from shared import FORMAT, back_to, quoted, rows_of_page, same, tables_of, wrong
 from shut_offices import check_shut
 
-PAGE = "COMMANDS.md"
+PAGE, AUDIT_PAGE = "COMMANDS.md", "AUDIT.md"
 FAR = "20000000008"
 # Half a year after the last identifier under the base date 1993.
 SPENT_AT = "1750000000"
@@ -326,15 +326,43 @@ def check_spreadsheets(offices):
     return len(rows)
 
 
+STEPS = ["each row alone", "rows together", "totals", "requests", "requests, sale by sale", "with `--transform`",
+         "stored without its last column"]
+
+
 def order_of_page():
     """The places of the page's order: sets of a table and a rule that are looked at together."""
-    places = []
-    for step, tables, rules in rows_of_page(PAGE, "Step", "Tables", "Rules"):
+    places, lines = [], rows_of_page(AUDIT_PAGE, "Step", "Tables", "Rules")
+    same([step for step, *_ in lines if step], STEPS, f"docs/{AUDIT_PAGE}: the steps of an audit")
+    for step, tables, rules in lines:
         if step in ("each row alone", "requests, sale by sale"):
             places += [{(table, rule) for rule in quoted(rules)} for table in quoted(tables)]
         else:
             places += [{(table, rule)} for table in quoted(tables) for rule in quoted(rules)]
+    # No file that opens breaks `twice`, so that no audit shows where it stands in the order.
+    same({table for place in places for table, rule in place if rule == "twice"},
+         {*tables_of(FORMAT)} - {"about", "shifts"}, f"docs/{AUDIT_PAGE}: the tables with the rule `twice`")
     return places
+
+
+def check_audit_lines(offices):
+    """Each line of which the page says that an audit prints it, with its status."""
+    whole, stranger = offices.new(), offices.new()
+    prepare(whole)
+    expect(vend(*sell(str(whole), "A-1")), 0, RECEIPT)
+    change(stranger, "CREATE TABLE notes (text TEXT);")
+    sound = "sound format 4 tariffs 1 meters 2 shifts 1 sales 1"
+    runs = {
+        sound: (whole, f"{sound}\n", ""),
+        "broken TABLE ROW RULE": (offices.copy("UPDATE sales SET month = 9;"), "broken sales 1 month\n", ""),
+        "no office": (stranger, "no office\n", ""),
+        "file": ("none.db", "", "file\n"),
+    }
+    rows = rows_of_page(AUDIT_PAGE, "It prints", "Status", "What it means")
+    same([quoted(cell)[0] for cell, *_ in rows], [*runs], f"docs/{AUDIT_PAGE}: what an audit prints")
+    for (_, status, _), (file, out, err) in zip(rows, runs.values()):
+        expect(vend("audit", "--file", str(file)), int(status), out.encode(), err.encode())
+    return len(rows)
 
 
 def check_audits(offices):
@@ -344,12 +372,12 @@ def check_audits(offices):
         table, *_, rule = found.split()
         if (table, rule) not in places[at]:
             later = [place for place in range(at, len(places)) if (table, rule) in places[place]]
-            at = later[0] if later else wrong(f"docs/{PAGE}: an audit finds {found} later than the page says")
-    rules = [quoted(cell)[0] for cell, _ in rows_of_page(PAGE, "Rule", "What is wrong with the row")]
+            at = later[0] if later else wrong(f"docs/{AUDIT_PAGE}: an audit finds {found} later than the page says")
+    rules = [quoted(cell)[0] for cell, _ in rows_of_page(AUDIT_PAGE, "Rule", "What is wrong with the row")]
     ways = {}
     for text, found in audited_offices.SPOILT + audited_offices.FORGED:
         ways.setdefault(found.split()[-1], (text, found))
-    same({*rules}, {*ways, "twice"}, f"docs/{PAGE}: the rules that are broken")
+    same({*rules}, {*ways, "twice"}, f"docs/{AUDIT_PAGE}: the rules that are broken")
     whole = offices.folder / "full.db"
     audited_offices.full_office(whole, offices.folder)
     for rule in rules:
@@ -490,8 +518,8 @@ def log_of_desk(file):
         process.communicate()
 
 
-PARTS = (check_commands, check_strangers, check_columns, check_statuses, check_refusals, check_causes, check_audits,
-         check_limits, check_examples, check_spreadsheets)
+PARTS = (check_commands, check_strangers, check_columns, check_statuses, check_refusals, check_causes,
+         check_audit_lines, check_audits, check_limits, check_examples, check_spreadsheets)
 
 
 def check_page_rows(folder):
@@ -499,6 +527,6 @@ def check_page_rows(folder):
     offices = Offices(folder)
     count = sum(check(offices) for check in PARTS)
     values = check_bounds(offices)
-    print(f"docs/{PAGE}, TEXTS.md: {count} rows of tables and examples run; "
+    print(f"docs/{PAGE}, {AUDIT_PAGE}, TEXTS.md: {count} rows of tables and examples run; "
           f"docs/OFFICE.md: {values} values at its bounds and beyond")
     check_shut(folder)
