@@ -1,7 +1,7 @@
 mod AgainLemmas
 mod AskedLemmas
 mod AtDeskLemmas
-mod CourseLemmas
+pub mod CourseLemmas
 mod DeskLemmas
 mod FoundLemmas
 mod KeyedLemmas
