@@ -1,5 +1,5 @@
 -- A conversation over a life, and the requests that its messages asked.
-use Rattle.std.proofs.Common.{◌≡◌, ◌∙◌, ◌⊎◌, ◌++◌, ℕ, ℤ, List, [], Option, Some, inl, inr, subst, sym, refl}
+use Rattle.std.proofs.Common.{◌≡◌, ◌∙◌, ◌⊎◌, ◌++◌, ℕ, ℤ, List, [], Option, Some, inl, inr, subst, sym}
 use Rattle.sqlite.specs.State.{HasCleanDisk}
 use Rattle.books.specs.Keeps.{Represents, Seen}
 use Rattle.conversation.proofs.WiderLemmas.{run_wider, unclocked}
@@ -17,6 +17,7 @@ use Rattle.office_rules.specs.Office.{empty_office}
 use Rattle.sts_token.specs.Token.{BlockFunction}
 use Rattle.vend_core.specs.Law.Life.{Life}
 use Rattle.vend_core.specs.Law.LifeLaws.{opened}
+use Rattle.program_laws.proofs.CourseLemmas.{exchanged_opening}
 use Rattle.law_witnesses.specs.Talks.{IsTalk}
 
 -- a life goes on along a conversation by what its messages asked
@@ -40,7 +41,7 @@ module _ (law : GoesAlong) (forward : BlockFunction) (answers : Option (List ℤ
           forward = forward;
           life = new.0;
           goes = along.2;
-          keeps = record { led = refl; kept = kept; clean = clean };
+          keeps = record { led = exchanged_opening (opened forward empty_office, answers) new xs s.conversation.served; kept = kept; clean = clean };
         },
         s.written ∙ s.conversation.text_is,
       )
