@@ -123,6 +123,7 @@ def wrong_names(texts):
             if edit not in sources.edits:
                 yield f"{page}: {edit} is no edit"
     yield from wrong_witnesses()
+    yield from lost_clauses(texts["docs/PROMISE.md"])
     yield from missing_files()
     yield from wrong_change(texts["CONTRIBUTING.md"], texts["docs/DEVELOPING.md"])
     yield from missing_examples()
@@ -153,6 +154,18 @@ def wrong_witnesses():
         for name in quoted(witness):
             if name not in known:
                 yield f"docs/PROMISE.md: {name} is no witness in PROVED.md: {promise}"
+
+
+def lost_clauses(text):
+    """Each clause that docs/PROMISE.md names behind a law's link is in the file of the law's clauses: where the page
+    has none for the law, in the file to which the link leads."""
+    link = re.compile(r"\]\(([^)]*)\)")
+    files = {quoted(law)[0]: link.findall(cell)
+             for law, cell in rows_of_page("PROMISE.md", "Law or function", "The file of its clauses") if quoted(law)}
+    for law, path, clauses in re.findall(r"\[`(\w+)`\]\(([^)]*)\) \[(`[^\]]*)\]", text):
+        there = "".join((TOP / "docs" / file).read_text(encoding="utf-8") for file in files.get(law, [path]))
+        yield from (f"docs/PROMISE.md: {clause} of {law} is not in the file to which the page leads"
+                    for clause in quoted(clauses) if not re.search(rf"\b(pub|ensures) {clause} ", there))
 
 
 def change_shown(text):
