@@ -14,12 +14,31 @@ COLUMNS = ("Line", "What is in the way", "What opens it again")
 # What brings each row about, by what the page says of it. `name` stands for a name, here and there.
 STATEMENTS = {
     "`auto_vacuum`": ("PRAGMA auto_vacuum=1; VACUUM;", "PRAGMA auto_vacuum=2; VACUUM;"),
-    "a trigger on a table of the office": ("CREATE TRIGGER name AFTER INSERT ON sales BEGIN SELECT 1; END;",),
+    "a trigger on a table of the office, or on any view": (
+        "CREATE TRIGGER name AFTER INSERT ON sales BEGIN SELECT 1; END;",
+        *(f"{view} CREATE TRIGGER name INSTEAD OF INSERT ON other BEGIN SELECT 1; END;" for view in (
+            "CREATE VIEW other AS SELECT * FROM sales;",
+            "CREATE TABLE mine (word TEXT); CREATE VIEW other AS SELECT * FROM mine;"))),
+    "a view with SQL that `vend` does not read, such as `OVER`, `FILTER`, `GLOB`, `ESCAPE`, `NATURAL JOIN`, "
+    "`RIGHT JOIN`, `VALUES`, `MATERIALIZED`, `->>` or `json_each`": tuple(f"CREATE VIEW name AS {it};" for it in (
+        "SELECT number, row_number() OVER () FROM sales",
+        "SELECT count(*) FILTER (WHERE price > 5) FROM sales",
+        "SELECT * FROM sales WHERE ref GLOB 'A*'",
+        "SELECT * FROM sales WHERE ref LIKE 'A%' ESCAPE '!'",
+        "SELECT * FROM sales NATURAL JOIN last_ids",
+        "SELECT * FROM sales RIGHT JOIN meters ON meters.meter = sales.meter",
+        "VALUES (1)",
+        "WITH some AS MATERIALIZED (SELECT * FROM sales) SELECT * FROM some",
+        "SELECT '{}' ->> 'word'",
+        "SELECT value FROM json_each('[1]')")),
     "a virtual table, as of FTS or R-tree": tuple(
         f"CREATE VIRTUAL TABLE name USING {it};" for it in ("fts4(word)", "fts5(word)", "rtree(id, low, high)")),
-    "an index with `WHERE` on a table of the office": ("CREATE INDEX name ON sales (meter) WHERE tender > 5;",),
-    "another index on a table of the office": ("CREATE INDEX name ON sales (meter);",
-                                               "CREATE UNIQUE INDEX name ON meters (meter, tariff);"),
+    "an index with `WHERE`, or on an expression, on a table of the office": (
+        "CREATE INDEX name ON sales (meter) WHERE tender > 5;", "CREATE INDEX name ON sales (lower(ref));",
+        "CREATE INDEX name ON sales (price + 1);"),
+    "another index on a table of the office, of columns alone": (
+        "CREATE INDEX name ON sales (meter);", "CREATE UNIQUE INDEX name ON meters (meter, tariff);",
+        "CREATE INDEX name ON sales (ref COLLATE NOCASE, number DESC);"),
     "a column more": ("ALTER TABLE sales ADD COLUMN name TEXT;",),
     "a table of the office has another name": ("ALTER TABLE sales RENAME TO name;",),
     "a table of yours with a foreign key to one of the office's": (
@@ -27,7 +46,15 @@ STATEMENTS = {
 }
 LEAVE_OPEN = (
     "VACUUM;", "ANALYZE;", "REINDEX;", "PRAGMA journal_mode=DELETE; PRAGMA page_size=8192; VACUUM;",
-    "CREATE VIEW name AS SELECT * FROM sales;", "CREATE TABLE name (word TEXT); CREATE INDEX other ON name (word);",
+    "CREATE VIEW name AS SELECT * FROM sales;",
+    "CREATE VIEW name AS SELECT sales.meter, sum(price) FROM sales JOIN meters ON meters.meter = sales.meter "
+    "LEFT JOIN shifts ON shifts.number = sales.shift WHERE price > 0 GROUP BY sales.meter ORDER BY sales.meter;",
+    "CREATE VIEW name AS SELECT number, CASE WHEN price < 5 THEN 0 ELSE 1 END FROM sales "
+    "UNION SELECT number, 2 FROM shifts;",
+    "CREATE TABLE name (word TEXT); CREATE INDEX other ON name (word);",
+    "CREATE TABLE name (word TEXT); CREATE INDEX other ON name (lower(word)) WHERE word > 'a';",
+    "CREATE TABLE name (id INTEGER PRIMARY KEY); CREATE TABLE other (of REFERENCES name); INSERT INTO name VALUES (7); "
+    "INSERT INTO other VALUES (7);",
     "CREATE TABLE name (word TEXT); CREATE TRIGGER other AFTER INSERT ON name BEGIN SELECT 1; END;",
 )
 COPIES = (".backup {}", ".clone {}", "VACUUM INTO '{}';")
@@ -103,6 +130,16 @@ def try_journal(trial, line, cure):
     trial.is_open("a journal")
 
 
+def try_orphan(trial, line, cure):
+    change(trial.file, "CREATE TABLE name (id INTEGER PRIMARY KEY); CREATE TABLE other (of REFERENCES name); "
+                       "INSERT INTO other VALUES (7);")
+    trial.is_shut(line)
+    with contextlib.closing(sqlite3.connect(trial.file, isolation_level=None)) as base:
+        for table, row, *_ in base.execute(cure).fetchall():
+            base.execute(f"DELETE FROM {table} WHERE rowid = {row}")
+    trial.is_open("a row without its parent")
+
+
 def try_dump(trial, line):
     dump = subprocess.run(["sqlite3", trial.file, ".dump"], capture_output=True, text=True, check=True).stdout
     trial.is_open("a dump", trial.made_of(dump))
@@ -122,11 +159,14 @@ def check_shut(folder):
         "a desk, a command, or a `sqlite3` that is still open has the file": try_use,
         "the file has a second hard link": try_link,
         "`office.db-journal`, which a killed `sqlite3` left": try_journal,
+        "a row of a table of yours breaks a foreign key of that table": try_orphan,
         "the file was made of a dump without `STRICT`": try_dump,
     }
     for line, what, cure in rows_of_page("OPENING.md", *COLUMNS):
         line = quoted(line)[0]
         if what in STATEMENTS:
+            unseen = [it for it in quoted(what) if what.startswith("a view") and it not in " ".join(STATEMENTS[what])]
+            same(unseen, ["vend"] * len(unseen), "docs/OPENING.md: parts of SQL in views that are not tried")
             for text in STATEMENTS[what]:
                 trial.renew()
                 change(trial.file, text)
@@ -135,7 +175,7 @@ def check_shut(folder):
                 trial.is_open(text)
         elif what in ways:
             trial.renew()
-            ways[what](trial, line, *([quoted(cure)[0]] if ways[what] is try_journal else []))
+            ways[what](trial, line, *([quoted(cure)[0]] if ways[what] in (try_journal, try_orphan) else []))
         elif what == "a table of the office is gone":
             trial.renew()
             change(trial.file, "DROP TABLE last_ids;")
