@@ -3,13 +3,17 @@ a part of tools/check_pages. It is no script of its own.
 
 Most rows are run here. A row that takes more than a run names the script that runs it (`ELSEWHERE`), in which the
 named text has to stand. A row that is neither is wrong."""
+import contextlib
 import http.client
 import json
 import re
 import shlex
 import shutil
+import sqlite3
 import subprocess
 import time
+from pathlib import Path
+from random import Random
 
 import audited_offices
 from help_texts import helps_of
@@ -22,6 +26,7 @@ PAGE, AUDIT_PAGE = "COMMANDS.md", "AUDIT.md"
 FAR = "20000000008"
 # Half a year after the last identifier under the base date 1993.
 SPENT_AT = "1750000000"
+SALES_OF_LOG = 500
 EXPORT = "number,moment,shift,operator,ref,meter,base,tid,tenths,price,tender,change,token"
 
 
@@ -90,6 +95,7 @@ def given(name, file, has_file=True):
 def check_commands(offices):
     """Each command has a row, which says what it prints, and what it does where its file does not exist."""
     meters = str(TOP / "examples" / "meters.csv")
+    rubbish = offices.text("This is no database.\n" * 50)
     rows = rows_of_page(PAGE, "Command", "Standard output", "If the file does not exist", "With `--desk`")
     helps = helps_of(VEND)[1]
     same([quoted(name)[0] for name, *_ in rows], [*helps], f"docs/{PAGE}: the commands, beside the help")
@@ -97,7 +103,7 @@ def check_commands(offices):
         name = quoted(cell)[0]
         if name not in WORDS:
             wrong(f"tools/page_rows.py runs no command {name}: add it there")
-        options = [option.partition(" ")[0] for option, _ in helps[name].lists["Options"]]
+        options = options_of(helps[name])
         files = [option for option in options if option == "--file"]
         same("--desk" in options, desk == "yes", f"docs/{PAGE}: {name} with --desk")
         words = [it for it in WORDS[name][1:] if it not in ("--at", AT)]
@@ -121,13 +127,24 @@ def check_commands(offices):
             same(file.exists(), missing == "is created", f"docs/{PAGE}: {name} makes its file")
             if missing == "`file`":
                 expect(ran, 1, b"", b"file\n")
+            # docs/OPENING.md has the lines of a folder that does not exist, a folder and a file that is no database.
+            homeless = "open 3 Store" if missing == "is created" else "file"
+            for named, line in ((offices.folder / "none" / "1.db", homeless), (offices.folder, "open 3 Store"),
+                                (rubbish, "open 3 Store")):
+                expect(vend(*given(name, named)), 1, b"", f"{line}\n".encode())
     for kind, first in (("shift", "SHIFT 1 ann"), ("receipt", "SALE 1"), ("sales", EXPORT)):
         ran = vend("report", "--file", offices.copy(), "--kind", kind)
         same(ran.stdout.decode().partition("\n")[0], first, f"report --kind {kind}")
     expect(vend("quote", *WORDS["offer"][1:3], "--file", offices.copy(), *WORDS["offer"][3:]), 0, b"1 10 5\n")
     expect(vend("quote", "--file", offices.copy(), *WORDS["offer"][1:]), 0, b"1 10 5\n")
+    expect(vend("quote", "--desk", "127.0.0.1:1", "--meter", METER, "15"), 1, b"", b"net\n")
     expect(vend("sell", "--base", "2014", *WORDS["trial"][3:]), 0, b"00072057602627981690\n")
     return len(rows)
+
+
+def options_of(said):
+    """The names of the options of which a command's help has a line."""
+    return [option.partition(" ")[0] for option, _ in said.lists["Options"]]
 
 
 def ends_by_signal(words, said):
@@ -160,7 +177,8 @@ def check_strangers(offices):
     keep = {*quoted(said[1])} if said else {"audit"}
     stranger = offices.new()
     change(stranger, "CREATE TABLE notes (text TEXT); INSERT INTO notes VALUES ('kept');")
-    names = [name for name, said in helps_of(VEND)[1].items() if "--file <FILE>" in said.usage and name in WORDS]
+    names = [name for name, said in helps_of(VEND)[1].items() if "--file" in options_of(said) and name in WORDS]
+    same({*names} >= keep, True, f"docs/USING.md: the commands with a file, {names}")
     for name in names:
         file = offices.new()
         shutil.copy(stranger, file)
@@ -170,7 +188,32 @@ def check_strangers(offices):
             vend(*given(name, file))
         tables = subprocess.run(["sqlite3", file, ".tables"], capture_output=True, text=True, check=True).stdout.split()
         same(tables == ["notes"], name in keep, f"docs/USING.md: {name} on a database of somebody else: {tables}")
+    check_faulty_imports(offices, stranger)
+    # A database that does not open gives none of the five its answer.
+    change(stranger, "CREATE VIEW name AS VALUES (1);")
+    for name in keep:
+        expect(vend(*given(name, stranger)), 1, b"", b"open 3 Store\n")
     return len(names)
+
+
+def check_faulty_imports(offices, stranger):
+    """An import whose CSV file is at fault makes no file and adds no tables; one that the office refuses does both."""
+    page = (TOP / "docs" / "USING.md").read_text(encoding="utf-8")
+    said = quoted(re.search(r"They do neither after (.*)\.$", page, re.MULTILINE)[1])
+    head = "meter,base,tariff,key\n"
+    rows = {
+        "Header": "meter\n", "Columns": f"{head}1\n", "Field k": f"{head}1,2014,flat,{KEY}\n",
+        "TooManyRows": head + f"{METER},2014,none,{KEY}\n" * 10001, "NoTariff": f"{head}{METER},2014,none,{KEY}\n",
+    }
+    same(said, ["bad word", "refused clock", *rows][:-1], "docs/USING.md: what makes no file")
+    runs = [(cause != "NoTariff", ["meters", offices.text(text)]) for cause, text in rows.items()]
+    for keeps, words in (*runs, (True, ["meters", "none.csv"]), (True, ["sales", "none.csv"])):
+        new, old = offices.new(), offices.new()
+        shutil.copy(stranger, old)
+        for file in (new, old):
+            same(vend("import", "--file", str(file), "--at", AT, *words).returncode in (1, 2), True, f"import {words}")
+        tables = subprocess.run(["sqlite3", old, ".tables"], capture_output=True, text=True, check=True).stdout.split()
+        same((new.exists(), tables == ["notes"]), (not keeps, keeps), f"docs/USING.md: the file after import {words}")
 
 
 def check_columns(offices):
@@ -198,13 +241,18 @@ def check_statuses(offices):
             [["report", "--file", file, "--kind", "receipt", "--number", "7"], ["audit", "--file", "none.db"]], None),
         "`audit` found no office, or a row that breaks a rule; or standard output failed": (
             [["audit", "--file", broken]], b""),
-        "an argument is missing or unknown": ([["sell"], ["audit", "--file", file, "--more"]], None),
+        "an argument is missing or unknown, but not as in the next two rows": (
+            [["sell"], ["audit", "--file", file, "--more"]], None),
         "a command that takes `--file` or `--desk` ('yes' in [the table](#what-each-command-prints)) has neither, or both, "
         "or `--desk` with an option that only a file has": (
             [["list", "meters"], ["list", "--file", file, "--desk", "127.0.0.1:1", "meters"],
              ["list", "meters", "--wait", "1", "--desk", "127.0.0.1:1"]], b"give --file or --desk\n"),
-        "a value is outside its rule, or any argument is not UTF-8": (
-            [["quote", ":0", "0", "1"], ["quote", ":100", "0", b"\xff"], [b"\xff"], ["audit", "--file", b"\xff.db"]],
+        "a value is outside its rule; any argument is not UTF-8; `show meter` or `show last` lacks `--meter`; "
+        "`show sale` lacks `--operator` or `--ref`; `show last` has `--json`": (
+            [["quote", ":0", "0", "1"], ["quote", ":100", "0", b"\xff"], [b"\xff"], ["audit", "--file", b"\xff.db"],
+             ["show", "--file", file, "meter"], ["show", "--file", file, "last"],
+             ["show", "--file", file, "sale", "--operator", "ann"], ["show", "--file", file, "sale", "--ref", "A-1"],
+             ["show", "--file", file, "last", "--meter", METER, "--json"]],
             b"bad word\n"),
     }
     rows = rows_of_page(PAGE, "Status", "When", "Standard error")
@@ -412,6 +460,21 @@ def check_first_of_two(offices):
         expect(vend("audit", "--file", file), 1, f"broken {found}\n".encode())
 
 
+def check_tables(offices):
+    """The columns of each table of an office, as docs/OFFICE.md names them."""
+    file, said = offices.copy(), {}
+    for table, _, columns in rows_of_page("OFFICE.md", "Table", "A row is", "Columns"):
+        names = [it for it in quoted(columns) if it != "tariff_steps"]
+        like = said["tariff_steps"][1:] if "then as `tariff_steps`" in columns else []
+        said[quoted(table)[0]] = names + like
+    with contextlib.closing(sqlite3.connect(file)) as base:
+        for table, names in said.items():
+            found = [name for _, name, *_ in base.execute(f"PRAGMA table_info({table})")]
+            same(names, found, f"docs/OFFICE.md: the columns of {table}")
+    same([*said], [*tables_of(FORMAT)], "docs/OFFICE.md: the tables of an office")
+    return len(said)
+
+
 def check_limits(offices):
     """The limits, each at its end and beyond it; of the log, that it is no longer than the page says."""
     limits = dict(rows_of_page(PAGE, "What", "Limit"))
@@ -436,21 +499,61 @@ def check_limits(offices):
     file = str(offices.new())
     sold = offices.copy()
     is_at_most(megabytes("a command that is no import"), watched(sold, *sell(sold, "A-2")), "a command")
-    # The longest names, ends and prices.
+    # The longest names, ends and prices, in no order: of sorted rows the log is shorter.
     rows = "".join(f"{number:032},{';'.join([*(f'{4294967280 + it}:1000000' for it in range(7)), ':1000000'])}\n"
-                   for number in range(10000))
+                   for number in Random(1).sample(range(10000), 10000))
     tariffs = offices.text(f"name,steps\n{rows}")
     is_at_most(megabytes("an import of 10,000 tariffs of eight steps"),
                watched(file, "import", "--file", file, "--at", AT, "tariffs", tariffs), "an import of tariffs")
     rows = "".join(f"{audited_offices.meter_of(f'{number:010}')},2014,flat,{KEY}\n" for number in range(10000))
     file, meters = offices.copy(), offices.text(f"meter,base,tariff,key\n{rows}")
+    # Into an empty office: one of 100,000 meters takes too long here.
     is_at_most(megabytes("an import of 10,000 meters"),
                watched(file, "import", "--file", file, "--at", AT, "meters", meters), "an import")
+    grown = lambda file: (Path(file).stat().st_size - offices.whole.stat().st_size)
+    of_meter = grown(file) / 10000
     change(file, f"{back_to(1)} PRAGMA wal_checkpoint(TRUNCATE);")
     is_at_most(megabytes("migrating an older file"), watched(file, "list", "--file", file, "tariffs"), "a migration")
-    is_at_most(megabytes("a desk"), log_of_desk(offices.copy()), "a desk")
+    desk = offices.copy()
+    is_at_most(megabytes("a desk"), log_of_desk(desk), "a desk")
+    change(desk, "PRAGMA wal_checkpoint(TRUNCATE);")
+    check_growth(of_meter, grown(desk) / SALES_OF_LOG)
     same(limits, {}, f"docs/{PAGE}: the limits that are not tried")
     return len(rows_of_page(PAGE, "What", "Limit"))
+
+
+def check_growth(of_meter, of_sale):
+    """The bytes that a meter and a sale add to the file, beside those of docs/USING.md."""
+    page = (TOP / "docs" / "USING.md").read_text(encoding="utf-8")
+    said = re.search(r"Each meter adds some (\d+) to (\d+) bytes\. A sale adds some (\d+) bytes", page)
+    least, most, sale = map(int, said.groups())
+    if not (0.9 * least < of_meter < 1.1 * most and 0.8 * sale < of_sale < 1.2 * sale):
+        wrong(f"docs/USING.md: a meter adds {of_meter:.0f} bytes, and a sale {of_sale:.0f}")
+
+
+def check_answers(offices):
+    """The JSON of the answers of which docs/DESK.md has a table."""
+    rows = dict(rows_of_page("DESK.md", "Answer", "Reply"))
+    steps = "/tariffs/flat/steps"
+    sent = (
+        ("Done", "POST", steps, '{"from":"2099-01-01","steps":":7"}'),
+        ("Withdrawn(1)", "DELETE", f"{steps}/2099-01-01", None),
+        ("Imported(2)", "POST", "/imports/tariffs", "name,steps\nday,:7\nnight,:5\n"),
+        ("Opened(1), Closed(1)", "POST", "/shifts/close", '{"operator":"ann"}'),
+    )
+    same({*rows}, {name for name, *_ in sent}, "docs/DESK.md: the answers that are tried")
+    process, port = begin_desk(offices.copy(), 1)
+    try:
+        line = http.client.HTTPConnection("127.0.0.1", port, timeout=20)
+        for name, method, target, body in sent:
+            line.request(method, target, body)
+            reply = line.getresponse()
+            same((reply.status, reply.read().decode()), (200, quoted(rows[name])[0]), f"docs/DESK.md: {name}")
+        line.close()
+    finally:
+        process.kill()
+        process.communicate()
+    return len(rows)
 
 
 def check_examples(offices):
@@ -502,11 +605,11 @@ def watched(file, *words):
 
 
 def log_of_desk(file):
-    """How long the log is after 500 sales at a desk, by when it has begun again from its front."""
+    """How long the log is after many sales at a desk, by when it has begun again from its front."""
     process, port = begin_desk(file, 1)
     try:
         line, most = http.client.HTTPConnection("127.0.0.1", port, timeout=20), 0
-        for number in range(500):
+        for number in range(SALES_OF_LOG):
             order = {"meter": METER, "operator": "ann", "ref": f"L-{number}", "tender": 10}
             line.request("POST", "/sales", json.dumps(order))
             reply = line.getresponse()
@@ -519,7 +622,7 @@ def log_of_desk(file):
 
 
 PARTS = (check_commands, check_strangers, check_columns, check_statuses, check_refusals, check_causes,
-         check_audit_lines, check_audits, check_limits, check_examples, check_spreadsheets)
+         check_audit_lines, check_audits, check_tables, check_limits, check_answers, check_examples, check_spreadsheets)
 
 
 def check_page_rows(folder):
