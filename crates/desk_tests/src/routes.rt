@@ -219,6 +219,12 @@ fn is_look_up(word: &str) -> bool {
     }
 }
 
+// A look-up as it is shown for debugging.
+fn shown(alloc: Global, word: &str, value: &str) -> Result<String, Fail> {
+    let lookup = lookup(word, value)?;
+    Ok(format!(in alloc; "{lookup:?}")?)
+}
+
 #[test]
 fn each_look_up(rt: HostRuntime) -> Result<(), Fail> {
     let alloc = rt.alloc();
@@ -229,8 +235,7 @@ fn each_look_up(rt: HostRuntime) -> Result<(), Fail> {
         let (_, target) = head.split_once(' ').ok_or("no target")?;
         let (word, value) = wanted.split_once(' ').unwrap_or((wanted, ""));
         if is_look_up(word) {
-            let lookup = lookup(word, value)?;
-            let wanted = format!(in alloc; "{lookup:?}")?;
+            let wanted = shown(alloc, word, value)?;
             let found = asked(alloc, &routes, target, b"")?;
             assert_eq!(rt; found.as_str(), wanted.as_str(), "{line}");
             count = count.saturating_add(1);
