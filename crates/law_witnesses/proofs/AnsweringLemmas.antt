@@ -77,6 +77,7 @@ no_request rows (requests.MoveBase meter base) says = subst IsServe says.0 tt
 no_request rows (requests.SetKey meter key) says = subst IsServe says.0 tt
 no_request rows (requests.OpenShift operator) says = subst IsServe says.0 tt
 no_request rows (requests.CloseShift operator) says = subst IsServe says.0 tt
+no_request rows (requests.ShiftReport number) says = subst IsServe says.0 tt
 no_request rows request says = says
 
 no_lookup : (rows : List Row) (l : Lookup) → ¬ SaysLookup (codes "serve") rows l

@@ -90,6 +90,16 @@ fn printed_by_sell<H: OfficeFile, F: TextFiles, C: Clock>(
     }
 }
 
+// An office in a file, whose tokens are plain, at a moment.
+fn place_at(moment: Moment) -> FilePlace<'static> {
+    FilePlace {
+        path: "office.db",
+        wait: 0,
+        transform: Shipped::Plain,
+        at: Some(moment),
+    }
+}
+
 // Books sell an order, and a `sell` of it on their files comes after them: what this prints is the
 // receipt of that sale.
 fn receipt_by_sell(
@@ -109,12 +119,7 @@ fn receipt_by_sell(
     if !is_sale_for(order, &sale) {
         return None;
     }
-    let place = FilePlace {
-        path: "office.db",
-        wait: 0,
-        transform: Shipped::Plain,
-        at: Some(moment),
-    };
+    let place = place_at(moment);
     let office = KeptFile::<()>::new(files);
     let mut clock = Script::new(0, &[]);
     match printed_by_sell(alloc, &place, office, Nothing, &mut clock, order) {

@@ -3,7 +3,6 @@ use Rattle.std.specs.Prelude.{IsTrue}
 use Rattle.std.proofs.Math.Logic.{∥∥₁_elim}
 use denote.Struct.Props.{props}
 use Rattle.command_line.specs.Transform.{forward_of}
-use Rattle.command_line.specs.declared.transform.Shipped.TheVariants.{Plain}
 use Rattle.office_commands.specs.office.Visited.{seen_in}
 use Rattle.office_rules.specs.Office.{empty_office}
 use Rattle.papers.specs.Receipt.{receipt_of}
@@ -26,6 +25,7 @@ returns-in-Some-printed_by_sell c =
     let lives = left.life ∷ [] in
     let file = c.new-office.result in
     let text = c.in-Some-printed_by_sell.text.items in
+    let place = c.place_at-place.result in
     let printed = c.in-Some-printed_by_sell.ensures {u = tt} in
     let is_for = c.is_sale_for.ensures c.if-not-is_sale_for.false in
     let Of : Image → Type 0 = λ image. IsOf empty_office lives image in
@@ -33,7 +33,8 @@ returns-in-Some-printed_by_sell c =
     let one : IsProp (text ≡ receipt_of sale) = hlevel props in
     ∥∥₁_elim of one (λ it.
     let o = it.office in
-    let ends = c.sell_law.ensures.done file printed.0 _ c.new-clock.result _ order false o printed.1.o it.stands printed.1.did in
-    printed_again c.office_law.ensures.again text printed.1 (forward_of Plain) o order ends.0 (seen_in ends.2) sale
+    let ends = c.sell_law.ensures.done file printed.0 _ c.new-clock.result place order false o printed.1.o it.stands printed.1.did in
+    let sold = ends.2 in
+    printed_again c.office_law.ensures.again text printed.1 (forward_of place.transform) o order ends.0 (seen_in sold.0) sale
     (c.history_law.ensures.offices lives o it.lead) (c.history_law.ensures.stands lives o sale it.lead (sold_handed lives order sale left.sold)) is_for
-    (ends.4 (clean_files all ends.2.conn)))
+    (sold.2 (clean_files all sold.0.conn)))
