@@ -256,8 +256,8 @@ fn request(alloc: Global, asked: &Request) -> Result<String, Fail> {
     Ok(format!(in alloc; "{asked:?}")?)
 }
 
-// The same by a line.
-fn wanted(alloc: Global, line: &str) -> Result<String, Fail> {
+/// The same by a line.
+pub(crate) fn wanted(alloc: Global, line: &str) -> Result<String, Fail> {
     let (front, rest) = line.split_once(' ').unwrap_or((line, ""));
     match front {
         "1" => {

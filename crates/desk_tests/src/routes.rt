@@ -1,6 +1,6 @@
 //! Which kind of ask a target and a method stand for, and with which values.
 
-use crate::bodies::asked;
+use crate::bodies::{self, asked};
 use crate::texts::bytes;
 use crate::words::{lookup, meter, tariff};
 use arrayvec::ArrayVec;
@@ -219,12 +219,6 @@ fn is_look_up(word: &str) -> bool {
     }
 }
 
-// A look-up as it is shown for debugging.
-fn shown(alloc: Global, word: &str, value: &str) -> Result<String, Fail> {
-    let lookup = lookup(word, value)?;
-    Ok(format!(in alloc; "{lookup:?}")?)
-}
-
 #[test]
 fn each_look_up(rt: HostRuntime) -> Result<(), Fail> {
     let alloc = rt.alloc();
@@ -233,9 +227,10 @@ fn each_look_up(rt: HostRuntime) -> Result<(), Fail> {
     for line in targets().lines() {
         let (head, wanted) = line.split_once(" = ").ok_or("no route")?;
         let (_, target) = head.split_once(' ').ok_or("no target")?;
-        let (word, value) = wanted.split_once(' ').unwrap_or((wanted, ""));
+        let (word, _) = wanted.split_once(' ').unwrap_or((wanted, ""));
         if is_look_up(word) {
-            let wanted = shown(alloc, word, value)?;
+            let look = format!(in alloc; "look {wanted}")?;
+            let wanted = bodies::wanted(alloc, look.as_str())?;
             let found = asked(alloc, &routes, target, b"")?;
             assert_eq!(rt; found.as_str(), wanted.as_str(), "{line}");
             count = count.saturating_add(1);
