@@ -3,7 +3,7 @@ use office_rules::{MeterNo, TariffName};
 use sqlite::{Error, Row};
 use sts_fields::{Base, Day};
 
-/// The rules that a row may break. `docs/COMMANDS.md`, "What an audit prints", has them in words.
+/// The rules that a row may break. `docs/AUDIT.md`, "What a rule means", has them in words.
 #[derive(Clone, Copy, Debug, PartialEq, Eq)]
 pub enum Rule {
     /// The values of its columns are those of no record.

@@ -65,7 +65,10 @@ pub(crate) fn put_comma(text: &mut Vec<u8>, later: bool) -> Result<(), AllocErro
     }
 }
 
-// Adds the text of a cell.
+/// Adds the text of a cell: a number's digits, a text in quotes, or `null`.
+///
+/// # Errors
+/// Want of memory; then a part of the text may have been added.
 pub fn put_cell(text: &mut Vec<u8>, cell: &Cell<'_>) -> Result<(), AllocError>
     ensures { OnOk result (text.new.items ≡ text.old.items ++ cell_text (held cell.now)) }
 {

@@ -14,7 +14,7 @@ pub enum DayFault {
 }
 
 impl DayFault {
-    /// The fault's number, 1 or 2 (`docs/PROFILE.md`, "Faults").
+    /// The fault's number, 1 or 2, in the order of the variants.
     pub fn number(self) -> u8
         ensures { result ≡ fault_number self }
     {

@@ -17,7 +17,7 @@ pub enum TidFault {
 }
 
 impl TidFault {
-    /// The fault's number, from 1 to 4 (`docs/PROFILE.md`, "Faults").
+    /// The fault's number, from 1 to 4, in the order of the variants.
     pub fn number(self) -> u8
         ensures { result ≡ tid_fault_number self }
     {

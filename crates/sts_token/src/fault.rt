@@ -19,7 +19,7 @@ pub enum TokenFault {
 }
 
 impl TokenFault {
-    /// The fault's number, from 1 to 5 (`docs/PROFILE.md`, "Faults").
+    /// The fault's number, from 1 to 5, in the order of the variants.
     pub fn number(self) -> u8
         ensures { result ≡ token_fault_number self }
     {

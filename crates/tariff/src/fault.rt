@@ -23,7 +23,7 @@ pub enum StepsFault {
 }
 
 impl StepsFault {
-    /// The fault's number, from 1 to 7 (`docs/PROFILE.md`, "Faults").
+    /// The fault's number, from 1 to 7, in the order of the variants.
     pub fn number(self) -> u8
         ensures { result ≡ steps_fault_number self }
     {

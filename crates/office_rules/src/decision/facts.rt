@@ -2,7 +2,7 @@ use crate::decision::{ImportFacts, MeterAccount};
 use crate::office::{Meter, Sale, Sales, Shift};
 use tariff::Steps;
 
-/// What the tests of a request look at (`docs/OFFICE.md`, "Facts").
+/// What the tests of a request look at (`docs/OFFICE.md`, "Requests").
 ///
 /// A request looks at some of the fields; the others may be left empty.
 #[derive(Debug, Drop)]

@@ -3,7 +3,7 @@ ghost use Rattle.std.specs.Prelude.{◌≡◌};
 use crate::decision::RowFacts;
 use std::marker::Model;
 
-/// What the office has under the names of an import's rows, in order (`docs/OFFICE.md`, "Facts").
+/// What the office has under the names of an import's rows, in order (`docs/OFFICE.md`, "Requests").
 ///
 /// Contracts see the list of them.
 #[derive(Debug, Drop)]
