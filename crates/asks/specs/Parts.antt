@@ -98,7 +98,8 @@ targeted_ask kinds.Quote (values.Meter meter ∷ values.Tender tender ∷ []) =
     Some (Look (lookups.Quote meter tender))
 targeted_ask kinds.ShiftTotals (values.Number shift ∷ []) = Some (Look (lookups.ShiftTotals shift))
 targeted_ask kinds.FirstTariffs [] = Some (Look (lookups.Tariffs None))
-targeted_ask kinds.TariffsAfter (values.Tariff name ∷ []) = Some (Look (lookups.Tariffs (Some name)))
+targeted_ask kinds.TariffsAfter (values.Tariff name ∷ []) =
+    Some (Look (lookups.Tariffs (Some name)))
 targeted_ask kinds.FirstMeters [] = Some (Look (lookups.Meters None))
 targeted_ask kinds.MetersAfter (values.Meter meter ∷ []) = Some (Look (lookups.Meters (Some meter)))
 targeted_ask kinds.ShiftsAfter (values.Start shift ∷ []) = Some (Look (lookups.Shifts shift))

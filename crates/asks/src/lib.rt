@@ -1,5 +1,5 @@
-//! What an office is asked: each kind of ask by one row of a table, with its method, its target, its
-//! body and what it grants; the message of an ask, and the ask of a message.
+//! What an office is asked: each kind of ask by one row of a table, with its method, its target,
+//! its body and what it grants; the message of an ask, and the ask of a message.
 #![tactic(auto)]
 
 mod ask;

@@ -83,8 +83,8 @@ impl Ask<'_> {
 }
 
 impl AskKind {
-    /// Adds the pattern of its targets, in the syntax of `matchit`: a name in braces stands for each
-    /// value.
+    /// Adds the pattern of its targets, in the syntax of `matchit`: a name in braces stands for
+    /// each value.
     ///
     /// # Errors
     /// Want of memory; then a part of the text may have been added.

@@ -99,10 +99,10 @@ fn audit_format<S: Alter, T: BlockTransform, F: Follows>(
 /// which parts have passed.
 ///
 /// It passes a database exactly if its rows are those of an office that requests may lead to, whose
-/// tokens the transform wrote (`IsAuditOf`), and tells the follower of a part only where it has passed
-/// (`TellsPassed`). Over a store that keeps the rows of each table in the
-/// order of their numbers the database stands for that office, outside a transaction, as long as no
-/// row of a shift lacks a column, which nothing that reads by SQL can see.
+/// tokens the transform wrote (`IsAuditOf`), and tells the follower of a part only where it has
+/// passed (`TellsPassed`). Over a store that keeps the rows of each table in the order of their
+/// numbers the database stands for that office, outside a transaction, as long as no row of a shift
+/// lacks a column, which nothing that reads by SQL can see.
 ///
 /// # Errors
 /// `AuditFault::Found` with the first row that is no office's, or that no requests lead to, or else

@@ -10,8 +10,9 @@ use crate::totals::test_totals;
 use audit_rows::OfficeRows;
 use std::alloc::Global;
 
-/// Nothing where the rows of the tables of a format keep the rules of an office's members and of its
-/// totals, of which the first format has no tables (`office_law`); or the first row that breaks one.
+/// Nothing where the rows of the tables of a format keep the rules of an office's members and of
+/// its totals, of which the first format has no tables (`office_law`); or the first row that breaks
+/// one.
 ///
 /// # Errors
 /// A finding, and want of memory.

@@ -105,7 +105,8 @@ StoresEdit (OpenShift s) old new = StoresRow shifts_kept (shift_row s) old new
 StoresEdit (CloseShift number moment) old new = Unit {0}
 StoresEdit (AddSale s) old new = StoresRow sales_kept (sale_row s) old new
 
--- these writes, one after another, make a database of another, under a limit on steps, if one is set
+-- these writes, one after another, make a database of another, under a limit on steps, if one is
+-- set
 abbrev pub IsCarriedOut : List Write → Database → Database → Type 0
 IsCarriedOut writes old new = (limit : Option ℕ) × Make limit writes old new
 
@@ -131,8 +132,8 @@ pub record AddsAsComputed (s : Sale) (prior : ℕ) (old new : State) : Type 0 wh
   pub told : TellsTotals (new_sale s ∷ []) s s.tid shown old.step_limit old.now
   pub month : shown.month_tenths ≡ prior + s.tenths
 
--- These are told as the totals of a sale's month and its shift, by its own writes, whatever rows the
--- tables had. Where they held an office that the sale meets, they are its totals.
+-- These are told as the totals of a sale's month and its shift, by its own writes, whatever rows
+-- the tables had. Where they held an office that the sale meets, they are its totals.
 pub record TellTotals (s : Sale) (shown : SaleTotals) (old : Database) : Type 0 where
   pub limit : Option ℕ
   pub told : TellsTotals (new_sale s ∷ []) s s.tid shown limit old

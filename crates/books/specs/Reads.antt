@@ -13,8 +13,8 @@ use Rattle.books.specs.Keeps.{BooksHaveTables, KnowTheSame, Represents, Seen}
 -- Books were read, and gave this. Every life that they kept they keep, and nothing was written.
 -- They answer as stopped exactly where they were, and are stopped after a failure. Beside the
 -- refusals of its own, a read has those that tell why the tables were not read: of their rows only
--- one of an answer to its questions is a cause. What is given was seen in the tables, whatever their
--- rows are.
+-- one of an answer to its questions is a cause. What is given was seen in the tables, whatever
+-- their rows are.
 pub record ReadsBooks {A : Type 0} (Own : Refusal → Type 0)
     (IsSeen : Database → Result A Refusal → Type 0) (IsSpoilt : Database → Type 0)
     (given : Result A Refusal) (old new : Seen) : Type 0 where

@@ -111,8 +111,8 @@ SaysRequest name rows (ShiftReport number) = (name ≡ codes "report")
 SaysRequest name rows request = ⊥
 
 -- `show` looks up a meter, or its last sale, by its number, and a sale by its operator and ref; the
--- last sale is shown by its receipt, which is no JSON. `offer` looks up what a tender would buy for a
--- meter, `report` the totals of a shift.
+-- last sale is shown by its receipt, which is no JSON. `offer` looks up what a tender would buy for
+-- a meter, `report` the totals of a shift.
 abbrev pub SaysLookup : (name : Text) → List Row → Lookup → Type 0
 SaysLookup name rows (lookups.Meter meter) = (name ≡ codes "show")
     × (parsed_argument (codes "what") rows ≡ Some (codes "meter"))

@@ -34,8 +34,8 @@ impl<'m, 'a> Asked<'m, 'a> {
     /// Reads what the arguments of the given command ask for.
     ///
     /// # Errors
-    /// `Place` if the command has to name one office and does not, `Value` if a value is outside its
-    /// rule, so that they ask for nothing; `Memory`.
+    /// `Place` if the command has to name one office and does not, `Value` if a value is outside
+    /// its rule, so that they ask for nothing; `Memory`.
     pub fn read(alloc: Global, matches: &'m ArgMatches<'a>) -> Result<Asked<'m, 'a>, BadWords>
         ensures { ReadsAsked result (subcommand_rows_of matches.now) }
     {

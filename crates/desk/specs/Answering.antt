@@ -45,8 +45,8 @@ IsReplied serves moment form request outcome old new =
     (reply : Result Answer Refusal) × (outcome ≡ Replied form reply)
     × serves.replies moment request reply old new
 
--- what comes of a file that reads so: its rows are imported, or its first fault refuses it, and then
--- the office is as before
+-- what comes of a file that reads so: its rows are imported, or its first fault refuses it, and
+-- then the office is as before
 abbrev pub IsImported : {O : Type 0} → Serving O → ℕ → Result (List Row) RowFault → Outcome → O
     → O → Type 0
 IsImported serves moment (Ok rows) outcome old new =
@@ -55,9 +55,9 @@ IsImported serves moment (Err (At row cause)) outcome old new =
     (outcome ≡ Replied Json (Err (ImportRow row cause))) × (new ≡ old)
 IsImported serves moment (Err Memory) outcome old new = ⊥
 
--- What comes of an ask: the rows of a file are imported; another request is replied to; a receipt is
--- the reprint of a sale, told on paper; or what is looked up is found, or refused, and the office is
--- as the look-up leaves it.
+-- What comes of an ask: the rows of a file are imported; another request is replied to; a receipt
+-- is the reprint of a sale, told on paper; or what is looked up is found, or refused, and the
+-- office is as the look-up leaves it.
 abbrev pub IsServed : {O : Type 0} → Serving O → ℕ → Ask → Outcome → O → O → Type 0
 IsServed serves moment (asks.Import kind csv) outcome old new =
     (read : Result (List Row) RowFault) × AreRead kind csv read
@@ -78,8 +78,8 @@ Comes serves m now outcome old new =
     ⊎ ((moment : ℕ) × (ask : Ask) × MessageAsks m now moment ask
     × IsServed serves moment ask outcome old new)
 
--- the office answered a message by the reply that tells what came of it, with the date of the moment
--- that the clock gave
+-- the office answered a message by the reply that tells what came of it, with the date of the
+-- moment that the clock gave
 abbrev pub answers_by : {O : Type 0} → Serving O → O → MessageExchange → O → Type 0
 answers_by serves old x new =
     (outcome : Outcome) × Comes serves x.message x.now outcome old new

@@ -16,8 +16,8 @@ conversation_text xs ending = replies_of xs ++ last_words message_refusal_of end
 
 -- Two conversations of an input that stops so are one: the same exchanges, by which the same is
 -- asked at the same moments, and the same comes of it. Where the input ended they end alike, and
--- what is written is the same, to its last byte. Where its reader failed, one may end by the refusal
--- of what is no head, and the other without a word.
+-- what is written is the same, to its last byte. Where its reader failed, one may end by the
+-- refusal of what is no head, and the other without a word.
 pub record IsOneConversation (stop : Stop) (xs ys : List MessageExchange) (e f : Ending)
     (served others : List Served) : Type 0 where
   pub exchanges : xs ≡ ys

@@ -37,10 +37,10 @@ impl Desk {
     /// Holds the conversation of a reader and a writer over these books: each message that is read
     /// is answered in order, and what it asks served once, before more is asked for. The clock is
     /// read once for each; what is asked comes at the moment that it gives, and the reply has its
-    /// date. See `End` for what was written and served by the end; `specs/Converses.antt` says what holds of it, and `specs/Answering.antt` how books and
-    /// their lives answer. No more is read than `specs/Uses.antt` of `conversation` allows
-    /// (`paced`): while a head is awaited 8192 bytes of it in all, while a body is awaited what it
-    /// lacks, and nothing after an end.
+    /// date. See `End` for what was written and served by the end; `specs/Converses.antt` says what
+    /// holds of it, and `specs/Answering.antt` how books and their lives answer. No more is read
+    /// than `specs/Uses.antt` of `conversation` allows (`paced`): while a head is awaited 8192
+    /// bytes of it in all, while a body is awaited what it lacks, and nothing after an end.
     pub fn run<S: Alter, T: BlockTransform, R: Read, W: Write, C: Clock>(
         &self,
         alloc: Global,

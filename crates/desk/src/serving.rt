@@ -49,7 +49,8 @@ fn import<S: Alter, T: BlockTransform>(
     csv: &Csv<'_>,
 ) -> Result<Outcome, AllocError>
     ensures served { IfOk result (λ outcome.
-        IsServed (books_serve seen) moment (Ask.Import kind csv.now) outcome office.old office.new) }
+        IsServed (books_serve seen) moment (Ask.Import kind csv.now) outcome
+        office.old office.new) }
     ensures short { OnErr result (office.new ≡ office.old) }
 {
     match read_rows(alloc, kind, csv) {

@@ -15,8 +15,9 @@ use crate::columns::{MeterColumns, QuoteColumns, SaleColumns, TotalsColumns};
 use desk_messages::date_law;
 use records::Columns;
 
-/// What a desk replies, where the conversation goes on, whatever its clock gave, is the text of what
-/// the reply tells; it is read as a whole reply; one text tells one thing, value for value; and no reply begins another.
+/// What a desk replies, where the conversation goes on, whatever its clock gave, is the text of
+/// what the reply tells; it is read as a whole reply; one text tells one thing, value for value;
+/// and no reply begins another.
 pub fn told_law()
     ensures text { (asked : Grants) (now : Option ℤ) (outcome : Outcome) (told : Told)
         → Tells outcome told → IsTellable asked told

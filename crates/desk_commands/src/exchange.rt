@@ -44,9 +44,9 @@ pub(crate) fn exchange<L: Loopback>(
 }
 
 /// Sends a message that wants this on a stream, and gives back what came: a whole reply, or what
-/// had come where the connection broke or its time was over, or what is no reply, whatever follows. There
-/// is none where the message was cut off, and none where there was no room for what came: whether
-/// it was done is not known then.
+/// had come where the connection broke or its time was over, or what is no reply, whatever follows.
+/// There is none where the message was cut off, and none where there was no room for what came:
+/// whether it was done is not known then.
 pub(crate) fn exchange_on<S: Read + Write>(
     alloc: Global,
     stream: &mut S,

@@ -1,7 +1,7 @@
 -- What messages mean: what one asks of the office and at which moment, or why it asks nothing.
 --
--- The clock is read for each message. A target and a method are looked at first, then what the clock
--- gave, and then the body.
+-- The clock is read for each message. A target and a method are looked at first, then what the
+-- clock gave, and then the body.
 use Rattle.std.specs.Prelude.{◌≡◌, ◌≢◌, ℕ, ℤ, pos, List, Option, Some, Result, ⊤}
 use Rattle.sts_fields.specs.Moment.{IsMoment}
 use Rattle.papers.specs.File.{AreFileRecords, Fields}

@@ -1,5 +1,5 @@
--- The routes of the desk: the patterns of the rows of asks, the table that targets are matched with,
--- and what a target and a method ask for.
+-- The routes of the desk: the patterns of the rows of asks, the table that targets are matched
+-- with, and what a target and a method ask for.
 use Rattle.std.specs.Prelude.{◌≡◌, ◌≢◌, ℕ, List, [], Some, option_map, Result, Ok, Err, IsUtf8}
 use Rattle.std.specs.List.{fold}
 use Rattle.matchit.specs.Order.{placed}
@@ -67,7 +67,8 @@ pub record IsAllowed (target : List ℕ) (method allowed : Method) : Type 0 wher
 
 -- the target names nothing
 abbrev pub NamesNothing : List ℕ → Type 0
-NamesNothing target = (kind : AskKind) (values : List Value) → ¬ Names (endpoint_of kind) target values
+NamesNothing target =
+    (kind : AskKind) (values : List Value) → ¬ Names (endpoint_of kind) target values
 
 -- what a target and a method ask for, or why they ask for nothing
 abbrev pub IsRouted : List ℕ → Method → Result Named DeskFault → Type 0

@@ -1,6 +1,6 @@
 //! What the messages to the desk of a vending office ask, and what is replied to them. No office is
-//! asked here: `desk` does that. `asks` has what an office is asked, and `conversation` the messages
-//! themselves.
+//! asked here: `desk` does that. `asks` has what an office is asked, and `conversation` the
+//! messages themselves.
 #![tactic(auto)]
 
 mod desk_fault;

@@ -14,8 +14,8 @@ use Rattle.program_laws.specs.runs.Steps.{AreSoldFor, IsOf}
 use Rattle.vend_core.specs.Law.Life.{LeadTo, Life, present}
 use Rattle.vend_ports.specs.declared.command_end.CommandEnd.{CommandEnd}
 
--- A life sold this for an order, from the empty office on, with the plain transform, and these files
--- hold what it left: so do they after a crash.
+-- A life sold this for an order, from the empty office on, with the plain transform, and these
+-- files hold what it left: so do they after a crash.
 pub record HasLeft {M : Type 0} (g : disk.Ghosts M) (order : Order) (s : Sale) (files : Files M)
     : Type 0 where
   pub life : Life

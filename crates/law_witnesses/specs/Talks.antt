@@ -25,8 +25,8 @@ pub record IsTalk (input : List ℕ) (books : Seen) : Type 0 where
   pub goes : GoesBy (opened forward empty_office) served life
   pub keeps : RepresentTheLast [] life books
 
--- whatever conversation of the input has the same answers of the clock, and the same came of what it
--- asked, is written so
+-- whatever conversation of the input has the same answers of the clock, and the same came of what
+-- it asked, is written so
 abbrev pub IsOnlyText : {input : List ℕ} → {books : Seen} → IsTalk input books → List ℕ → Type 0
 IsOnlyText {input} talk text = (xs : List MessageExchange) (ending : Ending) (served : List Served)
     → Messages ended input (messages_of xs) ending → moments_of talk.exchanges ≡ moments_of xs

@@ -20,7 +20,8 @@ use std::alloc::Global;
 use std::test::Fail;
 use sts_token::Plain;
 
-// Says that a desk can be asked to sell an order, whose values keep their rules as its types see to.
+// Says that a desk can be asked to sell an order, whose values keep their rules as its types see
+// to.
 pub(crate) fn keeps_rules(order: &Order)
     ensures { CanSend (ask_to_sell order.now) }
 {

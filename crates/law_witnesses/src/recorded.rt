@@ -11,8 +11,8 @@ use std::io::{self, ErrorKind, Read, Write};
 // Bytes, for proofs alone.
 type Noted = Log<u8, ()>;
 
-/// The line that records each use, and tells contracts all of them. Only proofs read it, so it takes
-/// no memory.
+/// The line that records each use, and tells contracts all of them. Only proofs read it, so it
+/// takes no memory.
 #[derive(Drop)]
 pub(crate) struct Recorded {
     // A read for so many bytes or a write of these; and what moved, or whether it was interrupted.

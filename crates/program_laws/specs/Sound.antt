@@ -17,10 +17,10 @@ use Rattle.office_commands.specs.office.Closed.{AreClosed}
 use Rattle.office_commands.specs.print.AuditLines.{sound_line}
 use Rattle.vend_ports.specs.print.Told.{Outputs, Takes}
 
--- The output was given what was counted, in the tables of some format. The database is one that an opening of the files may find,
--- and it stands for an office that requests may lead to, whose tokens the transform that was given
--- wrote, where one was, with these counts: as long as the disk returned what was written up to the
--- close.
+-- The output was given what was counted, in the tables of some format. The database is one that an
+-- opening of the files may find, and it stands for an office that requests may lead to, whose
+-- tokens the transform that was given wrote, where one was, with these counts: as long as the disk
+-- returned what was written up to the close.
 pub record EndsSound {D : Type 0} (g : Ghosts D) (image : Image)
     (LetsGo : (whole : Bool) → D → D → Type 0) (given : Option BlockFunction) (o : Outputs) : Type 0
   where

@@ -53,8 +53,8 @@ AskToSell words path = (asked : Asked) × AskFor words asked × SellsByClock ask
 
 -- The words sell from a file by the clock. A look found that its last sale is of this moment, and
 -- that it is this moment now: they are far apart.
-pub record IsDoubted (is_last : (path : Text) → ℕ → Type 0) (is_now : ℕ → Type 0) (words : List Text)
-    (doubt : Doubt) : Type 0 where
+pub record IsDoubted (is_last : (path : Text) → ℕ → Type 0) (is_now : ℕ → Type 0)
+    (words : List Text) (doubt : Doubt) : Type 0 where
   pub path : Text
   pub asked : AskToSell words path
   pub last : is_last path doubt.last
@@ -63,7 +63,8 @@ pub record IsDoubted (is_last : (path : Text) → ℕ → Type 0) (is_now : ℕ 
 
 -- its line comes behind what was held, or as much of it as the writer took
 abbrev pub IsSaid : Doubt → Held → Held → Type 0
-IsSaid doubt old new = (failed : Bool) × IsTaken false failed old new (doubt_line doubt.last doubt.now)
+IsSaid doubt old new =
+    (failed : Bool) × IsTaken false failed old new (doubt_line doubt.last doubt.now)
 
 -- at a terminal the line of what is doubted may come; elsewhere nothing does
 abbrev pub Doubts : (at_terminal : Bool) → (Is : Doubt → Type 0) → Held → Held → Type 0

@@ -42,8 +42,8 @@ const LOCKS: &str = "/proc/locks";
 // The longest file that a desk takes.
 const LONGEST_TEXT: u64 = 1_048_576;
 
-// A command has 120 seconds at a desk, and ten of them for the connection. So one that took the first
-// of these ended for silence, and one that took less than the second did not.
+// A command has 120 seconds at a desk, and ten of them for the connection. So one that took the
+// first of these ended for silence, and one that took less than the second did not.
 const SILENT_SECONDS: u64 = 119;
 
 const HEARD_SECONDS: u64 = 9;

@@ -117,8 +117,8 @@ AreBringing from meters sales writes =
     (filling : List Write) × AreFilling from meters sales filling
     × (writes ≡ filling ++ format_write from ∷ [])
 
--- the tables that the format lacked were made, and one of the writes after that failed, or there was
--- no memory
+-- the tables that the format lacked were made, and one of the writes after that failed, or there
+-- was no memory
 pub record FailsOnceMade (from : ℕ) (meters : List MeterRow) (sales : List Sale) (old new : State)
     (e : Error) : Type 0 where
   pub made : Database

@@ -92,7 +92,8 @@ abbrev pub Ends : {T : Type 0} → (Write → State → State → TableError →
 Ends Fails w old new result =
     OnOk result (AreCarriedOut (w ∷ []) old new) × IfErr result (Fails w old new)
 
--- Why some writes fail that are known by this alone: there was no memory, or they fail as writes do.
+-- Why some writes fail that are known by this alone: there was no memory, or they fail as writes
+-- do.
 abbrev pub FailsSomehow : (List Write → Type 0) → State → State → TableError → Type 0
 FailsSomehow Are old new e =
     (e ≡ fails.Database (SqliteFailure OutOfMemory))

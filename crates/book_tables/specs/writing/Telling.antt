@@ -13,8 +13,8 @@ use Rattle.book_tables.specs.writing.Writes.{tenths_added}
 use Rattle.book_tables.specs.declared.row.totals.SaleTotals.{SaleTotals}
 use Rattle.book_tables.specs.declared.row.totals.Totals.{Totals}
 
--- After some writes a further one is carried out, under a limit on steps, if one is set; and this is
--- so of the rows that it shows.
+-- After some writes a further one is carried out, under a limit on steps, if one is set; and this
+-- is so of the rows that it shows.
 pub record Tells (Showed : List Values → Type 0) (limit : Option ℕ) (before : List Write)
     (w : Write) (old : Database) : Type 0 where
   pub db : Database

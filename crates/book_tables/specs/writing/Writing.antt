@@ -224,8 +224,8 @@ pub record AddsSteps (name : List ℕ) (day : ℕ) (added : List Step) (old new 
   pub rows : (rows : Rows) → Holds old.now rows
       → Holds new.now (edited (AddSteps name day added) rows)
 
--- the steps that a tariff has from a first day on are withdrawn: none of their rows is left, and the
--- others stand in their order
+-- the steps that a tariff has from a first day on are withdrawn: none of their rows is left, and
+-- the others stand in their order
 pub record WithdrawsSteps (name : List ℕ) (day : ℕ) (old new : State) : Type 0 where
   pub only : WritesOnly (codes "dated_steps" ∷ []) old new
   pub kept : AreInOrder (codes "dated_steps" ∷ []) old.now

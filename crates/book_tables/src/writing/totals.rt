@@ -38,8 +38,8 @@ pub fn set_last_id<S: Alter>(
     tid: u32,
 ) -> Result<(), TableError>
     ensures merges { WorksInside S.Store tx result (λ old new. MergesTables
-        (last_id_set (meter.now, base) tid) (λ done. ShowsTid tid) (λ done. SetsLastId (meter.now, base) tid)
-        old new result) }
+        (last_id_set (meter.now, base) tid) (λ done. ShowsTid tid)
+        (λ done. SetsLastId (meter.now, base) tid) old new result) }
     ensures no_false_row { Inside S.Store tx (λ old new. FindsNoFalseRow (MaySetLastId tid) old
         new result) }
 {
@@ -85,7 +85,8 @@ pub fn add_to_shift<S: Alter>(
     price: u32,
 ) -> Result<Totals, TableError>
     ensures merges { WorksInside S.Store tx result (λ old new. MergesTables
-        (sale_counted shift tenths price) ShowsTotals (AddsToShift shift tenths price) old new result) }
+        (sale_counted shift tenths price) ShowsTotals (AddsToShift shift tenths price)
+        old new result) }
     ensures no_false_row { Inside S.Store tx (λ old new. FindsNoFalseRow (MayAddToShift shift
         tenths price) old new result) }
 {

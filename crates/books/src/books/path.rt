@@ -18,8 +18,8 @@ impl<B: Start, T: BlockTransform + Drop> Books<FileStore<FileFrom<B>>, T> {
     ///
     /// # Errors
     /// `NotAnOffice` where the file stands for no office; `Store` where it cannot be opened, and
-    /// `Memory`. The file stands for what it stood for. The connection to it comes back, if there is
-    /// one.
+    /// `Memory`. The file stands for what it stood for. The connection to it comes back, if there
+    /// is one.
     pub fn open_file(
         rt: &HostRuntime,
         path: &str,

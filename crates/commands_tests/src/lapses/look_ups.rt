@@ -1,5 +1,5 @@
-//! Look-ups and lists in a file in which nothing was written, at the moment that is given or else at
-//! the clock's; and where a call of it fails once, which is told, and nothing is printed.
+//! Look-ups and lists in a file in which nothing was written, at the moment that is given or else
+//! at the clock's; and where a call of it fails once, which is told, and nothing is printed.
 use crate::lapses::calls_fail;
 use crate::lapses::ports::{LapsingOffice, NoTexts, ScriptedMachine, Texts, Trouble, Unseen};
 use crate::support::words_of;

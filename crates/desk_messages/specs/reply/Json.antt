@@ -26,7 +26,8 @@ later_data l = record_data later_names (later_cells l)
 abbrev pub tariff_data : ListedTariff → Data
 tariff_data t =
     object (member (codes "later") (array_of (map later_data t.later.items))
-    (members_data (codes "name" ∷ codes "steps" ∷ []) (text t.name ∷ text (steps_text t.steps) ∷ [])))
+    (members_data (codes "name" ∷ codes "steps" ∷ [])
+    (text t.name ∷ text (steps_text t.steps) ∷ [])))
 
 -- steps from a later day on, by the rules
 pub record IsTellableLater (l : LaterSteps) : Type 0 where

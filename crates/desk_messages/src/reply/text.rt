@@ -23,9 +23,9 @@ use sts_fields::Moment;
 const HEAD_ROOM: usize = 200;
 
 /// The bytes of the whole reply that tells what came of a message (`docs/DESK.md`, "Replies"), or
-/// want of memory. It has the date of the moment, if the clock gave one. Where the conversation ends
-/// after it the reply says so: that is where it is to close, and always after a message that is
-/// refused.
+/// want of memory. It has the date of the moment, if the clock gave one. Where the conversation
+/// ends after it the reply says so: that is where it is to close, and always after a message that
+/// is refused.
 pub fn reply_bytes(
     alloc: Global,
     dated: Option<Moment>,

@@ -108,7 +108,8 @@ module _ {D : Type 0} {g : Ghosts D} where
 -- A connection was just made to the files, an audit of it, by the transform that was given, where
 -- one was, answered this, and they were closed with nothing done beside.
 pub record AuditsIn {D : Type 0} (g : Ghosts D) (image : Image)
-    (LetsGo : (whole : Bool) → D → D → Type 0) (given : Option BlockFunction) (answer : Result Audited AuditFault) : Type 0 where
+    (LetsGo : (whole : Bool) → D → D → Type 0) (given : Option BlockFunction)
+    (answer : Result Audited AuditFault) : Type 0 where
   pub first : Held (FileStore D g)
   pub last : Held (FileStore D g)
   pub connected : HasCleanDisk (file_state first) → IsConnected image (file_state first)

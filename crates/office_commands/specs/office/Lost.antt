@@ -72,8 +72,8 @@ module _ {D : Type 0} {g : disk.Ghosts D} where
     pub present : IsLeftOf old (image_of g files)
     pub crash : (image : Image) → outcomes g files.log files.db image → IsLeftOf old image
 
--- While the disk returned what was written, the files of a connection that was closed, to which none
--- could be made again, hold a database that this may leave.
+-- While the disk returned what was written, the files of a connection that was closed, to which
+-- none could be made again, hold a database that this may leave.
 abbrev pub LosesNothing : {D : Type 0} → disk.Ghosts D → Type 0
 LosesNothing {D} g = (old : Held (FileStore D g)) (error : Error) (left : Leftover D g)
     → (lost : FailsToReconnect old error left) → AreClean g lost.here.log lost.here.db

@@ -24,8 +24,8 @@ pub record AreMeasured {D : Type 0} (g : Ghosts D) (meets : D → D → Type 0) 
     pub seen : seen_image g log db ≡ image_of g found
     pub crash : (after : Image) → outcomes g log db after → outcomes g found.log found.db after
 
--- There is too little for a database: the database file is empty, or it has one byte, as one that is
--- just being made, and no frame stands in the log.
+-- There is too little for a database: the database file is empty, or it has one byte, as one that
+-- is just being made, and no frame stands in the log.
 abbrev pub IsTooShort : Image → Type 0
 IsTooShort image =
     (length image.db ≡ 0) ⊎ ((length image.db ≤ 1) × (length image.log < 56))
@@ -63,8 +63,8 @@ module _ {D : Type 0} (g : Ghosts D) where
     without : (conn : Held (FileStore D g)) (left : Files D) → IsWithout image conn
         → AreTakenFrom (Connected conn) left → LetsGo left.log left.db → IsVacant image LetsGo
 
-  -- The connection was just made to files that were met, and their database has some of the office's
-  -- tables, or something else under their names.
+  -- The connection was just made to files that were met, and their database has some of the
+  -- office's tables, or something else under their names.
   pub record IsThere (image : Image) (meets : D → D → Type 0) (conn : Held (FileStore D g)) : Type 0
     where
       pub files : Files D

@@ -54,8 +54,8 @@ pub(crate) fn run<H: OfficeFile, C: Clock, O: Write, E: Write>(
 }
 
 // Opens the office where its file is there, looks something up at a moment, prints what is found,
-// and closes its file; or tells why it is not opened. Where the file has no office, it is left as it
-// was, and the empty one is looked at. No token is written, so any transform serves.
+// and closes its file; or tells why it is not opened. Where the file has no office, it is left as
+// it was, and the empty one is looked at. No token is written, so any transform serves.
 fn run_at<H: OfficeFile, O: Write, E: Write>(
     file: &FilePlace<'_>,
     paged: bool,

@@ -28,7 +28,8 @@ pub(crate) fn read_empty<O: Write, E: Write>(
     out: &mut Watched<'_, O>,
     err: &mut Watched<'_, E>,
 ) -> CommandEnd
-    ensures { ReadsEmpty _moment paged lookup.now json (outputs out.old out.new err.old err.new) result }
+    ensures { ReadsEmpty _moment paged lookup.now json
+        (outputs out.old out.new err.old err.new) result }
 {
     let found = find_in_empty(alloc, lookup);
     if paged {

@@ -14,8 +14,8 @@ use std::io::Write;
 use sts_token::BlockTransform;
 use vend_ports::{CommandEnd, Watched, put_refusal};
 
-/// Prints what is looked up in books at a moment, or all pages from there on, or tells why it is not
-/// there.
+/// Prints what is looked up in books at a moment, or all pages from there on, or tells why it is
+/// not there.
 pub(crate) fn read<S: Alter, T: BlockTransform, O: Write, E: Write>(
     alloc: Global,
     books: &mut Books<S, T>,

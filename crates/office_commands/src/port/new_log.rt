@@ -5,8 +5,8 @@ ghost use Rattle.office_commands.specs.port.Found.{IsLogName, IsNameOfLog};
 
 use std::fs;
 
-// A log that is shorter holds no commit: its header and a frame's have 56 bytes, and a page at least
-// 512.
+// A log that is shorter holds no commit: its header and a frame's have 56 bytes, and a page at
+// least 512.
 const LEAST_COMMIT: u64 = 568;
 
 /// The name of the log that a look at a file makes, where it makes one.

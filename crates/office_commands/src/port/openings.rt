@@ -132,9 +132,9 @@ impl<B: Start> Tries for PresentOpenings<'_, B> {
     }
 }
 
-/// Makes an empty file where there is nothing of the name, which its owner alone may read and write:
-/// the database has the keys of the meters. Its log gets the same rights. Where it cannot be made,
-/// what opens it tells why.
+/// Makes an empty file where there is nothing of the name, which its owner alone may read and
+/// write: the database has the keys of the meters. Its log gets the same rights. Where it cannot be
+/// made, what opens it tells why.
 pub(crate) fn make_private(rt: &HostRuntime, path: &str) {
     if is_address(path) || !matches!(fs::exists(rt, path), Ok(false)) {
         return;

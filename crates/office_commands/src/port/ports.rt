@@ -113,8 +113,8 @@ pub trait OfficeFile: Drop {
         ensures lets_go { lets_go D log db }
         ensures back { IfSome result (λ it. it ≡ (log, db)) };
 
-    /// Lets the log and the database file go, which were only looked at, and removes a log of this name
-    /// that the look has made. Whatever this is given, it can do nothing else with it.
+    /// Lets the log and the database file go, which were only looked at, and removes a log of this
+    /// name that the look has made. Whatever this is given, it can do nothing else with it.
     fn let_go_looked<D: Drop>(log: D, db: D, salts: &Self::Salts, new_log: &LogName)
         ensures { ends_look D log db new_log.now };
 

@@ -12,7 +12,8 @@ use Rattle.command_line.specs.declared.words.BadWords.TheVariants.{Value, Place,
 abbrev pub place_line : Text
 place_line = line_of (codes "give" ∷ codes "--file" ∷ codes "or" ∷ codes "--desk" ∷ [])
 
--- a value is outside its rule, or the command names no one office, or there was no room to read them
+-- a value is outside its rule, or the command names no one office, or there was no room to read
+-- them
 abbrev pub bad_words_line : Why → Text
 bad_words_line Value = bad_word_line
 bad_words_line Place = place_line

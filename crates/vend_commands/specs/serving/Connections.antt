@@ -109,7 +109,8 @@ module _ {D R W B : Type 0} (way : Way D R W) (gives : ℤ → Type 0) (forward 
       × AreHeld count old mid before
       × ((ready : B) × AreReady see forward mid.books ready
       × IsHeld way gives see (service mid.door ready mid.answers) new)
-      × (printed ≡ before ++ (open_text (see mid.books) ++ end_text (see mid.books).write_failed (see new.books)))
+      × (printed ≡ before ++ (open_text (see mid.books)
+      ++ end_text (see mid.books).write_failed (see new.books)))
 
   -- one could not be had after fewer than were asked for
   pub record IsRefused (asked : ℕ) (old new : Service D B) (printed : Text) : Type 0 where

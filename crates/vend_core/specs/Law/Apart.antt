@@ -1,4 +1,5 @@
--- Sales of one office or of two that lie so far apart that the later one has the greater identifier.
+-- Sales of one office or of two that lie so far apart that the later one has the greater
+-- identifier.
 use Rattle.std.specs.Prelude.{◌≡◌, ℕ, ◌+◌, ◌*◌, ◌/◌, ◌≤◌, List, Ok}
 use Rattle.sts_fields.specs.Moment.{UnixSeconds}
 use Rattle.sts_fields.specs.Tid.{greatest_lead, minute_of}

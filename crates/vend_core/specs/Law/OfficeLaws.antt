@@ -49,8 +49,8 @@ pub record IsMoved (forward : BlockFunction) (o : Office) (at : Stamped) (number
   pub present : (step forward o at).meters number ≡ Some (with_base base m)
   pub had : (step forward o at).bases number base ≡ true
 
--- the request is granted, and takes the further steps of a tariff from a day on back: there are none
--- any more, and all others stand
+-- the request is granted, and takes the further steps of a tariff from a day on back: there are
+-- none any more, and all others stand
 pub record IsWithdrawn (forward : BlockFunction) (o : Office) (at : Stamped) (name : List ℕ)
     (day : ℕ) : Type 0 where
   pub answered : reply forward o at ≡ Ok (answers.Withdrawn 1)

@@ -74,8 +74,8 @@ amount_line = line_of (codes "refused" ∷ codes "amount" ∷ [])
 abbrev pub clock_line : Text
 clock_line = line_of (codes "refused" ∷ codes "clock" ∷ [])
 
--- that it is done, how many rows an import added, how many lists of steps were withdrawn, how far an
--- export is, that a file is open, the number of a shift, and a selfcheck that found no fault
+-- that it is done, how many rows an import added, how many lists of steps were withdrawn, how far
+-- an export is, that a file is open, the number of a shift, and a selfcheck that found no fault
 abbrev pub done_line : Text
 done_line = line_of (codes "done" ∷ [])
 

@@ -27,9 +27,9 @@ pub(crate) fn passed_since<K: Clock>(began: Option<Instant>, clock: &K) -> Optio
     }
 }
 
-/// For how long a use of a connection may wait next, of whose time so much has passed, and which has
-/// waited for so long in vain; if it may. Once the time is over it may as long as nobody else waits.
-/// So it may, too, where nothing tells how much has passed.
+/// For how long a use of a connection may wait next, of whose time so much has passed, and which
+/// has waited for so long in vain; if it may. Once the time is over it may as long as nobody else
+/// waits. So it may, too, where nothing tells how much has passed.
 pub(crate) fn next_wait<Q: Queue>(
     queue: &Q,
     most: Duration,
