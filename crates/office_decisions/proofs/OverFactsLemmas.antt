@@ -7,7 +7,7 @@ use Rattle.std.proofs.lemmas.Option.{slice_get-get_or}
 use Rattle.sts_fields.specs.Day.{day_at}
 use Rattle.sts_token.specs.Token.{BlockFunction}
 use Rattle.tariff.specs.declared.step.Step.{Step}
-use Rattle.office_rules.specs.Decision.{◌>>=◌, MeterAccount, account_of, add_meter, add_rows, add_steps, add_tariff, at_row, changed, close_shift, decision_of, move_base, new_rows, open_a_shift, report, reprint, row_decision, sell, sell_once, set_key, set_tariff, unchanged, withdraw_steps}
+use Rattle.office_rules.specs.Decision.{◌>>=◌, MeterAccount, account_of, add_meter, add_rows, add_steps, add_tariff, at_row, changed, close_shift, decision_of, move_base, new_rows, open_a_shift, report, reprint, row_decision, sell, sell_once, set_key, set_tariff, withdraw_steps, keyed_unless}
 use Rattle.office_rules.specs.Decision.Edits.{with_row, with_rows}
 use Rattle.office_rules.specs.Decision.Facts.{AreFactsOf, AreNewSaleFacts, AreRowsFacts, has_other_key, meter_found, report_found, row_facts}
 use Rattle.office_rules.specs.Law.Growth.{HaveStayed}
@@ -213,8 +213,8 @@ withdrawal_decided name day today has true sold told there (Some k) is steps sal
 
 -- whether there are sales decides only where the key is another one
 by_other_key : (number : List ℕ) (key : ℕ) (same sold told : Bool) → ((if same then false else true) ≡ true → told ≡ sold)
-    → (if same then unchanged answers.Done else (if sold then Err refusals.HasSales else changed (edits.SetKey number key) answers.Done))
-    ≡ (if same then unchanged answers.Done else (if told then Err refusals.HasSales else changed (edits.SetKey number key) answers.Done))
+    → keyed_unless number key same sold
+    ≡ (keyed_unless number key same told)
 by_other_key number key true sold told sales = refl
 by_other_key number key false sold told sales =
     ap (λ (b : Bool). if b then Err refusals.HasSales else changed (edits.SetKey number key) answers.Done) (sym (sales refl))

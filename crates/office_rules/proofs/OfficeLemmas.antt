@@ -14,7 +14,7 @@ use Rattle.sts_token.specs.Token.{KeepsRange}
 use Rattle.tariff.specs.Steps.{IsSteps}
 use Rattle.tariff.specs.Tender.{IsTender}
 use Rattle.tariff.specs.declared.step.Step.{Step}
-use Rattle.office_rules.specs.Decision.{add_meter, add_steps, add_tariff, changed, close_shift, decision_of, import, is_earlier, account_of, meter_eq, move_base, next_number, open_a_shift, report, reprint, row_decision, sell, sell_again, sell_once, set_key, set_tariff, steps_eq, unchanged, withdraw_steps}
+use Rattle.office_rules.specs.Decision.{add_meter, add_steps, add_tariff, changed, close_shift, decision_of, import, is_earlier, account_of, meter_eq, move_base, next_number, open_a_shift, report, reprint, row_decision, sell, sell_again, sell_once, set_key, set_tariff, steps_eq, unchanged, withdraw_steps, moved_unless, keyed_unless, added_if_later, withdrawn_if_free}
 use Rattle.office_rules.specs.Decision.Fold.{office_after, step}
 use Rattle.sts_fields.specs.Base.{base_date, base_eq, year_of}
 use Rattle.office_rules.specs.Office.Lookup.{has_sales, open_shift, sale_numbered, sale_of_ref, sales_of_shift, shift_numbered, sold_since, used}
@@ -56,7 +56,7 @@ module _ (o : Office) (office : IsOffice o) where
   by_add_tariff name steps (Some there) named priced = kept_if o (steps_eq there steps) _ _ office
 
   by_day : (name : List ℕ) (day today : ℕ) (steps : List Step) (b : Bool) → IsDay day → IsSteps steps → IsSome (o.tariffs name)
-      → IsOffice (office_after o (if b then changed (edits.AddSteps name day steps) answers.Done else Err refusals.DayPast))
+      → IsOffice (office_after o (added_if_later name day steps b))
   by_day name day today steps true is priced tariff = keeps_add_steps o name day steps office is priced tariff
   by_day name day today steps false is priced tariff = office
 
@@ -67,7 +67,7 @@ module _ (o : Office) (office : IsOffice o) where
   by_add_steps name day today steps true None e is priced = by_day name day today steps (nat_lt today day) is priced e
 
   by_withdrawing : (name : List ℕ) (day : ℕ) (b : Bool)
-      → IsOffice (office_after o (if b then changed (edits.WithdrawSteps name day) (answers.Withdrawn 1) else Err refusals.DayPast))
+      → IsOffice (office_after o (withdrawn_if_free name day b))
   by_withdrawing name day true = keeps_withdraw_steps o name day office
   by_withdrawing name day false = office
 
@@ -104,8 +104,7 @@ module _ (o : Office) (office : IsOffice o) where
 
   by_later : (number : List ℕ) (base : Base) (moment : ℕ) (m : Meter) (same earlier : Bool) → o.meters number ≡ Some m
       → is_earlier base m.base ≡ earlier → IsOffice (office_after o
-      (if same then unchanged answers.Done else (if earlier then Err refusals.NotLater else
-      (if nat_lt moment (base_date base) then Err refusals.BeforeBase else changed (edits.MoveBase number base) answers.Done))))
+      (moved_unless number base same earlier (nat_lt moment (base_date base))))
   by_later number base moment m true earlier there e = office
   by_later number base moment m false true there e = office
   by_later number base moment m false false there e = by_moving number base m (nat_lt moment (base_date base)) there (not_earlier base m.base e)
@@ -116,8 +115,7 @@ module _ (o : Office) (office : IsOffice o) where
   by_move_base number base moment (Some m) at = by_later number base moment m (base_eq m.base base) (is_earlier base m.base) at refl
 
   by_key : (number : List ℕ) (key : ℕ) (same sold : Bool) → key < 2 ^ 64
-      → IsOffice (office_after o (if same then unchanged answers.Done else
-      (if sold then Err refusals.HasSales else changed (edits.SetKey number key) answers.Done)))
+      → IsOffice (office_after o (keyed_unless number key same sold))
   by_key number key true sold is = office
   by_key number key false true is = office
   by_key number key false false is = keeps_set_key o number key office is

@@ -87,6 +87,11 @@ add_tariff name steps None = changed (edits.AddTariff name steps) answers.Done
 add_tariff name steps (Some there) =
     if steps_eq there steps then unchanged answers.Done else Err refusals.Differs
 
+-- steps that no day has yet are added, where their first day is later than today
+abbrev pub added_if_later : List ℕ → ℕ → List Step → (later : Bool) → Result Change Refusal
+added_if_later name day steps later =
+    if later then changed (edits.AddSteps name day steps) answers.Done else Err refusals.DayPast
+
 -- AddSteps from a day on, where it is today, and there are a tariff of the name or none and these
 -- steps of the same first day
 abbrev pub add_steps : List ℕ → ℕ → List Step → ℕ → Bool → Option (List Step)
@@ -94,8 +99,13 @@ abbrev pub add_steps : List ℕ → ℕ → List Step → ℕ → Bool → Optio
 add_steps name day steps today false there = Err refusals.NoTariff
 add_steps name day steps today true (Some there) =
     if steps_eq there steps then unchanged answers.Done else Err refusals.Differs
-add_steps name day steps today true None =
-    if nat_lt today day then changed (edits.AddSteps name day steps) answers.Done
+add_steps name day steps today true None = added_if_later name day steps (nat_lt today day)
+
+-- steps are withdrawn where they are free: their first day is later than today, and nothing was sold
+-- since it
+abbrev pub withdrawn_if_free : List ℕ → ℕ → (free : Bool) → Result Change Refusal
+withdrawn_if_free name day free =
+    if free then changed (edits.WithdrawSteps name day) (answers.Withdrawn 1)
     else Err refusals.DayPast
 
 -- WithdrawSteps from a day on, where it is today, there are a tariff of the name or none and these
@@ -105,9 +115,7 @@ abbrev pub withdraw_steps : List ℕ → ℕ → ℕ → Bool → Option (List S
 withdraw_steps name day today false there sold = Err refusals.NoTariff
 withdraw_steps name day today true None sold = unchanged (answers.Withdrawn 0)
 withdraw_steps name day today true (Some there) sold =
-    if nat_lt today day && not sold
-    then changed (edits.WithdrawSteps name day) (answers.Withdrawn 1)
-    else Err refusals.DayPast
+    withdrawn_if_free name day (nat_lt today day && not sold)
 
 -- AddMeter, where there is this meter under the number, and a tariff of its tariff's name or none
 abbrev pub add_meter : List ℕ → Meter → Option Meter → Bool → Result Change Refusal
@@ -167,22 +175,32 @@ set_tariff number name (Some m) true =
     if bytes_eq m.tariff name then unchanged answers.Done
     else changed (edits.SetTariff number name) answers.Done
 
+-- a meter is moved to a base, unless it has this one, or a later one, or the base is still to come
+abbrev pub moved_unless : List ℕ → Base → (same earlier before : Bool) → Result Change Refusal
+moved_unless number base same earlier before =
+    if same then unchanged answers.Done
+    else (if earlier then Err refusals.NotLater
+    else (if before then Err refusals.BeforeBase
+    else changed (edits.MoveBase number base) answers.Done))
+
 -- MoveBase, where there is this meter; one that has the base is left alone
 abbrev pub move_base : List ℕ → Base → ℕ → Option Meter → Result Change Refusal
 move_base number base moment None = Err refusals.NoMeter
 move_base number base moment (Some m) =
-    if base_eq m.base base then unchanged answers.Done
-    else (if is_earlier base m.base then Err refusals.NotLater
-    else (if nat_lt moment (base_date base) then Err refusals.BeforeBase
-    else changed (edits.MoveBase number base) answers.Done))
+    moved_unless number base (base_eq m.base base) (is_earlier base m.base)
+    (nat_lt moment (base_date base))
+
+-- a meter is given a key, unless it has this one, or something was sold to it
+abbrev pub keyed_unless : List ℕ → ℕ → (same sold : Bool) → Result Change Refusal
+keyed_unless number key same sold =
+    if same then unchanged answers.Done
+    else (if sold then Err refusals.HasSales
+    else changed (edits.SetKey number key) answers.Done)
 
 -- SetKey, where there is this meter, and a sale to it or none; one that has the key is left alone
 abbrev pub set_key : List ℕ → ℕ → Option Meter → Bool → Result Change Refusal
 set_key number key None sold = Err refusals.NoMeter
-set_key number key (Some m) sold =
-    if m.key == key then unchanged answers.Done
-    else (if sold then Err refusals.HasSales
-    else changed (edits.SetKey number key) answers.Done)
+set_key number key (Some m) sold = keyed_unless number key (m.key == key) sold
 
 -- OpenShift, where the operator has this open shift and there are so many shifts
 abbrev pub open_a_shift : ℕ → List ℕ → Option Shift → ℕ → Result Change Refusal

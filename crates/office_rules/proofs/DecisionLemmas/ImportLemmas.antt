@@ -3,12 +3,10 @@ use Rattle.std.proofs.Common.{◌≡◌, ℕ, ◌+◌, ◌⊎◌, inl, inr, Bool
 use Rattle.std.specs.Prelude.{All, nat_lt, if◌then◌else◌}
 use Rattle.std.proofs.lemmas.List.Elements.{All-head, All-tail}
 use Rattle.tariff.specs.declared.step.Step.{Step}
-use Rattle.office_rules.specs.Decision.{add_meter, add_rows, add_steps, add_tariff, at_row, changed, import, meter_eq, new_rows, row_decision, steps_eq, unchanged}
+use Rattle.office_rules.specs.Decision.{add_meter, add_rows, add_steps, add_tariff, at_row, import, meter_eq, new_rows, row_decision, steps_eq, unchanged, added_if_later}
 use Rattle.office_rules.specs.Decision.Edits.{office_after, with_row, with_rows, RowsFit}
 use Rattle.office_rules.specs.Office.{Office}
 use Rattle.office_rules.specs.declared.decision.answer.Answer.{Answer}
-use Rattle.office_rules.specs.declared.decision.answer.Answer.TheVariants as answers
-use Rattle.office_rules.specs.declared.decision.change.Edit.TheVariants as edits
 use Rattle.office_rules.specs.declared.decision.change.Change.{Change}
 use Rattle.office_rules.specs.declared.office.meter.Meter.{Meter}
 use Rattle.office_rules.specs.declared.decision.refusal.Refusal.{Refusal}
@@ -34,7 +32,7 @@ tariff_grants o name steps None change e = subst (Grants o (kinds.Tariff name st
 tariff_grants o name steps (Some there) change e = stands_if o (kinds.Tariff name steps) (steps_eq there steps) _ _ change e
 
 day_grants : (o : Office) (name : List ℕ) (day : ℕ) (steps : List Step) (b : Bool) (change : Change)
-    → (if b then changed (edits.AddSteps name day steps) answers.Done else Err refusals.DayPast) ≡ Ok change → Grants o (kinds.Steps name day steps) change
+    → added_if_later name day steps b ≡ Ok change → Grants o (kinds.Steps name day steps) change
 day_grants o name day steps true change e = subst (Grants o (kinds.Steps name day steps)) (same_Ok _ _ e) (inr (refl, refl, tt))
 day_grants o name day steps false change e = cc
 

@@ -4,13 +4,11 @@ use Rattle.std.specs.Prelude.{◌&&◌, ◌==◌, bytes_eq, nat_lt, if◌then◌
 use Rattle.std.proofs.lemmas.Bool.Decides.{nat_tests}
 use Rattle.std.proofs.lemmas.Slice.Eq.{bytes_eq-Decides}
 use Rattle.tariff.specs.declared.step.Step.{Step}
-use Rattle.office_rules.specs.Decision.{add_meter, add_steps, add_tariff, changed, meter_eq, row_decision, steps_eq, unchanged}
+use Rattle.office_rules.specs.Decision.{add_meter, add_steps, add_tariff, meter_eq, row_decision, steps_eq, unchanged, added_if_later}
 use Rattle.office_rules.specs.Decision.Edits.{office_after}
 use Rattle.office_rules.specs.Law.Growth.{HaveStayed, TariffsStay}
 use Rattle.office_rules.specs.Office.{Office}
 use Rattle.office_rules.specs.declared.decision.answer.Answer.{Answer}
-use Rattle.office_rules.specs.declared.decision.answer.Answer.TheVariants as answers
-use Rattle.office_rules.specs.declared.decision.change.Edit.TheVariants as edits
 use Rattle.office_rules.specs.declared.office.meter.Meter.{Meter}
 use Rattle.office_rules.specs.declared.decision.refusal.Refusal.{Refusal}
 use Rattle.office_rules.specs.declared.decision.refusal.Refusal.TheVariants as refusals
@@ -73,7 +71,7 @@ steps_beside true false q name d day x y rows named is none at = at
 steps_beside false k q name d day x y rows named is none at = at
 
 stayed_by_day : (o : Office) (name : List ℕ) (day : ℕ) (steps : List Step) (b : Bool) → o.dated_steps name day ≡ None
-    → HaveStayed o (office_after o (if b then changed (edits.AddSteps name day steps) answers.Done else Err refusals.DayPast))
+    → HaveStayed o (office_after o (added_if_later name day steps b))
 stayed_by_day o name day steps true none = record {
   tariffs = record {
     first = λ q s at. at;
@@ -134,7 +132,7 @@ differs_steps name day today steps true had (Some there) later has_still stays e
     ∙ ap (λ (b : Bool). add_steps name day steps today b (Some there)) (has_still refl) ∙ e
 differs_steps name day today steps true had None later has_still stays e = absurd (not_differs (nat_lt today day) e)
   where
-    not_differs : (b : Bool) → (if b then changed (edits.AddSteps name day steps) answers.Done else Err refusals.DayPast) ≡ Err refusals.Differs → ⊥
+    not_differs : (b : Bool) → added_if_later name day steps b ≡ Err refusals.Differs → ⊥
     not_differs true e = cc
     not_differs false e = cc
 

@@ -10,7 +10,7 @@ use Rattle.tariff.specs.declared.step.Step.{Step}
 use Rattle.sts_fields.specs.Base.{base_date, base_eq, year_of}
 use Rattle.sts_fields.specs.Day.{day_at}
 use Rattle.sts_fields.specs.declared.base.Base.{Base}
-use Rattle.office_rules.specs.Decision.{changed, close_shift, decision, decision_of, is_earlier, move_base, account_of, next_number, open_a_shift, report, reprint, sell, sell_once, set_key, set_tariff, unchanged, withdraw_steps}
+use Rattle.office_rules.specs.Decision.{changed, close_shift, decision, decision_of, is_earlier, move_base, account_of, next_number, open_a_shift, report, reprint, sell, sell_once, set_key, set_tariff, unchanged, withdraw_steps, moved_unless, keyed_unless, withdrawn_if_free}
 use Rattle.office_rules.specs.Office.Lookup.{has_sales, open_shift, sale_numbered, sale_of_ref, sales_of_shift, shift_numbered, sold_since, used}
 use Rattle.office_rules.specs.Name.{IsOperator}
 use Rattle.office_rules.specs.Law.NewSale.{IsNewSale}
@@ -24,7 +24,6 @@ use Rattle.office_rules.specs.declared.decision.change.Edit.{Edit}
 use Rattle.office_rules.specs.declared.decision.change.Edit.TheVariants as edits
 use Rattle.office_rules.specs.declared.office.meter.Meter.{Meter}
 use Rattle.office_rules.specs.declared.decision.refusal.Refusal.{Refusal}
-use Rattle.office_rules.specs.declared.decision.refusal.Refusal.TheVariants as refusals
 use Rattle.office_rules.specs.declared.decision.request.Order.{Order}
 use Rattle.office_rules.specs.declared.decision.request.Request.{Request}
 use Rattle.office_rules.specs.declared.decision.request.Request.TheVariants as requests
@@ -56,8 +55,7 @@ if_set o number name m false is meter_is there =
 
 if_withdrawing : (o : Office) (name : List ℕ) (day : ℕ) (steps : List Step) (b : Bool)
     → o.dated_steps name day ≡ Some steps → (b ≡ true → sold_since o day ≡ false)
-    → EditMeets o (if b then changed (edits.WithdrawSteps name day) (answers.Withdrawn 1)
-    else Err refusals.DayPast)
+    → EditMeets o (withdrawn_if_free name day b)
 if_withdrawing o name day steps true there none =
     if_changed o _ (record {
       steps = steps;
@@ -77,8 +75,7 @@ if_withdraw_steps o name day today true (Some steps) e =
 
 if_key : (o : Office) (number : List ℕ) (key : ℕ) (m : Meter) (same sold : Bool) → key < 2 ^ 64
     → o.meters number ≡ Some m → (m.key == key) ≡ same → has_sales o number ≡ sold
-    → EditMeets o (if same then unchanged answers.Done
-    else (if sold then Err refusals.HasSales else changed (edits.SetKey number key) answers.Done))
+    → EditMeets o (keyed_unless number key same sold)
 if_key o number key m true sold is there same_is sold_is = if_unchanged o
 if_key o number key m false true is there same_is sold_is = tt
 if_key o number key m false false is there same_is sold_is =
@@ -107,10 +104,7 @@ module _ (o : Office) (office : IsOffice o) where
 
   if_later : (number : List ℕ) (base : Base) (m : Meter) (same earlier before : Bool)
       → o.meters number ≡ Some m → base_eq m.base base ≡ same → is_earlier base m.base ≡ earlier
-      → EditMeets o (if same then unchanged answers.Done
-      else (if earlier then Err refusals.NotLater
-      else (if before then Err refusals.BeforeBase
-      else changed (edits.MoveBase number base) answers.Done)))
+      → EditMeets o (moved_unless number base same earlier before)
   if_later number base m true earlier before there same_is earlier_is = if_unchanged o
   if_later number base m false true before there same_is earlier_is = tt
   if_later number base m false false true there same_is earlier_is = tt

@@ -8,20 +8,17 @@ use Rattle.sts_fields.specs.Base.{year_of}
 use Rattle.sts_fields.specs.declared.base.Base.{Base}
 use Rattle.tariff.specs.Steps.{IsSteps}
 use Rattle.tariff.specs.declared.step.Step.{Step}
-use Rattle.office_rules.specs.Decision.{add_meter, add_rows, add_steps, add_tariff, changed, import, meter_eq, new_rows, row_decision, steps_eq, unchanged}
+use Rattle.office_rules.specs.Decision.{add_meter, add_rows, add_steps, add_tariff, import, meter_eq, new_rows, row_decision, steps_eq, unchanged, added_if_later}
 use Rattle.office_rules.specs.Decision.Edits.{office_after}
 use Rattle.office_rules.specs.Name.{IsName}
 use Rattle.office_rules.specs.Office.{IsBaseRow, IsOffice, Office}
 use Rattle.office_rules.specs.Decision.Requests.{IsMeter, IsRow}
 use Rattle.office_rules.specs.Law.Store.{MeetRows, Meets, MeetsMeter, MeetsRow, MeetsSteps}
 use Rattle.office_rules.specs.declared.decision.answer.Answer.{Answer}
-use Rattle.office_rules.specs.declared.decision.answer.Answer.TheVariants as answers
 use Rattle.office_rules.specs.declared.decision.change.Change.{Change}
 use Rattle.office_rules.specs.declared.decision.change.Edit.{Edit}
-use Rattle.office_rules.specs.declared.decision.change.Edit.TheVariants as edits
 use Rattle.office_rules.specs.declared.office.meter.Meter.{Meter}
 use Rattle.office_rules.specs.declared.decision.refusal.Refusal.{Refusal}
-use Rattle.office_rules.specs.declared.decision.refusal.Refusal.TheVariants as refusals
 use Rattle.office_rules.specs.declared.office.row.Row.{Row}
 use Rattle.office_rules.specs.declared.office.row.Row.TheVariants as kinds
 use Rattle.office_rules.proofs.DecisionLemmas.{after_test, same_Ok}
@@ -101,8 +98,7 @@ meets_steps o name day steps is there free =
 
 day_meets : (o : Office) (name : List ℕ) (day : ℕ) (steps : List Step) (b : Bool)
     → MeetsSteps o name day steps
-    → EditMeets o (if b then changed (edits.AddSteps name day steps) answers.Done
-    else Err refusals.DayPast)
+    → EditMeets o (added_if_later name day steps b)
 day_meets o name day steps true meets = if_changed o _ meets
 day_meets o name day steps false meets = tt
 

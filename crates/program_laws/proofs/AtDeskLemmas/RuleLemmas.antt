@@ -14,7 +14,7 @@ use Rattle.sts_fields.specs.declared.fault.TidFault.TheVariants as tids
 use Rattle.sts_token.specs.Token.{BlockFunction, KeepsRange}
 use Rattle.tariff.specs.Purchase.{purchase_of}
 use Rattle.tariff.specs.declared.step.Step.{Step}
-use Rattle.office_rules.specs.Decision.{◌>>=◌, MeterAccount, account_of, add_meter, add_rows, add_steps, add_tariff, at_row, changed, close_shift, decision_of, import, is_earlier, meter_eq, move_base, new_rows, open_a_shift, or_refusal, row_decision, sell_once, set_key, set_tariff, steps_eq, unchanged, withdraw_steps}
+use Rattle.office_rules.specs.Decision.{◌>>=◌, MeterAccount, account_of, add_meter, add_rows, add_steps, add_tariff, at_row, changed, close_shift, decision_of, import, is_earlier, meter_eq, move_base, new_rows, open_a_shift, or_refusal, row_decision, sell_once, set_key, set_tariff, steps_eq, unchanged, withdraw_steps, moved_unless, keyed_unless, added_if_later, withdrawn_if_free}
 use Rattle.office_rules.specs.Decision.Fold.{after, office_after, replies_to, reply, reply_of, step}
 use Rattle.office_rules.specs.Decision.Requests.{IsStamped}
 use Rattle.vend_core.specs.Law.Life.{Exchange, IsLife, Life, acknowledged, acknowledges, present, replies_acknowledged}
@@ -212,7 +212,7 @@ may_add_tariff name steps None = tt
 may_add_tariff name steps (Some there) = may_differ (requests.AddTariff name steps) tt tt (steps_eq there steps)
 
 may_begin : (name : List ℕ) (day : ℕ) (steps : List Step) (b : Bool)
-    → MayDecide (requests.AddSteps name day steps) (if b then changed (edits.AddSteps name day steps) answers.Done else Err refusals.DayPast)
+    → MayDecide (requests.AddSteps name day steps) (added_if_later name day steps b)
 may_begin name day steps true = tt
 may_begin name day steps false = tt
 
@@ -239,8 +239,7 @@ may_tariff number name (Some m) true = may_set number name (bytes_eq m.tariff na
 
 may_move : (number : List ℕ) (base : Base) (same earlier before : Bool)
     → MayDecide (requests.MoveBase number base)
-    (if same then unchanged answers.Done else
-    (if earlier then Err refusals.NotLater else (if before then Err refusals.BeforeBase else changed (edits.MoveBase number base) answers.Done)))
+    (moved_unless number base same earlier before)
 may_move number base true earlier before = tt
 may_move number base false true before = tt
 may_move number base false false true = tt
@@ -252,7 +251,7 @@ may_base number base moment (Some m) = may_move number base (base_eq m.base base
 
 may_take_back : (name : List ℕ) (day : ℕ) (b : Bool)
     → MayDecide (requests.WithdrawSteps name day)
-    (if b then changed (edits.WithdrawSteps name day) (answers.Withdrawn 1) else Err refusals.DayPast)
+    (withdrawn_if_free name day b)
 may_take_back name day true = omega arith
 may_take_back name day false = tt
 
@@ -264,7 +263,7 @@ may_withdraw name day today true (Some there) sold = may_take_back name day (nat
 
 may_give : (number : List ℕ) (key : ℕ) (same sold : Bool)
     → MayDecide (requests.SetKey number key)
-    (if same then unchanged answers.Done else (if sold then Err refusals.HasSales else changed (edits.SetKey number key) answers.Done))
+    (keyed_unless number key same sold)
 may_give number key true sold = tt
 may_give number key false true = tt
 may_give number key false false = tt
@@ -332,7 +331,7 @@ plain_if true answer = tt
 plain_if false answer = tt
 
 plain_day : (name : List ℕ) (day : ℕ) (steps : List Step) (b : Bool)
-    → IsPlainDecision (if b then changed (edits.AddSteps name day steps) answers.Done else Err refusals.DayPast)
+    → IsPlainDecision (added_if_later name day steps b)
 plain_day name day steps true = tt
 plain_day name day steps false = tt
 

@@ -9,7 +9,7 @@ use Rattle.std.proofs.lemmas.Slice.Eq.{bytes_eq-Decides}
 use Rattle.std.proofs.lemmas.Bool.Decides.{Decides-eqb}
 use Rattle.tariff.specs.StepsEq.{steps_eq-equiv}
 use Rattle.tariff.specs.declared.step.Step.{Step}
-use Rattle.office_rules.specs.Decision.{◌>>=◌, at_row, add_meter, add_rows, add_steps, add_tariff, changed, decision_of, import, meter_eq, new_rows, row_decision, steps_eq, unchanged}
+use Rattle.office_rules.specs.Decision.{◌>>=◌, at_row, add_meter, add_rows, add_steps, add_tariff, changed, decision_of, import, meter_eq, new_rows, row_decision, steps_eq, unchanged, added_if_later}
 use Rattle.office_rules.specs.Decision.Edits.{office_after, with_rows}
 use Rattle.office_rules.specs.Decision.Fold.{after, reply, reply_of, step}
 use Rattle.office_rules.specs.Law.Growth.{HaveStayed}
@@ -56,7 +56,7 @@ stands_meter number m None later false had stays e = cc
 stands_meter number m (Some there) later has had stays e = ap (λ k. add_meter number m k had) (stays there refl) ∙ e
 
 no_unchanged_day : (name : List ℕ) (day : ℕ) (steps : List Step) (b : Bool)
-    → (if b then changed (edits.AddSteps name day steps) answers.Done else Err refusals.DayPast) ≡ unchanged answers.Done → ⊥
+    → added_if_later name day steps b ≡ unchanged answers.Done → ⊥
 no_unchanged_day name day steps true e = not_unchanged (edits.AddSteps name day steps) answers.Done e
 no_unchanged_day name day steps false e = cc
 
@@ -117,7 +117,7 @@ granted_tariff o name steps (Some there) change is e today =
 
 -- steps that were added stand on whatever day
 added_day : (o : Office) (name : List ℕ) (day : ℕ) (steps : List Step) (b : Bool) (change : Change) → is_some (o.tariffs name) ≡ true
-    → (if b then changed (edits.AddSteps name day steps) answers.Done else Err refusals.DayPast) ≡ Ok change
+    → added_if_later name day steps b ≡ Ok change
     → Stands (office_after o (Ok change)) (kinds.Steps name day steps)
 added_day o name day steps true change has e today =
     subst (λ (c : Change). row_decision (office_after o (Ok c)) today (kinds.Steps name day steps) ≡ unchanged answers.Done) (same_Ok _ change e)

@@ -7,7 +7,7 @@ use Rattle.sts_fields.specs.declared.base.Base.{Base}
 use Rattle.std.proofs.lemmas.List.Elements.{All-contains_itself, All-cons, All-filter, All-nil, Contains-push}
 use Rattle.sts_token.specs.Token.{KeepsRange}
 use Rattle.tariff.specs.declared.step.Step.{Step}
-use Rattle.office_rules.specs.Decision.{MeterAccount, add_meter, add_rows, add_steps, add_tariff, changed, close_shift, decision_of, import, is_earlier, meter_eq, move_base, new_rows, account_of, next_number, open_a_shift, report, reprint, sell, sell_once, set_key, set_tariff, steps_eq, unchanged, withdraw_steps}
+use Rattle.office_rules.specs.Decision.{MeterAccount, add_meter, add_rows, add_steps, add_tariff, changed, close_shift, decision_of, import, is_earlier, meter_eq, move_base, new_rows, account_of, next_number, open_a_shift, report, reprint, sell, sell_once, set_key, set_tariff, steps_eq, unchanged, withdraw_steps, moved_unless, keyed_unless, added_if_later, withdrawn_if_free}
 use Rattle.office_rules.specs.Decision.Edits.{with_row, with_rows}
 use Rattle.office_rules.specs.Decision.Fold.{office_after, reply, reply_of, step}
 use Rattle.office_rules.specs.Law.Handed.{sales_in, sales_of}
@@ -21,7 +21,6 @@ use Rattle.office_rules.specs.declared.decision.change.Change.{Change}
 use Rattle.office_rules.specs.declared.decision.change.Edit.TheVariants as edits
 use Rattle.office_rules.specs.declared.office.meter.Meter.{Meter}
 use Rattle.office_rules.specs.declared.decision.refusal.Refusal.{Refusal}
-use Rattle.office_rules.specs.declared.decision.refusal.Refusal.TheVariants as refusals
 use Rattle.office_rules.specs.declared.decision.request.Order.{Order}
 use Rattle.office_rules.specs.declared.decision.request.Request.{Request}
 use Rattle.office_rules.specs.declared.decision.request.Request.TheVariants as requests
@@ -65,7 +64,7 @@ module _ (o : Office) (New : Sale → Type 0) where
   stand_add_tariff name steps (Some there) = stand_if (steps_eq there steps) _ _ (nothing o)
 
   stand_day : (name : List ℕ) (day : ℕ) (steps : List Step) (b : Bool)
-      → IsHonest o New (if b then changed (edits.AddSteps name day steps) answers.Done else Err refusals.DayPast)
+      → IsHonest o New (added_if_later name day steps b)
   stand_day name day steps true = record { stand = nothing o; adds = inl refl }
   stand_day name day steps false = record { stand = nothing o; adds = inl refl }
 
@@ -76,7 +75,7 @@ module _ (o : Office) (New : Sale → Type 0) where
   stand_add_steps name day today steps true None = stand_day name day steps (nat_lt today day)
 
   stand_withdrawing : (name : List ℕ) (day : ℕ) (b : Bool)
-      → IsHonest o New (if b then changed (edits.WithdrawSteps name day) (answers.Withdrawn 1) else Err refusals.DayPast)
+      → IsHonest o New (withdrawn_if_free name day b)
   stand_withdrawing name day true = record { stand = nothing o; adds = inl refl }
   stand_withdrawing name day false = record { stand = nothing o; adds = inl refl }
 
@@ -101,8 +100,7 @@ module _ (o : Office) (New : Sale → Type 0) where
   stand_set_tariff number name (Some m) true = stand_set (bytes_eq m.tariff name) number name
 
   stand_later : (number : List ℕ) (base : Base) (same earlier before : Bool)
-      → IsHonest o New (if same then unchanged answers.Done else
-      (if earlier then Err refusals.NotLater else (if before then Err refusals.BeforeBase else changed (edits.MoveBase number base) answers.Done)))
+      → IsHonest o New (moved_unless number base same earlier before)
   stand_later number base true earlier before = record { stand = nothing o; adds = inl refl }
   stand_later number base false true before = record { stand = nothing o; adds = inl refl }
   stand_later number base false false true = record { stand = nothing o; adds = inl refl }
@@ -113,8 +111,7 @@ module _ (o : Office) (New : Sale → Type 0) where
   stand_move_base number base moment (Some m) = stand_later number base (base_eq m.base base) (is_earlier base m.base) (nat_lt moment (base_date base))
 
   stand_key : (number : List ℕ) (key : ℕ) (same sold : Bool)
-      → IsHonest o New (if same then unchanged answers.Done else
-      (if sold then Err refusals.HasSales else changed (edits.SetKey number key) answers.Done))
+      → IsHonest o New (keyed_unless number key same sold)
   stand_key number key true sold = record { stand = nothing o; adds = inl refl }
   stand_key number key false true = record { stand = nothing o; adds = inl refl }
   stand_key number key false false = record { stand = nothing o; adds = inl refl }

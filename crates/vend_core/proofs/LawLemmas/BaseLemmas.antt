@@ -8,13 +8,12 @@ use Rattle.std.proofs.lemmas.Option.{same_Some}
 use Rattle.std.proofs.lemmas.Slice.Eq.{bytes_eq-Decides}
 use Rattle.sts_fields.specs.Base.{base_date, base_eq, year_of}
 use Rattle.sts_fields.specs.declared.base.Base.{Base}
-use Rattle.office_rules.specs.Decision.{changed, decision_of, is_earlier, move_base, unchanged}
+use Rattle.office_rules.specs.Decision.{decision_of, is_earlier, move_base, moved_unless}
 use Rattle.office_rules.specs.Decision.Fold.{office_after, reply, reply_of, step, with_base}
 use Rattle.office_rules.specs.Office.{IsOffice, IsSaleRow, Office}
 use Rattle.vend_core.specs.Law.OfficeLaws.{IsGreatestBase, IsMoved}
 use Rattle.office_rules.specs.declared.decision.answer.Answer.TheVariants as answers
 use Rattle.office_rules.specs.declared.decision.change.Change.{Change}
-use Rattle.office_rules.specs.declared.decision.change.Edit.TheVariants as edits
 use Rattle.office_rules.specs.declared.office.meter.Meter.{Meter}
 use Rattle.office_rules.specs.declared.decision.refusal.Refusal.{Refusal}
 use Rattle.office_rules.specs.declared.decision.refusal.Refusal.TheVariants as refusals
@@ -39,8 +38,7 @@ present_is_greatest o number m office there = record {
 -- what a move decides, by its three tests
 abbrev decided : List ℕ → Base → Bool → Bool → Bool → Result Change Refusal
 decided number base same earlier before =
-    if same then unchanged answers.Done else (if earlier then Err refusals.NotLater else
-    (if before then Err refusals.BeforeBase else changed (edits.MoveBase number base) answers.Done))
+    moved_unless number base same earlier before
 
 module _ (forward : ℕ → ℕ → ℕ) (o : Office) (at : Stamped) (number : List ℕ) (base : Base) (m : Meter) (there : o.meters number ≡ Some m)
     (asks : at.request ≡ requests.MoveBase number base) where

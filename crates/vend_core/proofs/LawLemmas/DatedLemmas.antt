@@ -13,7 +13,7 @@ use Rattle.sts_fields.specs.declared.base.Base.{Base}
 use Rattle.sts_token.specs.Token.{KeepsRange}
 use Rattle.tariff.specs.StepsEq.{steps_eq-equiv}
 use Rattle.tariff.specs.declared.step.Step.{Step}
-use Rattle.office_rules.specs.Decision.{MeterAccount, account_of, add_meter, add_steps, add_tariff, changed, close_shift, decision_of, import, is_earlier, meter_eq, move_base, next_number, open_a_shift, report, reprint, row_decision, sell, sell_once, set_key, set_tariff, steps_eq, unchanged, withdraw_steps}
+use Rattle.office_rules.specs.Decision.{MeterAccount, account_of, add_meter, add_steps, add_tariff, changed, close_shift, decision_of, import, is_earlier, meter_eq, move_base, next_number, open_a_shift, report, reprint, row_decision, sell, sell_once, set_key, set_tariff, steps_eq, unchanged, withdraw_steps, moved_unless, keyed_unless, added_if_later, withdrawn_if_free}
 use Rattle.office_rules.specs.Decision.Fold.{after, office_after, reply, reply_of, step}
 use Rattle.office_rules.specs.Office.Lookup.{has_sales, latest, open_shift, sale_numbered, sale_of_ref, sales_of_shift, shift_numbered, sold_since, steps_on}
 use Rattle.office_rules.specs.Office.{IsOffice, Office}
@@ -72,7 +72,7 @@ module _ (forward : ℕ → ℕ → ℕ) (o : Office) (at : Stamped) (name : Lis
       ∙ ap (add_steps name day steps (day_at at.moment) true) is
 
   abbrev if_later : Bool → Result Change Refusal
-  if_later later = if later then changed (edits.AddSteps name day steps) answers.Done else Err refusals.DayPast
+  if_later later = added_if_later name day steps later
 
   -- further steps from a later day on are added, where there are none of that day
   pub adds_steps : o.dated_steps name day ≡ None → day_at at.moment < day → (reply forward o at ≡ Ok answers.Done)
@@ -129,7 +129,7 @@ module _ (day : ℕ) (o : Office) where
 
   -- steps are added from a later day on alone
   same_by_day : (name : List ℕ) (first today : ℕ) (steps : List Step) (b : Bool) → day ≤ today → nat_lt today first ≡ b
-      → Same (if b then changed (edits.AddSteps name first steps) answers.Done else Err refusals.DayPast)
+      → Same (added_if_later name first steps b)
   same_by_day name first today steps true past later = λ q d below.
       let other : (d == first) ≡ false = grind (arith, nat_tests) in
       beside_day (bytes_eq q name) (d == first) (Some steps) (o.dated_steps q d) other
@@ -143,7 +143,7 @@ module _ (day : ℕ) (o : Office) where
 
   -- and withdrawn from a later day on alone
   same_by_withdrawing : (name : List ℕ) (first today : ℕ) (b : Bool) → day ≤ today → (b ≡ true → nat_lt today first ≡ true)
-      → Same (if b then changed (edits.WithdrawSteps name first) (answers.Withdrawn 1) else Err refusals.DayPast)
+      → Same (withdrawn_if_free name first b)
   same_by_withdrawing name first today true past later = λ q d below.
       let after : nat_lt today first ≡ true = later refl in
       let other : (d == first) ≡ false = grind (arith, nat_tests) in
@@ -172,8 +172,7 @@ module _ (day : ℕ) (o : Office) where
   same_by_set number name (Some m) true = same_by_setting number name (bytes_eq m.tariff name)
 
   same_by_later : (number : List ℕ) (base : Base) (same earlier before : Bool)
-      → Same (if same then unchanged answers.Done else (if earlier then Err refusals.NotLater else
-      (if before then Err refusals.BeforeBase else changed (edits.MoveBase number base) answers.Done)))
+      → Same (moved_unless number base same earlier before)
   same_by_later number base true earlier before = λ q d below. refl
   same_by_later number base false true before = λ q d below. refl
   same_by_later number base false false true = λ q d below. refl
@@ -184,7 +183,7 @@ module _ (day : ℕ) (o : Office) where
   same_by_move number base moment (Some m) = same_by_later number base (base_eq m.base base) (is_earlier base m.base) (nat_lt moment (base_date base))
 
   same_by_key : (number : List ℕ) (key : ℕ) (same sold : Bool)
-      → Same (if same then unchanged answers.Done else (if sold then Err refusals.HasSales else changed (edits.SetKey number key) answers.Done))
+      → Same (keyed_unless number key same sold)
   same_by_key number key true sold = λ q d below. refl
   same_by_key number key false true = λ q d below. refl
   same_by_key number key false false = λ q d below. refl

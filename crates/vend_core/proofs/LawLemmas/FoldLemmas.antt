@@ -12,7 +12,7 @@ use Rattle.sts_fields.specs.Day.{day_at}
 use Rattle.sts_fields.specs.declared.base.Base.{Base}
 use Rattle.sts_token.specs.Token.{KeepsRange}
 use Rattle.tariff.specs.declared.step.Step.{Step}
-use Rattle.office_rules.specs.Decision.{MeterAccount, add_meter, add_steps, add_tariff, changed, close_shift, decision_of, import, is_earlier, meter_eq, move_base, account_of, next_number, open_a_shift, report, reprint, row_decision, sell, sell_once, set_key, set_tariff, steps_eq, unchanged, withdraw_steps}
+use Rattle.office_rules.specs.Decision.{MeterAccount, add_meter, add_steps, add_tariff, changed, close_shift, decision_of, import, is_earlier, meter_eq, move_base, account_of, next_number, open_a_shift, report, reprint, row_decision, sell, sell_once, set_key, set_tariff, steps_eq, unchanged, withdraw_steps, moved_unless, keyed_unless, added_if_later, withdrawn_if_free}
 use Rattle.office_rules.specs.Decision.Fold.{after, applied, closed_at, office_after, step, with_base, with_key, with_tariff}
 use Rattle.office_rules.specs.Law.Growth.{HasGrown, HaveStayed, IsSameShift}
 use Rattle.office_rules.specs.Office.Lookup.{WasSoldSince, has_sales, open_shift, sale_numbered, sale_of_ref, sales_of_shift, shift_numbered, sold_since}
@@ -106,8 +106,8 @@ module _ (o : Office) where
   grown_by_tariff name steps (Some there) at = grown_if (steps_eq there steps) _ _
 
   grown_by_day : (name : List ℕ) (day : ℕ) (steps : List Step) (b : Bool)
-      → HaveStayed o (office_after o (if b then changed (edits.AddSteps name day steps) answers.Done else Err refusals.DayPast))
-      → HasGrown o (office_after o (if b then changed (edits.AddSteps name day steps) answers.Done else Err refusals.DayPast))
+      → HaveStayed o (office_after o (added_if_later name day steps b))
+      → HasGrown o (office_after o (added_if_later name day steps b))
   grown_by_day name day steps true stayed = new_names _ (stayed_names _ stayed (λ q b had. had)) refl refl
   grown_by_day name day steps false stayed = grown_none o
 
@@ -123,7 +123,7 @@ module _ (o : Office) where
   stays_beside false there steps other at = at
 
   grown_by_withdrawing : (name : List ℕ) (day : ℕ) (b : Bool) → (b ≡ true → sold_since o day ≡ false)
-      → HasGrown o (office_after o (if b then changed (edits.WithdrawSteps name day) (answers.Withdrawn 1) else Err refusals.DayPast))
+      → HasGrown o (office_after o (withdrawn_if_free name day b))
   grown_by_withdrawing name day true none = new_names (applied (edits.WithdrawSteps name day) o) (record {
     tariffs = record {
       first = λ q steps at. at;
@@ -199,9 +199,7 @@ module _ (o : Office) where
   }) refl refl
 
   grown_by_later : (number : List ℕ) (base : Base) (moment : ℕ) (m : Meter) (same earlier : Bool) → o.meters number ≡ Some m → is_earlier base m.base ≡ earlier
-      → HasGrown o (office_after o (if same then unchanged answers.Done else
-      (if earlier then Err refusals.NotLater else (if nat_lt moment (base_date base) then Err refusals.BeforeBase else
-      changed (edits.MoveBase number base) answers.Done))))
+      → HasGrown o (office_after o (moved_unless number base same earlier (nat_lt moment (base_date base))))
   grown_by_later number base moment m true earlier there e = grown_none o
   grown_by_later number base moment m false true there e = grown_none o
   grown_by_later number base moment m false false there e =
@@ -220,8 +218,7 @@ module _ (o : Office) where
   key_of_other false q number key m n there is other at now = ap (λ (k : Meter). k.key) (same_Some n m (sym now ∙ at))
 
   grown_by_key : (number : List ℕ) (key : ℕ) (same sold : Bool) → has_sales o number ≡ sold
-      → HasGrown o (office_after o (if same then unchanged answers.Done else
-      (if sold then Err refusals.HasSales else changed (edits.SetKey number key) answers.Done)))
+      → HasGrown o (office_after o (keyed_unless number key same sold))
   grown_by_key number key true sold is = grown_none o
   grown_by_key number key false true is = grown_none o
   grown_by_key number key false false is = new_names (applied (edits.SetKey number key) o) (record {

@@ -7,7 +7,7 @@ use Rattle.sts_fields.specs.declared.base.Base.{Base}
 use Rattle.std.proofs.lemmas.Slice.Eq.{bytes_eq-Decides}
 use Rattle.std.proofs.lemmas.Bool.Decides.{Decides-eqb}
 use Rattle.tariff.specs.declared.step.Step.{Step}
-use Rattle.office_rules.specs.Decision.{MeterAccount, account_of, changed, close_shift, decision_of, import, is_earlier, move_base, next_number, open_a_shift, report, reprint, row_decision, sell, sell_once, set_key, set_tariff, unchanged, withdraw_steps}
+use Rattle.office_rules.specs.Decision.{MeterAccount, account_of, changed, close_shift, decision_of, import, is_earlier, move_base, next_number, open_a_shift, report, reprint, row_decision, sell, sell_once, set_key, set_tariff, unchanged, withdraw_steps, moved_unless, keyed_unless, withdrawn_if_free}
 use Rattle.office_rules.specs.Decision.Edits.{office_after, with_base, with_key, with_tariff}
 use Rattle.office_rules.specs.Decision.Fold.{step}
 use Rattle.office_rules.specs.Law.Growth.{HaveStayed, TariffsStay}
@@ -19,7 +19,6 @@ use Rattle.office_rules.specs.declared.decision.change.Change.{Change}
 use Rattle.office_rules.specs.declared.decision.change.Edit.TheVariants as edits
 use Rattle.office_rules.specs.declared.office.meter.Meter.{Meter}
 use Rattle.office_rules.specs.declared.decision.refusal.Refusal.{Refusal}
-use Rattle.office_rules.specs.declared.decision.refusal.Refusal.TheVariants as refusals
 use Rattle.office_rules.specs.declared.decision.request.Order.{Order}
 use Rattle.office_rules.specs.declared.decision.request.Request.{Request}
 use Rattle.office_rules.specs.declared.decision.request.Request.TheVariants as requests
@@ -143,8 +142,7 @@ module _ (o : Office) where
   others_by_set number name (Some m) true = others_by_setting number name (bytes_eq m.tariff name)
 
   others_by_later : (number : List ℕ) (base : Base) (same earlier before : Bool)
-      → OthersStay number o (office_after o (if same then unchanged answers.Done else (if earlier then Err refusals.NotLater else
-      (if before then Err refusals.BeforeBase else changed (edits.MoveBase number base) answers.Done))))
+      → OthersStay number o (office_after o (moved_unless number base same earlier before))
   others_by_later number base true earlier before = others_none number
   others_by_later number base false true before = others_none number
   others_by_later number base false false true = others_none number
@@ -160,8 +158,7 @@ module _ (o : Office) where
       others_by_later number base (base_eq m.base base) (is_earlier base m.base) (nat_lt moment (base_date base))
 
   others_by_key : (number : List ℕ) (key : ℕ) (same sold : Bool)
-      → OthersStay number o (office_after o (if same then unchanged answers.Done else
-      (if sold then Err refusals.HasSales else changed (edits.SetKey number key) answers.Done)))
+      → OthersStay number o (office_after o (keyed_unless number key same sold))
   others_by_key number key true sold = others_none number
   others_by_key number key false true = others_none number
   others_by_key number key false false = record {
@@ -177,7 +174,7 @@ module _ (o : Office) where
   steps_none name day = record { first = λ q s at. at; dated = λ q d s other at. at; meters = λ q k at. at }
 
   steps_by_withdrawing : (name : List ℕ) (day : ℕ) (b : Bool)
-      → OtherStepsStay name day o (office_after o (if b then changed (edits.WithdrawSteps name day) (answers.Withdrawn 1) else Err refusals.DayPast))
+      → OtherStepsStay name day o (office_after o (withdrawn_if_free name day b))
   steps_by_withdrawing name day true = record {
     first = λ q s at. at;
     dated = λ q d s other at. withdrawn_beside (bytes_eq q name) (d == day) q name d day (o.dated_steps q d) s refl refl other at;

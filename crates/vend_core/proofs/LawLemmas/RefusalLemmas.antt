@@ -12,7 +12,7 @@ use Rattle.sts_fields.specs.declared.fault.TidFault.{TidFault}
 use Rattle.sts_fields.specs.declared.fault.TidFault.TheVariants.{BeforeBase, PastEnd, IdentifiersSpent, IdentifierAhead}
 use Rattle.tariff.specs.Purchase.{purchase_of}
 use Rattle.tariff.specs.declared.step.Step.{Step}
-use Rattle.office_rules.specs.Decision.{◌>>=◌, MeterAccount, add_meter, add_rows, add_steps, add_tariff, at_row, changed, decision_of, import, is_earlier, meter_eq, move_base, new_rows, account_of, open_a_shift, or_refusal, row_decision, sell_once, set_key, set_tariff, steps_eq, unchanged, withdraw_steps}
+use Rattle.office_rules.specs.Decision.{◌>>=◌, MeterAccount, add_meter, add_rows, add_steps, add_tariff, at_row, changed, decision_of, import, is_earlier, meter_eq, move_base, new_rows, account_of, open_a_shift, or_refusal, row_decision, sell_once, set_key, set_tariff, steps_eq, unchanged, withdraw_steps, moved_unless, keyed_unless, added_if_later, withdrawn_if_free}
 use Rattle.office_rules.specs.Decision.Fold.{reply, reply_of}
 use Rattle.vend_core.specs.Law.Life.{acknowledges}
 use Rattle.office_rules.specs.Office.Lookup.{has_sales, open_shift, sale_numbered, sale_of_ref, shift_numbered, sold_since}
@@ -65,7 +65,7 @@ own_tariff name steps None = refl
 own_tariff name steps (Some there) = own_if (steps_eq there steps) _ refusals.Differs refl
 
 own_day : (name : List ℕ) (day : ℕ) (steps : List Step) (b : Bool)
-    → IsOwn (if b then changed (edits.AddSteps name day steps) answers.Done else Err refusals.DayPast)
+    → IsOwn (added_if_later name day steps b)
 own_day name day steps true = refl
 own_day name day steps false = refl
 
@@ -75,7 +75,7 @@ own_steps name day today steps true (Some there) = own_if (steps_eq there steps)
 own_steps name day today steps true None = own_day name day steps (nat_lt today day)
 
 own_withdrawing : (name : List ℕ) (day : ℕ) (b : Bool)
-    → IsOwn (if b then changed (edits.WithdrawSteps name day) (answers.Withdrawn 1) else Err refusals.DayPast)
+    → IsOwn (withdrawn_if_free name day b)
 own_withdrawing name day true = refl
 own_withdrawing name day false = refl
 
@@ -100,8 +100,7 @@ own_set number name (Some m) false = refl
 own_set number name (Some m) true = own_setting number name (bytes_eq m.tariff name)
 
 own_later : (number : List ℕ) (base : Base) (same earlier before : Bool)
-    → IsOwn (if same then unchanged answers.Done else (if earlier then Err refusals.NotLater else
-    (if before then Err refusals.BeforeBase else changed (edits.MoveBase number base) answers.Done)))
+    → IsOwn (moved_unless number base same earlier before)
 own_later number base true earlier before = refl
 own_later number base false true before = refl
 own_later number base false false true = refl
@@ -112,7 +111,7 @@ own_move number base moment None = refl
 own_move number base moment (Some m) = own_later number base (base_eq m.base base) (is_earlier base m.base) (nat_lt moment (base_date base))
 
 own_key : (number : List ℕ) (key : ℕ) (same sold : Bool)
-    → IsOwn (if same then unchanged answers.Done else (if sold then Err refusals.HasSales else changed (edits.SetKey number key) answers.Done))
+    → IsOwn (keyed_unless number key same sold)
 own_key number key true sold = refl
 own_key number key false true = refl
 own_key number key false false = refl

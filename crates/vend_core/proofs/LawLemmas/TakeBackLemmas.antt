@@ -7,14 +7,13 @@ use Rattle.std.proofs.lemmas.Bool.Decides.{Decides-eqb}
 use Rattle.std.proofs.lemmas.Slice.Eq.{bytes_eq-Decides}
 use Rattle.sts_fields.specs.Day.{day_at}
 use Rattle.tariff.specs.declared.step.Step.{Step}
-use Rattle.office_rules.specs.Decision.{changed, decision_of, set_key, unchanged, withdraw_steps}
+use Rattle.office_rules.specs.Decision.{decision_of, set_key, withdraw_steps, keyed_unless, withdrawn_if_free}
 use Rattle.office_rules.specs.Decision.Fold.{office_after, reply, reply_of, step, with_key}
 use Rattle.office_rules.specs.Office.Lookup.{WasSoldSince, WasSoldTo, has_sales, sold_since}
 use Rattle.office_rules.specs.Office.{Office}
 use Rattle.vend_core.specs.Law.OfficeLaws.{IsWithdrawn}
 use Rattle.office_rules.specs.declared.decision.answer.Answer.TheVariants as answers
 use Rattle.office_rules.specs.declared.decision.change.Change.{Change}
-use Rattle.office_rules.specs.declared.decision.change.Edit.TheVariants as edits
 use Rattle.office_rules.specs.declared.office.meter.Meter.{Meter}
 use Rattle.office_rules.specs.declared.decision.refusal.Refusal.{Refusal}
 use Rattle.office_rules.specs.declared.decision.refusal.Refusal.TheVariants as refusals
@@ -42,7 +41,7 @@ module _ (forward : ℕ → ℕ → ℕ) (o : Office) (at : Stamped) (name : Lis
       ∙ ap (λ (l : Option (List Step)). withdraw_steps name day (day_at at.moment) true l (sold_since o day)) is
 
   abbrev if_free : Bool → Result Change Refusal
-  if_free free = if free then changed (edits.WithdrawSteps name day) (answers.Withdrawn 1) else Err refusals.DayPast
+  if_free free = withdrawn_if_free name day free
 
   -- steps that have not begun are taken back, where nothing was sold since their day
   pub withdraws : (steps : List Step) → o.dated_steps name day ≡ Some steps → day_at at.moment < day → ¬ WasSoldSince o day
@@ -86,7 +85,7 @@ module _ (forward : ℕ → ℕ → ℕ) (o : Office) (at : Stamped) (number : L
     (asks : at.request ≡ requests.SetKey number key) where
   abbrev if_new : Bool → Bool → Result Change Refusal
   if_new same sold =
-      if same then unchanged answers.Done else (if sold then Err refusals.HasSales else changed (edits.SetKey number key) answers.Done)
+      keyed_unless number key same sold
 
   key_with : (same sold : Bool) → (m.key == key) ≡ same → has_sales o number ≡ sold
       → decision_of forward o at.moment at.nibble at.request ≡ if_new same sold

@@ -10,7 +10,7 @@ use Rattle.sts_fields.specs.Day.{day_at}
 use Rattle.sts_fields.specs.declared.base.Base.{Base}
 use Rattle.tariff.specs.Purchase.{purchase_of}
 use Rattle.tariff.specs.declared.step.Step.{Step}
-use Rattle.office_rules.specs.Decision.{◌>>=◌, MeterAccount, add_meter, add_rows, add_steps, add_tariff, changed, close_shift, decision, decision_of, import, is_earlier, is_new, meter_eq, move_base, new_rows, account_of, next_number, open_a_shift, or_refusal, report, reprint, sell, sell_again, sell_once, set_key, set_tariff, steps_eq, unchanged, withdraw_steps}
+use Rattle.office_rules.specs.Decision.{◌>>=◌, MeterAccount, add_meter, add_rows, add_steps, add_tariff, changed, close_shift, decision, decision_of, import, is_earlier, is_new, meter_eq, move_base, new_rows, account_of, next_number, open_a_shift, or_refusal, report, reprint, sell, sell_again, sell_once, set_key, set_tariff, steps_eq, unchanged, withdraw_steps, moved_unless, keyed_unless, added_if_later, withdrawn_if_free}
 use Rattle.office_rules.specs.Decision.Facts.{IsUnlessMemory, TakesMemory}
 use Rattle.vend_core.specs.Lists.{AddsRow, CopiesList, Fits, sets_only}
 use Rattle.office_rules.specs.Decision.Edits.{RowsFit}
@@ -21,7 +21,6 @@ use Rattle.office_rules.specs.declared.decision.change.Change.{Change}
 use Rattle.office_rules.specs.declared.decision.change.Edit.{Edit}
 use Rattle.office_rules.specs.declared.office.meter.Meter.{Meter}
 use Rattle.office_rules.specs.declared.decision.refusal.Refusal.{Refusal}
-use Rattle.office_rules.specs.declared.decision.refusal.Refusal.TheVariants as refusals
 use Rattle.office_rules.specs.declared.decision.request.Order.{Order}
 use Rattle.office_rules.specs.declared.decision.request.Request.{Request}
 use Rattle.office_rules.specs.declared.decision.request.Request.TheVariants.{AddTariff, AddSteps, WithdrawSteps, AddMeter, Import, SetTariff, MoveBase, SetKey, OpenShift, CloseShift, Sell, Reprint, ShiftReport}
@@ -58,7 +57,7 @@ if_add_tariff o name steps None = if_changed o _ tt
 if_add_tariff o name steps (Some there) = if_tested o (steps_eq there steps) _ _
 
 if_day : (o : Office) (name : List ℕ) (day : ℕ) (steps : List Step) (b : Bool)
-    → EditFits o (if b then changed (edits.AddSteps name day steps) answers.Done else Err refusals.DayPast)
+    → EditFits o (added_if_later name day steps b)
 if_day o name day steps true = if_changed o _ tt
 if_day o name day steps false = tt
 
@@ -69,7 +68,7 @@ if_add_steps o name day today steps true (Some there) = if_tested o (steps_eq th
 if_add_steps o name day today steps true None = if_day o name day steps (nat_lt today day)
 
 if_withdrawing : (o : Office) (name : List ℕ) (day : ℕ) (b : Bool)
-    → EditFits o (if b then changed (edits.WithdrawSteps name day) (answers.Withdrawn 1) else Err refusals.DayPast)
+    → EditFits o (withdrawn_if_free name day b)
 if_withdrawing o name day true = if_changed o _ tt
 if_withdrawing o name day false = tt
 
@@ -104,8 +103,7 @@ if_set_tariff o number name (Some m) false is = tt
 if_set_tariff o number name (Some m) true is = if_set o number name (bytes_eq m.tariff name) is
 
 if_later : (o : Office) (number : List ℕ) (base : Base) (same earlier before : Bool)
-    → EditFits o (if same then unchanged answers.Done else
-    (if earlier then Err refusals.NotLater else (if before then Err refusals.BeforeBase else changed (edits.MoveBase number base) answers.Done)))
+    → EditFits o (moved_unless number base same earlier before)
 if_later o number base true earlier before = if_unchanged o
 if_later o number base false true before = tt
 if_later o number base false false true = tt
@@ -116,7 +114,7 @@ if_move_base o number base moment None = tt
 if_move_base o number base moment (Some m) = if_later o number base (base_eq m.base base) (is_earlier base m.base) (nat_lt moment (base_date base))
 
 if_key : (o : Office) (number : List ℕ) (key : ℕ) (same sold : Bool)
-    → EditFits o (if same then unchanged answers.Done else (if sold then Err refusals.HasSales else changed (edits.SetKey number key) answers.Done))
+    → EditFits o (keyed_unless number key same sold)
 if_key o number key true sold = if_unchanged o
 if_key o number key false true = tt
 if_key o number key false false = if_changed o _ tt
@@ -213,8 +211,8 @@ room_for_tariff name steps None new = inr (edits.AddTariff name steps, refl, ref
 room_for_tariff name steps (Some there) new = inl refl
 
 room_for_day : (name : List ℕ) (day : ℕ) (steps : List Step) (later : Bool)
-    → is_new (if later then changed (edits.AddSteps name day steps) answers.Done else Err refusals.DayPast) ≡ Ok true
-    → AddsRow (if later then changed (edits.AddSteps name day steps) answers.Done else Err refusals.DayPast)
+    → is_new (added_if_later name day steps later) ≡ Ok true
+    → AddsRow (added_if_later name day steps later)
 room_for_day name day steps true new = (edits.AddSteps name day steps, refl, refl)
 room_for_day name day steps false new = cc
 
