@@ -83,7 +83,9 @@ module _ (laws : LowerLaws) where
     -- what a life may leave has grown out of its present office
     pub left_grown : (o : Office) → MayLeave life o → HasGrown (present life) o
     left_grown o (inl e) = subst (λ p. HasGrown (present life) p) (sym e) (grown_none (present life))
-    left_grown o (inr (at, there, e)) = subst (λ p. HasGrown (present life) p) (sym e) (step_grows life.forward (present life) at present_office)
+    left_grown o (inr (at, there, e)) = subst (λ p. HasGrown (present life) p) (sym e)
+        (step_grows laws life.forward (present life) at present_office
+        (All-contains IsStamped (in_doubt life) at (doubted_stamped life is) there) is.range)
 
     -- what a life may leave has grown out of the office that it opened
     pub opening_grown : (o : Office) → MayLeave life o → HasGrown life.opening o

@@ -1,12 +1,17 @@
--- What an edit makes of the shifts.
-use Rattle.std.proofs.Common.{◌≡◌, ℕ, ◌+◌, ◌⊎◌, inl, inr, List, [], ◌∷◌, ◌++◌, length, Option, Some, None, Result, Ok, Err, refl, ◌∙◌}
-use Rattle.std.specs.Prelude.{map}
+-- What holds of each edit holds after a request, and what an edit makes of the shifts.
+use Rattle.std.proofs.Common.{◌≡◌, ℕ, ◌+◌, ◌⊎◌, inl, inr, Bool, true, false, List, [], ◌∷◌, ◌++◌, length, Option, Some, None, Result, Ok, Err, refl, sym, ◌∙◌, ap}
+use Rattle.std.specs.Prelude.{◌&&◌, ◌==◌, bytes_eq, map, if◌then◌else◌}
 use Rattle.std.specs.Option.{option_map_or}
+use Rattle.std.proofs.lemmas.Bool.Decides.{Decides-eqb}
+use Rattle.std.proofs.lemmas.Option.{none-some}
+use Rattle.std.proofs.lemmas.Slice.Eq.{bytes_eq-Decides}
 use Rattle.sts_token.specs.Token.{KeepsRange}
 use Rattle.office_rules.specs.Decision.{decision}
 use Rattle.office_rules.specs.Decision.Edits.{applied, office_after, with_row, with_rows}
 use Rattle.office_rules.specs.Decision.Fold.{step}
 use Rattle.office_rules.specs.Decision.Requests.{IsStamped}
+use Rattle.tariff.specs.declared.step.Step.{Step}
+use Rattle.office_rules.specs.Law.Growth.{HaveStayed}
 use Rattle.office_rules.specs.Law.Store.{Meets}
 use Rattle.office_rules.specs.Office.Lookup.{open_shift}
 use Rattle.office_rules.specs.Office.{IsOffice, Office}
@@ -20,6 +25,7 @@ use Rattle.office_rules.specs.declared.office.row.Row.TheVariants as kinds
 use Rattle.office_rules.specs.declared.office.shift.Shift.{Shift}
 use Rattle.office_rules.proofs.DecisionLemmas.EditLemmas.{closing}
 use Rattle.office_rules.proofs.DecisionLemmas.NewSaleLemmas.{LowerLaws}
+use Rattle.office_rules.proofs.OfficeLemmas.RowLemmas.{parts_true}
 use Rattle.office_rules.proofs.StoreLemmas.MeetsLemmas.{decided_meets}
 
 -- what holds of no change, and of each edit that meets its office, holds of a step
@@ -42,6 +48,28 @@ pub step_by_edit : LowerLaws → (P : Office → Type 0) (forward : ℕ → ℕ 
 step_by_edit laws P forward o at office is range none each =
     by_result P o (decision forward o at) none (λ change e granted edits.
     each e (decided_meets laws forward o at change e office is range granted edits))
+
+-- what stands elsewhere than where an edit puts something stays
+pub beside : {A : Type 0} (b : Bool) (put there : A) → (b ≡ true → ⊥)
+    → (if b then put else there) ≡ there
+beside true put there other = absurd (other refl)
+beside false put there other = refl
+
+-- steps that are put where there were none leave the others
+pub steps_put : (o : Office) (name : List ℕ) (day : ℕ) (steps : List Step)
+    → o.dated_steps name day ≡ None → HaveStayed o (applied (edits.AddSteps name day steps) o)
+steps_put o name day steps free = record {
+  tariffs = record {
+    first = λ q s at. at;
+    dated = λ q d s at. beside (bytes_eq q name && (d == day)) (Some steps) (o.dated_steps q d) (λ both.
+        let parts = parts_true (bytes_eq q name) (d == day) both in
+        let here : o.dated_steps q d ≡ o.dated_steps name day =
+        ap (λ (n : List ℕ). o.dated_steps n d) ((bytes_eq-Decides q name).0 parts.0)
+        ∙ ap (o.dated_steps name) ((Decides-eqb d day).0 parts.1) in
+        none-some s (sym (here ∙ free) ∙ at)) ∙ at;
+  };
+  meters = λ q m at. at;
+}
 
 -- one shift more, with the next number and open, of an operator who has none that is open
 pub record OpensShift (o p : Office) : Type 0 where

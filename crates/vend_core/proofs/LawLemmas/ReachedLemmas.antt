@@ -49,7 +49,7 @@ module _ (laws : LowerLaws) (codes : AmountCodes) where
       → IsStamped at → KeepsRange forward → IsPlausible o → IsPlausible (step forward o at)
   step_plausible forward o at office is range plausible =
       let p = step forward o at in
-      let grown = step_grows forward o at office in
+      let grown = step_grows laws forward o at office is range in
       let goes = goes_on forward o at office is range in
       let stay = all_stay o p office grown goes plausible.sales in
       record {

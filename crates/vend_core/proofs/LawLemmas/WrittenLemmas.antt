@@ -81,7 +81,7 @@ module _ (laws : LowerLaws) where
       → HasTokensSince start forward (step forward o at)
   step_writes_since start forward o at office is range have =
       let p = step forward o at in
-      let grown = step_grows forward o at office in
+      let grown = step_grows laws forward o at office is range in
       let stay = all_from_contains (IsOldOrWritten start forward p) o.sales (λ s there.
       elim (All-contains (IsOldOrWritten start forward o) o.sales s have there) [
         | inl old ↦ inl old
