@@ -6,6 +6,7 @@ pub mod BaseLemmas
 pub mod CashLemmas
 pub mod ClearedLemmas
 pub mod DatedLemmas
+pub mod DecidedLemmas
 pub mod EachAfterLemmas
 pub mod EffectLemmas
 pub mod FoldLemmas

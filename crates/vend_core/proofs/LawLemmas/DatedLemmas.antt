@@ -1,45 +1,38 @@
 -- The steps of a tariff on a day: which they are, and that those of a day that has passed stay.
-use Rattle.std.proofs.Common.{◌≡◌, ℕ, zero, suc, ◌<◌, ◌≤◌, ◌↔◌, inl, inr, Bool, true, false, List, [], ◌∷◌, length, Option, Some, None, Result, Ok, Err, is_some, refl, sym, ◌∙◌, ap, subst, arith}
-use Rattle.std.specs.Prelude.{◌&&◌, ◌==◌, All, IsSome, bytes_eq, nat_lt, not, unwrap_or, if◌then◌else◌}
+use Rattle.std.proofs.Common.{◌≡◌, ℕ, zero, suc, ◌<◌, ◌≤◌, ◌↔◌, inl, inr, Bool, true, false, List, [], ◌∷◌, Option, Some, None, Result, Ok, Err, refl, sym, ◌∙◌, ap, subst, arith}
+use Rattle.std.specs.Prelude.{◌&&◌, ◌==◌, All, IsSome, bytes_eq, nat_lt, unwrap_or, if◌then◌else◌}
 use Rattle.std.specs.Option.{option_or}
-use Rattle.std.proofs.lemmas.Bool.{le-ltb, lt-ltb}
+use Rattle.std.proofs.lemmas.Bool.{false≢true, le-ltb, lt-ltb}
 use Rattle.std.proofs.lemmas.Bool.Decides.{Decides-eqb, nat_tests}
 use Rattle.std.proofs.lemmas.List.Elements.{All-head, All-tail}
 use Rattle.std.proofs.lemmas.Option.{none-some, same_Some}
 use Rattle.std.proofs.lemmas.Slice.Eq.{bytes_eq-Decides}
-use Rattle.sts_fields.specs.Base.{base_date, base_eq}
 use Rattle.sts_fields.specs.Day.{day_at}
-use Rattle.sts_fields.specs.declared.base.Base.{Base}
 use Rattle.sts_token.specs.Token.{KeepsRange}
 use Rattle.tariff.specs.StepsEq.{steps_eq-equiv}
 use Rattle.tariff.specs.declared.step.Step.{Step}
-use Rattle.office_rules.specs.Decision.{MeterAccount, account_of, add_meter, add_steps, add_tariff, changed, close_shift, decision_of, import, is_earlier, meter_eq, move_base, next_number, open_a_shift, report, reprint, row_decision, sell, sell_once, set_key, set_tariff, steps_eq, unchanged, withdraw_steps, moved_unless, keyed_unless, added_if_later, withdrawn_if_free}
+use Rattle.office_rules.specs.Decision.{add_steps, decision_of, import, row_decision, unchanged, added_if_later}
 use Rattle.office_rules.specs.Decision.Fold.{after, office_after, reply, reply_of, step}
-use Rattle.office_rules.specs.Office.Lookup.{has_sales, latest, open_shift, sale_numbered, sale_of_ref, sales_of_shift, shift_numbered, sold_since, steps_on}
+use Rattle.office_rules.specs.Office.Lookup.{latest, steps_on}
 use Rattle.office_rules.specs.Office.{IsOffice, Office}
 use Rattle.vend_core.specs.Law.OfficeLaws.{AreStepsOn, IsNotBefore}
 use Rattle.office_rules.specs.Decision.Requests.{IsStamped}
-use Rattle.office_rules.specs.declared.decision.answer.Answer.{Answer}
 use Rattle.office_rules.specs.declared.decision.answer.Answer.TheVariants as answers
 use Rattle.office_rules.specs.declared.decision.change.Change.{Change}
-use Rattle.office_rules.specs.declared.decision.change.Edit.TheVariants as edits
-use Rattle.office_rules.specs.declared.office.meter.Meter.{Meter}
 use Rattle.office_rules.specs.declared.decision.refusal.Refusal.{Refusal}
 use Rattle.office_rules.specs.declared.decision.refusal.Refusal.TheVariants as refusals
-use Rattle.office_rules.specs.declared.decision.request.Order.{Order}
 use Rattle.office_rules.specs.declared.decision.request.Request.{Request}
 use Rattle.office_rules.specs.declared.decision.request.Request.TheVariants as requests
 use Rattle.office_rules.specs.declared.decision.request.Stamped.{Stamped}
 use Rattle.office_rules.specs.declared.office.row.Row.{Row}
 use Rattle.office_rules.specs.declared.office.row.Row.TheVariants as kinds
-use Rattle.office_rules.specs.declared.office.sale.Sale.{Sale}
-use Rattle.office_rules.specs.declared.office.shift.Shift.{Shift}
-use Rattle.office_rules.proofs.DecisionLemmas.{after_test, sell_ok}
-use Rattle.vend_core.proofs.LawLemmas.FoldLemmas.{after_grows}
 use Rattle.office_rules.proofs.DecisionLemmas.ImportLemmas.{import_keeps}
 use Rattle.office_rules.proofs.DecisionLemmas.NewSaleLemmas.{LowerLaws}
 use Rattle.office_rules.proofs.OfficeLemmas.RowLemmas.{both_true, parts_true}
 use Rattle.office_rules.proofs.StoreLemmas.LatestLemmas.{LatestIs, latest_is, one_latest}
+use Rattle.vend_core.proofs.LawLemmas.DecidedLemmas.{Each, EachRow, by_decision, by_row}
+use Rattle.vend_core.proofs.LawLemmas.EffectLemmas.{beside}
+use Rattle.vend_core.proofs.LawLemmas.FoldLemmas.{after_grows}
 
 -- the steps of a tariff on a day are one list
 module _ (o : Office) (name : List ℕ) (day : ℕ) where
@@ -111,119 +104,27 @@ SameUntil day o p = (name : List ℕ) (first : ℕ) → first ≤ day → p.date
 same_twice : (day : ℕ) (o p q : Office) → SameUntil day o p → SameUntil day p q → SameUntil day o q
 same_twice day o p q first next name d below = next name d below ∙ first name d below
 
-beside_day : (named same : Bool) (x there : Option (List Step)) → same ≡ false → (if named && same then x else there) ≡ there
-beside_day true same x there other = ap (λ (b : Bool). if b then x else there) other
-beside_day false same x there other = refl
-
 module _ (day : ℕ) (o : Office) where
   abbrev Same : Result Change Refusal → Type 0
   Same r = SameUntil day o (office_after o r)
 
-  same_if : (b : Bool) (answer : Answer) (refusal : Refusal) → Same (if b then unchanged answer else Err refusal)
-  same_if true answer refusal name d below = refl
-  same_if false answer refusal name d below = refl
+  other_day : (first today d : ℕ) → day ≤ today → nat_lt today first ≡ true → d ≤ day → (d == first) ≡ false
+  other_day first today d past later below = grind (arith, nat_tests)
 
-  same_by_tariff : (name : List ℕ) (steps : List Step) (there : Option (List Step)) → Same (add_tariff name steps there)
-  same_by_tariff name steps None = λ q d below. refl
-  same_by_tariff name steps (Some there) = same_if (steps_eq there steps) _ _
+  -- what is put or taken away of a later day leaves the days before it
+  put_later : (name : List ℕ) (first today : ℕ) (put : Option (List Step)) → day ≤ today → nat_lt today first ≡ true
+      → (q : List ℕ) (d : ℕ) → d ≤ day → (if bytes_eq q name && (d == first) then put else o.dated_steps q d) ≡ o.dated_steps q d
+  put_later name first today put past later q d below = beside (bytes_eq q name && (d == first)) put (o.dated_steps q d) (λ both.
+      false≢true (sym (other_day first today d past later below) ∙ (parts_true (bytes_eq q name) (d == first) both).1))
 
-  -- steps are added from a later day on alone
-  same_by_day : (name : List ℕ) (first today : ℕ) (steps : List Step) (b : Bool) → day ≤ today → nat_lt today first ≡ b
-      → Same (added_if_later name first steps b)
-  same_by_day name first today steps true past later = λ q d below.
-      let other : (d == first) ≡ false = grind (arith, nat_tests) in
-      beside_day (bytes_eq q name) (d == first) (Some steps) (o.dated_steps q d) other
-  same_by_day name first today steps false past later = λ q d below. refl
+  same_each_row : (today : ℕ) (row : Row) → day ≤ today → EachRow Same o today row
+  same_each_row today (kinds.Tariff name steps) past = λ free q d below. refl
+  same_each_row today (kinds.Steps name first steps) past = λ free later. put_later name first today (Some steps) past later
+  same_each_row today (kinds.Meter number m) past = λ free has q d below. refl
 
-  same_by_steps : (name : List ℕ) (first today : ℕ) (steps : List Step) (has : Bool) (there : Option (List Step)) → day ≤ today
-      → Same (add_steps name first steps today has there)
-  same_by_steps name first today steps false there past = λ q d below. refl
-  same_by_steps name first today steps true (Some there) past = same_if (steps_eq there steps) _ _
-  same_by_steps name first today steps true None past = same_by_day name first today steps (nat_lt today first) past refl
-
-  -- and withdrawn from a later day on alone
-  same_by_withdrawing : (name : List ℕ) (first today : ℕ) (b : Bool) → day ≤ today → (b ≡ true → nat_lt today first ≡ true)
-      → Same (withdrawn_if_free name first b)
-  same_by_withdrawing name first today true past later = λ q d below.
-      let after : nat_lt today first ≡ true = later refl in
-      let other : (d == first) ≡ false = grind (arith, nat_tests) in
-      beside_day (bytes_eq q name) (d == first) None (o.dated_steps q d) other
-  same_by_withdrawing name first today false past later = λ q d below. refl
-
-  same_by_withdraw : (name : List ℕ) (first today : ℕ) (has : Bool) (there : Option (List Step)) (sold : Bool) → day ≤ today
-      → Same (withdraw_steps name first today has there sold)
-  same_by_withdraw name first today false there sold past = λ q d below. refl
-  same_by_withdraw name first today true None sold past = λ q d below. refl
-  same_by_withdraw name first today true (Some there) sold past =
-      same_by_withdrawing name first today (nat_lt today first && not sold) past (λ both. (parts_true (nat_lt today first) (not sold) both).0)
-
-  same_by_meter : (number : List ℕ) (m : Meter) (there : Option Meter) (has : Bool) → Same (add_meter number m there has)
-  same_by_meter number m (Some there) has = same_if (meter_eq there m) _ _
-  same_by_meter number m None true = λ q d below. refl
-  same_by_meter number m None false = λ q d below. refl
-
-  same_by_setting : (number name : List ℕ) (b : Bool) → Same (if b then unchanged answers.Done else changed (edits.SetTariff number name) answers.Done)
-  same_by_setting number name true = λ q d below. refl
-  same_by_setting number name false = λ q d below. refl
-
-  same_by_set : (number name : List ℕ) (there : Option Meter) (has : Bool) → Same (set_tariff number name there has)
-  same_by_set number name None has = λ q d below. refl
-  same_by_set number name (Some m) false = λ q d below. refl
-  same_by_set number name (Some m) true = same_by_setting number name (bytes_eq m.tariff name)
-
-  same_by_later : (number : List ℕ) (base : Base) (same earlier before : Bool)
-      → Same (moved_unless number base same earlier before)
-  same_by_later number base true earlier before = λ q d below. refl
-  same_by_later number base false true before = λ q d below. refl
-  same_by_later number base false false true = λ q d below. refl
-  same_by_later number base false false false = λ q d below. refl
-
-  same_by_move : (number : List ℕ) (base : Base) (moment : ℕ) (there : Option Meter) → Same (move_base number base moment there)
-  same_by_move number base moment None = λ q d below. refl
-  same_by_move number base moment (Some m) = same_by_later number base (base_eq m.base base) (is_earlier base m.base) (nat_lt moment (base_date base))
-
-  same_by_key : (number : List ℕ) (key : ℕ) (same sold : Bool)
-      → Same (keyed_unless number key same sold)
-  same_by_key number key true sold = λ q d below. refl
-  same_by_key number key false true = λ q d below. refl
-  same_by_key number key false false = λ q d below. refl
-
-  same_by_set_key : (number : List ℕ) (key : ℕ) (there : Option Meter) (sold : Bool) → Same (set_key number key there sold)
-  same_by_set_key number key None sold = λ q d below. refl
-  same_by_set_key number key (Some m) sold = same_by_key number key (m.key == key) sold
-
+  -- steps are added by a row from a later day on alone
   same_by_row : (today : ℕ) (row : Row) → day ≤ today → Same (row_decision o today row)
-  same_by_row today (kinds.Tariff name steps) past = same_by_tariff name steps (o.tariffs name)
-  same_by_row today (kinds.Steps name first steps) past = same_by_steps name first today steps (is_some (o.tariffs name)) (o.dated_steps name first) past
-  same_by_row today (kinds.Meter number m) past = same_by_meter number m (o.meters number) (is_some (o.tariffs m.tariff))
-
-  same_by_open : (moment : ℕ) (operator : List ℕ) (there : Option Shift) (count : ℕ) → Same (open_a_shift moment operator there count)
-  same_by_open moment operator (Some there) count = λ q d below. refl
-  same_by_open moment operator None count = after_test Same (next_number count) _ (λ refusal q d below. refl) (λ number next q d below. refl)
-
-  same_by_close : (moment : ℕ) (there : Option Shift) → Same (close_shift moment there)
-  same_by_close moment None = λ q d below. refl
-  same_by_close moment (Some s) = λ q d below. refl
-
-  same_by_new : (forward : ℕ → ℕ → ℕ) (moment nibble : ℕ) (order : Order) (shift : Option Shift) (account : Option MeterAccount)
-      (count : ℕ) (r : Result Change Refusal) → sell forward moment nibble order shift account count ≡ r → Same r
-  same_by_new forward moment nibble order shift account count (Err refusal) e = λ q d below. refl
-  same_by_new forward moment nibble order shift account count (Ok change) e =
-      let is = (sell_ok forward moment nibble order shift account count change e).change_is in
-      subst (λ (c : Change). Same (Ok c)) (sym is) (λ q d below. refl)
-
-  same_by_sell : (forward : ℕ → ℕ → ℕ) (moment nibble : ℕ) (order : Order) (first : Option Sale) (shift : Option Shift)
-      (account : Option MeterAccount) (count : ℕ) → Same (sell_once forward moment nibble order first shift account count)
-  same_by_sell forward moment nibble order None shift account count = same_by_new forward moment nibble order shift account count _ refl
-  same_by_sell forward moment nibble order (Some first) shift account count = same_if _ _ _
-
-  same_by_reprint : (sale : Option Sale) → Same (reprint sale)
-  same_by_reprint None = λ q d below. refl
-  same_by_reprint (Some s) = λ q d below. refl
-
-  same_by_report : (shift : Option Shift) (sales : List Sale) → Same (report shift sales)
-  same_by_report None sales = λ q d below. refl
-  same_by_report (Some s) sales = λ q d below. refl
+  same_by_row today row past = by_row Same o (λ refusal own q d below. refl) (λ answer stand q d below. refl) today row (same_each_row today row past)
 
 same_by_import : (day : ℕ) (o : Office) (today : ℕ) (rows : List Row) → day ≤ today → SameUntil day o (office_after o (import o today rows))
 same_by_import day o today rows past =
@@ -231,25 +132,25 @@ same_by_import day o today rows past =
     (λ p row any same. same_twice day o p (office_after p (row_decision p today row)) same (same_by_row day p today row past)) o rows
     (λ i d within. tt) (λ q d below. refl)
 
-same_by : (day : ℕ) (o : Office) (forward : ℕ → ℕ → ℕ) (moment nibble : ℕ) (request : Request) → day ≤ day_at moment
-    → SameUntil day o (office_after o (decision_of forward o moment nibble request))
-same_by day o forward moment nibble (requests.AddTariff name steps) past = same_by_tariff day o name steps (o.tariffs name)
-same_by day o forward moment nibble (requests.AddSteps name first steps) past =
-    same_by_steps day o name first (day_at moment) steps (is_some (o.tariffs name)) (o.dated_steps name first) past
-same_by day o forward moment nibble (requests.WithdrawSteps name first) past =
-    same_by_withdraw day o name first (day_at moment) (is_some (o.tariffs name)) (o.dated_steps name first) (sold_since o first) past
-same_by day o forward moment nibble (requests.AddMeter number m) past = same_by_meter day o number m (o.meters number) (is_some (o.tariffs m.tariff))
-same_by day o forward moment nibble (requests.Import rows) past = same_by_import day o (day_at moment) rows past
-same_by day o forward moment nibble (requests.SetTariff number name) past = same_by_set day o number name (o.meters number) (is_some (o.tariffs name))
-same_by day o forward moment nibble (requests.MoveBase number base) past = same_by_move day o number base moment (o.meters number)
-same_by day o forward moment nibble (requests.SetKey number key) past = same_by_set_key day o number key (o.meters number) (has_sales o number)
-same_by day o forward moment nibble (requests.OpenShift operator) past = same_by_open day o moment operator (open_shift o operator) (length o.shifts)
-same_by day o forward moment nibble (requests.CloseShift operator) past = same_by_close day o moment (open_shift o operator)
-same_by day o forward moment nibble (requests.Sell order) past =
-    same_by_sell day o forward moment nibble order (sale_of_ref o order.operator order.order_ref) (open_shift o order.operator)
-    (account_of o order.meter moment) (length o.sales)
-same_by day o forward moment nibble (requests.Reprint number) past = same_by_reprint day o (sale_numbered o number)
-same_by day o forward moment nibble (requests.ShiftReport number) past = same_by_report day o (shift_numbered o number) (sales_of_shift o number)
+module _ (day : ℕ) (o : Office) (forward : ℕ → ℕ → ℕ) (moment nibble : ℕ) (past : day ≤ day_at moment) where
+  same_each : (request : Request) → Each (Same day o) o forward moment nibble request
+  same_each (requests.AddTariff name steps) = same_each_row day o (day_at moment) (kinds.Tariff name steps) past
+  same_each (requests.AddSteps name first steps) = same_each_row day o (day_at moment) (kinds.Steps name first steps) past
+  same_each (requests.WithdrawSteps name first) = λ later. put_later day o name first (day_at moment) None past later
+  same_each (requests.AddMeter number m) = same_each_row day o (day_at moment) (kinds.Meter number m) past
+  same_each (requests.Import rows) = same_by_import day o (day_at moment) rows past
+  same_each (requests.SetTariff number name) = λ has q d below. refl
+  same_each (requests.MoveBase number base) = λ q d below. refl
+  same_each (requests.SetKey number key) = λ q d below. refl
+  same_each (requests.OpenShift operator) = λ s number q d below. refl
+  same_each (requests.CloseShift operator) = λ s q d below. refl
+  same_each (requests.Sell order) = λ s sold q d below. refl
+  same_each (requests.Reprint number) = tt
+  same_each (requests.ShiftReport number) = tt
+
+  same_by : (request : Request) → SameUntil day o (office_after o (decision_of forward o moment nibble request))
+  same_by request =
+      by_decision (Same day o) o (λ refusal own q d below. refl) (λ answer stand q d below. refl) forward moment nibble request (same_each request)
 
 -- along requests of a day and of later ones further steps neither come for the day nor go
 pub after_same : (day : ℕ) (forward : ℕ → ℕ → ℕ) (o : Office) (ats : List Stamped) → All (IsNotBefore day) ats → SameUntil day o (after forward o ats)
@@ -257,7 +158,7 @@ unfolding after
 after_same day forward o [] past = λ q d below. refl
 after_same day forward o (at ∷ ats) past =
     same_twice day o (step forward o at) (after forward (step forward o at) ats)
-    (same_by day o forward at.moment at.nibble at.request (All-head (IsNotBefore day) at ats past))
+    (same_by day o forward at.moment at.nibble (All-head (IsNotBefore day) at ats past) at.request)
     (after_same day forward (step forward o at) ats (All-tail (IsNotBefore day) at ats past))
 
 -- a tariff that stays, with the same further steps up to a day, has the same steps on that day

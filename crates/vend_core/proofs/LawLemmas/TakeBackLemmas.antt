@@ -21,11 +21,7 @@ use Rattle.office_rules.specs.declared.decision.request.Request.TheVariants as r
 use Rattle.office_rules.specs.declared.decision.request.Stamped.{Stamped}
 use Rattle.office_rules.proofs.OfficeLemmas.RowLemmas.{both_true, parts_true}
 use Rattle.office_rules.proofs.StoreLemmas.SoldLemmas.{false_where, sold_since_is, sold_to_is}
-
--- the steps of another tariff or of another day stay
-stays_there : (b : Bool) (there : Option (List Step)) → (b ≡ true → ⊥) → (if b then None else there) ≡ there
-stays_there true there other = absurd (other refl)
-stays_there false there other = refl
+use Rattle.vend_core.proofs.LawLemmas.EffectLemmas.{beside}
 
 second_fails : (b : Bool) → (b && false) ≡ false
 second_fails true = refl
@@ -58,7 +54,7 @@ module _ (forward : ℕ → ℕ → ℕ) (o : Office) (at : Stamped) (name : Lis
             ∙ ap (λ (b : Bool). if b then None else o.dated_steps name day) here;
         others = λ q d other.
             ap (λ (r : Result Change Refusal). (office_after o r).dated_steps q d) e
-            ∙ stays_there (bytes_eq q name && (d == day)) (o.dated_steps q d) (λ both.
+            ∙ beside (bytes_eq q name && (d == day)) None (o.dated_steps q d) (λ both.
             let parts = parts_true (bytes_eq q name) (d == day) both in
             elim other [
               | inl named ↦ named ((bytes_eq-Decides q name).0 parts.0)
