@@ -17,6 +17,7 @@ use Rattle.book_tables.specs.Kept.{Kept, bases_kept, dated_steps_kept, kept, kep
 use Rattle.book_tables.specs.row.Rows.{Rows, base_columns, dated_columns, meter_columns, present_format, sale_row, shift_row, step_columns, tariff_columns}
 use Rattle.book_tables.specs.Stands.{AreMembersOf}
 use Rattle.book_tables.specs.row.Values.{IsKey}
+use Rattle.book_tables.proofs.EachTableLemmas.{each_there}
 use Rattle.book_tables.proofs.WritingLemmas.EditLemmas.{no_members}
 use Rattle.book_tables.proofs.ListLemmas.{contains_first, contains_further}
 use Rattle.book_tables.proofs.MemberLemmas.{SameMembers, one_office}
@@ -86,32 +87,6 @@ pub free_later : (s : Schema) (n : ℕ) (k : Kept) (ks : List Kept) → Member k
 free_later s n k [] there later free = absurd there
 free_later s n k (j ∷ ks) there later free = free_first s n k j ks (nat_le j.since n) refl free there later (λ there rest. free_later s n k ks there later rest)
 
--- the places of some tables in the list of all
-
-at_tariffs : Member kept tariffs_kept
-at_tariffs = inr (inl refl)
-
-at_steps : Member kept steps_kept
-at_steps = inr (inr (inl refl))
-
-at_meters : Member kept meters_kept
-at_meters = inr (inr (inr (inl refl)))
-
-at_shifts : Member kept shifts_kept
-at_shifts = inr (inr (inr (inr (inl refl))))
-
-at_sales : Member kept sales_kept
-at_sales = inr (inr (inr (inr (inr (inl refl)))))
-
-at_last_ids : Member kept last_ids_kept
-at_last_ids = inr (inr (inr (inr (inr (inr (inl refl))))))
-
-at_bases : Member kept bases_kept
-at_bases = inr (inr (inr (inr (inr (inr (inr (inr (inr (inl refl)))))))))
-
-at_dated : Member kept dated_steps_kept
-at_dated = inr (inr (inr (inr (inr (inr (inr (inr (inr (inr (inl refl))))))))))
-
 -- the rows of two holdings of one format are the same, but for the totals of the first
 module _ (n : ℕ) (some : 1 ≤ n) (db : Database) (a b : Rows) (o p : Office) (is_o : IsOffice o) (is_p : IsOffice p)
     (in_a : HoldsOf n n db a) (in_b : HoldsOf n n db b) (are_a : AreMembersOf a o) (are_b : AreMembersOf b p) where
@@ -121,33 +96,34 @@ module _ (n : ℕ) (some : 1 ≤ n) (db : Database) (a b : Rows) (o p : Office) 
   meters_are : a.meters ≡ b.meters
   meters_are =
       one_meters a.meters b.meters (small_keys a o is_o are_a) (small_keys b p is_p are_b)
-      (sym (rows_of meters_kept a in_a at_meters (le-leb 1 n some)).0 ∙ (rows_of meters_kept b in_b at_meters (le-leb 1 n some)).0)
+      (sym (rows_of meters_kept a in_a each_there.meters (le-leb 1 n some)).0 ∙ (rows_of meters_kept b in_b each_there.meters (le-leb 1 n some)).0)
 
   bases_are : a.bases ≡ b.bases
   bases_are = elim (cases_lt n 3) [
     | inl before ↦ in_a.of_format.bases before ∙ ap (map (λ (r : List ℕ × Meter). (r.0, r.1.base))) meters_are ∙ sym (in_b.of_format.bases before)
     | inr since ↦ one_list base_columns one_base_row a.bases b.bases
-        (sym (rows_of bases_kept a in_a at_bases (le-leb 3 n since)).0 ∙ (rows_of bases_kept b in_b at_bases (le-leb 3 n since)).0)
+        (sym (rows_of bases_kept a in_a each_there.bases (le-leb 3 n since)).0 ∙ (rows_of bases_kept b in_b each_there.bases (le-leb 3 n since)).0)
   ]
 
   dated_are : a.dated_steps ≡ b.dated_steps
   dated_are = elim (cases_lt n 4) [
     | inl before ↦ in_a.of_format.dated_steps before ∙ sym (in_b.of_format.dated_steps before)
     | inr since ↦ one_list dated_columns one_dated a.dated_steps b.dated_steps
-        (sym (rows_of dated_steps_kept a in_a at_dated (le-leb 4 n since)).0 ∙ (rows_of dated_steps_kept b in_b at_dated (le-leb 4 n since)).0)
+        (sym (rows_of dated_steps_kept a in_a each_there.dated_steps (le-leb 4 n since)).0
+        ∙ (rows_of dated_steps_kept b in_b each_there.dated_steps (le-leb 4 n since)).0)
   ]
 
   same_members : SameMembers a b
   same_members = record {
     tariffs = one_list tariff_columns one_tariff a.tariffs b.tariffs
-        (sym (rows_of tariffs_kept a in_a at_tariffs (le-leb 1 n some)).0 ∙ (rows_of tariffs_kept b in_b at_tariffs (le-leb 1 n some)).0);
+        (sym (rows_of tariffs_kept a in_a each_there.tariffs (le-leb 1 n some)).0 ∙ (rows_of tariffs_kept b in_b each_there.tariffs (le-leb 1 n some)).0);
     steps = one_list step_columns one_step a.steps b.steps
-        (sym (rows_of steps_kept a in_a at_steps (le-leb 1 n some)).0 ∙ (rows_of steps_kept b in_b at_steps (le-leb 1 n some)).0);
+        (sym (rows_of steps_kept a in_a each_there.steps (le-leb 1 n some)).0 ∙ (rows_of steps_kept b in_b each_there.steps (le-leb 1 n some)).0);
     meters = meters_are;
     shifts = one_list shift_row one_shift a.shifts b.shifts
-        (sym (rows_of shifts_kept a in_a at_shifts (le-leb 1 n some)) ∙ rows_of shifts_kept b in_b at_shifts (le-leb 1 n some));
+        (sym (rows_of shifts_kept a in_a each_there.shifts (le-leb 1 n some)) ∙ rows_of shifts_kept b in_b each_there.shifts (le-leb 1 n some));
     sales = one_list sale_row one_sale a.sales b.sales
-        (sym (rows_of sales_kept a in_a at_sales (le-leb 1 n some)) ∙ rows_of sales_kept b in_b at_sales (le-leb 1 n some));
+        (sym (rows_of sales_kept a in_a each_there.sales (le-leb 1 n some)) ∙ rows_of sales_kept b in_b each_there.sales (le-leb 1 n some));
     bases = bases_are;
     dated_steps = dated_are;
   }
@@ -174,12 +150,12 @@ module _ (s : Schema) (m n : ℕ) (in_m : HasOfficeOf m s) (in_n : HasOfficeOf n
 
   not_below : n ≤ present_format → m < n → ⊥
   not_below known below = elim (cases_lt m 1) [
-    | inl none ↦ differ_by tariffs_kept at_tariffs none (omega (arith, below))
+    | inl none ↦ differ_by tariffs_kept each_there.tariffs none (omega (arith, below))
     | inr one ↦ elim (cases_lt m 2) [
-      | inl first ↦ differ_by last_ids_kept at_last_ids first (omega (arith, one, below))
+      | inl first ↦ differ_by last_ids_kept each_there.last_ids first (omega (arith, one, below))
       | inr two ↦ elim (cases_lt m 3) [
-        | inl second ↦ differ_by bases_kept at_bases second (omega (arith, two, below))
-        | inr three ↦ differ_by dated_steps_kept at_dated (omega (arith, three, below, known)) (omega (arith, three, below))
+        | inl second ↦ differ_by bases_kept each_there.bases second (omega (arith, two, below))
+        | inr three ↦ differ_by dated_steps_kept each_there.dated_steps (omega (arith, three, below, known)) (omega (arith, three, below))
       ]
     ]
   ]

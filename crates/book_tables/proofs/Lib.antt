@@ -1,3 +1,4 @@
+pub mod EachTableLemmas
 pub mod FirstSalesLemmas
 pub mod HoldsLemmas
 pub mod KeptLemmas

@@ -10,55 +10,62 @@ use Rattle.book_tables.specs.reading.Reading.{FailsToRead, FailsToReadOf, HasRow
 use Rattle.book_tables.specs.row.Rows.{Rows, present_format}
 use Rattle.book_tables.specs.declared.error.TableError.{TableError}
 use Rattle.book_tables.specs.declared.error.TableError.TheVariants.{Database as Failed, RowOfNoOffice}
+use Rattle.book_tables.proofs.EachTableLemmas.{OfEach, by_name}
 
 -- the table is one of the present format
 pub record IsInOffice (k : Kept) : Type 0 where
   pub there : (s : Schema) → HasOffice s → IsKept s k
   pub holds : (told : ℕ) (db : Database) (rows : Rows) → HoldsOf present_format told db rows → HoldsRows db told rows k
 
+in_office : (k : Kept) → ((P : Kept → Type 0) → OfEach P → P k) → IsInOffice k
+in_office k of = record {
+  there = λ s has. of (IsKept s) (by_name (IsKept s) has.tables);
+  holds = λ told db rows held. of (HoldsRows db told rows) (by_name (HoldsRows db told rows) held.are);
+}
+
 -- `about` is a table of the present format
 pub about_in : IsInOffice about_kept
-about_in = record { there = λ s has. has.tables.0; holds = λ told db rows held. held.are.0 }
+about_in = in_office about_kept (λ P each. each.about)
 
 -- `tariffs` is a table of the present format
 pub tariffs_in : IsInOffice tariffs_kept
-tariffs_in = record { there = λ s has. has.tables.1.0; holds = λ told db rows held. held.are.1.0 }
+tariffs_in = in_office tariffs_kept (λ P each. each.tariffs)
 
 -- `tariff_steps` is a table of the present format
 pub steps_in : IsInOffice steps_kept
-steps_in = record { there = λ s has. has.tables.1.1.0; holds = λ told db rows held. held.are.1.1.0 }
+steps_in = in_office steps_kept (λ P each. each.steps)
 
 -- `meters` is a table of the present format
 pub meters_in : IsInOffice meters_kept
-meters_in = record { there = λ s has. has.tables.1.1.1.0; holds = λ told db rows held. held.are.1.1.1.0 }
+meters_in = in_office meters_kept (λ P each. each.meters)
 
 -- `shifts` is a table of the present format
 pub shifts_in : IsInOffice shifts_kept
-shifts_in = record { there = λ s has. has.tables.1.1.1.1.0; holds = λ told db rows held. held.are.1.1.1.1.0 }
+shifts_in = in_office shifts_kept (λ P each. each.shifts)
 
 -- `sales` is a table of the present format
 pub sales_in : IsInOffice sales_kept
-sales_in = record { there = λ s has. has.tables.1.1.1.1.1.0; holds = λ told db rows held. held.are.1.1.1.1.1.0 }
+sales_in = in_office sales_kept (λ P each. each.sales)
 
 -- `last_ids` is a table of the present format
 pub last_ids_in : IsInOffice last_ids_kept
-last_ids_in = record { there = λ s has. has.tables.1.1.1.1.1.1.0; holds = λ told db rows held. held.are.1.1.1.1.1.1.0 }
+last_ids_in = in_office last_ids_kept (λ P each. each.last_ids)
 
 -- `month_tenths` is a table of the present format
 pub month_tenths_in : IsInOffice month_tenths_kept
-month_tenths_in = record { there = λ s has. has.tables.1.1.1.1.1.1.1.0; holds = λ told db rows held. held.are.1.1.1.1.1.1.1.0 }
+month_tenths_in = in_office month_tenths_kept (λ P each. each.month_tenths)
 
 -- `shift_totals` is a table of the present format
 pub shift_totals_in : IsInOffice shift_totals_kept
-shift_totals_in = record { there = λ s has. has.tables.1.1.1.1.1.1.1.1.0; holds = λ told db rows held. held.are.1.1.1.1.1.1.1.1.0 }
+shift_totals_in = in_office shift_totals_kept (λ P each. each.shift_totals)
 
 -- `meter_bases` is a table of the present format
 pub bases_in : IsInOffice bases_kept
-bases_in = record { there = λ s has. has.tables.1.1.1.1.1.1.1.1.1.0; holds = λ told db rows held. held.are.1.1.1.1.1.1.1.1.1.0 }
+bases_in = in_office bases_kept (λ P each. each.bases)
 
 -- `dated_steps` is a table of the present format
 pub dated_steps_in : IsInOffice dated_steps_kept
-dated_steps_in = record { there = λ s has. has.tables.1.1.1.1.1.1.1.1.1.1.0; holds = λ told db rows held. held.are.1.1.1.1.1.1.1.1.1.1.0 }
+dated_steps_in = in_office dated_steps_kept (λ P each. each.dated_steps)
 
 module _ {k : Kept} (in_office : IsInOffice k) where
   -- a database that holds all rows of the office holds those of the table

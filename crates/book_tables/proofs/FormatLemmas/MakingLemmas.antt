@@ -41,6 +41,7 @@ use Rattle.book_tables.specs.writing.Writes.{new_format_text}
 use Rattle.book_tables.proofs.FormatLemmas.AboutLemmas.{told_made}
 use Rattle.book_tables.proofs.HoldsLemmas.{free_later, of_upto}
 use Rattle.book_tables.proofs.KeptLemmas.{about_changed}
+use Rattle.book_tables.proofs.OfficeTableLemmas.{about_in}
 use Rattle.book_tables.proofs.FormatLemmas.TextLemmas.{IsText, are_among, are_idle, later_texts, upto_texts}
 use Rattle.book_tables.proofs.WritingLemmas.WriteLemmas.{changes_only, only_one}
 
@@ -197,7 +198,8 @@ module _ (old new : State) (put : PutsRow (about_table (tree_in old.now.schema (
     only = about_only;
     rows = λ rows held.
         about_changed 0 old.now new.now rows held (changes_only (codes "about") old new about_only)
-        (put.changed.rows_are ∙ format_is (tree_in old.now.schema (codes "about")) (old.now.trees (tree_in old.now.schema (codes "about"))) held.are.0);
+        (put.changed.rows_are ∙ format_is (tree_in old.now.schema (codes "about")) (old.now.trees (tree_in old.now.schema (codes "about")))
+        (about_in.holds 0 old.now rows held));
     tells = λ none.
         ap (λ (s : Schema). new.now.trees (tree_in s (codes "about"))) about_only.schema
         ∙ put.changed.rows_are ∙ format_is (tree_in old.now.schema (codes "about")) (old.now.trees (tree_in old.now.schema (codes "about"))) none;

@@ -26,6 +26,7 @@ use Rattle.book_tables.specs.row.Rows.{about_row, number, present_format}
 use Rattle.book_tables.specs.Tables.{about_table}
 use Rattle.book_tables.specs.writing.Writes.{format_set_text}
 use Rattle.book_tables.proofs.KeptLemmas.{about_changed}
+use Rattle.book_tables.proofs.OfficeTableLemmas.{about_in}
 use Rattle.book_tables.proofs.WritingLemmas.WriteLemmas.{changes_only, only_one}
 
 -- ---- the text
@@ -86,7 +87,7 @@ module _ (old new : State) where
         rows = λ rows held.
             let one : IsKeyedBy key (suc before ∷ []) = (tt, tt) in
             let changed = sets_listed about is_the_row format_set_terms [] key about_row always present telling old new (suc before ∷ [])
-            set held.are.0 one (omega arith) in
+            set (about_in.holds (suc before) old.now rows held) one (omega arith) in
             about_changed (suc before) old.now new.now rows held (changes_only (codes "about") old new only) changed.rows_are;
         tells = λ told.
             let one : IsKeyedBy key (suc before ∷ []) = (tt, tt) in

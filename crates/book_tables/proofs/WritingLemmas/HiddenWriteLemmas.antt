@@ -88,8 +88,9 @@ module _ (old new : State) where
         stored = stores_hidden (codes "meters") meters old new refl _ h (meter_columns (number, m))
             (ap (λ (r : Row). drop 1 (with_rowid Chosen (old.now.trees meters.tree) r)) (meter_source number m));
         rows = λ rows held.
+            let stored = meters_in.holds present_format old.now rows held in
             let it = stands_after meter_columns meters four_terms (meter_columns (number, m)) (number, m) (meter_source number m) old new h
-            rows.meters held.are.1.1.1.0.0 held.are.1.1.1.0.1 in
+            rows.meters stored.0 stored.1 in
             meters_changed present_format old.now new.now rows held (rows.meters ++ (number, m) ∷ []) kept it.0 it.1;
       }
 
@@ -116,8 +117,9 @@ module _ (old new : State) where
         stored = stores_hidden (codes "tariffs") tariffs old new refl _ h (tariff_columns name)
             (ap (λ (r : Row). drop 1 (with_rowid Chosen (old.now.trees tariffs.tree) r)) (name_source name));
         rows = λ rows held.
+            let stored = tariffs_in.holds present_format old.now rows held in
             let it = stands_after tariff_columns tariffs one_term (tariff_columns name) name (name_source name) old new h rows.tariffs
-            held.are.1.0.0 held.are.1.0.1 in
+            stored.0 stored.1 in
             tariffs_changed present_format old.now new.now rows held (rows.tariffs ++ name ∷ []) kept it.0 it.1;
       }
 
@@ -144,7 +146,8 @@ module _ (old new : State) where
         stored = stores_hidden (codes "tariff_steps") steps old new refl _ h (step_columns r)
             (ap (λ (r : Row). drop 1 (with_rowid Chosen (old.now.trees steps.tree) r)) (step_source r));
         rows = λ rows held.
-            let it = stands_after step_columns steps four_terms (step_columns r) r (step_source r) old new h rows.steps held.are.1.1.0.0 held.are.1.1.0.1 in
+            let stored = steps_in.holds present_format old.now rows held in
+            let it = stands_after step_columns steps four_terms (step_columns r) r (step_source r) old new h rows.steps stored.0 stored.1 in
             steps_changed present_format old.now new.now rows held (rows.steps ++ r ∷ []) kept it.0 it.1;
       }
 
@@ -192,10 +195,10 @@ module _ (old new : State) where
               number_kept (rowid r) is_number,
             ));
         rows = λ rows held apart.
-            let order = held.are.1.1.1.0.1 in
+            let stored = meters_in.holds present_format old.now rows held in
             let set = sets_hidden meter_columns (is_that number) (renamed name) meters is_that_meter tariff_set_terms
             (Text number ∷ Text name ∷ []) (setting number name) (λ r none. cc)
-            old new rows.meters h held.are.1.1.1.0.0 order.rises order.are_numbers (one_at_most number rows.meters apart) in
+            old new rows.meters h stored.0 stored.1.rises stored.1.are_numbers (one_at_most number rows.meters apart) in
             let in_order : IsInOrder set.rows = record { rises = set.rises; are_numbers = set.are_numbers } in
             meters_changed present_format old.now new.now rows held (map (row_with_tariff number name) rows.meters) kept
             (ap (map (drop 1)) set.changed.rows_are ∙ set.holds) (subst IsInOrder (sym set.changed.rows_are) in_order);

@@ -170,7 +170,7 @@ module _ (old new : State) (s : Sale) (params : Row) (bound : params ≡ sale_co
         stored = stores_numbered (codes "sales") sales old new refl _ h (sale_row s) row;
         rows = λ rows held next.
             let put = h.changed.rows_are ∙ ap (λ (r : Row). put_row r (old.now.trees sales.tree)) row
-            ∙ ap (put_row (sale_row s)) held.are.1.1.1.1.1.0
+            ∙ ap (put_row (sale_row s)) (sales_in.holds present_format old.now rows held)
             ∙ appends (λ (x : Sale). pos x.number) sale_row (λ x. refl) rows.sales s
             (numbers_rise (λ (x : Sale). x.number) rows.sales next.numbered) (next_number (λ (x : Sale). x.number) rows.sales s.number next) in
             sales_changed present_format old.now new.now rows held (rows.sales ++ s ∷ []) kept put;
@@ -198,7 +198,8 @@ module _ (old new : State) where
         kept = keeps_new ((0, Int (pos s.number)) ∷ []) old new shifts_kept shifts_in has _ (shift_row s) h kept row refl (refl, tt);
         stored = stores_numbered (codes "shifts") shifts old new refl _ h (shift_row s) row;
         rows = λ rows held next.
-            let put = h.changed.rows_are ∙ ap (λ (r : Row). put_row r (old.now.trees shifts.tree)) row ∙ ap (put_row (shift_row s)) held.are.1.1.1.1.0
+            let put = h.changed.rows_are ∙ ap (λ (r : Row). put_row r (old.now.trees shifts.tree)) row
+            ∙ ap (put_row (shift_row s)) (shifts_in.holds present_format old.now rows held)
             ∙ appends (λ (x : Shift). pos x.number) shift_row (λ x. refl) rows.shifts s
             (numbers_rise (λ (x : Shift). x.number) rows.shifts next.numbered) (next_number (λ (x : Shift). x.number) rows.shifts s.number next) in
             shifts_changed present_format old.now new.now rows held (rows.shifts ++ s ∷ []) kept put;
@@ -252,6 +253,7 @@ module _ (old new : State) where
             (few (find (is_that number) rows.shifts)) in
             let changed = sets_listed shifts is_that_shift shift_closed_terms (Int (pos number) ∷ Int (pos moment) ∷ [])
             (λ (s : Shift). pos s.number) shift_row (is_that number) (closed_at moment) (closing number moment)
-            old new rows.shifts set held.are.1.1.1.1.0 (numbers_rise (λ (s : Shift). s.number) rows.shifts numbered) one in
+            old new rows.shifts set (shifts_in.holds present_format old.now rows held)
+            (numbers_rise (λ (s : Shift). s.number) rows.shifts numbered) one in
             shifts_changed present_format old.now new.now rows held (map (shift_closed number moment) rows.shifts) kept changed.rows_are;
       }
