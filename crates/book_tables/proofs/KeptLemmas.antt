@@ -1,13 +1,12 @@
 -- Where the rows of one of the office's tables change, the others stay: what the database then
 -- holds.
-use Rattle.std.proofs.Common.{◌≡◌, ◌≢◌, ℕ, zero, suc, List, [], ◌∷◌, drop, map, Some, inl, inr, refl, sym, ◌∙◌, ap, subst, arith}
-use Rattle.std.specs.Prelude.{◌==◌, ◌⊎◌, bytes_eq, codes, false, find, slice_get}
+use Rattle.std.proofs.Common.{◌≡◌, ◌≢◌, ℕ, zero, suc, Bool, true, false, List, [], ◌∷◌, drop, map, Some, refl, sym, ◌∙◌, ap, subst, arith}
+use Rattle.std.specs.Prelude.{◌==◌, bytes_eq, codes, find, slice_get}
 use Rattle.std.specs.List.{AllByRecursion}
 use Rattle.std.proofs.lemmas.Bool.{false≢true}
 use Rattle.std.proofs.lemmas.Option.{same_Some}
 use Rattle.std.proofs.lemmas.Slice.Eq.{bytes_eq-Decides}
 use Rattle.sqlite.specs.Effect.{Database}
-use Rattle.sqlite.specs.Order.{Row}
 use Rattle.sqlite_schema.specs.declared.schema.Schema.{Schema}
 use Rattle.sqlite_schema.specs.declared.schema.Table.{Table}
 use Rattle.one_table.specs.Numbered.{IsInOrder}
@@ -20,7 +19,7 @@ use Rattle.book_tables.specs.Holds.{AreStoredRows, HasOffice, HoldsOf, HoldsRows
 use Rattle.book_tables.specs.Kept.{Kept, about_kept, bases_kept, dated_steps_kept, last_ids_kept, meters_kept, month_tenths_kept, sales_kept, shift_totals_kept, shifts_kept, steps_kept, tariffs_kept, upto}
 use Rattle.book_tables.specs.row.Rows.{DatedStepRow, Rows, StepRow, about_rows, base_columns, dated_columns, last_id_columns, meter_columns, month_columns, present_format, sale_row, shift_row, step_columns, tariff_columns, totals_row}
 use Rattle.book_tables.specs.declared.row.totals.Totals.{Totals}
-use Rattle.book_tables.proofs.OfficeTableLemmas.{about_in, bases_in, dated_steps_in, last_ids_in, meters_in, month_tenths_in, sales_in, shift_totals_in, shifts_in, steps_in, tariffs_in}
+use Rattle.book_tables.proofs.OfficeTableLemmas.{IsInOffice, about_in, bases_in, dated_steps_in, last_ids_in, meters_in, month_tenths_in, sales_in, shift_totals_in, shifts_in, steps_in, tariffs_in}
 
 -- only the rows of the table of this name may differ
 pub record ChangesOnly (name : List ℕ) (a b : Database) : Type 0 where
@@ -57,42 +56,43 @@ rows_kept a b t changed only in_t in_changed apart =
 
 -- ---- what a database holds where one of its tables is changed
 
--- what becomes of a table where the table of this name is changed: it is another, of which the same
--- is stored, or it holds the new rows
-abbrev pub Becomes : Database → ℕ → ℕ → Rows → Rows → List ℕ → Kept → Type 0
-Becomes b before told rows new name k = ((k.table.name ≢ name) × (k.stored told new ≡ k.stored before rows)) ⊎ HoldsRows b told new k
+-- a table of the name of the changed one is that one, and of any other the same is stored as before
+abbrev IsOrStays : Bool → ℕ → ℕ → Rows → Rows → Kept → Kept → Type 0
+IsOrStays true before told rows new k j = j ≡ k
+IsOrStays false before told rows new k j = j.stored told new ≡ j.stored before rows
 
-module _ (before told : ℕ) (a b : Database) (rows new : Rows) (k : Kept) (there : IsKept a.schema k) (only : ChangesOnly k.table.name a b) where
-  held_still : (j : Kept) → IsKept a.schema j → HoldsRows a before rows j → Becomes b before told rows new k.table.name j → HoldsRows b told new j
-  held_still j stands holds (inr now) = now
-  held_still j stands holds (inl (apart, same)) =
-      let kept = rows_kept a b j.table k.table only stands.0 there.0 apart in
+abbrev OthersStay : ℕ → ℕ → Rows → Rows → Kept → Type 0
+OthersStay before told rows new k =
+    AllByRecursion (λ j. IsOrStays (bytes_eq j.table.name k.table.name) before told rows new k j) (upto present_format)
+
+module _ (before told : ℕ) (a b : Database) (rows new : Rows) (k : Kept) (k_in : IsInOffice k) (only : ChangesOnly k.table.name a b)
+    (are : AreStoredRows k.is_numbered (b.trees (tree_in a.schema k.table.name)) (k.stored told new)) where
+  now_held : HoldsRows b told new k
+  now_held = subst (λ (s : Schema). AreStoredRows k.is_numbered (b.trees (tree_in s k.table.name)) (k.stored told new)) (sym only.schema) are
+
+  held_still : IsKept a.schema k → (j : Kept) → IsKept a.schema j → HoldsRows a before rows j → (is_it : Bool)
+      → bytes_eq j.table.name k.table.name ≡ is_it → IsOrStays is_it before told rows new k j → HoldsRows b told new j
+  held_still there j stands holds true named is = subst (HoldsRows b told new) (sym is) now_held
+  held_still there j stands holds false apart same =
+      let kept = rows_kept a b j.table k.table only stands.0 there.0 (names_differ _ _ apart) in
       subst (λ stored. AreStoredRows j.is_numbered (rows_in b j.table.name) stored) (sym same)
       (subst (λ found. AreStoredRows j.is_numbered found (j.stored before rows)) (sym kept) holds)
 
-  all_still : (ks : List Kept) → AllByRecursion (IsKept a.schema) ks → AllByRecursion (HoldsRows a before rows) ks
-      → AllByRecursion (Becomes b before told rows new k.table.name) ks → AllByRecursion (HoldsRows b told new) ks
-  all_still [] stand hold become = tt
-  all_still (j ∷ ks) stand hold become = (held_still j stand.0 hold.0 become.0, all_still ks stand.1 hold.1 become.1)
+  all_still : IsKept a.schema k → (ks : List Kept) → AllByRecursion (IsKept a.schema) ks → AllByRecursion (HoldsRows a before rows) ks
+      → AllByRecursion (λ j. IsOrStays (bytes_eq j.table.name k.table.name) before told rows new k j) ks → AllByRecursion (HoldsRows b told new) ks
+  all_still there [] stand hold stay = tt
+  all_still there (j ∷ ks) stand hold stay =
+      (held_still there j stand.0 hold.0 (bytes_eq j.table.name k.table.name) refl stay.0, all_still there ks stand.1 hold.1 stay.1)
 
-  -- where one table changes, new rows are held if each table has them or is as before
-  pub changed : HoldsOf present_format before a rows → AllByRecursion (Becomes b before told rows new k.table.name) (upto present_format)
-      → HoldsOf present_format told b new
-  changed held become = record {
+  -- where one table has the new rows, and each other is as before, the new rows are held
+  changed : HoldsOf present_format before a rows → OthersStay before told rows new k → HoldsOf present_format told b new
+  changed held stay = record {
     has = subst HasOffice (sym only.schema) held.has;
-    are = all_still (upto present_format) held.has.tables held.are become;
+    are = all_still (k_in.there a.schema held.has) (upto present_format) held.has.tables held.are stay;
     of_format = record { bases = λ older. absurd (omega (arith, older)); dated_steps = λ older. absurd (omega (arith, older)) };
   }
 
 -- ---- the tables of the present format
-
--- the changed table's own rows
-own_rows : (a b : Database) (name : List ℕ) → b.schema ≡ a.schema → rows_in b name ≡ b.trees (tree_in a.schema name)
-own_rows a b name same = ap (λ (s : Schema). b.trees (tree_in s name)) same
-
-own_hidden : (a b : Database) (name : List ℕ) (stored : List Row) → b.schema ≡ a.schema → map (drop 1) (b.trees (tree_in a.schema name))
-    ≡ stored → IsInOrder (b.trees (tree_in a.schema name)) → AreStoredRows false (rows_in b name) stored
-own_hidden a b name stored same are order = (ap (map (drop 1)) (own_rows a b name same) ∙ are, subst IsInOrder (sym (own_rows a b name same)) order)
 
 module _ (told : ℕ) (a b : Database) (rows : Rows) (in_a : HoldsOf present_format told a rows) where
   -- where `tariffs` alone changes, the database holds the same rows but for the tariffs
@@ -100,358 +100,70 @@ module _ (told : ℕ) (a b : Database) (rows : Rows) (in_a : HoldsOf present_for
       → map (drop 1) (b.trees (tree_in a.schema (codes "tariffs"))) ≡ map tariff_columns new
       → IsInOrder (b.trees (tree_in a.schema (codes "tariffs"))) → HoldsOf present_format told b (record rows { tariffs = new })
   tariffs_changed new only are order =
-      changed told told a b rows (record rows { tariffs = new }) tariffs_kept (tariffs_in.there a.schema in_a.has) only in_a (
-        inl (names_differ _ _ refl, refl),
-        (
-          inr (own_hidden a b (codes "tariffs") (map tariff_columns new) only.schema are order),
-          (
-            inl (names_differ _ _ refl, refl),
-            (
-              inl (names_differ _ _ refl, refl),
-              (
-                inl (names_differ _ _ refl, refl),
-                (
-                  inl (names_differ _ _ refl, refl),
-                  (
-                    inl (names_differ _ _ refl, refl),
-                    (
-                      inl (names_differ _ _ refl, refl),
-                      (inl (names_differ _ _ refl, refl), (inl (names_differ _ _ refl, refl), (inl (names_differ _ _ refl, refl), tt))),
-                    ),
-                  ),
-                ),
-              ),
-            ),
-          ),
-        ),
-      )
+      changed told told a b rows (record rows { tariffs = new }) tariffs_kept tariffs_in only (are, order) in_a search
 
   -- the same of `tariff_steps` and the steps of the tariffs
   pub steps_changed : (new : List StepRow) → ChangesOnly (codes "tariff_steps") a b
       → map (drop 1) (b.trees (tree_in a.schema (codes "tariff_steps"))) ≡ map step_columns new
       → IsInOrder (b.trees (tree_in a.schema (codes "tariff_steps"))) → HoldsOf present_format told b (record rows { steps = new })
   steps_changed new only are order =
-      changed told told a b rows (record rows { steps = new }) steps_kept (steps_in.there a.schema in_a.has) only in_a (
-        inl (names_differ _ _ refl, refl),
-        (
-          inl (names_differ _ _ refl, refl),
-          (
-            inr (own_hidden a b (codes "tariff_steps") (map step_columns new) only.schema are order),
-            (
-              inl (names_differ _ _ refl, refl),
-              (
-                inl (names_differ _ _ refl, refl),
-                (
-                  inl (names_differ _ _ refl, refl),
-                  (
-                    inl (names_differ _ _ refl, refl),
-                    (
-                      inl (names_differ _ _ refl, refl),
-                      (
-                        inl (names_differ _ _ refl, refl),
-                        (inl (names_differ _ _ refl, refl), (inl (names_differ _ _ refl, refl), tt)),
-                      ),
-                    ),
-                  ),
-                ),
-              ),
-            ),
-          ),
-        ),
-      )
+      changed told told a b rows (record rows { steps = new }) steps_kept steps_in only (are, order) in_a search
 
   -- the same of `meters` and the meters
   pub meters_changed : (new : List (List ℕ × Meter)) → ChangesOnly (codes "meters") a b
       → map (drop 1) (b.trees (tree_in a.schema (codes "meters"))) ≡ map meter_columns new
       → IsInOrder (b.trees (tree_in a.schema (codes "meters"))) → HoldsOf present_format told b (record rows { meters = new })
   meters_changed new only are order =
-      changed told told a b rows (record rows { meters = new }) meters_kept (meters_in.there a.schema in_a.has) only in_a (
-        inl (names_differ _ _ refl, refl),
-        (
-          inl (names_differ _ _ refl, refl),
-          (
-            inl (names_differ _ _ refl, refl),
-            (
-              inr (own_hidden a b (codes "meters") (map meter_columns new) only.schema are order),
-              (
-                inl (names_differ _ _ refl, refl),
-                (
-                  inl (names_differ _ _ refl, refl),
-                  (
-                    inl (names_differ _ _ refl, refl),
-                    (
-                      inl (names_differ _ _ refl, refl),
-                      (inl (names_differ _ _ refl, refl), (inl (names_differ _ _ refl, refl), (inl (names_differ _ _ refl, refl), tt))),
-                    ),
-                  ),
-                ),
-              ),
-            ),
-          ),
-        ),
-      )
+      changed told told a b rows (record rows { meters = new }) meters_kept meters_in only (are, order) in_a search
 
   -- the same of `shifts`, whose rows have numbers of their own, and the shifts
   pub shifts_changed : (new : List Shift) → ChangesOnly (codes "shifts") a b → b.trees (tree_in a.schema (codes "shifts"))
       ≡ map shift_row new → HoldsOf present_format told b (record rows { shifts = new })
   shifts_changed new only are =
-      changed told told a b rows (record rows { shifts = new }) shifts_kept (shifts_in.there a.schema in_a.has) only in_a (
-        inl (names_differ _ _ refl, refl),
-        (
-          inl (names_differ _ _ refl, refl),
-          (
-            inl (names_differ _ _ refl, refl),
-            (
-              inl (names_differ _ _ refl, refl),
-              (
-                inr (own_rows a b (codes "shifts") only.schema ∙ are),
-                (
-                  inl (names_differ _ _ refl, refl),
-                  (
-                    inl (names_differ _ _ refl, refl),
-                    (
-                      inl (names_differ _ _ refl, refl),
-                      (
-                        inl (names_differ _ _ refl, refl),
-                        (inl (names_differ _ _ refl, refl), (inl (names_differ _ _ refl, refl), tt)),
-                      ),
-                    ),
-                  ),
-                ),
-              ),
-            ),
-          ),
-        ),
-      )
+      changed told told a b rows (record rows { shifts = new }) shifts_kept shifts_in only are in_a search
 
   -- the same of `sales`, whose rows have numbers of their own, and the sales
   pub sales_changed : (new : List Sale) → ChangesOnly (codes "sales") a b → b.trees (tree_in a.schema (codes "sales")) ≡ map sale_row new
       → HoldsOf present_format told b (record rows { sales = new })
   sales_changed new only are =
-      changed told told a b rows (record rows { sales = new }) sales_kept (sales_in.there a.schema in_a.has) only in_a (
-        inl (names_differ _ _ refl, refl),
-        (
-          inl (names_differ _ _ refl, refl),
-          (
-            inl (names_differ _ _ refl, refl),
-            (
-              inl (names_differ _ _ refl, refl),
-              (
-                inl (names_differ _ _ refl, refl),
-                (
-                  inr (own_rows a b (codes "sales") only.schema ∙ are),
-                  (
-                    inl (names_differ _ _ refl, refl),
-                    (
-                      inl (names_differ _ _ refl, refl),
-                      (inl (names_differ _ _ refl, refl), (inl (names_differ _ _ refl, refl), (inl (names_differ _ _ refl, refl), tt))),
-                    ),
-                  ),
-                ),
-              ),
-            ),
-          ),
-        ),
-      )
+      changed told told a b rows (record rows { sales = new }) sales_kept sales_in only are in_a search
 
   -- the same of `last_ids` and the last identifiers
   pub last_ids_changed : (new : List ((List ℕ × Base) × ℕ)) → ChangesOnly (codes "last_ids") a b
       → map (drop 1) (b.trees (tree_in a.schema (codes "last_ids"))) ≡ map last_id_columns new
       → IsInOrder (b.trees (tree_in a.schema (codes "last_ids"))) → HoldsOf present_format told b (record rows { last_ids = new })
   last_ids_changed new only are order =
-      changed told told a b rows (record rows { last_ids = new }) last_ids_kept (last_ids_in.there a.schema in_a.has) only in_a (
-        inl (names_differ _ _ refl, refl),
-        (
-          inl (names_differ _ _ refl, refl),
-          (
-            inl (names_differ _ _ refl, refl),
-            (
-              inl (names_differ _ _ refl, refl),
-              (
-                inl (names_differ _ _ refl, refl),
-                (
-                  inl (names_differ _ _ refl, refl),
-                  (
-                    inr (own_hidden a b (codes "last_ids") (map last_id_columns new) only.schema are order),
-                    (
-                      inl (names_differ _ _ refl, refl),
-                      (
-                        inl (names_differ _ _ refl, refl),
-                        (inl (names_differ _ _ refl, refl), (inl (names_differ _ _ refl, refl), tt)),
-                      ),
-                    ),
-                  ),
-                ),
-              ),
-            ),
-          ),
-        ),
-      )
+      changed told told a b rows (record rows { last_ids = new }) last_ids_kept last_ids_in only (are, order) in_a search
 
   -- the same of `month_tenths` and the sums of the months
   pub month_tenths_changed : (new : List ((List ℕ × ℕ) × ℕ)) → ChangesOnly (codes "month_tenths") a b
       → map (drop 1) (b.trees (tree_in a.schema (codes "month_tenths"))) ≡ map month_columns new
       → IsInOrder (b.trees (tree_in a.schema (codes "month_tenths"))) → HoldsOf present_format told b (record rows { month_tenths = new })
   month_tenths_changed new only are order =
-      changed told told a b rows (record rows { month_tenths = new }) month_tenths_kept (month_tenths_in.there a.schema in_a.has) only in_a (
-        inl (names_differ _ _ refl, refl),
-        (
-          inl (names_differ _ _ refl, refl),
-          (
-            inl (names_differ _ _ refl, refl),
-            (
-              inl (names_differ _ _ refl, refl),
-              (
-                inl (names_differ _ _ refl, refl),
-                (
-                  inl (names_differ _ _ refl, refl),
-                  (
-                    inl (names_differ _ _ refl, refl),
-                    (
-                      inr (own_hidden a b (codes "month_tenths") (map month_columns new) only.schema are order),
-                      (inl (names_differ _ _ refl, refl), (inl (names_differ _ _ refl, refl), (inl (names_differ _ _ refl, refl), tt))),
-                    ),
-                  ),
-                ),
-              ),
-            ),
-          ),
-        ),
-      )
+      changed told told a b rows (record rows { month_tenths = new }) month_tenths_kept month_tenths_in only (are, order) in_a search
 
   -- the same of `shift_totals`, whose rows have the numbers of the shifts, and the totals
   pub shift_totals_changed : (new : List (ℕ × Totals)) → ChangesOnly (codes "shift_totals") a b
       → b.trees (tree_in a.schema (codes "shift_totals")) ≡ map totals_row new → HoldsOf present_format told b (record rows { shift_totals = new })
   shift_totals_changed new only are =
-      changed told told a b rows (record rows { shift_totals = new }) shift_totals_kept (shift_totals_in.there a.schema in_a.has) only in_a (
-        inl (names_differ _ _ refl, refl),
-        (
-          inl (names_differ _ _ refl, refl),
-          (
-            inl (names_differ _ _ refl, refl),
-            (
-              inl (names_differ _ _ refl, refl),
-              (
-                inl (names_differ _ _ refl, refl),
-                (
-                  inl (names_differ _ _ refl, refl),
-                  (
-                    inl (names_differ _ _ refl, refl),
-                    (
-                      inl (names_differ _ _ refl, refl),
-                      (inr (own_rows a b (codes "shift_totals") only.schema ∙ are), (inl (names_differ _ _ refl, refl), (inl (names_differ _ _ refl, refl), tt))),
-                    ),
-                  ),
-                ),
-              ),
-            ),
-          ),
-        ),
-      )
+      changed told told a b rows (record rows { shift_totals = new }) shift_totals_kept shift_totals_in only are in_a search
 
   -- the same of `meter_bases` and the bases that the meters had
   pub bases_changed : (new : List (List ℕ × Base)) → ChangesOnly (codes "meter_bases") a b
       → map (drop 1) (b.trees (tree_in a.schema (codes "meter_bases"))) ≡ map base_columns new
       → IsInOrder (b.trees (tree_in a.schema (codes "meter_bases"))) → HoldsOf present_format told b (record rows { bases = new })
   bases_changed new only are order =
-      changed told told a b rows (record rows { bases = new }) bases_kept (bases_in.there a.schema in_a.has) only in_a (
-        inl (names_differ _ _ refl, refl),
-        (
-          inl (names_differ _ _ refl, refl),
-          (
-            inl (names_differ _ _ refl, refl),
-            (
-              inl (names_differ _ _ refl, refl),
-              (
-                inl (names_differ _ _ refl, refl),
-                (
-                  inl (names_differ _ _ refl, refl),
-                  (
-                    inl (names_differ _ _ refl, refl),
-                    (
-                      inl (names_differ _ _ refl, refl),
-                      (
-                        inl (names_differ _ _ refl, refl),
-                        (
-                          inr (own_hidden a b (codes "meter_bases") (map base_columns new) only.schema are order),
-                          (inl (names_differ _ _ refl, refl), tt),
-                        ),
-                      ),
-                    ),
-                  ),
-                ),
-              ),
-            ),
-          ),
-        ),
-      )
+      changed told told a b rows (record rows { bases = new }) bases_kept bases_in only (are, order) in_a search
 
   -- the same of `dated_steps` and the steps of later days
   pub dated_steps_changed : (new : List DatedStepRow) → ChangesOnly (codes "dated_steps") a b
       → map (drop 1) (b.trees (tree_in a.schema (codes "dated_steps"))) ≡ map dated_columns new
       → IsInOrder (b.trees (tree_in a.schema (codes "dated_steps"))) → HoldsOf present_format told b (record rows { dated_steps = new })
   dated_steps_changed new only are order =
-      changed told told a b rows (record rows { dated_steps = new }) dated_steps_kept (dated_steps_in.there a.schema in_a.has) only in_a (
-        inl (names_differ _ _ refl, refl),
-        (
-          inl (names_differ _ _ refl, refl),
-          (
-            inl (names_differ _ _ refl, refl),
-            (
-              inl (names_differ _ _ refl, refl),
-              (
-                inl (names_differ _ _ refl, refl),
-                (
-                  inl (names_differ _ _ refl, refl),
-                  (
-                    inl (names_differ _ _ refl, refl),
-                    (
-                      inl (names_differ _ _ refl, refl),
-                      (
-                        inl (names_differ _ _ refl, refl),
-                        (
-                          inl (names_differ _ _ refl, refl),
-                          (inr (own_hidden a b (codes "dated_steps") (map dated_columns new) only.schema are order), tt),
-                        ),
-                      ),
-                    ),
-                  ),
-                ),
-              ),
-            ),
-          ),
-        ),
-      )
+      changed told told a b rows (record rows { dated_steps = new }) dated_steps_kept dated_steps_in only (are, order) in_a search
 
 -- `about` tells the present format, whatever it told before
 pub about_changed : (before : ℕ) (a b : Database) (rows : Rows) → HoldsOf present_format before a rows → ChangesOnly (codes "about") a b
     → b.trees (tree_in a.schema (codes "about")) ≡ about_rows present_format → HoldsOf present_format present_format b rows
 about_changed before a b rows in_a only is =
-    changed before present_format a b rows rows about_kept (about_in.there a.schema in_a.has) only in_a (
-      inr (own_rows a b (codes "about") only.schema ∙ is),
-      (
-        inl (names_differ _ _ refl, refl),
-        (
-          inl (names_differ _ _ refl, refl),
-          (
-            inl (names_differ _ _ refl, refl),
-            (
-              inl (names_differ _ _ refl, refl),
-              (
-                inl (names_differ _ _ refl, refl),
-                (
-                  inl (names_differ _ _ refl, refl),
-                  (
-                    inl (names_differ _ _ refl, refl),
-                    (
-                      inl (names_differ _ _ refl, refl),
-                      (inl (names_differ _ _ refl, refl), (inl (names_differ _ _ refl, refl), tt)),
-                    ),
-                  ),
-                ),
-              ),
-            ),
-          ),
-        ),
-      ),
-    )
+    changed before present_format a b rows rows about_kept about_in only is in_a search
