@@ -4,7 +4,6 @@ pub mod Entries
 pub mod Fails
 pub mod Listing
 pub mod Order
-pub mod Parts
 pub mod Records
 pub mod Sales
 pub mod Tables

@@ -17,5 +17,6 @@ pub use laws::{members_law, stands_law};
 pub use reading::lists::all_records;
 pub use row::cells;
 pub use row::gathered::Gathered;
+pub use row::office_records::sale_of;
 pub use row::record::{Record, first_record};
 pub use row::totals::{SaleTotals, Totals};

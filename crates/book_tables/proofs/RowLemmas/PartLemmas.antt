@@ -26,8 +26,16 @@ columns_to_the_end r at (suc count) e =
     ap (λ (more : Row). column r at ∷ more) rest ∙ sym next
 
 -- a row of the columns of a sale
-pub whole_sale : (r : Row) → length r ≡ 13 → sale_part r ≡ r
+pub whole_sale : (r : Row) → length r ≡ 13 → sale_part 0 r ≡ r
 whole_sale r e = columns_to_the_end r 0 13 (sym e)
+
+-- the row of a sale with its month behind its moment
+abbrev pub with_month : Row → Row
+with_month r = column r 0 ∷ column r 1 ∷ column r 2 ∷ drop 2 (sale_part 1 r)
+
+-- a row of the columns of a sale and of its month
+pub whole_with_month : (r : Row) → length r ≡ 14 → with_month r ≡ r
+whole_with_month r e = columns_to_the_end r 0 14 (sym e)
 
 -- the sale of these parts
 abbrev pub sale_from : Entry → Order → Token → ℕ → Sale
@@ -60,24 +68,24 @@ abbrev pub token_in : Sale → Token
 token_in s = record { base = s.base; tid = s.tid; rnd = s.rnd; tenths = s.tenths; digits = s.digits }
 
 -- where the parts and the price are shown by a row, the row shows the sale of them
-pub shows_sale : (r : Row) (entry : Entry) (order : Order) (token : Token) (price : ℕ) → shown_entry entry ≡ entry_columns r
-    → shown_order order ≡ order_columns r → shown_token token ≡ token_columns r → number price ≡ column r 10
-    → shown_sale (sale_from entry order token price) ≡ sale_part r
-shows_sale r entry order token price e o t p = cc
+pub shows_sale : (on : ℕ) (r : Row) (entry : Entry) (order : Order) (token : Token) (price : ℕ) → shown_entry entry ≡ entry_columns on r
+    → shown_order order ≡ order_columns on r → shown_token token ≡ token_columns on r → number price ≡ column r (10 + on)
+    → shown_sale (sale_from entry order token price) ≡ sale_part on r
+shows_sale on r entry order token price e o t p = cc
 
 -- where a row shows a sale, its columns of the entry show the sale's entry
-pub shows_entry : (r : Row) (s : Sale) → shown_sale s ≡ sale_part r → shown_entry (entry_in s) ≡ entry_columns r
-shows_entry r s e = ap entry_columns e
+pub shows_entry : (on : ℕ) (r : Row) (s : Sale) → shown_sale s ≡ sale_part on r → shown_entry (entry_in s) ≡ entry_columns on r
+shows_entry on r s e = ap (entry_columns 0) e
 
 -- where a row shows a sale, its columns of the order show the sale's order
-pub shows_order : (r : Row) (s : Sale) → shown_sale s ≡ sale_part r → shown_order (order_in s) ≡ order_columns r
-shows_order r s e = ap order_columns e
+pub shows_order : (on : ℕ) (r : Row) (s : Sale) → shown_sale s ≡ sale_part on r → shown_order (order_in s) ≡ order_columns on r
+shows_order on r s e = ap (order_columns 0) e
 
 -- where a row shows a sale, its columns of the token show the sale's token
-pub shows_token : (r : Row) (s : Sale) → shown_sale s ≡ sale_part r → shown_token (token_in s) ≡ token_columns r
-shows_token r s e = ap token_columns e
+pub shows_token : (on : ℕ) (r : Row) (s : Sale) → shown_sale s ≡ sale_part on r → shown_token (token_in s) ≡ token_columns on r
+shows_token on r s e = ap (token_columns 0) e
 
 -- what is read back of a sale's columns is read back of a row that has no others
-pub read_whole : (r : Row) (read : Option Sale) → length r ≡ 13 → ReadsBack shown_sale AreSaleValues (sale_part r) read
+pub read_whole : (r : Row) (read : Option Sale) → length r ≡ 13 → ReadsBack shown_sale AreSaleValues (sale_part 0 r) read
     → ReadsBack shown_sale AreSaleValues r read
 read_whole r read count part = subst (λ (row : Row). ReadsBack shown_sale AreSaleValues row read) (whole_sale r count) part

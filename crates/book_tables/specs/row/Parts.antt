@@ -1,5 +1,5 @@
 -- The parts that a sale's row is read in.
-use Rattle.std.specs.Prelude.{◌<◌, ◌^◌, [], ◌∷◌}
+use Rattle.std.specs.Prelude.{◌<◌, ◌+◌, ◌^◌, ℕ, Bool, true, false, [], ◌∷◌}
 use Rattle.sqlite.specs.Order.{Row, column}
 use Rattle.sqlite.specs.declared.types.Value.TheVariants.{Text}
 use Rattle.sts_fields.specs.Base.{year_of}
@@ -33,18 +33,28 @@ pub record AreTokenValues (t : Token) : Type 0 where
   pub tenths : IsSoldAmount t.tenths
   pub digits : AreTwentyDigits t.digits
 
--- the columns of each part in the row of a sale
-abbrev pub entry_columns : Row → Row
-entry_columns r = column r 0 ∷ column r 1 ∷ column r 2 ∷ []
+-- how many columns stand between a sale's moment and its shift: that of the month, where the row
+-- has one
+abbrev pub month_columns_in : (has_month : Bool) → ℕ
+month_columns_in true = 1
+month_columns_in false = 0
 
-abbrev pub order_columns : Row → Row
-order_columns r = column r 3 ∷ column r 4 ∷ column r 5 ∷ column r 11 ∷ []
+-- the columns of each part in the row of a sale, with so many behind the moment
+abbrev pub entry_columns : ℕ → Row → Row
+entry_columns on r = column r 0 ∷ column r 1 ∷ column r (2 + on) ∷ []
 
-abbrev pub token_columns : Row → Row
-token_columns r = column r 6 ∷ column r 7 ∷ column r 8 ∷ column r 9 ∷ column r 12 ∷ []
+abbrev pub order_columns : ℕ → Row → Row
+order_columns on r =
+    column r (3 + on) ∷ column r (4 + on) ∷ column r (5 + on) ∷ column r (11 + on) ∷ []
+
+abbrev pub token_columns : ℕ → Row → Row
+token_columns on r =
+    column r (6 + on) ∷ column r (7 + on) ∷ column r (8 + on) ∷ column r (9 + on)
+    ∷ column r (12 + on) ∷ []
 
 -- the columns of a sale, before whatever else the row has
-abbrev pub sale_part : Row → Row
-sale_part r =
-    column r 0 ∷ column r 1 ∷ column r 2 ∷ column r 3 ∷ column r 4 ∷ column r 5 ∷ column r 6
-    ∷ column r 7 ∷ column r 8 ∷ column r 9 ∷ column r 10 ∷ column r 11 ∷ column r 12 ∷ []
+abbrev pub sale_part : ℕ → Row → Row
+sale_part on r =
+    column r 0 ∷ column r 1 ∷ column r (2 + on) ∷ column r (3 + on) ∷ column r (4 + on)
+    ∷ column r (5 + on) ∷ column r (6 + on) ∷ column r (7 + on) ∷ column r (8 + on)
+    ∷ column r (9 + on) ∷ column r (10 + on) ∷ column r (11 + on) ∷ column r (12 + on) ∷ []

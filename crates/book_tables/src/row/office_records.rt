@@ -6,11 +6,12 @@
 ghost use Rattle.office_rules.specs.Decision.Requests.{IsOrder};
 ghost use Rattle.book_tables.specs.row.ReadBack.{ReadsBack};
 ghost use Rattle.book_tables.specs.row.Parts.{AreEntryValues, AreTokenValues, entry_columns};
-ghost use Rattle.book_tables.specs.row.Parts.{order_columns, shown_entry, sale_part, shown_order};
+ghost use Rattle.book_tables.specs.row.Parts.{month_columns_in, order_columns, shown_entry};
+ghost use Rattle.book_tables.specs.row.Parts.{sale_part, shown_order};
 ghost use Rattle.book_tables.specs.row.Parts.{shown_token, token_columns};
 ghost use Rattle.book_tables.specs.row.Rows.{shown_meter, shown_number, shown_sale, shown_shift};
 ghost use Rattle.book_tables.specs.row.Rows.{shown_step, tariff_columns};
-ghost use Rattle.std.specs.Prelude.{◌∷◌, [], ℕ};
+ghost use Rattle.std.specs.Prelude.{◌≡◌, ◌≤◌, ◌∷◌, [], ℕ};
 ghost use Rattle.office_rules.specs.Name.{IsName};
 ghost use Rattle.book_tables.specs.row.Values.{AreMeterValues, AreSaleValues, AreShiftValues};
 ghost use Rattle.book_tables.specs.row.Values.{AreStepValues, IsNumber};
@@ -108,24 +109,36 @@ struct Entry {
     shift: u32,
 }
 
-fn entry_of(row: &Row) -> Option<Entry>
-    ensures { ReadsBack shown_entry AreEntryValues (entry_columns row.now) result }
+// How many columns stand between the moment and the shift.
+fn month_columns(has_month: bool) -> usize
+    ensures is { result ≡ month_columns_in has_month }
+    ensures few { result ≤ 1 }
 {
+    usize::from(has_month)
+}
+
+fn entry_of(row: &Row, has_month: bool) -> Option<Entry>
+    ensures { ReadsBack shown_entry AreEntryValues
+        (entry_columns (month_columns_in has_month) row.now) result }
+{
+    let on = month_columns(has_month);
     Some(Entry {
         number: cells::number_at(row, 0)?,
         moment: cells::moment_at(row, 1)?,
-        shift: cells::number_at(row, 2)?,
+        shift: cells::number_at(row, 2 + on)?,
     })
 }
 
-fn order_of(row: &Row) -> Option<Order>
-    ensures { ReadsBack shown_order IsOrder (order_columns row.now) result }
+fn order_of(row: &Row, has_month: bool) -> Option<Order>
+    ensures { ReadsBack shown_order IsOrder
+        (order_columns (month_columns_in has_month) row.now) result }
 {
+    let on = month_columns(has_month);
     Some(Order {
-        operator: cells::operator_at(row, 3)?,
-        order_ref: cells::ref_at(row, 4)?,
-        meter: cells::meter_no_at(row, 5)?,
-        tender: cells::tender_at(row, 11)?,
+        operator: cells::operator_at(row, 3 + on)?,
+        order_ref: cells::ref_at(row, 4 + on)?,
+        meter: cells::meter_no_at(row, 5 + on)?,
+        tender: cells::tender_at(row, 11 + on)?,
     })
 }
 
@@ -139,33 +152,40 @@ struct Token {
     digits: [u8; 20],
 }
 
-fn token_of(row: &Row) -> Option<Token>
-    ensures { ReadsBack shown_token AreTokenValues (token_columns row.now) result }
+fn token_of(row: &Row, has_month: bool) -> Option<Token>
+    ensures { ReadsBack shown_token AreTokenValues
+        (token_columns (month_columns_in has_month) row.now) result }
 {
+    let on = month_columns(has_month);
     Some(Token {
-        base: cells::base_at(row, 6)?,
-        tid: cells::tid_at(row, 7)?,
-        rnd: cells::nibble_at(row, 8)?,
-        tenths: cells::amount_at(row, 9)?,
-        digits: cells::digits_at(row, 12)?,
+        base: cells::base_at(row, 6 + on)?,
+        tid: cells::tid_at(row, 7 + on)?,
+        rnd: cells::nibble_at(row, 8 + on)?,
+        tenths: cells::amount_at(row, 9 + on)?,
+        digits: cells::digits_at(row, 12 + on)?,
     })
 }
 
-// The sale of the first thirteen columns.
-fn sale_of(row: &Row) -> Option<Sale>
-    ensures { ReadsBack shown_sale AreSaleValues (sale_part row.now) result }
+/// The sale of a row's first columns, in the order of the table `sales`. The column of the month is
+/// passed over where the row has it.
+///
+/// There is none exactly where they are those of no sale whose values keep their rules.
+pub fn sale_of(row: &Row, has_month: bool) -> Option<Sale>
+    ensures { ReadsBack shown_sale AreSaleValues
+        (sale_part (month_columns_in has_month) row.now) result }
 {
-    let Some(entry) = entry_of(row) else {
+    let Some(entry) = entry_of(row, has_month) else {
         return None;
     };
-    let Some(order) = order_of(row) else {
+    let Some(order) = order_of(row, has_month) else {
         return None;
     };
-    let Some(token) = token_of(row) else {
+    let Some(token) = token_of(row, has_month) else {
         return None;
     };
     let (tender, digits) = (order.tender, token.digits);
-    let Some(price) = cells::between_at(row, 10, 0, tender.cents()) else {
+    let at = 10 + month_columns(has_month);
+    let Some(price) = cells::between_at(row, at, 0, tender.cents()) else {
         return None;
     };
     Some(Sale {
@@ -194,6 +214,6 @@ impl Record for Sale {
         if row.column_count() != 13 {
             return None;
         }
-        sale_of(row)
+        sale_of(row, false)
     }
 }
