@@ -32,7 +32,7 @@ use Rattle.book_tables.proofs.WritingLemmas.CauseLemmas.{Came, came_by, of_later
 use Rattle.book_tables.proofs.WritingLemmas.EditLemmas.{no_members}
 use Rattle.book_tables.proofs.HoldsLemmas.{held_as}
 use Rattle.book_tables.proofs.OfficeTableLemmas.{bases_in, last_ids_in, month_tenths_in, shift_totals_in}
-use Rattle.book_tables.proofs.WritingLemmas.OnlyLemmas.{AreAmong, only_among, only_both}
+use Rattle.book_tables.proofs.WritingLemmas.OnlyLemmas.{AreAmong, only_among, only_both, only_named, only_then}
 
 -- ---- the office's members
 
@@ -58,15 +58,6 @@ members_brought rows totals bases o are none has once they = record {
 
 -- ---- what is filled, by the format
 
-totals_among : AreAmong totals_names (kept_names (later 1))
-totals_among s tree none = (none.0, (none.1.0, (none.1.1.0, tt)))
-
-bases_after_first : AreAmong (codes "meter_bases" ∷ []) (kept_names (later 1))
-bases_after_first s tree none = (none.1.1.1.0, tt)
-
-bases_after_second : AreAmong (codes "meter_bases" ∷ []) (kept_names (later 2))
-bases_after_second s tree none = (none.0, tt)
-
 -- none of these tables is `about`
 bases_another : AllByRecursion IsAnother (bases_kept ∷ [])
 bases_another = ((bases_in, refl), tt)
@@ -82,8 +73,7 @@ module _ (meters : List MeterRow) (sales : List Sale) where
   pub missing_first : (old mid new : State) → IsReady old → IsReady mid → FillsTotals sales old mid → FillsBases meters mid new
       → FillsMissing 1 meters sales old new
   missing_first old mid new ready then totals fills = record {
-    only = only_both _ old mid new (only_among _ (kept_names (later 1)) totals_among old mid totals.only)
-        (only_among _ (kept_names (later 1)) bases_after_first mid new fills.only);
+    only = only_then (kept_names (later 1)) totals_names (codes "meter_bases" ∷ []) refl refl old mid new totals.only fills.only;
     tells = told_left mid new then.has (bases_kept ∷ []) bases_another fills.only ∙ told_left old mid ready.has totals_kept totals_another totals.only;
     members = λ o rows office none handed are of_format held.
         let sums = totals.rows 1 (rows_upto 1 rows) o office handed.sales held in
@@ -100,7 +90,7 @@ module _ (meters : List MeterRow) (sales : List Sale) where
   -- format 2 lacks the bases of the meters, and has its totals already
   pub missing_second : (old new : State) → IsReady old → FillsBases meters old new → FillsMissing 2 meters sales old new
   missing_second old new ready fills = record {
-    only = only_among _ (kept_names (later 2)) bases_after_second old new fills.only;
+    only = only_named (codes "meter_bases" ∷ []) (kept_names (later 2)) refl old new fills.only;
     tells = told_left old new ready.has (bases_kept ∷ []) bases_another fills.only;
     members = λ o rows office none handed are of_format held.
         let alone = of_format.bases (omega arith) in (

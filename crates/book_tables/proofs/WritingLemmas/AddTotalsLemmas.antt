@@ -1,15 +1,9 @@
 -- What the tables are after the totals of a sale were added one by one, and after the sale with
 -- them.
 use Rattle.std.proofs.Common.{◌≡◌, ◌≤◌, ◌+◌, ℕ, List, [], ◌∷◌, ◌++◌, codes, length, map, unwrap_or, Some, refl, sym, ap, subst, ◌∙◌}
-use Rattle.std.specs.List.{AllByRecursion}
-use Rattle.sqlite_rules.specs.Edit.{IsNoIndex}
 use Rattle.sqlite.specs.State.{State}
-use Rattle.sqlite_keyed.proofs.ListLemmas.{all_both}
-use Rattle.sqlite_schema.specs.declared.schema.Schema.{Schema}
-use Rattle.sqlite_schema.specs.declared.schema.Table.{Table}
 use Rattle.sts_fields.specs.Amount.{IsRepresentable}
 use Rattle.sts_fields.specs.Calendar.{month_at}
-use Rattle.one_table.proofs.ChangeLemmas.{stays_then}
 use Rattle.office_rules.specs.Decision.Edits.{applied}
 use Rattle.office_rules.specs.Office.Lookup.{greatest_of}
 use Rattle.office_rules.specs.Office.{AreNumbered, IsOffice, Office}
@@ -23,36 +17,19 @@ use Rattle.book_tables.specs.writing.Storing.{StoresRow}
 use Rattle.book_tables.proofs.KeptLemmas.{names_differ, trees_differ}
 use Rattle.book_tables.proofs.WritingLemmas.StoringLemmas.{left_by, stores_before}
 use Rattle.book_tables.specs.Stands.{AreMembersOf, AreTotalsOf, sales_in_month, sales_in_shift, sales_under, tenths_of, totals_of}
-use Rattle.book_tables.specs.writing.Writing.{AddsSale, AddsTenths, AddsToShift, AreSaleTotals, FitColumns, IsNextNumber, IsOfNone, MayAddSold, MayAddTenths, MayAddToShift, MayAddTotals, SetsLastId, TellsSold, TellsSaleTotals, WritesOnly, totals_names, with_totals_of}
+use Rattle.book_tables.specs.writing.Writing.{AddsSale, AddsTenths, AddsToShift, AreSaleTotals, FitColumns, IsNextNumber, MayAddSold, MayAddTenths, MayAddToShift, MayAddTotals, SetsLastId, TellsSold, TellsSaleTotals, WritesOnly, totals_names, with_totals_of}
 use Rattle.book_tables.specs.declared.row.totals.SaleTotals.{SaleTotals}
 use Rattle.book_tables.specs.Kept.{last_ids_kept, month_tenths_kept, sales_kept, shift_totals_kept}
 use Rattle.book_tables.specs.writing.Keeping.{AreInOrder, KeepsRows, last_id_keys, month_keys, sale_key, shift_totals_key, totals_keys}
 use Rattle.book_tables.proofs.OfficeTableLemmas.{last_ids_in, month_tenths_in, sales_in, shift_totals_in}
 use Rattle.book_tables.proofs.WritingLemmas.KeepingLemmas.{keeps_then, still_in_order}
+use Rattle.book_tables.proofs.WritingLemmas.OnlyLemmas.{only_then}
 use Rattle.book_tables.proofs.WritingLemmas.WriteLemmas.{changes_only}
 use Rattle.book_tables.proofs.RowsOfLemmas.{rows_of_same}
 use Rattle.book_tables.proofs.SalesOfLemmas.{fit_within, last_more, month_more, month_own, own_last, room_in_month, room_in_shift, sales_within, shift_more, shift_own, total_in_month, totals_in_shift}
 use Rattle.book_tables.proofs.WritingLemmas.TotallingLemmas.{total_fits}
 
 -- ---- writes one after another
-
--- of two writes only the tables of both may have other rows
-only_then : (names a b : List (List ℕ)) → ((s : Schema) (tree : ℕ) → IsOfNone s names tree → IsOfNone s a tree × IsOfNone s b tree)
-    → (old mid new : State) → WritesOnly a old mid → WritesOnly b mid new → WritesOnly names old new
-only_then names a b apart old mid new first second = record {
-  inside = stays_then old mid new first.inside second.inside;
-  marks = second.marks ∙ first.marks;
-  schema = second.schema ∙ first.schema;
-  tables = all_both _ _ _ (λ u kept later none. later (there u.tree none) ∙ kept (apart old.now.schema u.tree none).0) old.now.schema.tables first.tables
-      (subst (λ (s : Schema). AllByRecursion (λ (u : Table). IsOfNone mid.now.schema b u.tree → new.now.trees u.tree
-      ≡ mid.now.trees u.tree) s.tables) first.schema second.tables);
-  others = λ tree none no_index. second.others tree (there tree none)
-      (subst (λ (s : Schema). IsNoIndex s tree) (sym first.schema) no_index) ∙ first.others tree (apart old.now.schema tree none).0 no_index;
-  sound = second.sound;
-}
-  where
-    there : (tree : ℕ) → IsOfNone old.now.schema names tree → IsOfNone mid.now.schema b tree
-    there tree none = subst (λ (s : Schema). IsOfNone s b tree) (sym first.schema) (apart old.now.schema tree none).1
 
 -- the office's tables are still there
 pub tables_stay : (names : List (List ℕ)) (old mid : State) → WritesOnly names old mid → HasAllTables old → HasAllTables mid
@@ -69,9 +46,8 @@ module _ (s : Sale) (last : ℕ) (shown : SaleTotals) (old one two new : State) 
   -- after the three writes, only the tables of totals may have other rows
   pub only_totals : WritesOnly totals_names old new
   only_totals =
-      only_then totals_names two_names (codes "shift_totals" ∷ []) (λ s tree none. ((none.0, (none.1.0, tt)), (none.1.1.0, tt))) old two new
-      (only_then two_names (codes "last_ids" ∷ []) (codes "month_tenths" ∷ []) (λ s tree none. ((none.0, tt), (none.1.0, tt))) old one two
-      first.only second.only) third.only
+      only_then totals_names two_names (codes "shift_totals" ∷ []) refl refl old two new
+      (only_then two_names (codes "last_ids" ∷ []) (codes "month_tenths" ∷ []) refl refl old one two first.only second.only) third.only
 
   -- the rows with the totals of these sales and this one, and what was told of it
   record After (format : ℕ) (rows : Rows) (sales : List Sale) : Type 0 where
@@ -232,8 +208,7 @@ module _ (greatest : (t : ℕ) → IsRepresentable t → t ≤ 18201624) (s : Sa
   pub tells_sold : HasAllTables old → TellsSold s shown old new
   tells_sold has = record {
     adds = record {
-      only = only_then (codes "sales" ∷ totals_names) (codes "sales" ∷ []) totals_names (λ s tree none. ((none.0, tt), none.1)) old mid new
-          first.only second.adds.only;
+      only = only_then (codes "sales" ∷ totals_names) (codes "sales" ∷ []) totals_names refl refl old mid new first.only second.adds.only;
       kept = keeps_sold has;
       stored = stored_sold has;
       members = members;

@@ -35,7 +35,7 @@ use Rattle.book_tables.specs.writing.Keeping.{base_keys, meter_keys}
 use Rattle.book_tables.proofs.WritingLemmas.KeepingLemmas.{keeps_new, keeps_set, keeps_then, number_kept, text_found, text_kept}
 use Rattle.book_tables.proofs.KeptLemmas.{bases_changed, meters_changed}
 use Rattle.book_tables.proofs.OfficeTableLemmas.{bases_in, meters_in}
-use Rattle.book_tables.proofs.WritingLemmas.OnlyLemmas.{only_among, only_both}
+use Rattle.book_tables.proofs.WritingLemmas.OnlyLemmas.{only_then}
 use Rattle.book_tables.proofs.WritingLemmas.StoringLemmas.{left_by_one, stores_after, stores_before, stores_hidden}
 use Rattle.book_tables.proofs.WritingLemmas.WriteLemmas.{changes_only, only_one}
 use Rattle.book_tables.proofs.WritingLemmas.WriteTexts.{is_that_meter}
@@ -124,9 +124,7 @@ abbrev both : List (List ℕ)
 both = codes "meters" ∷ codes "meter_bases" ∷ []
 
 only_two : (old mid new : State) → WritesOnly (codes "meters" ∷ []) old mid → WritesOnly (codes "meter_bases" ∷ []) mid new → WritesOnly both old new
-only_two old mid new first second =
-    only_both both old mid new (only_among (codes "meters" ∷ []) both (λ s tree apart. (apart.0, tt)) old mid first)
-    (only_among (codes "meter_bases" ∷ []) both (λ s tree apart. (apart.1.0, tt)) mid new second)
+only_two = only_then both (codes "meters" ∷ []) (codes "meter_bases" ∷ []) refl refl
 
 then_has : (old mid : State) → WritesOnly (codes "meters" ∷ []) old mid → HasAllTables old → HasOffice mid.now.schema
 then_has old mid only has = subst HasOffice (sym only.schema) (has only.inside.was_open)

@@ -31,7 +31,7 @@ use Rattle.book_tables.proofs.KeptLemmas.{last_ids_changed, month_tenths_changed
 use Rattle.book_tables.proofs.ListLemmas.{contains_first}
 use Rattle.book_tables.proofs.OfficeTableLemmas.{last_ids_in, month_tenths_in, shift_totals_in}
 use Rattle.book_tables.proofs.WritingLemmas.HiddenWriteLemmas.{stands_after}
-use Rattle.book_tables.proofs.WritingLemmas.OnlyLemmas.{AreAmong, only_among}
+use Rattle.book_tables.proofs.WritingLemmas.OnlyLemmas.{only_named}
 use Rattle.book_tables.proofs.WritingLemmas.WriteLemmas.{changes_only, only_one}
 
 -- ---- texts
@@ -93,15 +93,6 @@ module _ {X : Type 0} (key : X → ℤ) where
 of_all : {X : Type 0} (P : X → Type 0) (before : List X) (r : X) (after : List X) → All P (before ++ r ∷ after) → P r
 of_all P before r after all = All-contains P (before ++ r ∷ after) r all (Contains-append_right before (r ∷ after) r (contains_first r after))
 
-ids_among : AreAmong (codes "last_ids" ∷ []) totals_names
-ids_among s tree apart = (apart.0, tt)
-
-months_among : AreAmong (codes "month_tenths" ∷ []) totals_names
-months_among s tree apart = (apart.1.0, tt)
-
-shifts_among : AreAmong (codes "shift_totals" ∷ []) totals_names
-shifts_among s tree apart = (apart.1.1.0, tt)
-
 module _ (old new : State) where
   abbrev ids : Table
   ids = last_ids_table (tree_in old.now.schema (codes "last_ids"))
@@ -116,7 +107,7 @@ module _ (old new : State) where
       let h = subst (λ (p : Row). PutsRow ids (new_row ids three_terms p (old.now.trees ids.tree)) old new) bound put in
       let only = only_one (codes "last_ids") ids _ old new refl h.changed in
       record {
-        only = only_among _ totals_names ids_among old new only;
+        only = only_named (codes "last_ids" ∷ []) totals_names refl old new only;
         rows = λ told rows before after may held.
             let was = last_ids_in.holds told old.now (with_last_ids before rows) held in
             let it = stands_after last_id_columns ids three_terms (last_id_columns r) r (id_source r) old new h before was.0 was.1 in
@@ -136,7 +127,7 @@ module _ (old new : State) where
   puts_month_tenths r params bound put =
       let only = only_one (codes "month_tenths") months _ old new refl put.changed in
       record {
-        only = only_among _ totals_names months_among old new only;
+        only = only_named (codes "month_tenths" ∷ []) totals_names refl old new only;
         rows = λ told rows before after may held.
             let fits = of_all (λ (x : (List ℕ × ℕ) × ℕ). x.1 < 2 ^ 63) before r after may in
             let h = subst (λ (p : Row). PutsRow months (new_row months three_terms p (old.now.trees months.tree)) old new) (bound fits) put in
@@ -159,7 +150,7 @@ module _ (old new : State) where
   puts_shift_totals r params bound put =
       let only = only_one (codes "shift_totals") shifts _ old new refl put.changed in
       record {
-        only = only_among _ totals_names shifts_among old new only;
+        only = only_named (codes "shift_totals" ∷ []) totals_names refl old new only;
         rows = λ told rows before after may held.
             let there = old.now.trees shifts.tree in
             let fits = of_all (λ (x : ℕ × Totals). HasRoomFor x.1) before r after may.1 in

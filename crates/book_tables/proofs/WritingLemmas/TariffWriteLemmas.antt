@@ -19,7 +19,7 @@ use Rattle.book_tables.proofs.WritingLemmas.WriteLemmas.{changes_only}
 use Rattle.book_tables.specs.writing.Writing.{AddsName, AddsStep, AddsTariff, WritesOnly}
 use Rattle.book_tables.specs.writing.Keeping.{KeepsRows, Keys, name_keys, step_keys, tariff_keys}
 use Rattle.book_tables.proofs.WritingLemmas.KeepingLemmas.{fewer_parts, keeps_both, keeps_more, own_left, own_right}
-use Rattle.book_tables.proofs.WritingLemmas.OnlyLemmas.{only_among, only_both}
+use Rattle.book_tables.proofs.WritingLemmas.OnlyLemmas.{only_both, only_named}
 
 -- ---- lists
 
@@ -41,11 +41,11 @@ abbrev both : List (List ℕ)
 both = codes "tariffs" ∷ codes "tariff_steps" ∷ []
 
 first_only : (old new : State) → WritesOnly (codes "tariffs" ∷ []) old new → WritesOnly both old new
-first_only = only_among (codes "tariffs" ∷ []) both (λ s tree apart. (apart.0, tt))
+first_only = only_named (codes "tariffs" ∷ []) both refl
 
 then_second : (old mid new : State) → WritesOnly both old mid → WritesOnly (codes "tariff_steps" ∷ []) mid new → WritesOnly both old new
 then_second old mid new first second = only_both both old mid new first
-    (only_among (codes "tariff_steps" ∷ []) both (λ s tree apart. (apart.1.0, tt)) mid new second)
+    (only_named (codes "tariff_steps" ∷ []) both refl mid new second)
 
 -- ---- a tariff
 
