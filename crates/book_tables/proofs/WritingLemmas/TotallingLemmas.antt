@@ -19,8 +19,8 @@ use Rattle.sts_fields.specs.Base.{year_of}
 use Rattle.sts_fields.specs.declared.base.Base.{Base}
 use Rattle.one_table.specs.Merges.{StandsForUpserts, TakesUpserts, Touches, Upserts, shown_row}
 use Rattle.one_table.specs.Numbered.{IsInOrder}
-use Rattle.one_table.specs.Standing.{place_in, tree_in}
-use Rattle.one_table.specs.Upserting.{Merging}
+use Rattle.one_table.specs.Standing.{own_keys, place_in, tree_in}
+use Rattle.one_table.specs.Upserting.{Merging, is_of_key}
 use Rattle.one_table.proofs.CastLemmas.{cast_int, cast_no_int}
 use Rattle.one_table.proofs.HiddenMergeLemmas.{MergesHidden, upserts_hidden}
 use Rattle.one_table.proofs.MergeLemmas.{MergesAs, given_numbered, upserts_listed}
@@ -38,16 +38,17 @@ use Rattle.book_tables.specs.declared.row.total_records.Tenths.{Tenths}
 use Rattle.book_tables.specs.declared.row.total_records.Tid.{Tid}
 use Rattle.book_tables.specs.declared.row.totals.Totals.{Totals}
 use Rattle.sqlite_rules.specs.declared.error.Rowids.TheVariants.{Chosen}
-use Rattle.sqlite_rules.specs.Cast.{cast_row}
+use Rattle.sqlite_rules.specs.Cast.{cast, cast_row}
+use Rattle.sqlite_schema.specs.declared.schema.Kind.TheVariants as kind
 use Rattle.sqlite_rules.specs.Edit.{next_rowid, with_rowid}
 use Rattle.sqlite_value.specs.declared.value.Value.{Value}
 use Rattle.sqlite_value.specs.Order.{column}
 use Rattle.one_table.specs.Merges.{given_row, set_row}
 use Rattle.book_tables.specs.reading.Reading.{HasAllTables}
-use Rattle.book_tables.specs.writing.Keeping.{has_key, last_id_keys, shift_totals_key}
+use Rattle.book_tables.specs.writing.Keeping.{AreInOrder, KeepsRows, Key, has_key, is_own}
 use Rattle.book_tables.proofs.WritingLemmas.KeepingLemmas.{has_values, keeps_merge, number_found, number_kept, own_number_kept, own_of_key, pair_found, pair_kept}
-use Rattle.book_tables.proofs.KeptLemmas.{last_ids_changed, month_tenths_changed, shift_totals_changed}
-use Rattle.book_tables.proofs.OfficeTableLemmas.{last_ids_in, month_tenths_in, shift_totals_in}
+use Rattle.book_tables.proofs.KeptLemmas.{ChangesOnly, last_ids_changed, month_tenths_changed, shift_totals_changed}
+use Rattle.book_tables.proofs.OfficeTableLemmas.{IsInOffice, last_ids_in, month_tenths_in, shift_totals_in}
 use Rattle.book_tables.proofs.RowLemmas.RecordLemmas.{one_number}
 use Rattle.book_tables.proofs.RowsOfLemmas.{few_under, free_under, rows_appended, rows_inserted, rows_updated, same_pair, value_under}
 use Rattle.book_tables.proofs.SalesOfLemmas.{tells_month, tells_number, tells_under}
@@ -214,6 +215,27 @@ was_open : {t : Table} {m : Merging} {params : Row} {old new : State} {row : Row
 was_open (inl g) = g.puts.changed.inside.was_open
 was_open (inr s) = s.changed.inside.was_open
 
+-- where the row that is given has the values of a key, those that it finds have the key, and what is set keeps it, all other rows stay
+keeps_total : (key : Key) (old new : State) (k : Kept) → IsInOffice k → HasAllTables old → (m : Merging) (params row given : Row)
+    → Upserts (record k.table { tree = tree_in old.now.schema k.table.name }) m params old new row → ChangesOnly k.table.name old.now new.now
+    → given_row k.table m params (old.now.trees (tree_in old.now.schema k.table.name)) ≡ given
+    → AllByRecursion (λ part. column (cast_row k.table given) part.0 ≡ part.1) key → IsTrue (is_int (rowid (cast_row k.table given)))
+    → ((r : Row) → is_of_key (own_keys k.table) m.key given r ≡ true → is_own ((k.table.name, key) ∷ []) k.table.name r ≡ true)
+    → ((r : Row) → IsTrue (is_int (rowid r)) → is_own ((k.table.name, key) ∷ []) k.table.name r ≡ true
+    → (is_own ((k.table.name, key) ∷ []) k.table.name (set_row k.table m params (old.now.trees (tree_in old.now.schema k.table.name)) r) ≡ true)
+    × (rowid (set_row k.table m params (old.now.trees (tree_in old.now.schema k.table.name)) r) ≡ rowid r))
+    → AreInOrder (k.table.name ∷ []) old.now → KeepsRows ((k.table.name, key) ∷ []) old.now new.now
+keeps_total key old new k k_in has m params row given merged only is values is_number found kept =
+    keeps_merge ((k.table.name, key) ∷ []) old new k k_in has m params row merged only (was_open merged)
+    (own_of_key k.table.name key (cast_row k.table (given_row k.table m params (old.now.trees (tree_in old.now.schema k.table.name))))
+    (ap (λ (r : Row). has_key key (cast_row k.table r)) is ∙ has_values key (cast_row k.table given) values))
+    (subst (λ (r : Row). IsTrue (is_int (rowid (cast_row k.table r)))) (sym is) is_number)
+    (λ r meets. found r (subst (λ (g : Row). is_of_key (own_keys k.table) m.key g r ≡ true) is meets)) kept
+
+-- a row whose number SQLite chose has one
+chosen_number : (n : ℤ) → IsTrue (is_int (cast kind.Integer (Int n)))
+chosen_number n = subst (λ (v : Value). IsTrue (is_int v)) (sym (cast_int n)) refl
+
 module _ (old new : State) where
   -- ---- the last identifier of a meter under a base
 
@@ -277,23 +299,13 @@ module _ (old new : State) where
           only = only;
           kept = λ order.
               let it = merged (λ runs. takes last_ids_kept old (last_ids_in.there old.now.schema (has_all runs)) order.0) in
-              let given : given_row last_ids last_id_merging params (old.now.trees last_ids.tree)
-              ≡ with_rowid Chosen (old.now.trees last_ids.tree) (Null ∷ last_id_columns (base_key, tid)) =
-              ap (λ (p : Row). given_row last_ids last_id_merging p (old.now.trees last_ids.tree)) bound
-              ∙ ap (with_rowid Chosen (old.now.trees last_ids.tree)) ((sets_tid []).source) in
-              keeps_merge (last_id_keys base_key) old new last_ids_kept last_ids_in has_all last_id_merging params it.0 it.1
-              (changes_only (codes "last_ids") old new only) (was_open it.1)
-              (own_of_key (codes "last_ids") ((1, Text meter) ∷ (2, Int (pos (year_of base))) ∷ [])
-              (cast_row last_ids (given_row last_ids last_id_merging params (old.now.trees last_ids.tree)))
-              (ap (λ (r : Row). has_key ((1, Text meter) ∷ (2, Int (pos (year_of base))) ∷ []) (cast_row last_ids r)) given
-              ∙ has_values ((1, Text meter) ∷ (2, Int (pos (year_of base))) ∷ [])
-              (cast_row last_ids (with_rowid Chosen (old.now.trees last_ids.tree) (Null ∷ last_id_columns (base_key, tid))))
-              (refl, (cast_int (pos (year_of base)), tt))))
-              (subst (λ (r : Row). IsTrue (is_int (rowid (cast_row last_ids r)))) (sym given)
-              (subst (λ (v : Value). IsTrue (is_int v)) (sym (cast_int (next_rowid (old.now.trees last_ids.tree)))) refl))
-              (λ r found. pair_found (codes "last_ids") meter (year_of base)
-              (given_row last_ids last_id_merging params (old.now.trees last_ids.tree)) r (ap (λ (g : Row). column g 1) given)
-              (ap (λ (g : Row). column g 2) given) found)
+              let given = with_rowid Chosen (old.now.trees last_ids.tree) (Null ∷ last_id_columns (base_key, tid)) in
+              keeps_total ((1, Text meter) ∷ (2, Int (pos (year_of base))) ∷ []) old new last_ids_kept last_ids_in has_all
+              last_id_merging params it.0 given it.1 (changes_only (codes "last_ids") old new only)
+              (ap (λ (p : Row). given_row last_ids last_id_merging p (old.now.trees last_ids.tree)) bound
+              ∙ ap (with_rowid Chosen (old.now.trees last_ids.tree)) ((sets_tid []).source))
+              (refl, (cast_int (pos (year_of base)), tt)) (chosen_number (next_rowid (old.now.trees last_ids.tree)))
+              (λ r found. pair_found (codes "last_ids") meter (year_of base) given r refl refl found)
               (λ r is_number own. (
                 pair_kept (codes "last_ids") meter (year_of base) r
                     (set_row last_ids last_id_merging params (old.now.trees last_ids.tree) r) refl refl own,
@@ -389,23 +401,13 @@ module _ (old new : State) where
           only = only;
           kept = λ order.
               let it = merged (λ runs. takes month_tenths_kept old (month_tenths_in.there old.now.schema (has_all runs)) order.0) in
-              let given : given_row month_tenths tenths_merging params (old.now.trees month_tenths.tree)
-              ≡ with_rowid Chosen (old.now.trees month_tenths.tree) (Null ∷ month_columns (month_key, tenths)) =
-              ap (λ (p : Row). given_row month_tenths tenths_merging p (old.now.trees month_tenths.tree)) bound
-              ∙ ap (with_rowid Chosen (old.now.trees month_tenths.tree)) ((adds_these [] (λ r none met. absurd none)).source) in
-              keeps_merge ((codes "month_tenths", (1, Text meter) ∷ (2, Int (pos month)) ∷ []) ∷ []) old new month_tenths_kept
-              month_tenths_in has_all tenths_merging params it.0 it.2 (changes_only (codes "month_tenths") old new only) (was_open it.2)
-              (own_of_key (codes "month_tenths") ((1, Text meter) ∷ (2, Int (pos month)) ∷ [])
-              (cast_row month_tenths (given_row month_tenths tenths_merging params (old.now.trees month_tenths.tree)))
-              (ap (λ (r : Row). has_key ((1, Text meter) ∷ (2, Int (pos month)) ∷ []) (cast_row month_tenths r)) given
-              ∙ has_values ((1, Text meter) ∷ (2, Int (pos month)) ∷ [])
-              (cast_row month_tenths (with_rowid Chosen (old.now.trees month_tenths.tree) (Null ∷ month_columns (month_key, tenths))))
-              (refl, (cast_int (pos month), tt))))
-              (subst (λ (r : Row). IsTrue (is_int (rowid (cast_row month_tenths r)))) (sym given)
-              (subst (λ (v : Value). IsTrue (is_int v)) (sym (cast_int (next_rowid (old.now.trees month_tenths.tree)))) refl))
-              (λ r found. pair_found (codes "month_tenths") meter month
-              (given_row month_tenths tenths_merging params (old.now.trees month_tenths.tree)) r (ap (λ (g : Row). column g 1) given)
-              (ap (λ (g : Row). column g 2) given) found)
+              let given = with_rowid Chosen (old.now.trees month_tenths.tree) (Null ∷ month_columns (month_key, tenths)) in
+              keeps_total ((1, Text meter) ∷ (2, Int (pos month)) ∷ []) old new month_tenths_kept month_tenths_in has_all
+              tenths_merging params it.0 given it.2 (changes_only (codes "month_tenths") old new only)
+              (ap (λ (p : Row). given_row month_tenths tenths_merging p (old.now.trees month_tenths.tree)) bound
+              ∙ ap (with_rowid Chosen (old.now.trees month_tenths.tree)) ((adds_these [] (λ r none met. absurd none)).source))
+              (refl, (cast_int (pos month), tt)) (chosen_number (next_rowid (old.now.trees month_tenths.tree)))
+              (λ r found. pair_found (codes "month_tenths") meter month given r refl refl found)
               (λ r is_number own. (
                 pair_kept (codes "month_tenths") meter month r
                     (set_row month_tenths tenths_merging params (old.now.trees month_tenths.tree) r) refl refl own,
@@ -516,19 +518,11 @@ module _ (old new : State) where
           only = only;
           kept = λ order.
               let it = merged (λ runs. takes shift_totals_kept old (shift_totals_in.there old.now.schema (has_all runs)) order.0) in
-              let given : given_row shift_totals totals_merging params (old.now.trees shift_totals.tree) ≡ totals_row (shift, first_totals) =
-              ap (λ (p : Row). given_row shift_totals totals_merging p (old.now.trees shift_totals.tree)) bound
-              ∙ (adds_one [] (λ r none met. absurd none)).gives in
-              keeps_merge (shift_totals_key shift) old new shift_totals_kept shift_totals_in has_all totals_merging params it.0 it.2
-              (changes_only (codes "shift_totals") old new only) (was_open it.2)
-              (own_of_key (codes "shift_totals") ((0, Int (pos shift)) ∷ [])
-              (cast_row shift_totals (given_row shift_totals totals_merging params (old.now.trees shift_totals.tree)))
-              (ap (λ (r : Row). has_key ((0, Int (pos shift)) ∷ []) (cast_row shift_totals r)) given
-              ∙ has_values ((0, Int (pos shift)) ∷ []) (cast_row shift_totals (totals_row (shift, first_totals))) (cast_int (pos shift), tt)))
-              (subst (λ (r : Row). IsTrue (is_int (rowid (cast_row shift_totals r)))) (sym given)
-              (subst (λ (v : Value). IsTrue (is_int v)) (sym (cast_int (pos shift))) refl))
-              (λ r found. number_found (codes "shift_totals") shift
-              (given_row shift_totals totals_merging params (old.now.trees shift_totals.tree)) r (ap (λ (g : Row). column g 0) given) found)
+              keeps_total ((0, Int (pos shift)) ∷ []) old new shift_totals_kept shift_totals_in has_all totals_merging params it.0
+              (totals_row (shift, first_totals)) it.2 (changes_only (codes "shift_totals") old new only)
+              (ap (λ (p : Row). given_row shift_totals totals_merging p (old.now.trees shift_totals.tree)) bound
+              ∙ (adds_one [] (λ r none met. absurd none)).gives) (cast_int (pos shift), tt) (chosen_number (pos shift))
+              (λ r found. number_found (codes "shift_totals") shift (totals_row (shift, first_totals)) r refl found)
               (λ r is_number own. let same = number_kept (rowid r) is_number in (
                 own_number_kept (codes "shift_totals") shift r (set_row shift_totals totals_merging params
                     (old.now.trees shift_totals.tree) r) same own,
