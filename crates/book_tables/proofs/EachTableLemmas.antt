@@ -1,4 +1,4 @@
--- Each table of the office by its name. No other file goes by its place in the list of all.
+-- Each table of the office by its name, whatever its place in the list of all.
 use Rattle.std.proofs.Common.{List, [], ◌∷◌, inl, inr, refl}
 use Rattle.std.specs.List.{AllByRecursion}
 use Rattle.sqlite_keyed.proofs.ListLemmas.{all_weaker}

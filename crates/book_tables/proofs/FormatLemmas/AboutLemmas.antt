@@ -1,5 +1,5 @@
 -- What `about` tells, whatever the rows of the other tables are.
-use Rattle.std.proofs.Common.{◌≡◌, ℕ, zero, suc, false, List, [], ◌∷◌, codes, bytes_eq, arith, refl, ap, ◌∙◌, inl}
+use Rattle.std.proofs.Common.{◌≡◌, ℕ, zero, suc, false, List, [], ◌∷◌, codes, bytes_eq, arith, ap, ◌∙◌}
 use Rattle.std.specs.List.{AllByRecursion}
 use Rattle.std.proofs.lemmas.Bool.{le-leb}
 use Rattle.sqlite.specs.Effect.{Database}
@@ -13,6 +13,7 @@ use Rattle.book_tables.specs.Holds.{HasOffice, HasOfficeOf, IsKept, rows_in}
 use Rattle.book_tables.specs.Kept.{Kept, about_kept, kept, kept_names, kept_tables, later}
 use Rattle.book_tables.specs.row.Rows.{about_rows}
 use Rattle.book_tables.specs.writing.Writing.{IsOfNone, WritesOnly}
+use Rattle.book_tables.proofs.EachTableLemmas.{each_there}
 use Rattle.book_tables.proofs.HoldsLemmas.{of_upto}
 use Rattle.book_tables.proofs.KeptLemmas.{listed_holds, names_differ, trees_differ}
 use Rattle.book_tables.proofs.OfficeTableLemmas.{IsInOffice, about_in}
@@ -22,7 +23,7 @@ pub told_made : (n : ℕ) (a b : Database) → HasOfficeOf n a.schema → MakesT
     → rows_in b (codes "about") ≡ about_rows n
 told_made zero a b had m told = m.new.0.1
 told_made (suc n) a b had m told = (m.still about_kept.table
-    (of_upto (IsKept a.schema) (suc n) about_kept kept (inl refl) (le-leb 1 (suc n) (omega arith)) had.tables).0).2 ∙ told
+    (of_upto (IsKept a.schema) (suc n) about_kept kept each_there.about (le-leb 1 (suc n) (omega arith)) had.tables).0).2 ∙ told
 
 -- a table of the office that is not `about`
 abbrev pub IsAnother : Kept → Type 0

@@ -39,6 +39,7 @@ use Rattle.book_tables.specs.Tables.{about_table}
 use Rattle.book_tables.specs.writing.Writing.{IsOfNone, WritesOnly}
 use Rattle.book_tables.specs.writing.Writes.{new_format_text}
 use Rattle.book_tables.proofs.FormatLemmas.AboutLemmas.{told_made}
+use Rattle.book_tables.proofs.EachTableLemmas.{each_there}
 use Rattle.book_tables.proofs.HoldsLemmas.{free_later, of_upto}
 use Rattle.book_tables.proofs.KeptLemmas.{about_changed}
 use Rattle.book_tables.proofs.OfficeTableLemmas.{about_in}
@@ -265,8 +266,8 @@ abbrev pub MayChange : ℕ → Kept → Type 0
 MayChange n k = Member kept k × (nat_le k.since n ≡ true → Member (told_names n) k.table.name)
 
 about_may : (n : ℕ) → MayChange n about_kept
-about_may zero = (inl refl, λ came. absurd (false≢true came))
-about_may (suc n) = (inl refl, λ _. inl refl)
+about_may zero = (each_there.about, λ came. absurd (false≢true came))
+about_may (suc n) = (each_there.about, λ _. inl refl)
 
 may_first : (n : ℕ) (k : Kept) (rest : List Kept) (b : Bool) → nat_le k.since n ≡ b → Member kept k → AllByRecursion (MayChange n) rest
     → AllByRecursion (MayChange n) (cond (not b) (k ∷ rest) rest)
