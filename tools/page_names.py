@@ -123,7 +123,7 @@ def wrong_names(texts):
             if edit not in sources.edits:
                 yield f"{page}: {edit} is no edit"
     yield from wrong_witnesses()
-    yield from lost_clauses(texts["docs/PROVED.md"])
+    yield from lost_clauses(texts["docs/PROMISE.md"])
     yield from missing_files()
     yield from wrong_change(texts["CONTRIBUTING.md"], texts["docs/DEVELOPING.md"])
     yield from missing_examples()
@@ -147,24 +147,24 @@ def missing_files():
 
 
 def wrong_witnesses():
-    """The witnesses in the table of promises are those of the table of witnesses."""
+    """The witnesses in the table of promises are those of PROVED.md."""
     known = {quoted(witness)[0] for _, witness in rows_of_page("PROVED.md", "Law", "Witness") if quoted(witness)}
-    for promise, *_, witness, _ in rows_of_page("PROVED.md", "The promise", "Law [clauses]", "Witness",
+    for promise, *_, witness, _ in rows_of_page("PROMISE.md", "The promise", "Law [clauses]", "Witness",
                                                 "A wrong program that was refused"):
         for name in quoted(witness):
             if name not in known:
-                yield f"docs/PROVED.md: {name} is no witness: {promise}"
+                yield f"docs/PROMISE.md: {name} is no witness in PROVED.md: {promise}"
 
 
 def lost_clauses(text):
-    """Each clause that docs/PROVED.md names behind a law's link is in the file of the law's clauses: where the page
-    has none for the law, in the file to which the link leads."""
+    """Each clause that docs/PROMISE.md names behind a law's link is in the file of the law's clauses: where
+    docs/PROVED.md has none for the law, in the file to which the link leads."""
     link = re.compile(r"\]\(([^)]*)\)")
     files = {quoted(law)[0]: link.findall(cell)
              for law, cell in rows_of_page("PROVED.md", "Law or function", "The file of its clauses") if quoted(law)}
     for law, path, clauses in re.findall(r"\[`(\w+)`\]\(([^)]*)\) \[(`[^\]]*)\]", text):
         there = "".join((TOP / "docs" / file).read_text(encoding="utf-8") for file in files.get(law, [path]))
-        yield from (f"docs/PROVED.md: {clause} of {law} is not in the file to which the page leads"
+        yield from (f"docs/PROMISE.md: {clause} of {law} is not in the file of its clauses"
                     for clause in quoted(clauses) if not re.search(rf"\b(pub|ensures) {clause} ", there))
 
 
