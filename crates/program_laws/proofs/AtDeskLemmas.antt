@@ -1,5 +1,6 @@
 -- What a command that asks a desk prints is what the same command prints of the desk's office.
 pub mod AnswerLemmas
+pub mod ArgumentLemmas
 pub mod MeaningLemmas
 pub mod OneLemmas
 pub mod FileLemmas

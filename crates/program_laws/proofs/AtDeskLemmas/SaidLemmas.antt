@@ -1,75 +1,29 @@
 -- What the words of a command ask can be asked of a desk.
-use Rattle.std.proofs.Common.{◌≡◌, ◌∙◌, ℕ, ◌<◌, ◌≤◌, ◌^◌, Bool, true, false, length, Option, None, Some, refl, sym, ap, subst, arith}
+use Rattle.std.proofs.Common.{◌≡◌, ◌∙◌, ℕ, ◌≤◌, Bool, true, false, length, Option, None, Some, refl, sym, ap, subst, arith}
 use Rattle.std.specs.Prelude.{List, codes}
 use Rattle.clap.specs.Walk.{Row}
-use Rattle.sts_fields.specs.Day.{IsDay}
 use Rattle.sts_fields.specs.Text.{Text}
-use Rattle.sts_token.proofs.KeyLemmas.{key_within}
-use Rattle.tariff.specs.Tender.{IsTender}
 use Rattle.papers.specs.declared.file_kind.FileKind.{FileKind}
 use Rattle.papers.specs.declared.file_kind.FileKind.TheVariants as files
-use Rattle.office_rules.specs.Name.{IsMeterNo, IsName, IsOperator}
 use Rattle.office_rules.specs.declared.decision.request.Request.{Request}
 use Rattle.office_rules.specs.declared.decision.request.Request.TheVariants as requests
 use Rattle.conversation.specs.message.Framing.{longest_body}
-use Rattle.asks.specs.Value.{IsOf, IsPageStart, IsTargetNumber, Keeps, kind_of}
 use Rattle.asks.specs.declared.ask.Ask.{Ask}
 use Rattle.asks.specs.declared.ask.Ask.TheVariants as asks
 use Rattle.asks.specs.declared.lookup.Lookup.{Lookup}
 use Rattle.asks.specs.declared.lookup.Lookup.TheVariants as lookups
-use Rattle.asks.specs.declared.value.Value.{Value}
 use Rattle.asks.specs.declared.value.Value.TheVariants as values
 use Rattle.desk_client.specs.Sent.{CanSend}
-use Rattle.command_line.specs.Commands.{IsNumberOrNone, SaysAsk, SaysAskWords, SaysListed, SaysLookup, SaysOffice, SaysRequest}
-use Rattle.command_line.specs.Said.{IsArgument, IsArgumentOr, IsOptionalArgument, parsed_argument}
-use Rattle.command_line.specs.Values.{SaysDay, SaysFlag, SaysItem, SaysKey, SaysMeterNo, SaysOperator, SaysRef, SaysTariff, SaysTender, flag_text, no_flag}
+use Rattle.command_line.specs.Commands.{SaysAsk, SaysAskWords, SaysListed, SaysLookup, SaysOffice, SaysRequest}
+use Rattle.command_line.specs.Said.{IsArgumentOr, IsOptionalArgument, parsed_argument}
+use Rattle.command_line.specs.Values.{SaysFlag, SaysMeterNo, SaysTariff, flag_text, no_flag}
 use Rattle.command_line.specs.declared.office_words.AskWords.{AskWords}
 use Rattle.command_line.specs.declared.office_words.AskWords.TheVariants as words
 use Rattle.command_line.specs.declared.office_words.OfficeWords.{OfficeWords}
 use Rattle.desk_commands.specs.ListedAtDesk.{IsNoList}
 use Rattle.program_laws.specs.AtDesk.{AskForOne, AskForPages, IsAskedByOne}
+use Rattle.program_laws.proofs.AtDeskLemmas.ArgumentLemmas.{is_of, says_day, says_item, says_key, says_meter, says_operator, says_ref, says_start, says_tariff, says_tender}
 use Rattle.program_laws.proofs.AtDeskLemmas.PageLemmas.{CanAsk, can_list_meters, can_list_sales, can_list_shifts, can_list_tariffs}
-
--- an argument keeps the rule of its value
-says_meter : (text : Option Text) (meter : Text) → IsArgument SaysMeterNo text meter → IsMeterNo meter
-says_meter None meter says = absurd says
-says_meter (Some text) meter says = says.1
-
-says_operator : (text : Option Text) (operator : Text) → IsArgument SaysOperator text operator → IsOperator operator
-says_operator None operator says = absurd says
-says_operator (Some text) operator says = says.1
-
-says_ref : (text : Option Text) (order_ref : Text) → IsArgument SaysRef text order_ref → IsName order_ref
-says_ref None order_ref says = absurd says
-says_ref (Some text) order_ref says = says.1
-
-says_tender : (text : Option Text) (tender : ℕ) → IsArgument SaysTender text tender → IsTender tender
-says_tender None tender says = absurd says
-says_tender (Some text) tender says = says.1
-
-says_tariff : (text : Option Text) (name : Text) → IsArgument SaysTariff text name → IsName name
-says_tariff None name says = absurd says
-says_tariff (Some text) name says = says.1
-
-says_day : (text : Option Text) (day : ℕ) → IsArgument SaysDay text day → IsDay day
-says_day None day says = absurd says
-says_day (Some text) day says = says.range
-
-says_key : (text : Option Text) (key : ℕ) → IsArgument SaysKey text key → key < 2 ^ 64
-says_key None key says = absurd says
-says_key (Some text) key says = key_within key text says
-
-says_item : (text : Option Text) (number : ℕ) → IsArgument SaysItem text number → IsTargetNumber number
-says_item None number says = absurd says
-says_item (Some text) number says = record { from_one = says.1; most = omega (arith, says.2) }
-
-says_start : (text : Option Text) (number : ℕ) → IsNumberOrNone text number → IsPageStart number
-says_start None number says = record { most = omega (arith, says) }
-says_start (Some text) number says = record { most = omega (arith, says.1) }
-
--- a value that keeps its rule is one of its kind
-is_of : (v : Value) → Keeps v → IsOf (kind_of v) v
-is_of v kept = record { of_kind = refl; kept = kept }
 
 -- the file of an import fits into a message
 import_can : (kind : FileKind) (csv : List ℕ) → length csv ≤ longest_body → CanSend (asks.Import kind csv)
