@@ -36,7 +36,8 @@ use Rattle.program_laws.specs.SalesTold.{ConnectionsTell, CutReplyTells, Exchang
 use Rattle.vend_commands.specs.port.Machines.{Way}
 use Rattle.program_laws.specs.runs.Steps.{LivesIn, TellsIn}
 use Rattle.program_laws.specs.runs.Uses.{RunUse, asking_life, connected, idle_life, many_lives, no_life, reading_life, unconnected, unseen}
-use Rattle.program_laws.proofs.FoundLemmas.{found_hands, none_there, read_hands}
+use Rattle.program_laws.proofs.FoundLemmas.{found_hands, read_hands}
+use Rattle.program_laws.proofs.LookupLemmas.{none_there}
 
 -- what the law of a life says of the sales that it hands out
 pub record HandingLaws : Type 0 where

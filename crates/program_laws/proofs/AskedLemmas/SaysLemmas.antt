@@ -53,10 +53,11 @@ use Rattle.program_laws.specs.AtDesk.{AsksNoHealth, IsAskedByOne, IsSoldIn}
 use Rattle.program_laws.specs.SalesTold.{ExchangeTells, sales_came, sales_found}
 use Rattle.program_laws.specs.runs.Asked.{PrintsOfDesk, PrintsSaleOrWhy}
 use Rattle.program_laws.specs.runs.Asked.PrintsOfDesk.{a_find, a_reply, nothing, totals}
+use Rattle.program_laws.proofs.LookupLemmas.{look_prints}
 use Rattle.program_laws.proofs.AskedLemmas.LifeLemmas.{GoesFrom}
 use Rattle.program_laws.proofs.AtDeskLemmas.MeaningLemmas.{never_both, served}
 use Rattle.program_laws.proofs.AtDeskLemmas.OneLemmas.{DeskLaws, has_body, may_be, what_came}
-use Rattle.program_laws.proofs.AtDeskLemmas.PrintedLemmas.{prints_last, prints_meter, prints_quote, prints_reply, prints_sale_of_ref, prints_totals}
+use Rattle.program_laws.proofs.AtDeskLemmas.PrintedLemmas.{prints_reply}
 use Rattle.program_laws.proofs.AtDeskLemmas.RuleLemmas.{MayReplyTo}
 use Rattle.program_laws.proofs.AtDeskLemmas.TellableLemmas.{told_look, told_of}
 
@@ -133,22 +134,10 @@ module _ (laws : DeskLaws) (json : Bool) (moment : ℕ) (old new : Life) (openin
 
   look_printed : (lookup : Lookup) → IsAskedByOne json (Look lookup) → (r : Result Found Refusal) → IsFoundAt old moment lookup r
       → TellsTold json (Look lookup) (told_look (lookup_form lookup) r) o end → ((s : Sale) → Contains (sales_found r) s → Tells s) → PrintsOfDesk Tells o end
-  look_printed lookups.Health one r found printed has = absurd one
-  look_printed (lookups.Meter number) one r found printed has =
-      a_find json (lookups.Meter number) r (prints_meter json o end old moment number r found printed) has
-  look_printed (lookups.LastSale number) one r found printed has =
-      a_find json (lookups.LastSale number) r (prints_last json o end one old moment number r found printed) has
-  look_printed (lookups.SaleOfRef operator order_ref) one r found printed has =
-      a_find json (lookups.SaleOfRef operator order_ref) r (prints_sale_of_ref json o end old moment operator order_ref r found printed) has
-  look_printed (lookups.Quote number tender) one r found printed has =
-      a_find json (lookups.Quote number tender) r (prints_quote json o end old moment number tender r found printed) has
   look_printed (lookups.ShiftTotals number) one r found printed has =
-      let all = prints_totals o end json old moment number r found printed in
+      let all = look_prints old moment (lookups.ShiftTotals number) r found json o end one printed in
       totals number all.0 all.2
-  look_printed (lookups.Tariffs after) one r found printed has = absurd one
-  look_printed (lookups.Meters after) one r found printed has = absurd one
-  look_printed (lookups.Shifts after) one r found printed has = absurd one
-  look_printed (lookups.Sales after) one r found printed has = absurd one
+  look_printed lookup one r found printed has = a_find json lookup r (look_prints old moment lookup r found json o end one printed) has
 
   ask_printed : (ask : Ask) → IsAskedByOne json ask → (outcome : Outcome) → IsServed life_serves moment ask outcome old new → Prints ask outcome → Has outcome
       → PrintsOfDesk Tells o end × Sells ask new o end

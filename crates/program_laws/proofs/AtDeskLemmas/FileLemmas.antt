@@ -77,15 +77,11 @@ by_finds life moment lookup r rules (inr (inr (inr is))) = absurd ((subst (λ (r
 one_found : (o : Office) (moment : ℕ) (lookup : Lookup) (a b : Result Found Refusal) → IsOneLookup lookup → Finds o moment lookup a → Finds o moment lookup b
     → a ≡ b
 one_found o moment lookups.Health a b one x y = absurd one
-one_found o moment (lookups.Meter number) a b one x y = x ∙ sym y
-one_found o moment (lookups.LastSale number) a b one x y = x ∙ sym y
-one_found o moment (lookups.SaleOfRef operator order_ref) a b one x y = x ∙ sym y
-one_found o moment (lookups.Quote number tender) a b one x y = x ∙ sym y
-one_found o moment (lookups.ShiftTotals number) a b one x y = x ∙ sym y
 one_found o moment (lookups.Tariffs after) a b one x y = absurd one
 one_found o moment (lookups.Meters after) a b one x y = absurd one
 one_found o moment (lookups.Shifts after) a b one x y = absurd one
 one_found o moment (lookups.Sales after) a b one x y = absurd one
+one_found o moment lookup a b one x y = x ∙ sym y
 
 -- an office has one of what is looked up alone
 pub same_found : (life : Life) (moment : ℕ) (lookup : Lookup) (a b : Result Found Refusal) → IsOneLookup lookup → IsFoundAt life moment lookup a

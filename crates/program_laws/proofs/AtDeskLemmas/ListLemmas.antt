@@ -39,12 +39,13 @@ use Rattle.desk_commands.specs.PageOrder.{ComesAfter}
 use Rattle.desk_commands.specs.Exchanged.{Round}
 use Rattle.desk_commands.specs.print.ListTexts.{page_text, pages_text}
 use Rattle.desk_commands.specs.print.Pages.{ArePages, list_behind}
+use Rattle.program_laws.proofs.LookupLemmas.{look_answers}
 use Rattle.program_laws.proofs.AtDeskLemmas.FileLemmas.{by_finds}
 use Rattle.program_laws.proofs.AtDeskLemmas.MeaningLemmas.{looked}
 use Rattle.program_laws.proofs.AtDeskLemmas.OneLemmas.{DeskLaws, Reads, came_of, reads_look, same_told, served_at}
 use Rattle.program_laws.proofs.AtDeskLemmas.PageLemmas.{CanAsk, FindsPage, IsSamePage, behind_askable, finds_page, page_as_told, page_told, page_tokens, same_page, told_text}
 use Rattle.program_laws.proofs.AtDeskLemmas.OrderLemmas.{page_after}
-use Rattle.program_laws.proofs.AtDeskLemmas.ReadLemmas.{shown_at, whole_reply}
+use Rattle.program_laws.proofs.AtDeskLemmas.ReadLemmas.{whole_reply}
 use Rattle.program_laws.proofs.AtDeskLemmas.RuleLemmas.{present_is}
 use Rattle.program_laws.proofs.AtDeskLemmas.TellableLemmas.{told_found, told_look}
 use Rattle.program_laws.proofs.AtDeskLemmas.TokenLemmas.{plausible_present}
@@ -141,7 +142,7 @@ module _ (laws : DeskLaws) where
         },
       )
   came_page moment old list came office plausible some (Err refusal) found is =
-      inr (refusal, record { reply = is; answers = shown_at old office plausible moment list (list_asked list some) (Err refusal) found })
+      inr (refusal, record { reply = is; answers = look_answers old moment list (Err refusal) found office plausible })
 
   -- what comes back for it is read as a page that keeps the rules, or a refusal
   pub page_read : (list : Lookup) (moment : ℕ) (old new : Timed Life) (came : List ℕ) → ¬ IsNoList list → CanSend (Look list) → IsMoment moment

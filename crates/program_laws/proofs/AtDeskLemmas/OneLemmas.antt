@@ -63,10 +63,11 @@ use Rattle.vend_ports.specs.declared.command_end.CommandEnd.{CommandEnd}
 use Rattle.vend_ports.specs.declared.command_end.CommandEnd.TheVariants.{Refused}
 use Rattle.vend_ports.specs.print.Printed.{clock_line}
 use Rattle.vend_ports.specs.print.Told.{IsTold, Outputs}
+use Rattle.program_laws.proofs.LookupLemmas.{look_prints, look_tellable}
 use Rattle.program_laws.proofs.AtDeskLemmas.MeaningLemmas.{IsRead, MeansOne, idled, is_read, served}
-use Rattle.program_laws.proofs.AtDeskLemmas.PrintedLemmas.{prints_last, prints_meter, prints_quote, prints_reply, prints_sale_of_ref, prints_totals, tell_alike}
+use Rattle.program_laws.proofs.AtDeskLemmas.PrintedLemmas.{prints_reply, tell_alike}
 use Rattle.program_laws.proofs.AtDeskLemmas.RuleLemmas.{MayReplyTo, by_rules, may_reply, present_before, present_is}
-use Rattle.program_laws.proofs.AtDeskLemmas.TellableLemmas.{AreToldSales, FitsFile, RangeLaws, import_wanted, look_tells, look_wanted, no_health, reply_tells, sale_told, tellable_look, tellable_receipt, tellable_reply, told_look, told_of, told_reply}
+use Rattle.program_laws.proofs.AtDeskLemmas.TellableLemmas.{AreToldSales, FitsFile, RangeLaws, import_wanted, look_tells, look_wanted, no_health, reply_tells, sale_told, tellable_receipt, tellable_reply, told_look, told_of, told_reply}
 
 -- what the laws of the crates below say
 pub record DeskLaws : Type 0 where
@@ -246,7 +247,7 @@ module _ (laws : DeskLaws) where
   pub reads_look : (lookup : Lookup) → AsksNoHealth (Look lookup) → IsAskable (Look lookup) → (life : Life) → IsOffice (present life) → (moment : ℕ)
       → (r : Result Found Refusal) → IsFoundAt life moment lookup r → Reads (Look lookup) (outcomes.Found (lookup_form lookup) r)
   reads_look lookup none askable life office moment r found =
-      let keeps = tellable_look laws.ranges life office moment lookup r none askable found in
+      let keeps = look_tellable life moment lookup r found laws.ranges office none askable in
       record { tellable = keeps; tells = look_tells (lookup_form lookup) r (no_health (lookup_form lookup) (wanted_by (Look lookup)) r (look_wanted lookup) keeps) }
 
   module _ (moment : ℕ) (old new : Life) (opening : IsOffice old.opening) (life : IsLife new) where
@@ -299,27 +300,16 @@ module _ (laws : DeskLaws) where
 
     prints_look : (lookup : Lookup) → IsAskedByOne json (Look lookup) → (r : Result Found Refusal) → IsFoundAt old moment lookup r → new ≡ old
         → TellsTold json (Look lookup) (told_look (lookup_form lookup) r) o end → PrintsAsOnFile json (Look lookup) moment old new o end
-    prints_look lookups.Health one r found same printed = absurd one
-    prints_look (lookups.Meter number) one r found same printed =
-        record { found = r; is_found = found; told = prints_meter json o end old moment number r found printed; same = same }
-    prints_look (lookups.LastSale number) one r found same printed =
-        record { found = r; is_found = found; told = prints_last json o end one old moment number r found printed; same = same }
-    prints_look (lookups.SaleOfRef operator order_ref) one r found same printed =
-        record { found = r; is_found = found; told = prints_sale_of_ref json o end old moment operator order_ref r found printed; same = same }
-    prints_look (lookups.Quote number tender) one r found same printed =
-        record { found = r; is_found = found; told = prints_quote json o end old moment number tender r found printed; same = same }
     prints_look (lookups.ShiftTotals number) one r found same printed =
-        let totals = prints_totals o end json old moment number r found printed in
+        let totals = look_prints old moment (lookups.ShiftTotals number) r found json o end one printed in
         record {
           totals = totals.0;
           are_totals = subst (λ (r : Result Found Refusal). IsFoundAt old moment (lookups.ShiftTotals number) r) totals.1 found;
           told = totals.2;
           same = same;
         }
-    prints_look (lookups.Tariffs after) one r found same printed = absurd one
-    prints_look (lookups.Meters after) one r found same printed = absurd one
-    prints_look (lookups.Shifts after) one r found same printed = absurd one
-    prints_look (lookups.Sales after) one r found same printed = absurd one
+    prints_look lookup one r found same printed =
+        record { found = r; is_found = found; told = look_prints old moment lookup r found json o end one printed; same = same }
 
     prints : (ask : Ask) → IsAskedByOne json ask → (outcome : Outcome) → IsServed life_serves moment ask outcome old new → Prints ask outcome
         → PrintsAsOnFile json ask moment old new o end

@@ -145,16 +145,11 @@ FindsPage o moment lookup page = ⊥
 
 -- what is found of a list is a page of it
 pub finds_page : (o : Office) (moment : ℕ) (list : Lookup) → ¬ IsNoList list → (page : Found) → Finds o moment list (Ok page) → FindsPage o moment list page
-finds_page o moment lookups.Health some page finds = absurd (some tt)
-finds_page o moment (lookups.Meter number) some page finds = absurd (some tt)
-finds_page o moment (lookups.LastSale number) some page finds = absurd (some tt)
-finds_page o moment (lookups.SaleOfRef operator order_ref) some page finds = absurd (some tt)
-finds_page o moment (lookups.Quote number tender) some page finds = absurd (some tt)
-finds_page o moment (lookups.ShiftTotals number) some page finds = absurd (some tt)
 finds_page o moment (lookups.Tariffs after) some page finds = finds
 finds_page o moment (lookups.Meters after) some page finds = finds
 finds_page o moment (lookups.Shifts after) some page finds = finds
 finds_page o moment (lookups.Sales after) some page finds = finds
+finds_page o moment list some page finds = absurd (some tt)
 
 -- ---- the last member of a full page
 

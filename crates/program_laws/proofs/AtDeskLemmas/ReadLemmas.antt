@@ -1,29 +1,22 @@
 -- What a desk answers to what it is asked is read whole.
-use Rattle.std.proofs.Common.{◌≡◌, ◌∙◌, ℕ, ℤ, pos, ◌≤◌, false, List, length, Option, Some, Result, Ok, Err, inl, inr, refl, sym, ap, subst, arith}
-use Rattle.sts_fields.specs.Day.{day_at}
+use Rattle.std.proofs.Common.{◌≡◌, ◌∙◌, ℕ, ℤ, pos, ◌≤◌, false, List, length, Option, Some, Result, Ok, Err, sym, ap, subst, arith}
 use Rattle.sts_fields.specs.Moment.{IsMoment}
 use Rattle.papers.specs.declared.file_kind.FileKind.{FileKind}
 use Rattle.papers.specs.declared.row_fault.RowFault.{RowFault}
 use Rattle.papers.specs.declared.row_fault.RowFault.TheVariants as row_faults
-use Rattle.vend_core.specs.Law.Life.{IsLife, Life, present}
+use Rattle.vend_core.specs.Law.Life.{IsLife, Life}
 use Rattle.vend_core.specs.Law.Reached.{IsPlausible}
-use Rattle.office_rules.specs.Office.{IsOffice, Office}
+use Rattle.office_rules.specs.Office.{IsOffice}
 use Rattle.office_rules.specs.declared.decision.answer.Answer.{Answer}
 use Rattle.office_rules.specs.declared.decision.refusal.Refusal.{Refusal}
-use Rattle.office_rules.specs.declared.decision.refusal.Refusal.TheVariants as refusals
 use Rattle.office_rules.specs.declared.decision.request.Request.{Request}
 use Rattle.office_rules.specs.declared.decision.request.Request.TheVariants as requests
 use Rattle.office_rules.specs.declared.decision.row_cause.RowCause.{RowCause}
 use Rattle.office_rules.specs.declared.decision.row_cause.RowCause.TheVariants as causes
 use Rattle.office_rules.specs.declared.office.row.Row.{Row}
-use Rattle.book_facts.specs.Lookups.{Finds, last_sale}
 use Rattle.asks.specs.Ask.{IsAskable}
 use Rattle.asks.specs.declared.ask.Ask.{Ask}
 use Rattle.asks.specs.declared.ask.Ask.TheVariants.{Do, Import, Look, Receipt}
-use Rattle.asks.specs.declared.lookup.Lookup.{Lookup}
-use Rattle.asks.specs.declared.lookup.Lookup.TheVariants as lookups
-use Rattle.book_states.specs.declared.lookup.Found.{Found}
-use Rattle.books.specs.Looking.{IsFoundAt}
 use Rattle.conversation.specs.Exchanges.{Timed}
 use Rattle.desk.specs.Answering.{IsImported, IsServed, LifeReplies, life_serves}
 use Rattle.desk_messages.specs.declared.reply.outcome.Outcome.{Outcome}
@@ -35,10 +28,10 @@ use Rattle.desk_client.specs.Sent.{CanSend, ask_text, wanted_by}
 use Rattle.desk_client.specs.declared.told.Told.{Told}
 use Rattle.desk_client.proofs.TellsLemmas.{date_given, given_dated, says}
 use Rattle.program_laws.specs.AtDesk.{AsksNoHealth, IsAnsweredAt}
+use Rattle.program_laws.proofs.LookupLemmas.{look_answers}
 use Rattle.program_laws.proofs.AtDeskLemmas.OneLemmas.{DeskLaws, Reads, came_of, few_fields, few_rows, may_be, reply_length, served_at, what_came}
-use Rattle.program_laws.proofs.AtDeskLemmas.PaperLemmas.{last_to}
 use Rattle.program_laws.proofs.AtDeskLemmas.MeaningLemmas.{IsRead, is_read}
-use Rattle.program_laws.proofs.AtDeskLemmas.AnswerLemmas.{IsShown, answers_do, answers_import, answers_receipt, shows_last, shows_meter, shows_meters, shows_none, shows_quote, shows_sale, shows_sales, shows_shifts, shows_tariffs, shows_totals}
+use Rattle.program_laws.proofs.AtDeskLemmas.AnswerLemmas.{answers_do, answers_import, answers_receipt}
 use Rattle.program_laws.proofs.AtDeskLemmas.RuleLemmas.{MayReplyTo, present_is}
 use Rattle.program_laws.proofs.AtDeskLemmas.TellableLemmas.{told_of}
 use Rattle.program_laws.proofs.AtDeskLemmas.TokenLemmas.{HasToken, plausible_present, reply_tokens}
@@ -63,31 +56,6 @@ row_refused kind csv row causes.TooManyRows read = read.reading.here.0
 row_refused kind csv row causes.Differs read = absurd read.reading.here
 row_refused kind csv row causes.NoTariff read = absurd read.reading.here
 row_refused kind csv row causes.DayPast read = absurd read.reading.here
-
--- what an office finds answers the ask for it
-shows : (o : Office) → IsOffice o → IsPlausible o → (moment : ℕ) (lookup : Lookup) → AsksNoHealth (Look lookup) → (r : Result Found Refusal)
-    → Finds o moment lookup r → IsShown lookup r
-shows o office plausible moment lookups.Health none r finds = absurd none
-shows o office plausible moment (lookups.Meter number) none r finds = subst (IsShown (lookups.Meter number)) (sym finds) (shows_meter number _ _ _)
-shows o office plausible moment (lookups.LastSale number) none r finds =
-    subst (IsShown (lookups.LastSale number)) (sym finds) (shows_last o office plausible number (o.meters number) (last_sale o number) (last_to o number))
-shows o office plausible moment (lookups.SaleOfRef operator order_ref) none r finds =
-    subst (IsShown (lookups.SaleOfRef operator order_ref)) (sym finds) (shows_sale o plausible operator order_ref _ refl)
-shows o office plausible moment (lookups.Quote number tender) none r finds =
-    subst (IsShown (lookups.Quote number tender)) (sym finds) (shows_quote number tender moment _ _)
-shows o office plausible moment (lookups.ShiftTotals number) none r finds = subst (IsShown (lookups.ShiftTotals number)) (sym finds) (shows_totals number _)
-shows o office plausible moment (lookups.Tariffs after) none r finds = shows_tariffs o (day_at moment) after r finds
-shows o office plausible moment (lookups.Meters after) none r finds = shows_meters o after r finds
-shows o office plausible moment (lookups.Shifts after) none r finds = shows_shifts o after r finds
-shows o office plausible moment (lookups.Sales after) none r finds = shows_sales o after r finds
-
--- so does what is found in a life at a moment
-pub shown_at : (life : Life) → IsOffice (present life) → IsPlausible (present life) → (moment : ℕ) (lookup : Lookup) → AsksNoHealth (Look lookup)
-    → (r : Result Found Refusal) → IsFoundAt life moment lookup r → IsShown lookup r
-shown_at life office plausible moment lookup none r (inl finds) = shows (present life) office plausible moment lookup none r finds
-shown_at life office plausible moment lookup none r (inr (inl is)) = shows_none lookup refusals.Memory tt r is
-shown_at life office plausible moment lookup none r (inr (inr (inl is))) = shows_none lookup refusals.Store tt r is
-shown_at life office plausible moment lookup none r (inr (inr (inr is))) = shows_none lookup refusals.Stopped tt r is
 
 module _ (laws : DeskLaws) (moment : ℕ) (old new : Life) (opening : IsOffice old.opening) (plausible : IsPlausible old.opening) (life : IsLife new) where
   tokens : (request : Request) (r : Result Answer Refusal) → LifeReplies moment request r old new → All HasToken (sales_of r)
@@ -114,8 +82,8 @@ module _ (laws : DeskLaws) (moment : ℕ) (old new : Life) (opening : IsOffice o
       (may_be laws old new moment (requests.Reprint number) r life opening replies).1 (may (requests.Reprint number) r replies))
   came_answers (Look lookup) none askable outcome (r, same, (found, stays)) =
       let before : IsLife old = subst IsLife stays life in
-      subst (AnswersSo (Look lookup)) (sym same) (shown_at old (present_is laws.along old before opening)
-      (plausible_present laws.one_step laws.plausible old before opening plausible) moment lookup none r found)
+      subst (AnswersSo (Look lookup)) (sym same) (look_answers old moment lookup r found (present_is laws.along old before opening)
+      (plausible_present laws.one_step laws.plausible old before opening plausible))
 
 -- a reply that is not too long tells it
 pub whole_reply : (laws : DeskLaws) (ask : Ask) (now : Option ℤ) (outcome : Outcome) (came : List ℕ)
