@@ -1,10 +1,12 @@
--- Each look-up, once: that what an office finds of it answers it, can be told and is printed as it was found.
-use Rattle.std.proofs.Common.{◌≡◌, ℕ, zero, suc, ◌+◌, Bool, true, false, List, [], ◌∷◌, length, Option, None, Some, Result, Ok, Err, inl, inr, refl, sym, ap, subst, arith}
+-- Each look-up, once: that what an office finds of it answers it, can be told and is printed as it was found; and by which words it is asked for.
+use Rattle.std.proofs.Common.{◌≡◌, ◌⊎◌, ℕ, zero, suc, ◌+◌, Bool, true, false, List, [], ◌∷◌, length, Option, None, Some, Result, Ok, Err, inl, inr, refl, sym, ap, subst, arith, codes}
 use Rattle.std.specs.Prelude.{Contains, IfErr, IfSome, IsSome, if◌then◌else◌, nat_lt, option_map}
 use Rattle.std.specs.Option.{ok_or}
 use Rattle.std.proofs.lemmas.List.Elements.{All-contains, All-contains_itself, All-filter, All-take}
 use Rattle.std.proofs.lemmas.Slice.Eq.{bytes_eq-Decides}
+use Rattle.clap.specs.Walk.{Row}
 use Rattle.sts_fields.specs.Calendar.{month_at}
+use Rattle.sts_fields.specs.Text.{Text}
 use Rattle.sts_fields.specs.Tid.{fresh_after, minute_of}
 use Rattle.sts_fields.specs.declared.fault.TidFault.{TidFault}
 use Rattle.sts_fields.specs.declared.fault.TidFault.TheVariants as tids
@@ -25,6 +27,7 @@ use Rattle.asks.specs.Ask.{IsAskable}
 use Rattle.asks.specs.declared.ask.Ask.TheVariants.{Look}
 use Rattle.asks.specs.declared.lookup.Lookup.{Lookup}
 use Rattle.asks.specs.declared.lookup.Lookup.TheVariants as lookups
+use Rattle.asks.specs.declared.value.Value.TheVariants as values
 use Rattle.book_tables.specs.Stands.{all_totals}
 use Rattle.book_tables.specs.declared.row.totals.Totals.{Totals}
 use Rattle.book_states.specs.declared.lookup.Found.{Found}
@@ -39,11 +42,13 @@ use Rattle.desk_messages.specs.declared.reply.form.Form.{Form}
 use Rattle.desk_client.specs.Answers.{Answers, MayRefuse}
 use Rattle.desk_client.specs.Meter.{IsLastSaleNumber}
 use Rattle.desk_client.specs.Page.{page_as_read}
-use Rattle.desk_client.specs.Sent.{wanted_by}
+use Rattle.desk_client.specs.Sent.{CanSend, wanted_by}
 use Rattle.desk_client.specs.Tells.{as_told}
 use Rattle.desk_client.specs.Told.{IsTellable, IsTellableRefusal}
 use Rattle.desk_client.specs.declared.told.Granted.TheVariants as granted
 use Rattle.desk_client.specs.declared.told.Told.TheVariants as told
+use Rattle.command_line.specs.Commands.{SaysLookup}
+use Rattle.command_line.specs.Said.{parsed_argument}
 use Rattle.vend_ports.specs.declared.command_end.CommandEnd.{CommandEnd}
 use Rattle.vend_ports.specs.declared.command_end.CommandEnd.TheVariants.{Done, Refused}
 use Rattle.vend_ports.specs.print.Printed.{refusal_line}
@@ -54,6 +59,7 @@ use Rattle.office_commands.specs.commands.LookedUp.{TellsFound}
 use Rattle.office_commands.specs.print.Totalled.{TellsTotals}
 use Rattle.program_laws.specs.AtDesk.{AsksNoHealth, IsAskedByOne, totals_looked_up}
 use Rattle.program_laws.specs.SalesTold.{sales_found}
+use Rattle.program_laws.proofs.AtDeskLemmas.ArgumentLemmas.{is_of, says_item, says_meter, says_operator, says_ref, says_tender}
 use Rattle.program_laws.proofs.AtDeskLemmas.PaperLemmas.{last_to, receipt_told}
 use Rattle.program_laws.proofs.AtDeskLemmas.PrintedLemmas.{same_export}
 use Rattle.program_laws.proofs.AtDeskLemmas.RangeLemmas.{sale_numbered, tariff_named, totals_within}
@@ -369,3 +375,60 @@ module _ (life : Life) (moment : ℕ) (lookup : Lookup) (r : Result Found Refusa
           → PrintsLook json lookup r out end
       by_result (Ok it) met told = met.printed json out end one told
       by_result (Err why) met told = refusal_printed json lookup why out end told
+
+-- ---- by which words
+
+-- the words of `show`, of `offer` and of `report` for totals look something up
+abbrev pub IsLookupWord : Text → List Row → Type 0
+IsLookupWord name rows = (name ≡ codes "show") ⊎ ((name ≡ codes "offer")
+    ⊎ ((name ≡ codes "report") × (parsed_argument (codes "kind") rows ≡ Some (codes "totals"))))
+
+-- a command of this name may look this up, and it can be asked of a desk
+pub record IsSaid (name : Text) (rows : List Row) (lookup : Lookup) : Type 0 where
+  pub named : IsLookupWord name rows
+  pub can : CanSend (Look lookup)
+
+-- so it is where its words say it
+pub lookup_said : (name : Text) (rows : List Row) (lookup : Lookup) → SaysLookup name rows lookup → IsSaid name rows lookup
+lookup_said name rows (lookups.Meter meter) says = record {
+  named = inl says.0;
+  can = record {
+    askable = record { target = (is_of (values.Meter meter) (says_meter _ meter says.2), tt); body = (tt, tt) };
+    fits = tt;
+  };
+}
+lookup_said name rows (lookups.LastSale meter) says = record {
+  named = inl says.0;
+  can = record {
+    askable = record { target = (is_of (values.Meter meter) (says_meter _ meter says.3), tt); body = (tt, tt) };
+    fits = tt;
+  };
+}
+lookup_said name rows (lookups.SaleOfRef operator order_ref) says = record {
+  named = inl says.0;
+  can = record {
+    askable = record {
+      target = (is_of (values.Operator operator) (says_operator _ operator says.2), (is_of (values.Ref order_ref) (says_ref _ order_ref says.3), tt));
+      body = (tt, tt);
+    };
+    fits = tt;
+  };
+}
+lookup_said name rows (lookups.Quote meter tender) says = record {
+  named = inr (inl says.0);
+  can = record {
+    askable = record {
+      target = (is_of (values.Meter meter) (says_meter _ meter says.1), (is_of (values.Tender tender) (says_tender _ tender says.2), tt));
+      body = (tt, tt);
+    };
+    fits = tt;
+  };
+}
+lookup_said name rows (lookups.ShiftTotals number) says = record {
+  named = inr (inr (says.0, says.1));
+  can = record {
+    askable = record { target = (is_of (values.Number number) (says_item _ number says.2), tt); body = (tt, tt) };
+    fits = tt;
+  };
+}
+lookup_said name rows lookup says = absurd says

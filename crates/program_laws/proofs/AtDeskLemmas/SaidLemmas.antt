@@ -14,7 +14,7 @@ use Rattle.asks.specs.declared.lookup.Lookup.{Lookup}
 use Rattle.asks.specs.declared.lookup.Lookup.TheVariants as lookups
 use Rattle.asks.specs.declared.value.Value.TheVariants as values
 use Rattle.desk_client.specs.Sent.{CanSend}
-use Rattle.command_line.specs.Commands.{SaysAsk, SaysAskWords, SaysListed, SaysLookup, SaysOffice, SaysRequest}
+use Rattle.command_line.specs.Commands.{SaysAsk, SaysAskWords, SaysListed, SaysOffice, SaysRequest}
 use Rattle.command_line.specs.Said.{IsArgumentOr, IsOptionalArgument, parsed_argument}
 use Rattle.command_line.specs.Values.{SaysFlag, SaysMeterNo, SaysTariff, flag_text, no_flag}
 use Rattle.command_line.specs.declared.office_words.AskWords.{AskWords}
@@ -22,6 +22,7 @@ use Rattle.command_line.specs.declared.office_words.AskWords.TheVariants as word
 use Rattle.command_line.specs.declared.office_words.OfficeWords.{OfficeWords}
 use Rattle.desk_commands.specs.ListedAtDesk.{IsNoList}
 use Rattle.program_laws.specs.AtDesk.{AskForOne, AskForPages, IsAskedByOne}
+use Rattle.program_laws.proofs.LookupLemmas.{lookup_said}
 use Rattle.program_laws.proofs.AtDeskLemmas.ArgumentLemmas.{is_of, says_day, says_item, says_key, says_meter, says_operator, says_ref, says_start, says_tariff, says_tender}
 use Rattle.program_laws.proofs.AtDeskLemmas.PageLemmas.{CanAsk, can_list_meters, can_list_sales, can_list_shifts, can_list_tariffs}
 
@@ -92,35 +93,6 @@ request_can name rows (requests.ShiftReport number) says = record {
 }
 request_can name rows request says = absurd says
 
-lookup_can : (name : Text) (rows : List Row) (lookup : Lookup) → SaysLookup name rows lookup → CanSend (asks.Look lookup)
-lookup_can name rows (lookups.Meter meter) says = record {
-  askable = record { target = (is_of (values.Meter meter) (says_meter _ meter says.2), tt); body = (tt, tt) };
-  fits = tt;
-}
-lookup_can name rows (lookups.LastSale meter) says = record {
-  askable = record { target = (is_of (values.Meter meter) (says_meter _ meter says.3), tt); body = (tt, tt) };
-  fits = tt;
-}
-lookup_can name rows (lookups.SaleOfRef operator order_ref) says = record {
-  askable = record {
-    target = (is_of (values.Operator operator) (says_operator _ operator says.2), (is_of (values.Ref order_ref) (says_ref _ order_ref says.3), tt));
-    body = (tt, tt);
-  };
-  fits = tt;
-}
-lookup_can name rows (lookups.Quote meter tender) says = record {
-  askable = record {
-    target = (is_of (values.Meter meter) (says_meter _ meter says.1), (is_of (values.Tender tender) (says_tender _ tender says.2), tt));
-    body = (tt, tt);
-  };
-  fits = tt;
-}
-lookup_can name rows (lookups.ShiftTotals number) says = record {
-  askable = record { target = (is_of (values.Number number) (says_item _ number says.2), tt); body = (tt, tt) };
-  fits = tt;
-}
-lookup_can name rows lookup says = absurd says
-
 ask_can : (name : Text) (rows : List Row) (ask : Ask) → SaysAsk name rows ask → CanSend ask
 ask_can name rows (asks.Import kind csv) says = absurd says
 ask_can name rows (asks.Do request) says = request_can name rows request says
@@ -128,7 +100,7 @@ ask_can name rows (asks.Receipt number) says = record {
   askable = record { target = (is_of (values.Number number) (says_item _ number says.2), tt); body = (tt, tt) };
   fits = tt;
 }
-ask_can name rows (asks.Look lookup) says = lookup_can name rows lookup says
+ask_can name rows (asks.Look lookup) says = (lookup_said name rows lookup says).can
 
 -- a flag says one thing
 one_flag : (text : Text) (flag : Bool) → text ≡ flag_text false → text ≡ flag_text flag → flag ≡ false

@@ -1,11 +1,10 @@
 -- The same words of `sell` ask the same order.
-use Rattle.std.proofs.Common.{◌≡◌, ◌∙◌, true, List, codes, sym, ap, subst}
+use Rattle.std.proofs.Common.{◌≡◌, ◌∙◌, true, List, codes, inl, inr, sym, ap, subst}
 use Rattle.clap.specs.Walk.{Row}
 use Rattle.sts_fields.specs.Text.{Text}
 use Rattle.asks.specs.declared.ask.Ask.{Ask}
 use Rattle.asks.specs.declared.ask.Ask.TheVariants.{Do, Import, Look, Receipt}
 use Rattle.asks.specs.declared.lookup.Lookup.{Lookup}
-use Rattle.asks.specs.declared.lookup.Lookup.TheVariants as lookups
 use Rattle.office_rules.specs.declared.decision.request.Order.{Order}
 use Rattle.office_rules.specs.declared.decision.request.Request.{Request}
 use Rattle.office_rules.specs.declared.decision.request.Request.TheVariants as requests
@@ -20,6 +19,7 @@ use Rattle.command_line.specs.declared.office_words.AskWords.TheVariants as ask_
 use Rattle.command_line.specs.declared.place.Place.{Place}
 use Rattle.command_line.specs.declared.place.Place.TheVariants.{Desk, File}
 use Rattle.program_laws.specs.runs.Words.{AskWordsRequest, AsksFile, Requests, WordsRequest, selling}
+use Rattle.program_laws.proofs.LookupLemmas.{lookup_said}
 use Rattle.program_laws.proofs.WordLemmas.{IsNamed, one_argument, requested_again}
 
 -- some rows say one order
@@ -52,16 +52,11 @@ is_order rows order (requests.ShiftReport number) one says = absurd (subst IsSel
 
 -- nothing is looked up by them
 looks_nothing : (rows : List Row) (lookup : Lookup) → ¬ SaysLookup (codes "sell") rows lookup
-looks_nothing rows lookups.Health says = says
-looks_nothing rows (lookups.Meter meter) says = subst IsSell says.0 tt
-looks_nothing rows (lookups.LastSale meter) says = subst IsSell says.0 tt
-looks_nothing rows (lookups.SaleOfRef operator order_ref) says = subst IsSell says.0 tt
-looks_nothing rows (lookups.Quote meter tender) says = subst IsSell says.0 tt
-looks_nothing rows (lookups.ShiftTotals number) says = subst IsSell says.0 tt
-looks_nothing rows (lookups.Tariffs after) says = says
-looks_nothing rows (lookups.Meters after) says = says
-looks_nothing rows (lookups.Shifts after) says = says
-looks_nothing rows (lookups.Sales after) says = says
+looks_nothing rows lookup says = elim ((lookup_said (codes "sell") rows lookup says).named) [
+  | inl shows ↦ subst IsSell shows tt
+  | inr (inl offers) ↦ subst IsSell offers tt
+  | inr (inr totals) ↦ subst IsSell totals.0 tt
+]
 
 -- nothing but that order is asked by them
 sells : (rows : List Row) (order : Order) (other : AskWords) → SaysOrder rows order → SaysAskWords (codes "sell") rows other → other ≡ selling order

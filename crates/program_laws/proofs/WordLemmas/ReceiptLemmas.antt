@@ -1,5 +1,5 @@
 -- The same words of `report` ask for the same receipt.
-use Rattle.std.proofs.Common.{◌≡◌, ◌∙◌, ℕ, true, List, Option, Some, None, codes, eqb, sym, ap, subst}
+use Rattle.std.proofs.Common.{◌≡◌, ◌∙◌, ℕ, true, List, Option, Some, None, codes, eqb, inl, inr, sym, ap, subst}
 use Rattle.std.proofs.Math.Dec.{T}
 use Rattle.std.specs.Cmp.Lexicographic.{pointwise}
 use Rattle.clap.specs.Walk.{Row}
@@ -7,7 +7,6 @@ use Rattle.sts_fields.specs.Text.{Text}
 use Rattle.asks.specs.declared.ask.Ask.{Ask}
 use Rattle.asks.specs.declared.ask.Ask.TheVariants.{Do, Import, Look, Receipt}
 use Rattle.asks.specs.declared.lookup.Lookup.{Lookup}
-use Rattle.asks.specs.declared.lookup.Lookup.TheVariants as lookups
 use Rattle.office_rules.specs.declared.decision.request.Request.{Request}
 use Rattle.office_rules.specs.declared.decision.request.Request.TheVariants as requests
 use Rattle.command_line.specs.Asked.{AskFor}
@@ -19,6 +18,7 @@ use Rattle.command_line.specs.declared.asked.Asked.{Asked}
 use Rattle.command_line.specs.declared.office_words.AskWords.{AskWords}
 use Rattle.command_line.specs.declared.office_words.AskWords.TheVariants as ask_words
 use Rattle.program_laws.specs.runs.Words.{AskWordsRequest, Requests, WordsRequest}
+use Rattle.program_laws.proofs.LookupLemmas.{lookup_said}
 use Rattle.program_laws.proofs.WordLemmas.{IsNamed, one_argument, requested_again}
 
 -- the kind is a receipt's
@@ -53,16 +53,11 @@ module _ (rows : List Row) (kind : parsed_argument (codes "kind") rows ≡ Some 
 
   -- and look nothing up
   looks_nothing : (lookup : Lookup) → ¬ SaysLookup (codes "report") rows lookup
-  looks_nothing lookups.Health says = says
-  looks_nothing (lookups.Meter meter) says = subst IsReport says.0 tt
-  looks_nothing (lookups.LastSale meter) says = subst IsReport says.0 tt
-  looks_nothing (lookups.SaleOfRef operator order_ref) says = subst IsReport says.0 tt
-  looks_nothing (lookups.Quote meter tender) says = subst IsReport says.0 tt
-  looks_nothing (lookups.ShiftTotals number) says = subst IsReceiptKind (sym kind ∙ says.1) tt
-  looks_nothing (lookups.Tariffs after) says = says
-  looks_nothing (lookups.Meters after) says = says
-  looks_nothing (lookups.Shifts after) says = says
-  looks_nothing (lookups.Sales after) says = says
+  looks_nothing lookup says = elim ((lookup_said (codes "report") rows lookup says).named) [
+    | inl shows ↦ subst IsReport shows tt
+    | inr (inl offers) ↦ subst IsReport offers tt
+    | inr (inr totals) ↦ subst IsReceiptKind (sym kind ∙ totals.1) tt
+  ]
 
   -- nothing but that receipt is asked by them
   reprints : (n : ℕ) (other : AskWords) → IsArgument SaysItem (parsed_argument (codes "number") rows) n → SaysAskWords (codes "report") rows other
