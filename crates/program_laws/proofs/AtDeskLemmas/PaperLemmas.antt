@@ -1,6 +1,6 @@
 -- The reports and the last receipts of an office are texts that a desk writes.
-use Rattle.std.proofs.Common.{◌≡◌, ◌∙◌, ℕ, zero, suc, ◌+◌, ◌<◌, Bool, true, List, [], ◌∷◌, length, get_or, Option, Some, None, refl, sym, arith}
-use Rattle.std.specs.Prelude.{◌==◌, All, AllPairs, Contains, IfSome, filter}
+use Rattle.std.proofs.Common.{◌≡◌, ℕ, zero, suc, ◌<◌, List, [], ◌∷◌, get_or, Option, Some, None, refl, arith}
+use Rattle.std.specs.Prelude.{◌==◌, All, AllPairs, Contains, IfSome}
 use Rattle.std.proofs.lemmas.Option.{slice_get-get_or}
 use Rattle.std.proofs.lemmas.List.Elements.{All-contains_itself, All-filter, All-head, All-tail, All-weaker}
 use Rattle.std.proofs.lemmas.List.Kept.{AllPairs-filter}
@@ -10,7 +10,7 @@ use Rattle.sts_fields.specs.declared.base.Base.{Base}
 use Rattle.sts_fields.specs.declared.base.Base.TheVariants.{Y1993, Y2014, Y2035}
 use Rattle.sts_token.specs.Reading.{IsOfClassZero}
 use Rattle.papers.specs.Receipt.{receipt_of}
-use Rattle.office_rules.specs.Office.{AreNumbered, IsOffice, IsShiftRow, Office}
+use Rattle.office_rules.specs.Office.{AreNumbered, IsOffice, Office}
 use Rattle.office_rules.specs.Office.Lookup.{sales_of_shift}
 use Rattle.office_rules.specs.declared.office.sale.Sale.{Sale}
 use Rattle.office_rules.specs.declared.office.shift.Shift.{Shift}

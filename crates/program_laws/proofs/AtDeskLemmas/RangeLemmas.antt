@@ -1,6 +1,6 @@
 -- The values that an office tells keep the rules of what is told.
 use Rattle.std.proofs.Common.{◌≡◌, ℕ, ◌^◌, ◌≤◌, Bool, not, List, length, Option, None, Some, refl, arith}
-use Rattle.std.specs.Prelude.{◌==◌, All, Contains, IfSome, IsSome, filter, find, sum_by}
+use Rattle.std.specs.Prelude.{◌==◌, All, Contains, IfSome, IsSome, filter, find}
 use Rattle.std.specs.Option.{option_or}
 use Rattle.std.proofs.lemmas.List.Elements.{All-contains, All-filter, All-weaker}
 use Rattle.std.proofs.lemmas.List.Filters.{length-filter_both}

@@ -1,6 +1,6 @@
 -- The digits of the sales that an office tells can be a token's, where those of its first sales can.
-use Rattle.std.proofs.Common.{◌≡◌, ◌∙◌, ℕ, true, List, [], ◌∷◌, Option, None, Some, Result, Ok, Err, inl, inr, refl, sym, ap, subst}
-use Rattle.std.specs.Prelude.{All, Contains, IfSome}
+use Rattle.std.proofs.Common.{◌≡◌, ◌∙◌, ℕ, true, List, [], ◌∷◌, Some, Result, Ok, Err, refl, sym, ap, subst}
+use Rattle.std.specs.Prelude.{All, Contains}
 use Rattle.std.proofs.lemmas.Option.{slice_get-get_or}
 use Rattle.std.proofs.lemmas.List.Elements.{All-contains, All-filter, All-head, All-map, All-nil, All-tail, All-weaker, Contains-push}
 use Rattle.sts_token.specs.Reading.{IsOfClassZero}
@@ -16,7 +16,7 @@ use Rattle.office_rules.specs.declared.decision.request.Stamped.{Stamped}
 use Rattle.office_rules.specs.declared.office.sale.Sale.{Sale}
 use Rattle.vend_core.specs.Law.Life.{Exchange, IsLife, Life, acknowledged, acknowledges, present}
 use Rattle.vend_core.specs.Law.LifeLaws.{extended_by}
-use Rattle.vend_core.specs.Law.Reached.{IsGrantedAfter, IsPlausible}
+use Rattle.vend_core.specs.Law.Reached.{IsPlausible}
 use Rattle.desk.specs.Answering.{LifeReplies}
 use Rattle.program_laws.proofs.AtDeskLemmas.RuleLemmas.{by_rules, front_keeps, present_before}
 

@@ -2,7 +2,6 @@
 use Rattle.std.proofs.Common.{◌≡◌, ◌∙◌, true, List, codes, inl, inr, sym, ap, subst}
 use Rattle.clap.specs.Walk.{Row}
 use Rattle.sts_fields.specs.Text.{Text}
-use Rattle.asks.specs.declared.ask.Ask.{Ask}
 use Rattle.asks.specs.declared.ask.Ask.TheVariants.{Do, Import, Look, Receipt}
 use Rattle.asks.specs.declared.lookup.Lookup.{Lookup}
 use Rattle.office_rules.specs.declared.decision.request.Order.{Order}

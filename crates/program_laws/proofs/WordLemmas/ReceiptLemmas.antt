@@ -4,7 +4,6 @@ use Rattle.std.proofs.Math.Dec.{T}
 use Rattle.std.specs.Cmp.Lexicographic.{pointwise}
 use Rattle.clap.specs.Walk.{Row}
 use Rattle.sts_fields.specs.Text.{Text}
-use Rattle.asks.specs.declared.ask.Ask.{Ask}
 use Rattle.asks.specs.declared.ask.Ask.TheVariants.{Do, Import, Look, Receipt}
 use Rattle.asks.specs.declared.lookup.Lookup.{Lookup}
 use Rattle.office_rules.specs.declared.decision.request.Request.{Request}
