@@ -1,6 +1,6 @@
 -- The values that an office tells keep the rules of what is told.
 use Rattle.std.proofs.Common.{◌≡◌, ℕ, ◌^◌, ◌≤◌, Bool, not, List, length, Option, None, Some, refl, arith}
-use Rattle.std.specs.Prelude.{◌==◌, All, Contains, IfSome, IsSome, filter, find}
+use Rattle.std.specs.Prelude.{◌==◌, All, Contains, IfSome, IsSome, filter}
 use Rattle.std.specs.Option.{option_or}
 use Rattle.std.proofs.lemmas.List.Elements.{All-contains, All-filter, All-weaker}
 use Rattle.std.proofs.lemmas.List.Filters.{length-filter_both}
@@ -98,11 +98,3 @@ totals_within greatest o number office =
 pub or_keeps : {A : Type 0} (P : A → Type 0) (a b : Option A) → IfSome a P → IfSome b P → IfSome (option_or a b) P
 or_keeps P None b h k = k
 or_keeps P (Some x) b h k = h
-
--- what is found by a test stands in the list
-pub found_stands : {A : Type 0} (p : A → Bool) (xs : List A) → IfSome (find p xs) (Contains xs)
-found_stands {A} p xs = by_found (find p xs) refl
-  where
-    by_found : (r : Option A) → find p xs ≡ r → IfSome r (Contains xs)
-    by_found None e = tt
-    by_found (Some x) e = (found p xs x e).0
