@@ -8,7 +8,6 @@ use Rattle.clap.specs.Walk.{Row}
 use Rattle.sqlite.specs.Files.{over_files}
 use Rattle.sqlite_disk.specs.declared.Disk as disk
 use Rattle.sqlite_disk.specs.declared.Files.{Files}
-use Rattle.sqlite_trees.specs.declared.store.Store.{Ghosts}
 use Rattle.sqlite_wal.specs.Recovery.{Image}
 use Rattle.sts_fields.specs.Text.{Text}
 use Rattle.sts_token.specs.Token.{BlockFunction}
@@ -28,7 +27,6 @@ use Rattle.command_line.specs.declared.office_words.AskWords.TheVariants as offi
 use Rattle.asks.specs.declared.ask.Ask.{Ask}
 use Rattle.asks.specs.declared.ask.Ask.TheVariants as asked_of
 use Rattle.asks.specs.declared.lookup.Lookup.{Lookup}
-use Rattle.asks.specs.declared.lookup.Lookup.TheVariants as lookups
 use Rattle.conversation.specs.Exchanges.{Timed}
 use Rattle.conversation.specs.Run.{IsAll, IsRun}
 use Rattle.conversation.specs.declared.end.End.{End}
@@ -56,6 +54,7 @@ use Rattle.vend_ports.specs.print.Sink.{Sink}
 use Rattle.vend_ports.specs.print.Told.{Outputs}
 use Rattle.vend_ports.specs.declared.command_end.CommandEnd.{CommandEnd}
 use Rattle.vend_ports.specs.declared.command_end.CommandEnd.TheVariants.{Done, Refused}
+use Rattle.program_laws.proofs.LookupLemmas.{lookup_said}
 use Rattle.law_witnesses.specs.Asking.{AreOneOrder, WordsServe}
 use Rattle.law_witnesses.specs.Runs.{IsRunOf}
 
@@ -81,12 +80,11 @@ no_request rows (requests.ShiftReport number) says = subst IsServe says.0 tt
 no_request rows request says = says
 
 no_lookup : (rows : List Row) (l : Lookup) → ¬ SaysLookup (codes "serve") rows l
-no_lookup rows (lookups.Meter meter) says = subst IsServe says.0 tt
-no_lookup rows (lookups.LastSale meter) says = subst IsServe says.0 tt
-no_lookup rows (lookups.SaleOfRef operator order_ref) says = subst IsServe says.0 tt
-no_lookup rows (lookups.Quote meter tender) says = subst IsServe says.0 tt
-no_lookup rows (lookups.ShiftTotals number) says = subst IsServe says.0 tt
-no_lookup rows lookup says = says
+no_lookup rows lookup says = elim ((lookup_said (codes "serve") rows lookup says).named) [
+  | inl shows ↦ subst IsServe shows tt
+  | inr (inl offers) ↦ subst IsServe offers tt
+  | inr (inr totals) ↦ subst IsServe totals.0 tt
+]
 
 no_ask : (rows : List Row) (ask : Ask) → ¬ SaysAsk (codes "serve") rows ask
 no_ask rows (asked_of.Import kind csv) says = says

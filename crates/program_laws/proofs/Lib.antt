@@ -6,7 +6,7 @@ mod DeskLemmas
 mod FoundLemmas
 mod KeyedLemmas
 mod LeadLemmas
-mod LookupLemmas
+pub mod LookupLemmas
 mod OfferLemmas
 mod OrderLemmas
 mod PromiseLemmas
