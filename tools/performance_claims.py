@@ -24,6 +24,11 @@ def number(cell):
     return float(re.sub(r"[*,]", "", cell).split()[0].strip("()"))
 
 
+def brackets(cell):
+    """The middle half of the ratios that a cell has behind their median."""
+    return [float(end) for end in cell.partition("(")[2].rstrip(")").split(" to ")]
+
+
 def claims():
     """Each claim: a page, a pattern, and its numbers."""
     all_tables = tables()
@@ -57,11 +62,15 @@ def claims():
         [min(sold), max(sold), min(beside_c), max(beside_c)]
     yield page, r"at the desk takes (\d+),000 instructions\. This repository's functions take (\d+),000 of them", \
         [count / 1000 for count in instructions]
-    for takes, written in (("0 ms", "no time, in memory"), ("3 ms", "3 ms"), ("10 ms", "10 ms")):
+    for takes, written in (("0 ms", "nothing, in memory"), ("1 ms", "1 ms"), ("3 ms", "3 ms"), ("10 ms", "10 ms")):
         yield page, rf"\|{written}\|(\d+)\|(\d+)\|(\d+)\|", \
             [number(slow[takes][side]) for side in ("vend", "C", "Python")]
     yield page, r"a sale at the desk was (\S+) times as fast as in Python, and (\S+) times as fast as in C", \
         [number(slow["0 ms"][f"vend to {peer}"]) for peer in ("Python", "C")]
+    yield page, r"The rates above give (\S+) and (\d\.\d+)\. The ratios", \
+        [number(slow["0 ms"]["vend"]) / number(slow["0 ms"][peer]) for peer in ("Python", "C")]
+    yield page, r"lay between (\S+) and (\S+) \(Python\), and between (\S+) and (\S+) \(C\)", \
+        [end for peer in ("Python", "C") for end in brackets(slow["0 ms"][f"vend to {peer}"])]
     opened = [number(row["format 4, ms"]) * 1000 / number(row["Sales in the file"]) for row in all_tables[older]]
     yield page, r"foreign key, in (\d+) to (\d+) µs a sale", [min(opened[1:]), max(opened[1:])]
     waits = all_tables["How long a reply takes, in ms: median, 99 of 100, slowest"]
@@ -112,7 +121,7 @@ def claims():
     yield growing, r"\| 1,000,000 \| (\d+) days \| (\d+) years \|", [7, 1000 / WEEKS]
     yield growing, r"\| 10,000,000, (\d+) sales a second \| (\d+) hours \| (\d+) months \|", \
         [1e7 / 604800, 1e6 / (1e7 / 604800) / 3600, 100 / WEEKS * 12]
-    yield "README.md", r"on a disk that syncs in 3 ms \| (\d+) a second \| (\d+) in Python, (\d+) in C", \
+    yield "README.md", r"each sync delayed by 3 ms \| (\d+) a second \| (\d+) in Python, (\d+) in C", \
         [number(slow["3 ms"][side]) for side in ("vend", "Python", "C")]
     yield "CHANGELOG.md", r"takes (\S+) to (\S+) times as long as a later one", \
         [min(migrations), max(migrations)]
@@ -120,7 +129,7 @@ def claims():
 
 # Numbers of PERFORMANCE.md that say what was measured, and are no result.
 OF_WHAT = re.compile(r"\b(100|1,000|10,000|100,000) (sales|meters)|100 to 100,000 sales|20,000 messages|99 of 100"
-                     r"|above 1 |^  \|(3|10) ms\|", re.MULTILINE)
+                     r"|above 1 |^  \|(1|3|10) ms\|", re.MULTILINE)
 
 
 def wrong_claims(texts):
