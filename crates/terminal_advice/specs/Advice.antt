@@ -40,6 +40,7 @@ use Rattle.terminal_advice.specs.declared.advice.Advice.TheVariants.{ShutByOther
 use Rattle.terminal_advice.specs.declared.advice.Advice.TheVariants.{ShutVirtual, ShutIndex}
 use Rattle.terminal_advice.specs.declared.advice.Advice.TheVariants.{ShutFull, StoreFull}
 use Rattle.terminal_advice.specs.declared.advice.Advice.TheVariants.{ShutBarred, ShutNoFolder}
+use Rattle.terminal_advice.specs.declared.advice.Advice.TheVariants.{ShutSpecial}
 use Rattle.terminal_advice.specs.declared.advice.Advice.TheVariants.{ShutFolder, ShutNoDatabase}
 use Rattle.terminal_advice.specs.declared.advice.Advice.TheVariants.{ShutLinked, ShutJournal}
 use Rattle.terminal_advice.specs.declared.advice.Advice.TheVariants.{ShutVacuum, ColumnMeter}
@@ -207,6 +208,8 @@ reason_of ShutBarred =
     codes "You have no right to read and write the file and its folder."
 reason_of ShutNoFolder =
     codes "The folder of the file does not exist, or you have no right to write there."
+reason_of ShutSpecial =
+    codes "SQLite reads :memory:, and names that begin with file:, in its own way."
 reason_of ShutFolder =
     codes "It is a folder."
 reason_of ShutNoDatabase =
@@ -402,6 +405,8 @@ remedy_of ShutBarred =
     codes "Use a user who has both."
 remedy_of ShutNoFolder =
     codes "Correct the name, or make the folder, or use a user who has the right."
+remedy_of ShutSpecial =
+    codes "Put ./ in front."
 remedy_of ShutFolder =
     codes "Name a file."
 remedy_of ShutNoDatabase =
@@ -482,6 +487,7 @@ general_of ShutByVend = OpenStore
 general_of ShutByOther = OpenStore
 general_of ShutBarred = OpenStore
 general_of ShutNoFolder = OpenStore
+general_of ShutSpecial = OpenStore
 general_of ShutFolder = OpenStore
 general_of ShutNoDatabase = OpenStore
 general_of ShutLinked = OpenStore

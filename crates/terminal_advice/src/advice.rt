@@ -83,6 +83,7 @@ pub enum Advice {
     ShutByOther,
     ShutBarred,
     ShutNoFolder,
+    ShutSpecial,
     ShutFolder,
     ShutNoDatabase,
     ShutLinked,
@@ -213,6 +214,8 @@ impl Advice {
             Advice::ShutBarred => "You have no right to read and write the file and its folder.",
             Advice::ShutNoFolder =>
                 "The folder of the file does not exist, or you have no right to write there.",
+            Advice::ShutSpecial =>
+                "SQLite reads :memory:, and names that begin with file:, in its own way.",
             Advice::ShutFolder => "It is a folder.",
             Advice::ShutNoDatabase => "The file is no database.",
             Advice::ShutLinked => "The file has a second hard link.",
@@ -338,6 +341,7 @@ impl Advice {
             Advice::ShutBarred => "Use a user who has both.",
             Advice::ShutNoFolder =>
                 "Correct the name, or make the folder, or use a user who has the right.",
+            Advice::ShutSpecial => "Put ./ in front.",
             Advice::ShutFolder => "Name a file.",
             Advice::ShutNoDatabase => "Correct its name.",
             Advice::ShutLinked => "Remove the link.",
@@ -404,6 +408,7 @@ impl Advice {
             Advice::ShutInUse
             | Advice::ShutBarred
             | Advice::ShutNoFolder
+            | Advice::ShutSpecial
             | Advice::ShutFolder
             | Advice::ShutNoDatabase
             | Advice::ShutLinked

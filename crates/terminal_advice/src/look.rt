@@ -124,6 +124,9 @@ impl Look for Here<'_> {
 
     fn office(&self, path: &str) -> Option<Advice> {
         let rt = self.rt;
+        if path == ":memory:" || path.starts_with("file:") {
+            return Some(Advice::ShutSpecial);
+        }
         let found = match fs::metadata(rt, path) {
             Ok(found) => found,
             Err(error) => return office_fault(error.kind()),
