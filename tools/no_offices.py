@@ -151,14 +151,16 @@ LOG_HEAD = 41  # bytes of a log without a commit, as the toolchain begins one
 
 def is_left(before, after):
     """Whether each file is as it was. Into a log that was there the toolchain's opening puts what SQLite does
-    not read: the head of a log into an empty one, and up to nine zeros behind the end of another."""
+    not read: the head of a log into an empty one, and behind the end of another up to eight zeros and a byte, which
+    is 0 or, once in some thousand logs, 1."""
     if sorted(before) != sorted(after):
         return False
     for name, (text, mode, written) in before.items():
         now, rights, when = after[name]
         is_log = name.endswith("-wal")
         more = now[len(text):]
-        if is_log and (now[:len(text)] != text or len(more) > (9 if text else LOG_HEAD) or text and any(more)):
+        if is_log and (now[:len(text)] != text or len(more) > (9 if text else LOG_HEAD)
+                       or text and (any(more[:8]) or any(byte > 1 for byte in more))):
             return False
         if rights != mode or not is_log and (now, when) != (text, written):
             return False

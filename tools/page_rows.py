@@ -173,8 +173,8 @@ def check_printed(name, prints, ran):
 def check_strangers(offices):
     """Which commands leave a stranger's database as it is: those of which docs/USING.md says so, and `audit`."""
     page = (TOP / "docs" / "USING.md").read_text(encoding="utf-8")
-    said = re.search(r"((?:`\w+`(?:, | and ))+`\w+`) never do", page)
-    keep = {*quoted(said[1])} if said else {"audit"}
+    said = re.search(r"((?:`\w+`(?:, | and ))+`\w+`) never create a file or add tables", page)
+    keep = {*quoted(said[1])}
     stranger = offices.new()
     change(stranger, "CREATE TABLE notes (text TEXT); INSERT INTO notes VALUES ('kept');")
     names = [name for name, said in helps_of(VEND)[1].items() if "--file" in options_of(said) and name in WORDS]
@@ -199,7 +199,7 @@ def check_strangers(offices):
 def check_faulty_imports(offices, stranger):
     """An import whose CSV file is at fault makes no file and adds no tables; one that the office refuses does both."""
     page = (TOP / "docs" / "USING.md").read_text(encoding="utf-8")
-    said = quoted(re.search(r"They do neither after (.*)\.$", page, re.MULTILINE)[1])
+    said = quoted(re.search(r"They leave the file alone after (.*)\.$", page, re.MULTILINE)[1])
     head = "meter,base,tariff,key\n"
     rows = {
         "Header": "meter\n", "Columns": f"{head}1\n", "Field k": f"{head}1,2014,flat,{KEY}\n",
@@ -241,7 +241,7 @@ def check_statuses(offices):
             [["report", "--file", file, "--kind", "receipt", "--number", "7"], ["audit", "--file", "none.db"]], None),
         "`audit` found no office, or a row that breaks a rule; or standard output failed": (
             [["audit", "--file", broken]], b""),
-        "an argument is missing or unknown, but not as in the next two rows": (
+        "an argument is missing or unknown (the next two rows have the exceptions)": (
             [["sell"], ["audit", "--file", file, "--more"]], None),
         "a command that takes `--file` or `--desk` ('yes' in [the table](#what-each-command-prints)) has neither, or both, "
         "or `--desk` with an option that only a file has": (
