@@ -203,7 +203,7 @@ pub(crate) fn read_tariff(matches: &ArgMatches) -> Option<TariffName>
 pub(crate) const FROM: Argument = Argument {
     name: "from",
     kind: ArgumentKind::Needed("DAY"),
-    help: "The day from which the steps hold, as YYYY-MM-DD (UTC)",
+    help: "The day from which the steps hold, as YYYY-MM-DD, 1993-01-01 to 2099-12-31 (UTC)",
 };
 
 pub(crate) fn read_from(matches: &ArgMatches) -> Option<Day>

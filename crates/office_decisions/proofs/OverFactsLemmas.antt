@@ -7,15 +7,13 @@ use Rattle.std.proofs.lemmas.Option.{slice_get-get_or}
 use Rattle.sts_fields.specs.Day.{day_at}
 use Rattle.sts_token.specs.Token.{BlockFunction}
 use Rattle.tariff.specs.declared.step.Step.{Step}
-use Rattle.office_rules.specs.Decision.{◌>>=◌, MeterAccount, account_of, add_meter, add_rows, add_steps, add_tariff, at_row, changed, close_shift, decision_of, move_base, new_rows, open_a_shift, report, reprint, row_decision, sell, sell_once, set_key, set_tariff, withdraw_steps, keyed_unless}
+use Rattle.office_rules.specs.Decision.{◌>>=◌, MeterAccount, account_of, add_meter, add_rows, add_steps, add_tariff, at_row, close_shift, decision_of, move_base, new_rows, open_a_shift, report, reprint, row_decision, sell, sell_once, set_key, set_tariff, withdraw_steps, keyed_unless}
 use Rattle.office_rules.specs.Decision.Edits.{with_row, with_rows}
 use Rattle.office_rules.specs.Decision.Facts.{AreFactsOf, AreNewSaleFacts, AreRowsFacts, has_other_key, meter_found, report_found, row_facts}
 use Rattle.office_rules.specs.Law.Growth.{HaveStayed}
 use Rattle.office_rules.specs.Office.{Office}
 use Rattle.office_rules.specs.Office.Lookup.{has_sales, open_shift, sale_of_ref, sales_of_shift, shift_numbered, sold_since}
-use Rattle.office_rules.specs.declared.decision.answer.Answer.TheVariants as answers
 use Rattle.office_rules.specs.declared.decision.change.Change.{Change}
-use Rattle.office_rules.specs.declared.decision.change.Edit.TheVariants as edits
 use Rattle.office_rules.specs.declared.decision.facts.Facts.{Facts}
 use Rattle.office_rules.specs.declared.decision.refusal.Refusal.{Refusal}
 use Rattle.office_rules.specs.declared.decision.refusal.Refusal.TheVariants as refusals
@@ -216,8 +214,7 @@ by_other_key : (number : List ℕ) (key : ℕ) (same sold told : Bool) → ((if 
     → keyed_unless number key same sold
     ≡ (keyed_unless number key same told)
 by_other_key number key true sold told sales = refl
-by_other_key number key false sold told sales =
-    ap (λ (b : Bool). if b then Err refusals.HasSales else changed (edits.SetKey number key) answers.Done) (sym (sales refl))
+by_other_key number key false sold told sales = ap (keyed_unless number key false) (sym (sales refl))
 
 key_decided : (number : List ℕ) (key : ℕ) (there known : Option Meter) (sold told : Bool) → known ≡ there
     → (has_other_key key known ≡ true → told ≡ sold) → set_key number key there sold ≡ set_key number key known told
