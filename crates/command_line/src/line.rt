@@ -16,7 +16,7 @@ const ABOUT: &str = "Sells credit tokens for prepayment electricity meters (simu
 
 // What `--version` prints after the program's name: its version (`CHANGELOG.md`), and the format of
 // the files that it writes (`docs/OFFICE.md`, "Tables").
-const VERSION: &str = "0.2.0 (file format 4)";
+const VERSION: &str = "0.3.0 (file format 4)";
 
 const STATUSES: &str = "Exit status: 0 done; 1 refused or failed (standard error says why); \
     2 invalid arguments.\n'vend COMMAND --help' lists the options of a command.";
