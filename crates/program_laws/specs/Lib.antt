@@ -1,5 +1,6 @@
 pub mod AtDesk
 pub mod Courses
+pub mod DeskLaw
 pub mod SalesTold
 pub mod Selling
 pub mod Sound

@@ -1,6 +1,6 @@
-ghost use Rattle.std.specs.Prelude.{◌≡◌, ◌≤◌, ◌⊎◌, ◌<◌, ◌^◌, ℕ, List, [], Option, Some};
-ghost use Rattle.std.specs.Prelude.{None, Ok, Contains, false, true, filter, map, nat_lt};
-ghost use Rattle.std.specs.Prelude.{unwrap_or, Result, IfErr, IfSome, All, ℤ, pos, Bool, length};
+ghost use Rattle.std.specs.Prelude.{◌≡◌, ℕ, List, [], Option, Some, None, Ok, Contains, false};
+ghost use Rattle.std.specs.Prelude.{true, filter, map, nat_lt, unwrap_or, Result, IfErr, IfSome};
+ghost use Rattle.std.specs.Prelude.{All, Bool};
 ghost use Rattle.sqlite.specs.Files.{file_state};
 ghost use Rattle.sqlite.specs.State.{HasCleanDisk};
 ghost use Rattle.sqlite_wal.specs.Recovery.{Image};
@@ -11,7 +11,7 @@ ghost use Rattle.sts_fields.specs.Day.{day_at};
 ghost use Rattle.sts_fields.specs.Text.{Text};
 ghost use Rattle.sts_token.specs.Token.{BlockFunction};
 ghost use Rattle.book_tables.specs.row.Rows.{present_format};
-ghost use Rattle.book_facts.specs.Lookups.{listed_shift, IsOfRules};
+ghost use Rattle.book_facts.specs.Lookups.{listed_shift};
 ghost use Rattle.book_states.specs.declared.lookup.Found.{Found as WhatIsFound};
 ghost use Rattle.book_states.specs.declared.lookup.Found.TheVariants.{Quote as Quoted};
 ghost use Rattle.book_states.specs.declared.lookup.ListedMeter.{ListedMeter};
@@ -35,11 +35,10 @@ ghost use Rattle.office_commands.specs.office.Audits.{AuditsIn};
 ghost use Rattle.office_commands.specs.office.Closed.{IsClosed};
 ghost use Rattle.vend_commands.specs.serving.Connections.{AreHeld, Service, service};
 ghost use Rattle.program_laws.specs.Courses.{Course, KeepsLast, LiveOn};
-ghost use Rattle.vend_core.specs.Law.Life.{AreLives, HandsOut, Life, IsLife, acknowledges};
+ghost use Rattle.vend_core.specs.Law.Life.{AreLives, Life};
 ghost use Rattle.office_rules.specs.Office.{IsOffice, Office};
 ghost use Rattle.office_rules.specs.declared.decision.answer.Answer.TheVariants.{Sold};
 ghost use Rattle.office_rules.specs.declared.decision.request.Order.{Order};
-ghost use Rattle.office_rules.specs.declared.decision.request.Request.TheVariants.{Sell};
 ghost use Rattle.office_rules.specs.declared.office.sale.Sale.{Sale};
 ghost use Rattle.office_commands.specs.port.Back.{is_untouched, lets_go_giving};
 ghost use Rattle.office_commands.specs.port.Places.{places_of};
@@ -54,48 +53,16 @@ ghost use Rattle.desk_commands.specs.print.Pages.{ArePages};
 ghost use Rattle.desk_commands.specs.print.ListTexts.{pages_text, shift_rows_text};
 ghost use Rattle.program_laws.specs.WholeLists.{AreAllMeters, AreAllTariffs, whole_meters_text};
 ghost use Rattle.program_laws.specs.WholeLists.{whole_tariffs_text};
-ghost use Rattle.vend_ports.specs.print.Told.{Outputs, IsTold};
+ghost use Rattle.program_laws.specs.DeskLaw.{AreAnswered, AreAskable, AreHandedOut, ArePrinted};
+ghost use Rattle.program_laws.specs.DeskLaw.{AreRead, AreSame};
+ghost use Rattle.vend_ports.specs.print.Told.{Outputs};
 ghost use Rattle.office_commands.specs.office.Visited.{seen_in};
 ghost use Rattle.vend_ports.specs.declared.command_end.CommandEnd.{CommandEnd};
-ghost use Rattle.vend_ports.specs.declared.command_end.CommandEnd.TheVariants.{Done, Refused};
-ghost use Rattle.books.specs.Looking.{IsFoundAt};
-ghost use Rattle.asks.specs.declared.ask.Ask.{Ask};
+ghost use Rattle.vend_ports.specs.declared.command_end.CommandEnd.TheVariants.{Done};
 ghost use Rattle.asks.specs.declared.lookup.Lookup.{Lookup};
-ghost use Rattle.book_states.specs.declared.lookup.Health.{Health};
-ghost use Rattle.office_rules.specs.declared.decision.answer.Answer.{Answer};
-ghost use Rattle.office_rules.specs.declared.decision.refusal.Refusal.{Refusal};
-ghost use Rattle.office_rules.specs.declared.decision.request.Request.{Request};
-ghost use Rattle.sts_fields.specs.Moment.{IsMoment};
-ghost use Rattle.conversation.specs.Conversation.{Conversation};
-ghost use Rattle.conversation.specs.Exchanges.{Timed, timed};
-ghost use Rattle.conversation.specs.message.Messages.{Ending, ended};
-ghost use Rattle.desk.specs.Answering.{LifeReplies, answers_by, life_serves, message_refusal_of};
-ghost use Rattle.vend_core.specs.Law.LifeLaws.{IsReadingRequest};
-ghost use Rattle.vend_core.specs.Law.Reached.{IsPlausible};
-ghost use Rattle.desk_client.specs.Answers.{IsReplyTo};
-ghost use Rattle.desk_client.specs.Sent.{CanSend, IsNoMoment, ask_text, wanted_by};
-ghost use Rattle.desk_client.specs.Reply.{IsReply, longest_reply_body};
-ghost use Rattle.desk_client.specs.Tells.{as_told};
-ghost use Rattle.desk_client.specs.declared.told.Granted.TheVariants.{Paper as TellsPaper};
-ghost use Rattle.desk_client.specs.declared.told.Granted.TheVariants.{Sale as TellsSale};
-ghost use Rattle.desk_client.specs.declared.told.Told.{Told};
-ghost use Rattle.desk_client.specs.declared.told.Told.TheVariants.{Granted as Grants};
-ghost use Rattle.program_laws.specs.AtDesk.{AreAnsweredOn, AskForOne, AskForPages, AsksNoHealth};
-ghost use Rattle.program_laws.specs.AtDesk.{IsAnsweredAt, IsAskedByOne, IsGivenOn};
-ghost use Rattle.program_laws.specs.AtDesk.{IsOneLookup, IsPageOrRefusal, IsSoldIn};
-ghost use Rattle.program_laws.specs.AtDesk.{PrintsAsOnFile};
-ghost use Rattle.program_laws.specs.AtDesk.{PrintsList, came_in, sent_in};
-ghost use Rattle.std.specs.Borrow.{Bor};
-ghost use Rattle.clap.specs.Walk.{Row};
-ghost use Rattle.command_line.specs.Commands.{SaysOffice};
-ghost use Rattle.command_line.specs.declared.office_words.OfficeWords.{OfficeWords};
-ghost use Rattle.desk_commands.specs.AskedOfDesk.{TellsTold};
-ghost use Rattle.desk_commands.specs.ListedAtDesk.{IsNoList, TellPages};
 ghost use Rattle.vend_ports.specs.commands.Timed.{IsTakenMoment};
 ghost use Rattle.vend_ports.specs.port.Dial.{dial_of};
-ghost use Rattle.vend_ports.specs.port.Texts.{Texts, texts_of};
-ghost use Rattle.desk_commands.specs.Exchanged.{Round};
-ghost use Rattle.vend_ports.specs.print.Printed.{clock_line};
+ghost use Rattle.vend_ports.specs.port.Texts.{texts_of};
 
 use asks::ask_law;
 use book_tables::PRESENT_FORMAT;
@@ -297,117 +264,12 @@ pub fn receipt_once()
 /// What a command that asks a desk prints is what the same command prints of the desk's office. The
 /// desk read what the command sent, and answered it by its own law, and its whole reply came.
 pub fn at_desk_law()
-    // One ask: the reply or what was found, printed as on the file.
-    ensures one { (ask : Ask) (json : Bool) (moment : ℕ) (old new : Timed Life)
-        (came : Text) (told : Told) (o : Outputs) (end : CommandEnd)
-        → IsAskedByOne json ask → CanSend ask → IsMoment moment
-        → IsOffice old.0.opening → IsLife new.0
-        → IsAnsweredAt (pos moment) old (ask_text ask) came new
-        → IsReply (wanted_by ask) came told → TellsTold json ask told o end
-        → PrintsAsOnFile json ask moment old.0 new.0 o end }
-
-    // A list: its pages, of one day, and the list that is left behind them.
-    ensures pages { (list : Lookup) (day : ℕ) (old new : Timed Life) (rounds : List Round)
-        (pages : List WhatIsFound) (left : Option Lookup)
-        → CanSend (Ask.Look list)
-        → IsOffice old.0.opening → IsLife old.0
-        → AreAnsweredOn day old rounds new → TellPages (Some list) rounds pages left
-        → PrintsList day list pages left old.0 new.0 }
-
-    // The command takes each of these answers for what it is, up to the longest body, of an office
-    // that requests may have led to. No command asks a desk for its health.
-    ensures read { (ask : Ask) (moment : ℕ) (old new : Timed Life) (came : Text)
-        → AsksNoHealth ask → CanSend ask → IsMoment moment
-        → IsOffice old.0.opening → IsPlausible old.0.opening → IsLife new.0
-        → IsAnsweredAt (pos moment) old (ask_text ask) came new
-        → length came ≤ longest_reply_body
-        → (told : Told) × IsReplyTo ask came told }
-    ensures page_read { (list : Lookup) (moment : ℕ) (old new : Timed Life) (came : Text)
-        → ¬ IsNoList list → CanSend (Ask.Look list) → IsMoment moment
-        → IsOffice old.0.opening → IsPlausible old.0.opening → IsLife old.0
-        → IsAnsweredAt (pos moment) old (ask_text (Ask.Look list)) came new
-        → length came ≤ longest_reply_body → IsPageOrRefusal list came }
-
-    // A sale that is told, but for the nibble that no reply tells, was handed out by the desk's
-    // life; that of an order was sold for it.
-    ensures handed { (ask : Ask) (moment : ℕ) (old new : Timed Life) (came : Text) (s : Sale)
-        → CanSend ask → IsMoment moment → IsOffice old.0.opening → IsLife new.0
-        → IsAnsweredAt (pos moment) old (ask_text ask) came new
-        → IsReply (wanted_by ask) came (Grants (TellsSale s))
-        → (t : Sale) × (as_told t ≡ s) × HandsOut new.0 t }
-    ensures sold { (order : Order) (moment : ℕ) (old new : Timed Life) (came : Text) (s : Sale)
-        → CanSend (Ask.Do (Sell order)) → IsMoment moment
-        → IsOffice old.0.opening → IsLife new.0
-        → IsAnsweredAt (pos moment) old (ask_text (Ask.Do (Sell order))) came new
-        → IsReply (wanted_by (Ask.Do (Sell order))) came (Grants (TellsSale s))
-        → (t : Sale) × (as_told t ≡ s) × IsSoldIn new.0 order t }
-
-    // And a receipt that is told is that of a sale of its number that was handed out.
-    ensures receipt { (number moment : ℕ) (old new : Timed Life) (came : Text) (text : Bor Text)
-        → CanSend (Ask.Receipt number) → IsMoment moment
-        → IsOffice old.0.opening → IsLife new.0
-        → IsAnsweredAt (pos moment) old (ask_text (Ask.Receipt number)) came new
-        → IsReply (wanted_by (Ask.Receipt number)) came (Grants (TellsPaper text))
-        → (t : Sale) × (t.number ≡ number) × (text.now ≡ receipt_of t) × HandsOut new.0 t }
-
-    // What the words of a command ask can be asked of a desk: one thing by one message, or the
-    // pages of a list.
-    ensures askable { (name : Text) (rows : List Row) (words : OfficeWords) (ask : Ask)
-        → SaysOffice name rows words → AskForOne words.ask ask
-        → CanSend ask × IsAskedByOne words.json ask }
-    ensures list_askable { (name : Text) (rows : List Row) (words : OfficeWords) (list : Lookup)
-        → SaysOffice name rows words → AskForPages words.ask list
-        → CanSend (Ask.Look list) × (¬ IsNoList list) }
-
-    // So a desk answers what an ask sends, and what a list sends: a conversation over these
-    // bytes is their exchanges and no others, as long as the line loses and changes none of them,
-    // nor any of what the desk writes.
-    ensures line { (ask : Ask) (old new : Timed Life) (came : Text) (ending : Ending)
-        → CanSend ask
-        → Conversation (timed (answers_by life_serves)) message_refusal_of ended
-        (ask_text ask) old came ending new
-        → (second : ℤ) × IsAnsweredAt second old (ask_text ask) came new }
-
-    ensures lines { (list : Lookup) (day : ℕ) (old new : Timed Life) (rounds : List Round)
-        (pages : List WhatIsFound) (left : Option Lookup) (ending : Ending)
-        → CanSend (Ask.Look list)
-        → IsOffice old.0.opening → IsLife old.0
-        → TellPages (Some list) rounds pages left → length (came_in rounds) < 2 ^ 64
-        → (held : Conversation (timed (answers_by life_serves)) message_refusal_of ended
-        (sent_in rounds) old (came_in rounds) ending new)
-        → All (λ x. IsGivenOn day x.now) held.exchanges
-        → AreAnsweredOn day old rounds new }
-
-    // A desk's clock outside the moments of an office: that is printed, and the office is as it
-    // was.
-    ensures clock { (ask : Ask) (json : Bool) (second : ℤ) (old new : Timed Life) (came : Text)
-        (told : Told) (o : Outputs) (end : CommandEnd)
-        → CanSend ask → IsNoMoment second
-        → IsAnsweredAt second old (ask_text ask) came new
-        → IsReply (wanted_by ask) came told → TellsTold json ask told o end
-        → IsTold o [] clock_line Refused end × (new.0 ≡ old.0) }
-
-    // One life has one reply to a request at a moment, and one of what is looked up then, but for
-    // want of memory and a store that fails: so books that keep the desk's life in its file reply
-    // and find the same. A report and a receipt are the same at each moment.
-    ensures same_reply { (life one other : Life) (moment later : ℕ) (request : Request)
-        (desk file : Result Answer Refusal)
-        → (moment ≡ later) ⊎ IsReadingRequest request
-        → LifeReplies moment request desk life one → LifeReplies later request file life other
-        → IsLife one → IsLife other
-        → acknowledges desk ≡ true → acknowledges file ≡ true → desk ≡ file }
-    ensures same_found { (life : Life) (moment : ℕ) (lookup : Lookup)
-        (desk file : Result WhatIsFound Refusal)
-        → IsOneLookup lookup
-        → IsFoundAt life moment lookup desk → IsFoundAt life moment lookup file
-        → IfErr desk IsOfRules → IfErr file IsOfRules → desk ≡ file }
-
-    // A health tells the same of the sales of one life. Of a write that failed the books that met
-    // it tell alone.
-    ensures same_health { (life : Life) (moment later : ℕ) (desk file : Health)
-        → IsFoundAt life moment Lookup.Health (Ok (WhatIsFound.Health desk))
-        → IsFoundAt life later Lookup.Health (Ok (WhatIsFound.Health file))
-        → (desk.sales ≡ file.sales) × (desk.last_moment ≡ file.last_moment) }
+    ensures askable { AreAskable }
+    ensures line { AreAnswered }
+    ensures printed { ArePrinted }
+    ensures read { AreRead }
+    ensures handed { AreHandedOut }
+    ensures same { AreSame }
 {
     amount_law();
     purchase_law();

@@ -56,7 +56,7 @@ returns-in-Some-sale_of c =
           let all : text ≡ replied.came = front.1 ∙ ap (λ (more : List ℕ). replied.came ++ more) none ∙ append-nil replied.came in
           let SaleIn : List ℕ → Type 0 = λ bytes. IsReply (wanted_by ask) bytes (tells.Granted (grants.Sale told.0)) in
           let sold : HasSoldFor order told.0 (seen behind) life.opening =
-          has_sold c.at_desk_law.ensures.line IsLife c.at_desk_law.ensures.sold order moment _ secs
+          has_sold c.at_desk_law.ensures.line.one IsLife c.at_desk_law.ensures.handed.sold order moment _ secs
           c.secs.ensures.range c.keeps_rules.ensures (seen old) (seen behind) life served.keeps.kept
           (c.history_law.ensures.offices [] life.opening served.keeps.led) (λ after kept. (kept (memory_is_clean behind.conn)).is_life) c.deref.result.now text
           (c.deref.ensures.value ∙ c.in-Ok.ensures {u = tt}) (c.in-Some-answered_at.ensures {u = tt}) told.0 (subst SaleIn (sym all) told.1) in

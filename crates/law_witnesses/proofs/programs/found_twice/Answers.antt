@@ -23,7 +23,7 @@ returns-in-Some-sale_of-2 c =
     (second.of_life (memory_is_clean c.look_up-2.new.self.conn) life (first.reads.keeps life it.keeps.kept)) in
     let desk : Result Found Refusal = Ok c.in-Ok.found in
     let file : Result Found Refusal = Ok c.in-Ok-look_up.again in
-    let same : desk ≡ file = c.at_desk_law.ensures.same_found life c.args.moment (LastSale number) desk file tt (inl at_desk) (inl on_file) tt tt in
+    let same : desk ≡ file = c.at_desk_law.ensures.same.look_up life c.args.moment (LastSale number) desk file tt (inl at_desk) (inl on_file) tt tt in
     let one : c.in-Ok.found ≡ found.Sale c.in-Some-sale_of.first = c.in-Some-sale_of.ensures {u = tt} in
     let other : c.in-Ok-look_up.again ≡ found.Sale c.in-Some-sale_of-2.second = c.in-Some-sale_of-2.ensures {u = tt} in
     cc

@@ -28,21 +28,19 @@ returns c =
       alike = c.told_law.ensures.alike;
     } in
     record {
-      one = one_prints laws;
-      pages = list_prints laws c.page_law.ensures.one;
-      read = ask_read laws;
-      page_read = page_read laws;
-      handed = λ ask moment old new came s can is_moment opening life at is. sale_handed laws handing moment is_moment old new came opening life ask s can at is;
-      sold = λ order moment old new came s can is_moment opening life at is. sale_sold laws handing moment is_moment old new came opening life order s can at is;
-      receipt = λ number moment old new came text can is_moment opening life at is.
-          receipt_handed laws handing moment is_moment old new came opening life number text can at is;
-      askable = says_askable;
-      list_askable = says_listed;
-      line = λ ask old new came ending can held. line_answers laws ask can old new came ending held;
-      lines = λ list day old new rounds pages left ending can opening life tells few held given. lines_answer laws
-          c.page_law.ensures.one list day old new rounds pages left ending can opening life tells few held given;
-      same_reply = same_reply;
-      same_found = same_found;
-      same_health = same_health;
-      clock = clock_prints laws;
+      askable = record { one = says_askable; pages = says_listed };
+      line = record {
+        one = λ ask old new came ending can held. line_answers laws ask can old new came ending held;
+        pages = λ list day old new rounds told left ending can opening life tells few held given. lines_answer laws
+            c.page_law.ensures.one list day old new rounds told left ending can opening life tells few held given;
+      };
+      printed = record { one = one_prints laws; pages = list_prints laws c.page_law.ensures.one; clock = clock_prints laws };
+      read = record { one = ask_read laws; page = page_read laws };
+      handed = record {
+        sale = λ ask moment old new came s can is_moment opening life at is. sale_handed laws handing moment is_moment old new came opening life ask s can at is;
+        sold = λ order moment old new came s can is_moment opening life at is. sale_sold laws handing moment is_moment old new came opening life order s can at is;
+        receipt = λ number moment old new came text can is_moment opening life at is.
+            receipt_handed laws handing moment is_moment old new came opening life number text can at is;
+      };
+      same = record { reply = same_reply; look_up = same_found; health = same_health };
     }
