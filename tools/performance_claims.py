@@ -91,7 +91,7 @@ def claims():
         [number(sells["100000"]["vend"]) / 1000, number(sells["100000"]["Python"]),
          number(sells["100000"]["vend to Python"])]
     yield page, r"`sell --desk`, 100 to 100,000 sales \| (\S+) to (\S+) \|", [min(at_desk[1]), max(at_desk[1])]
-    yield page, r"A command that asks it takes (\S+) ms", [max(at_desk[0])]
+    yield page, r"a command that asks it took (\S+) ms", [max(at_desk[0])]
     yield page, r"export of 10,000 sales \| (\S+) \|", \
         cells(commands, "vend to Python", Command="the export of all sales (`report`)")
     yield page, r"import of 10,000 meters \| (\S+) \|", \
@@ -103,7 +103,7 @@ def claims():
     yield page, r"An audit\*\* takes (\S+) to (\S+) times as long as an opening", [min(longer), max(longer)]
     yield page, r"holds all rows in memory: (\d+) MiB with 100,000 sales", \
         [number(all_tables[audit][-1]["audit, MiB at most"])]
-    yield "docs/FAQ.md", r"a `sell` takes (\S+) s\. .*`sell --desk` takes (\S+) ms", \
+    yield "docs/FAQ.md", r"a `sell` takes (\S+) s\. .*`sell --desk` took (\S+) ms", \
         [number(sells["100000"]["vend"]) / 1000, max(at_desk[0])]
     yield "docs/FAQ.md", r"and (\d+) times as fast at 100,000", [1 / number(sells["100000"]["vend to Python"])]
     # Between two sizes of a file the ratio is taken as a line over logarithms.
