@@ -147,25 +147,42 @@ def missing_files():
 
 
 def wrong_witnesses():
-    """The witnesses in the table of promises are those of PROVED.md."""
+    """The witnesses in the table of promises are those of PROVED.md. What stands in brackets behind one is a
+    clause of a law of its row, or of the one that it is said to be of."""
     known = {quoted(witness)[0] for _, witness in rows_of_page("PROVED.md", "Law", "Witness") if quoted(witness)}
-    for promise, *_, witness, _ in rows_of_page("PROMISE.md", "The promise", "Law [clauses]", "Witness",
-                                                "A wrong program that was refused"):
-        for name in quoted(witness):
+    for promise, laws, witness, _ in rows_of_page("PROMISE.md", "The promise", "Law [clauses]", "Witness",
+                                                  "A wrong program that was refused"):
+        for name in quoted(re.sub(r"\[[^]]*\]", "", witness)):
             if name not in known:
                 yield f"docs/PROMISE.md: {name} is no witness in PROVED.md: {promise}"
+        for clauses, law in re.findall(r"\[(`[^]]*)\](?: of (\w+))?", witness):
+            texts = [text_of_law(it) for it in ([law] if law else re.findall(r"\[`(\w+)`\]\(", laws))]
+            for clause in quoted(clauses):
+                if not any(has_clause(text, clause) for text in texts):
+                    yield f"docs/PROMISE.md: {clause} is no clause of a law of its witness: {promise}"
+
+
+def text_of_law(law):
+    """The files of a law's clauses: those that docs/PROVED.md has for it, or else the file in which the law stands."""
+    link = re.compile(r"\]\(([^)]*)\)")
+    files = {quoted(it)[0]: link.findall(cell)
+             for it, cell in rows_of_page("PROVED.md", "Law or function", "The file of its clauses") if quoted(it)}
+    paths = [TOP / "docs" / file for file in files.get(law, [])] or [
+        path for path in TOP.glob("crates/*/src/**/*.rt")
+        if re.search(rf"pub fn {law}[<(]", path.read_text(encoding="utf-8"))]
+    return "".join(path.read_text(encoding="utf-8") for path in paths)
+
+
+def has_clause(text, clause):
+    return re.search(rf"\b(pub|ensures) {clause} ", text)
 
 
 def lost_clauses(text):
-    """Each clause that docs/PROMISE.md names behind a law's link is in the file of the law's clauses: where
-    docs/PROVED.md has none for the law, in the file to which the link leads."""
-    link = re.compile(r"\]\(([^)]*)\)")
-    files = {quoted(law)[0]: link.findall(cell)
-             for law, cell in rows_of_page("PROVED.md", "Law or function", "The file of its clauses") if quoted(law)}
-    for law, path, clauses in re.findall(r"\[`(\w+)`\]\(([^)]*)\) \[(`[^\]]*)\]", text):
-        there = "".join((TOP / "docs" / file).read_text(encoding="utf-8") for file in files.get(law, [path]))
+    """Each clause that docs/PROMISE.md names behind a law's link is in the files of the law's clauses."""
+    for law, clauses in re.findall(r"\[`(\w+)`\]\([^)]*\) \[(`[^\]]*)\]", text):
+        there = text_of_law(law)
         yield from (f"docs/PROMISE.md: {clause} of {law} is not in the file of its clauses"
-                    for clause in quoted(clauses) if not re.search(rf"\b(pub|ensures) {clause} ", there))
+                    for clause in quoted(clauses) if not has_clause(there, clause))
 
 
 def change_shown(text):
