@@ -2,7 +2,7 @@
 use Rattle.std.proofs.Common.{◌≡◌, true, false, sym, subst}
 use Rattle.std.proofs.KnownBytes.{Keeps-refl}
 use Rattle.std.specs.Io.KnownBytes.{Appends, Keeps}
-use Rattle.terminal_advice.specs.Advised.{AddsForm, IsAdvised, advice_for}
+use Rattle.terminal_advice.specs.Advised.{AddsForm, IsAdvised}
 use Rattle.terminal_advice.specs.LastLine.{IsKept, Line, last_line}
 use Rattle.terminal_advice.specs.Remembers.{Remembers}
 use Rattle.terminal_advice.specs.declared.last_line.LastLine.{LastLine}
@@ -19,10 +19,10 @@ advised_quiet begun old printed new last first same it = record {
 
 -- its advice did
 pub advised_loud : (begun old printed after new : Held) (last : LastLine) → old ≡ begun → new ≡ after
-    → ((line : Line) → IsKept line last → AddsForm (advice_for line) printed after) → Remembers begun printed last
+    → ((line : Line) → IsKept line last → AddsForm line printed after) → Remembers begun printed last
     → IsAdvised true old printed new
 advised_loud begun old printed after new last first same adds it = record {
   text = it.text;
   came = subst (λ held. Appends held printed it.text) (sym first) it.came;
-  adds = subst (AddsForm (advice_for (last_line it.text)) printed) (sym same) (adds (last_line it.text) it.kept);
+  adds = subst (AddsForm (last_line it.text) printed) (sym same) (adds (last_line it.text) it.kept);
 }

@@ -1,18 +1,11 @@
 -- What is said of a line by which the program refuses, in the order of docs/COMMANDS.md.
 use Rattle.std.specs.Prelude.{codes}
 use Rattle.sts_fields.specs.Text.{Text}
+use Rattle.office_rules.specs.declared.decision.refusal.Refusal.TheVariants.{Store}
 use Rattle.terminal_advice.specs.declared.advice.Advice.{Advice}
-use Rattle.terminal_advice.specs.declared.advice.Advice.TheVariants.{RefReused, NoShift}
-use Rattle.terminal_advice.specs.declared.advice.Advice.TheVariants.{ShiftOpen, NoMeter, NoTariff}
-use Rattle.terminal_advice.specs.declared.advice.Advice.TheVariants.{Differs, BeforeBase}
-use Rattle.terminal_advice.specs.declared.advice.Advice.TheVariants.{IdentifiersSpent}
-use Rattle.terminal_advice.specs.declared.advice.Advice.TheVariants.{IdentifierAhead, TooLittle}
-use Rattle.terminal_advice.specs.declared.advice.Advice.TheVariants.{OfficeFull, NoSale}
-use Rattle.terminal_advice.specs.declared.advice.Advice.TheVariants.{NoSuchShift, Memory, Store}
-use Rattle.terminal_advice.specs.declared.advice.Advice.TheVariants.{Stopped, NotLater, DayPast}
-use Rattle.terminal_advice.specs.declared.advice.Advice.TheVariants.{HasSales, WordFrom}
-use Rattle.terminal_advice.specs.declared.advice.Advice.TheVariants.{Amount, Clock, Value, Place}
-use Rattle.terminal_advice.specs.declared.advice.Advice.TheVariants.{File, Net, NotAnOffice, OpenStore}
+use Rattle.terminal_advice.specs.declared.advice.Advice.TheVariants.{Refused, WordFrom, Amount}
+use Rattle.terminal_advice.specs.declared.advice.Advice.TheVariants.{Clock, Value, Place, File, Net}
+use Rattle.terminal_advice.specs.declared.advice.Advice.TheVariants.{NotAnOffice, OpenStore}
 use Rattle.terminal_advice.specs.declared.advice.Advice.TheVariants.{OpenMemory, DeskStopped}
 use Rattle.terminal_advice.specs.declared.advice.Advice.TheVariants.{RowHeader, RowColumns}
 use Rattle.terminal_advice.specs.declared.advice.Advice.TheVariants.{RowField, RowTooMany}
@@ -23,71 +16,34 @@ use Rattle.terminal_advice.specs.declared.advice.Advice.TheVariants.{WordListen,
 use Rattle.terminal_advice.specs.declared.advice.Advice.TheVariants.{WordRef, WordMeter, WordBase}
 use Rattle.terminal_advice.specs.declared.advice.Advice.TheVariants.{WordKey, WordTariff}
 use Rattle.terminal_advice.specs.declared.advice.Advice.TheVariants.{WordTender, WordRows}
-use Rattle.terminal_advice.specs.declared.advice.Advice.TheVariants.{WordPaper, WordNumber}
-use Rattle.terminal_advice.specs.declared.advice.Advice.TheVariants.{WordAct, WordShown}
-use Rattle.terminal_advice.specs.declared.advice.Advice.TheVariants.{WordListed, WordAfter}
-use Rattle.terminal_advice.specs.declared.advice.Advice.TheVariants.{WordJson, LacksMeter}
-use Rattle.terminal_advice.specs.declared.advice.Advice.TheVariants.{LacksOrder, WordSteps}
-use Rattle.terminal_advice.specs.declared.advice.Advice.TheVariants.{WordPrior, WordAmount}
-use Rattle.terminal_advice.specs.declared.advice.Advice.TheVariants.{WordSync, WordConnections}
-use Rattle.terminal_advice.specs.declared.advice.Advice.TheVariants.{NoText, FileMissing}
-use Rattle.terminal_advice.specs.declared.advice.Advice.TheVariants.{FileBarred, FileFolder}
-use Rattle.terminal_advice.specs.declared.advice.Advice.TheVariants.{FileTooLong, NetTaken}
-use Rattle.terminal_advice.specs.declared.advice.Advice.TheVariants.{NetNotHere, NetNobody}
-use Rattle.terminal_advice.specs.declared.advice.Advice.TheVariants.{NetSilent, NetRubbish}
-use Rattle.terminal_advice.specs.declared.advice.Advice.TheVariants.{ShutInUse, ShutByVend}
-use Rattle.terminal_advice.specs.declared.advice.Advice.TheVariants.{ShutByOther, ShutTrigger}
-use Rattle.terminal_advice.specs.declared.advice.Advice.TheVariants.{ShutVirtual, ShutIndex}
-use Rattle.terminal_advice.specs.declared.advice.Advice.TheVariants.{ShutFull, StoreFull}
+use Rattle.terminal_advice.specs.declared.advice.Advice.TheVariants.{WordPaper, WordNumber, WordAct}
+use Rattle.terminal_advice.specs.declared.advice.Advice.TheVariants.{WordShown, WordListed}
+use Rattle.terminal_advice.specs.declared.advice.Advice.TheVariants.{WordAfter, WordJson}
+use Rattle.terminal_advice.specs.declared.advice.Advice.TheVariants.{LacksMeter, LacksOrder}
+use Rattle.terminal_advice.specs.declared.advice.Advice.TheVariants.{WordSteps, WordPrior}
+use Rattle.terminal_advice.specs.declared.advice.Advice.TheVariants.{WordAmount, WordSync}
+use Rattle.terminal_advice.specs.declared.advice.Advice.TheVariants.{WordConnections, NoText}
+use Rattle.terminal_advice.specs.declared.advice.Advice.TheVariants.{FileMissing, FileBarred}
+use Rattle.terminal_advice.specs.declared.advice.Advice.TheVariants.{FileFolder, FileTooLong}
+use Rattle.terminal_advice.specs.declared.advice.Advice.TheVariants.{NetTaken, NetNotHere}
+use Rattle.terminal_advice.specs.declared.advice.Advice.TheVariants.{NetNobody, NetSilent}
+use Rattle.terminal_advice.specs.declared.advice.Advice.TheVariants.{NetRubbish, ShutInUse}
+use Rattle.terminal_advice.specs.declared.advice.Advice.TheVariants.{ShutByVend, ShutByOther}
+use Rattle.terminal_advice.specs.declared.advice.Advice.TheVariants.{ShutTrigger, ShutVirtual}
+use Rattle.terminal_advice.specs.declared.advice.Advice.TheVariants.{ShutIndex, ShutFull, StoreFull}
 use Rattle.terminal_advice.specs.declared.advice.Advice.TheVariants.{ShutBarred, ShutNoFolder}
-use Rattle.terminal_advice.specs.declared.advice.Advice.TheVariants.{ShutSpecial}
-use Rattle.terminal_advice.specs.declared.advice.Advice.TheVariants.{ShutFolder, ShutNoDatabase}
-use Rattle.terminal_advice.specs.declared.advice.Advice.TheVariants.{ShutLinked, ShutJournal}
-use Rattle.terminal_advice.specs.declared.advice.Advice.TheVariants.{ShutVacuum, ColumnMeter}
-use Rattle.terminal_advice.specs.declared.advice.Advice.TheVariants.{ColumnBase, ColumnTariff}
-use Rattle.terminal_advice.specs.declared.advice.Advice.TheVariants.{ColumnKey, ColumnName}
-use Rattle.terminal_advice.specs.declared.advice.Advice.TheVariants.{ColumnSteps, ColumnFrom}
+use Rattle.terminal_advice.specs.declared.advice.Advice.TheVariants.{ShutSpecial, ShutFolder}
+use Rattle.terminal_advice.specs.declared.advice.Advice.TheVariants.{ShutNoDatabase, ShutLinked}
+use Rattle.terminal_advice.specs.declared.advice.Advice.TheVariants.{ShutJournal, ShutVacuum}
+use Rattle.terminal_advice.specs.declared.advice.Advice.TheVariants.{ColumnMeter, ColumnBase}
+use Rattle.terminal_advice.specs.declared.advice.Advice.TheVariants.{ColumnTariff, ColumnKey}
+use Rattle.terminal_advice.specs.declared.advice.Advice.TheVariants.{ColumnName, ColumnSteps}
+use Rattle.terminal_advice.specs.declared.advice.Advice.TheVariants.{ColumnFrom}
+use Rattle.terminal_advice.specs.Refused.{refusal_reason, refusal_remedy}
 
 -- why it was refused
 abbrev pub reason_of : Advice → Text
-reason_of RefReused =
-    codes "This order number belongs to another sale. Nothing was sold now."
-reason_of NoShift =
-    codes "The operator has no open shift. Nothing was done."
-reason_of ShiftOpen =
-    codes "The operator's shift is open already."
-reason_of NoMeter =
-    codes "The office has no meter with this number."
-reason_of NoTariff =
-    codes "There is no tariff of this name."
-reason_of Differs =
-    codes "Something else is stored under this name, number or day. It was left as it is."
-reason_of BeforeBase =
-    codes "At this moment the base date has not come yet."
-reason_of IdentifiersSpent =
-    codes "This meter has used up its token identifiers."
-reason_of IdentifierAhead =
-    codes "This meter's identifiers are more than a day ahead of the office's clock."
-reason_of TooLittle =
-    codes "This does not pay for 0.1 kWh."
-reason_of OfficeFull =
-    codes "The office is full."
-reason_of NoSale =
-    codes "There is no sale of this number or ref, or none to the meter."
-reason_of NoSuchShift =
-    codes "There is no shift of this number."
-reason_of Memory =
-    codes "The office's computer is out of memory. Nothing was done."
-reason_of Store =
-    codes "The office's disk failed, or a row is damaged."
-reason_of Stopped =
-    codes "The office has stopped after its disk failed or a row was found damaged."
-reason_of NotLater =
-    codes "This meter has a later base date already, and sells under it."
-reason_of DayPast =
-    codes "That day has begun (UTC), or something was sold on it or later."
-reason_of HasSales =
-    codes "Tokens were sold to this meter with the key that it has."
+reason_of (Refused refusal) = refusal_reason refusal
 reason_of Amount =
     codes "No token carries this amount, or it is 0."
 reason_of Clock =
@@ -247,44 +203,7 @@ reason_of ColumnFrom =
 
 -- what to do about it
 abbrev pub remedy_of : Advice → Text
-remedy_of RefReused =
-    codes "Take a new number for another sale."
-remedy_of NoShift =
-    codes "Open one, or correct the operator."
-remedy_of ShiftOpen =
-    codes "Go on selling, or close it first."
-remedy_of NoMeter =
-    codes "Compare it with the number on the meter, or have the meter added."
-remedy_of NoTariff =
-    codes "Correct the name, or add the tariff first."
-remedy_of Differs =
-    codes "Take another name, or compare what you entered."
-remedy_of BeforeBase =
-    codes "Have the clock set right, or wait for the day."
-remedy_of IdentifiersSpent =
-    codes "A manager has to move it to a later base date, and have the meter cleared."
-remedy_of IdentifierAhead =
-    codes "Have the clock set right. If it is right, wait, or move the meter to a later base date."
-remedy_of TooLittle =
-    codes "Ask for more money."
-remedy_of OfficeFull =
-    codes "Whoever runs it has to begin a new file."
-remedy_of NoSale =
-    codes "Correct what you entered."
-remedy_of NoSuchShift =
-    codes "Correct the number."
-remedy_of Memory =
-    codes "Try again later."
-remedy_of Store =
-    codes "Make room and try the same again, or audit the file."
-remedy_of Stopped =
-    codes "Have somebody look whether the disk is full, and try again."
-remedy_of NotLater =
-    codes "There is nothing to do."
-remedy_of DayPast =
-    codes "Take a later day. Steps that have begun stay."
-remedy_of HasSales =
-    codes "Correct the number. The key of a meter with sales stays."
+remedy_of (Refused refusal) = refusal_remedy refusal
 remedy_of Amount =
     codes "Choose another."
 remedy_of Clock =
@@ -497,7 +416,7 @@ general_of ShutTrigger = OpenStore
 general_of ShutVirtual = OpenStore
 general_of ShutIndex = OpenStore
 general_of ShutFull = OpenStore
-general_of StoreFull = Store
+general_of StoreFull = Refused Store
 general_of ColumnMeter = RowField
 general_of ColumnBase = RowField
 general_of ColumnTariff = RowField

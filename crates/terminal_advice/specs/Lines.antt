@@ -1,55 +1,24 @@
--- Which advice a line has by which the program refuses.
-use Rattle.std.specs.Prelude.{if◌then◌else◌, eqb, Option, Some, None, [], ◌∷◌, codes}
+-- Which advice a line has by which the program refuses. No line has its end here.
+use Rattle.std.specs.Prelude.{◌≡◌, ◌⊎◌, if◌then◌else◌, eqb, MatchOption, Option, Some, None, [], ◌∷◌}
+use Rattle.std.specs.Prelude.{◌++◌, codes}
 use Rattle.std.specs.Cmp.Lexicographic.{pointwise}
 use Rattle.std.specs.List.{starts_with}
-use Rattle.std.specs.Option.{option_or}
 use Rattle.sts_fields.specs.Text.{Text}
+use Rattle.office_rules.specs.Decision.Refusals.{IsOfNoRow}
+use Rattle.office_rules.specs.declared.decision.refusal.Refusal.{Refusal}
+use Rattle.vend_ports.specs.print.Printed.{refusal_line}
 use Rattle.terminal_advice.specs.declared.advice.Advice.{Advice}
-use Rattle.terminal_advice.specs.declared.advice.Advice.TheVariants.{RefReused, NoShift}
-use Rattle.terminal_advice.specs.declared.advice.Advice.TheVariants.{ShiftOpen, NoMeter, NoTariff}
-use Rattle.terminal_advice.specs.declared.advice.Advice.TheVariants.{Differs, BeforeBase}
-use Rattle.terminal_advice.specs.declared.advice.Advice.TheVariants.{IdentifiersSpent}
-use Rattle.terminal_advice.specs.declared.advice.Advice.TheVariants.{IdentifierAhead, TooLittle}
-use Rattle.terminal_advice.specs.declared.advice.Advice.TheVariants.{OfficeFull, NoSale}
-use Rattle.terminal_advice.specs.declared.advice.Advice.TheVariants.{NoSuchShift, Memory, Store}
-use Rattle.terminal_advice.specs.declared.advice.Advice.TheVariants.{Stopped, NotLater, DayPast}
-use Rattle.terminal_advice.specs.declared.advice.Advice.TheVariants.{HasSales}
-use Rattle.terminal_advice.specs.declared.advice.Advice.TheVariants.{Amount, Clock, Value, Place}
-use Rattle.terminal_advice.specs.declared.advice.Advice.TheVariants.{File, Net, NotAnOffice, OpenStore}
-use Rattle.terminal_advice.specs.declared.advice.Advice.TheVariants.{OpenMemory, DeskStopped}
-use Rattle.terminal_advice.specs.declared.advice.Advice.TheVariants.{RowHeader, RowColumns}
-use Rattle.terminal_advice.specs.declared.advice.Advice.TheVariants.{RowField, RowTooMany}
-use Rattle.terminal_advice.specs.declared.advice.Advice.TheVariants.{RowDiffers, RowNoTariff}
-use Rattle.terminal_advice.specs.declared.advice.Advice.TheVariants.{RowDayPast}
+use Rattle.terminal_advice.specs.declared.advice.Advice.TheVariants.{Refused, Amount, Clock, Value}
+use Rattle.terminal_advice.specs.declared.advice.Advice.TheVariants.{Place, File, Net, NotAnOffice}
+use Rattle.terminal_advice.specs.declared.advice.Advice.TheVariants.{OpenStore, OpenMemory}
+use Rattle.terminal_advice.specs.declared.advice.Advice.TheVariants.{DeskStopped, RowHeader}
+use Rattle.terminal_advice.specs.declared.advice.Advice.TheVariants.{RowColumns, RowField}
+use Rattle.terminal_advice.specs.declared.advice.Advice.TheVariants.{RowTooMany, RowDiffers}
+use Rattle.terminal_advice.specs.declared.advice.Advice.TheVariants.{RowNoTariff, RowDayPast}
 
--- the refusals of an office, 1 to 9
-unfoldable pub early_refusal : Text → Option Advice
-early_refusal line =
-    if pointwise eqb line (codes "refused 1 RefReused") then Some RefReused
-    else if pointwise eqb line (codes "refused 2 NoShift") then Some NoShift
-    else if pointwise eqb line (codes "refused 3 ShiftOpen") then Some ShiftOpen
-    else if pointwise eqb line (codes "refused 4 NoMeter") then Some NoMeter
-    else if pointwise eqb line (codes "refused 5 NoTariff") then Some NoTariff
-    else if pointwise eqb line (codes "refused 6 Differs") then Some Differs
-    else if pointwise eqb line (codes "refused 7 BeforeBase") then Some BeforeBase
-    else if pointwise eqb line (codes "refused 8 IdentifiersSpent") then Some IdentifiersSpent
-    else if pointwise eqb line (codes "refused 9 IdentifierAhead") then Some IdentifierAhead
-    else None
-
--- those from 10 on
-unfoldable pub late_refusal : Text → Option Advice
-late_refusal line =
-    if pointwise eqb line (codes "refused 10 TooLittle") then Some TooLittle
-    else if pointwise eqb line (codes "refused 11 OfficeFull") then Some OfficeFull
-    else if pointwise eqb line (codes "refused 12 NoSale") then Some NoSale
-    else if pointwise eqb line (codes "refused 13 NoSuchShift") then Some NoSuchShift
-    else if pointwise eqb line (codes "refused 15 Memory") then Some Memory
-    else if pointwise eqb line (codes "refused 16 Store") then Some Store
-    else if pointwise eqb line (codes "refused 17 Stopped") then Some Stopped
-    else if pointwise eqb line (codes "refused 18 NotLater") then Some NotLater
-    else if pointwise eqb line (codes "refused 19 DayPast") then Some DayPast
-    else if pointwise eqb line (codes "refused 20 HasSales") then Some HasSales
-    else None
+-- the line is printed for this refusal, of no row
+abbrev pub IsLineOf : Refusal → Text → Type 0
+IsLineOf refusal line = IsOfNoRow refusal × (line ++ 10 ∷ [] ≡ refusal_line refusal)
 
 -- the other lines
 unfoldable pub other_line : Text → Option Advice
@@ -90,8 +59,18 @@ row_start = codes "refused 14 ImportRow "
 abbrev pub cause_in : Text → Text
 cause_in line = behind_space (behind_space (behind_space (behind_space line)))
 
--- the advice that a line has, without its end
-unfoldable pub advice_of : Text → Option Advice
-advice_of line =
-    if starts_with eqb line row_start then row_cause (cause_in line)
-    else option_or (early_refusal line) (option_or (late_refusal line) (other_line line))
+-- the advice for a line that is no such refusal's
+unfoldable pub other_advice : Text → Option Advice
+other_advice line =
+    if starts_with eqb line row_start then row_cause (cause_in line) else other_line line
+
+-- a line has the advice for the refusal that it is printed for, or another one
+abbrev pub HasAdvice : Text → Advice → Type 0
+HasAdvice line advice =
+    ((refusal : Refusal) × IsLineOf refusal line × (advice ≡ Refused refusal))
+    ⊎ (other_advice line ≡ Some advice)
+
+-- it is the advice that a line has, or the line has none
+abbrev pub IsAdviceOf : Text → Option Advice → Type 0
+IsAdviceOf line found =
+    MatchOption found ((advice : Advice) → ¬ HasAdvice line advice) (HasAdvice line)

@@ -1,28 +1,14 @@
 ghost use Rattle.std.specs.Prelude.{◌≡◌};
 ghost use Rattle.terminal_advice.specs.Advice.{general_of, reason_of, remedy_of};
 
+use crate::refused::{refusal_reason, refusal_remedy};
+use office_rules::Refusal;
+
 /// What is said at a terminal of a line by which the program refuses (`docs/COMMANDS.md`).
 #[derive(Clone, Copy, Debug, PartialEq, Eq)]
 pub enum Advice {
-    RefReused,
-    NoShift,
-    ShiftOpen,
-    NoMeter,
-    NoTariff,
-    Differs,
-    BeforeBase,
-    IdentifiersSpent,
-    IdentifierAhead,
-    TooLittle,
-    OfficeFull,
-    NoSale,
-    NoSuchShift,
-    Memory,
-    Store,
-    Stopped,
-    NotLater,
-    DayPast,
-    HasSales,
+    /// The office refused.
+    Refused(Refusal),
     Amount,
     Clock,
     Value,
@@ -109,30 +95,7 @@ impl Advice {
         ensures { result.now ≡ reason_of self }
     {
         match self {
-            Advice::RefReused => "This order number belongs to another sale. Nothing was sold now.",
-            Advice::NoShift => "The operator has no open shift. Nothing was done.",
-            Advice::ShiftOpen => "The operator's shift is open already.",
-            Advice::NoMeter => "The office has no meter with this number.",
-            Advice::NoTariff => "There is no tariff of this name.",
-            Advice::Differs => {
-                "Something else is stored under this name, number or day. It was left as it is."
-            }
-            Advice::BeforeBase => "At this moment the base date has not come yet.",
-            Advice::IdentifiersSpent => "This meter has used up its token identifiers.",
-            Advice::IdentifierAhead => {
-                "This meter's identifiers are more than a day ahead of the office's clock."
-            }
-            Advice::TooLittle => "This does not pay for 0.1 kWh.",
-            Advice::OfficeFull => "The office is full.",
-            Advice::NoSale => "There is no sale of this number or ref, or none to the meter.",
-            Advice::NoSuchShift => "There is no shift of this number.",
-            Advice::Memory => "The office's computer is out of memory. Nothing was done.",
-            Advice::Store => { "The office's disk failed, or a row is damaged." }
-            Advice::Stopped =>
-                "The office has stopped after its disk failed or a row was found damaged.",
-            Advice::NotLater => "This meter has a later base date already, and sells under it.",
-            Advice::DayPast => { "That day has begun (UTC), or something was sold on it or later." }
-            Advice::HasSales => "Tokens were sold to this meter with the key that it has.",
+            Advice::Refused(refusal) => refusal_reason(refusal),
             Advice::Amount => "No token carries this amount, or it is 0.",
             Advice::Clock => "The computer's clock is outside the years 1993 to 2099.",
             Advice::Value => "A value is outside its rule.",
@@ -250,29 +213,7 @@ impl Advice {
         ensures { result.now ≡ remedy_of self }
     {
         match self {
-            Advice::RefReused => "Take a new number for another sale.",
-            Advice::NoShift => "Open one, or correct the operator.",
-            Advice::ShiftOpen => "Go on selling, or close it first.",
-            Advice::NoMeter => "Compare it with the number on the meter, or have the meter added.",
-            Advice::NoTariff => "Correct the name, or add the tariff first.",
-            Advice::Differs => "Take another name, or compare what you entered.",
-            Advice::BeforeBase => "Have the clock set right, or wait for the day.",
-            Advice::IdentifiersSpent => {
-                "A manager has to move it to a later base date, and have the meter cleared."
-            }
-            Advice::IdentifierAhead => {
-                "Have the clock set right. If it is right, wait, or move the meter to a later base date."
-            }
-            Advice::TooLittle => "Ask for more money.",
-            Advice::OfficeFull => "Whoever runs it has to begin a new file.",
-            Advice::NoSale => "Correct what you entered.",
-            Advice::NoSuchShift => "Correct the number.",
-            Advice::Memory => "Try again later.",
-            Advice::Store => "Make room and try the same again, or audit the file.",
-            Advice::Stopped => "Have somebody look whether the disk is full, and try again.",
-            Advice::NotLater => "There is nothing to do.",
-            Advice::DayPast => "Take a later day. Steps that have begun stay.",
-            Advice::HasSales => "Correct the number. The key of a meter with sales stays.",
+            Advice::Refused(refusal) => refusal_remedy(refusal),
             Advice::Amount => "Choose another.",
             Advice::Clock => "Set it right. With --file you can give --at instead.",
             Advice::Value => "The command's --help has the rules.",
@@ -420,7 +361,7 @@ impl Advice {
             | Advice::ShutVirtual
             | Advice::ShutIndex
             | Advice::ShutFull => Advice::OpenStore,
-            Advice::StoreFull => Advice::Store,
+            Advice::StoreFull => Advice::Refused(Refusal::Store),
             Advice::ColumnMeter
             | Advice::ColumnBase
             | Advice::ColumnTariff

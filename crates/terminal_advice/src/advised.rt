@@ -1,4 +1,4 @@
-ghost use Rattle.std.specs.Prelude.{◌≡◌, ℕ, ◌≤◌, Bool, false, map, IfSome, Option, Some};
+ghost use Rattle.std.specs.Prelude.{◌≡◌, ℕ, ◌≤◌, Bool, false, map, IfSome, Option};
 ghost use Rattle.sqlite.specs.Files.{over_files};
 ghost use Rattle.command_line.specs.Asked.{AskFor};
 ghost use Rattle.command_line.specs.declared.asked.Asked.{Asked};
@@ -9,7 +9,7 @@ ghost use Rattle.vend_ports.specs.Status.{exit_status_of, status_of};
 ghost use Rattle.vend_ports.specs.declared.command_end.CommandEnd.{CommandEnd};
 ghost use Rattle.vend_ports.specs.print.Sink.{Held, writer};
 ghost use Rattle.vend_ports.specs.print.Told.{IsTaken, outputs};
-ghost use Rattle.terminal_advice.specs.Advised.{Adds, IsAdvised, fault_advice};
+ghost use Rattle.terminal_advice.specs.Advised.{Adds, IsAdvised, IsPut, fault_advice};
 ghost use Rattle.terminal_advice.specs.Doubt.{Doubts, IsDoubted};
 
 use crate::advice::Advice;
@@ -19,6 +19,7 @@ use crate::look::Look;
 use crate::remembering::Remembering;
 use crate::second_line::{advise, put_advice};
 use command_line::BadWords;
+use office_rules::Refusal;
 use std::alloc::Global;
 use std::io::Write;
 use vend_commands::{Machine, Ports, Watched, refuse, run};
@@ -79,7 +80,7 @@ pub fn refuse_advised<E: Write>(fault: BadWords, at_terminal: bool, err: &mut E)
     ensures status { result ≡ exit_status_of (bad_words_end fault) }
     ensures told { (printed : Held) × (failed : Bool)
         × IsTaken false failed (E.contents err.old) printed (bad_words_line fault)
-        × Adds at_terminal (Some (fault_advice fault)) printed (E.contents err.new) }
+        × Adds at_terminal (IsPut (fault_advice fault)) printed (E.contents err.new) }
 {
     let mut watched = Watched::new(err);
     let end = refuse(fault, &mut watched);
@@ -96,7 +97,7 @@ fn fault_advice(fault: BadWords) -> Advice
     ensures { result ≡ fault_advice fault }
 {
     match fault {
-        BadWords::Memory => Advice::Memory,
+        BadWords::Memory => Advice::Refused(Refusal::Memory),
         BadWords::Place => Advice::Place,
         _ => Advice::NoText,
     }

@@ -7,6 +7,7 @@ use crate::look::Look;
 use crate::misread::misread;
 use clap::ArgMatches;
 use command_line::{meant, parse};
+use office_rules::Refusal;
 use std::alloc::Global;
 
 /// The advice for a line, or a closer form of it, by the arguments and a look at the computer.
@@ -50,8 +51,8 @@ fn form_of(advice: Advice, general: Advice) -> Advice
             Advice::Net => advice,
             _ => general,
         },
-        Advice::Store => match advice.general() {
-            Advice::Store => advice,
+        Advice::Refused(Refusal::Store) => match advice.general() {
+            Advice::Refused(Refusal::Store) => advice,
             _ => general,
         },
         _ => general,
@@ -79,7 +80,7 @@ fn seen<L: Look>(
         Advice::File => file_fault(look, said),
         Advice::OpenStore => look.office(said.get_str("file")?),
         Advice::Net => net_fault(look, said),
-        Advice::Store => look.room(said.get_str("file")?),
+        Advice::Refused(Refusal::Store) => look.room(said.get_str("file")?),
         _ => None,
     }
 }

@@ -12,6 +12,7 @@ mod last_sale;
 mod lines;
 mod look;
 mod misread;
+mod refused;
 mod remembering;
 mod schema;
 mod second_line;

@@ -1,27 +1,74 @@
 //! Which advice a line has.
-ghost use Rattle.std.specs.Prelude.{◌≡◌};
-ghost use Rattle.terminal_advice.specs.Lines.{advice_of, behind_space, early_refusal, late_refusal};
-ghost use Rattle.terminal_advice.specs.Lines.{cause_in, other_line, row_cause};
+ghost use Rattle.std.specs.Prelude.{◌≡◌, MatchBool, MatchOption};
+ghost use Rattle.office_rules.specs.Decision.Refusals.{IsOfNoRow};
+ghost use Rattle.office_rules.specs.declared.decision.refusal.Refusal.{Refusal as WhyRefused};
+ghost use Rattle.terminal_advice.specs.Lines.{IsAdviceOf, IsLineOf, behind_space, cause_in};
+ghost use Rattle.terminal_advice.specs.Lines.{other_advice, other_line, row_cause};
 
 use crate::advice::Advice;
+use itoa::Buffer;
+use office_rules::Refusal;
+
+// The number of a refusal is below this: it has 8 bits.
+const NUMBERS: u32 = 256;
 
 // How a line begins that refuses a row of an import, before the number of the row.
 const ROW_START: &[u8] = b"refused 14 ImportRow ";
 
 /// The advice for a line by which the program refuses, if it is one.
-#[tactic(auto, unfolding(crate::specs::Lines::advice_of))]
 pub fn advice_of(line: &[u8]) -> Option<Advice>
-    ensures { result ≡ advice_of line.now }
+    ensures { IsAdviceOf line.now result }
+{
+    match refusal_of(line) {
+        Some(refusal) => Some(Advice::Refused(refusal)),
+        None => other_advice(line),
+    }
+}
+
+// The refusal of no row that a line is printed for. The lines of all are compared with it, and so
+// nothing reads a number.
+fn refusal_of(line: &[u8]) -> Option<Refusal>
+    ensures { MatchOption result ((refusal : WhyRefused) → ¬ IsLineOf refusal line.now)
+        (λ refusal. IsLineOf refusal line.now) }
+{
+    for number in 0..NUMBERS {
+        if let Some(refusal) = Refusal::of_number(number)
+            && is_line_of(refusal, line)
+        {
+            return Some(refusal);
+        }
+    }
+    None
+}
+
+// Whether a line is printed for this refusal, if it is of no row.
+fn is_line_of(refusal: Refusal, line: &[u8]) -> bool
+    ensures { IsOfNoRow refusal
+        → MatchBool result (IsLineOf refusal line.now) (¬ IsLineOf refusal line.now) }
+{
+    let mut number = Buffer::new();
+    let number = number.format(refusal.number()).as_bytes();
+    let Some(rest) = line.strip_prefix(b"refused ") else {
+        return false;
+    };
+    let Some(rest) = rest.strip_prefix(number) else {
+        return false;
+    };
+    let Some(name) = rest.strip_prefix(b" ") else {
+        return false;
+    };
+    name == refusal.name().as_bytes()
+}
+
+// The advice for a line that is no such refusal's.
+#[tactic(auto, unfolding(crate::specs::Lines::other_advice))]
+fn other_advice(line: &[u8]) -> Option<Advice>
+    ensures { result ≡ other_advice line.now }
 {
     if line.starts_with(ROW_START) {
-        return row_cause(cause_in(line));
-    }
-    match early_refusal(line) {
-        Some(advice) => Some(advice),
-        None => match late_refusal(line) {
-            Some(advice) => Some(advice),
-            None => other_line(line),
-        },
+        row_cause(cause_in(line))
+    } else {
+        other_line(line)
     }
 }
 
@@ -45,64 +92,6 @@ fn behind_space(text: &[u8]) -> &[u8]
                 behind_space(rest)
             }
         }
-    }
-}
-
-// The refusals of an office, 1 to 9.
-#[tactic(auto, unfolding(crate::specs::Lines::early_refusal))]
-fn early_refusal(line: &[u8]) -> Option<Advice>
-    ensures { result ≡ early_refusal line.now }
-{
-    if line == b"refused 1 RefReused".as_slice() {
-        Some(Advice::RefReused)
-    } else if line == b"refused 2 NoShift".as_slice() {
-        Some(Advice::NoShift)
-    } else if line == b"refused 3 ShiftOpen".as_slice() {
-        Some(Advice::ShiftOpen)
-    } else if line == b"refused 4 NoMeter".as_slice() {
-        Some(Advice::NoMeter)
-    } else if line == b"refused 5 NoTariff".as_slice() {
-        Some(Advice::NoTariff)
-    } else if line == b"refused 6 Differs".as_slice() {
-        Some(Advice::Differs)
-    } else if line == b"refused 7 BeforeBase".as_slice() {
-        Some(Advice::BeforeBase)
-    } else if line == b"refused 8 IdentifiersSpent".as_slice() {
-        Some(Advice::IdentifiersSpent)
-    } else if line == b"refused 9 IdentifierAhead".as_slice() {
-        Some(Advice::IdentifierAhead)
-    } else {
-        None
-    }
-}
-
-// Those from 10 on.
-#[tactic(auto, unfolding(crate::specs::Lines::late_refusal))]
-fn late_refusal(line: &[u8]) -> Option<Advice>
-    ensures { result ≡ late_refusal line.now }
-{
-    if line == b"refused 10 TooLittle".as_slice() {
-        Some(Advice::TooLittle)
-    } else if line == b"refused 11 OfficeFull".as_slice() {
-        Some(Advice::OfficeFull)
-    } else if line == b"refused 12 NoSale".as_slice() {
-        Some(Advice::NoSale)
-    } else if line == b"refused 13 NoSuchShift".as_slice() {
-        Some(Advice::NoSuchShift)
-    } else if line == b"refused 15 Memory".as_slice() {
-        Some(Advice::Memory)
-    } else if line == b"refused 16 Store".as_slice() {
-        Some(Advice::Store)
-    } else if line == b"refused 17 Stopped".as_slice() {
-        Some(Advice::Stopped)
-    } else if line == b"refused 18 NotLater".as_slice() {
-        Some(Advice::NotLater)
-    } else if line == b"refused 19 DayPast".as_slice() {
-        Some(Advice::DayPast)
-    } else if line == b"refused 20 HasSales".as_slice() {
-        Some(Advice::HasSales)
-    } else {
-        None
     }
 }
 

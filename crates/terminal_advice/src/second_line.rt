@@ -1,6 +1,6 @@
 //! The second line.
 ghost use Rattle.std.specs.Prelude.{Bool, false, map};
-ghost use Rattle.terminal_advice.specs.Advised.{AddsForm, IsPut, advice_for};
+ghost use Rattle.terminal_advice.specs.Advised.{AddsForm, IsPut};
 ghost use Rattle.terminal_advice.specs.LastLine.{IsKept, Line};
 ghost use Rattle.vend_ports.specs.print.Printed.{line_of};
 ghost use Rattle.vend_ports.specs.print.Told.{IsTaken};
@@ -15,7 +15,7 @@ use std::io::Write;
 use vend_ports::{Watched, put_line};
 
 /// Puts the advice for a last line behind it.
-#[tactic(auto, using(crate::proofs::AdvisedLemmas::adds_unended, crate::proofs::AdvisedLemmas::adds_none, crate::proofs::AdvisedLemmas::adds_some))]
+#[tactic(auto, using(crate::proofs::AdvisedLemmas::adds_unended, crate::proofs::AdvisedLemmas::adds_some))]
 pub(crate) fn advise<L: Look, E: Write>(
     alloc: Global,
     words: &[&str],
@@ -24,7 +24,7 @@ pub(crate) fn advise<L: Look, E: Write>(
     err: &mut E,
 )
     ensures { (line : Line) → IsKept line last.now
-        → AddsForm (advice_for line) (E.contents err.old) (E.contents err.new) }
+        → AddsForm line (E.contents err.old) (E.contents err.new) }
 {
     if !last.ended {
         return;
