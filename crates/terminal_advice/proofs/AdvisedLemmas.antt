@@ -13,6 +13,7 @@ use Rattle.vend_ports.specs.print.Sink.{Held}
 unended : (line : Line) (last : LastLine) → IsKept line last → last.ended ≡ false → (general : Advice) → ¬ LineHasAdvice line general
 unended line last kept ended general (whole, has) = cc (kept.ended, ended, whole)
 
+-- so nothing comes behind it
 pub adds_unended : (line : Line) (last : LastLine) (old new : Held) → IsKept line last → last.ended ≡ false → Keeps old new
     → AddsForm line old new
 adds_unended line last old new kept ended keeps = inr (unended line last kept ended, keeps)
