@@ -1,3 +1,4 @@
+mod CashLemmas
 mod EntryLemmas
 mod LivedLemmas
 mod SoldLemmas

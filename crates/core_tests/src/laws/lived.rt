@@ -42,11 +42,11 @@ fn is_done(reply: &Reply) -> bool
     matches!(reply, Ok(Answer::Done))
 }
 
-fn reprint_in(reply: &Reply) -> Option<Sale>
-    ensures { IfSome result (λ again. reply.now ≡ Ok (Answer.Reprinted again)) }
+fn sale_in(reply: &Reply) -> Option<Sale>
+    ensures { IfSome result (λ sale. sales_of reply.now ≡ sale ∷ []) }
 {
     match reply {
-        Ok(Answer::Reprinted(again)) => Some(*again),
+        Ok(Answer::Sold(sale) | Answer::Reprinted(sale)) => Some(*sale),
         _ => None,
     }
 }
@@ -127,21 +127,17 @@ pub(crate) fn sold_once<T: BlockTransform + Drop>(
     }
 }
 
-/// Asks for a sale again by its number.
-pub(crate) fn reprinted<T: BlockTransform>(
-    lists: &mut Lists<T>,
-    moment: Moment,
-    number: u32,
-) -> Result<Sale, Fail>
-    ensures handed { IfOk result (λ again. (start : Office)
+/// Asks for a sale, by an order or by its number.
+pub(crate) fn handed<T: BlockTransform>(lists: &mut Lists<T>, at: &Stamped) -> Result<Sale, Fail>
+    ensures handed { IfOk result (λ sale. (start : Office)
         → IsLived start (T.forwards (transform_of lists.old)) (office_of lists.old)
         → HasHanded start (T.forwards (transform_of lists.new)) (office_of lists.new)
-        (again ∷ [])) }
+        (sale ∷ [])) }
     ensures transform { transform_of lists.new ≡ transform_of lists.old }
 {
-    let reply = ask(lists, &stamped(moment.secs(), 0, Request::Reprint(number))?);
-    match reprint_in(&reply) {
-        Some(again) => Ok(again),
-        None => Err("not reprinted".into()),
+    let reply = ask(lists, at);
+    match sale_in(&reply) {
+        Some(sale) => Ok(sale),
+        None => Err("no sale".into()),
     }
 }

@@ -16,8 +16,8 @@ returns-then-again-first g c =
     let begun = subst (λ (start : Office). IsLived start (g.U.BlockTransform.forwards (transform_of c.with_transform-lists.result)) (office_of c.with_transform-lists.result))
     c.with_transform-lists.ensures.office c.opens.ensures in
     let handed = c.in_ok-again.ensures.handed o begun in
-    let p = office_of c.reprinted.new.lists in
-    let next = g.U.BlockTransform.forwards (transform_of c.reprinted.new.lists) in
+    let p = office_of c.handed.new.lists in
+    let next = g.U.BlockTransform.forwards (transform_of c.handed.new.lists) in
     let again = c.in_ok-again.again in
     let one = sold.lived.life in
     let other = handed.lived.life in

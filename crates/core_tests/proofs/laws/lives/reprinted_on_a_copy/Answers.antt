@@ -12,12 +12,12 @@ returns-then-sales-eq1 g c =
     let found = c.in_ok-sold.sold in
     let sold = c.in_ok-sold.ensures.sold in
     let o = office_of found.lists in
-    let p = office_of c.reprinted.new.lists in
+    let p = office_of c.handed.new.lists in
     let begun = subst (λ (start : Office). IsLived start (g.U.BlockTransform.forwards (transform_of c.with_transform-copy.result)) (office_of c.with_transform-copy.result))
     c.with_transform-copy.ensures.office c.opens.ensures in
     let handed = c.in_ok-again.ensures.handed o begun in
     let again = c.in_ok-again.again in
-    let next = g.U.BlockTransform.forwards (transform_of c.reprinted.new.lists) in
+    let next = g.U.BlockTransform.forwards (transform_of c.handed.new.lists) in
     let life = handed.lived.life in
     let lead = leads o next p handed.lived in
     let law = c.lives_law.ensures in
