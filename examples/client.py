@@ -42,6 +42,12 @@ def ask(desk, method, target, body=None):
         connection.close()
 
 
+def may_be_done(status):
+    """Whether a reply of this status leaves open what was done: a desk has 503 for what may pass, and 501 for
+    a method that it does not know; each other one of 500 and more is of a proxy before it."""
+    return status >= 500 and status != 501
+
+
 def ask_until_known(desk, method, target, body=None):
     """The body of the good reply, by as many tries as it takes.
 
@@ -54,10 +60,11 @@ def ask_until_known(desk, method, target, body=None):
             status, text = ask(desk, method, target, body)
             if status == 200:
                 return text
-            if status != 503:
+            why = f"{status} {text.decode(errors='replace')}"
+            if not may_be_done(status):
                 # {"error":"TooLittle","refusal":10}, or without a number: {"error":"Body"}
-                raise Refused(f"{status} {text.decode()}")
-            why = text.decode()  # out of memory, a failed disk, a wrong clock: it may pass
+                raise Refused(why)
+            # out of memory, a failed disk, a wrong clock, a proxy that got no reply: it may pass
         except (OSError, http.client.HTTPException) as error:
             why = repr(error)  # no connection, or no whole reply
         if pause is not None:
@@ -96,12 +103,11 @@ def sale_of(desk, operator, ref):
     """The sale under a ref, or None. An order whose message may still be on its way is not settled by
     None: send it again."""
     status, text = ask(desk, "GET", f"/operators/{operator}/sales/{ref}")
-    members = json.loads(text)
     if status == 200:
-        return members
-    if members.get("error") == "NoSale":
+        return json.loads(text)
+    if status == 404 and json.loads(text).get("error") == "NoSale":
         return None
-    raise (Unknown if status == 503 else Refused)(f"{status} {text.decode()}")
+    raise (Unknown if may_be_done(status) else Refused)(f"{status} {text.decode(errors='replace')}")
 
 
 def listed(desk, kind, key, after):
