@@ -99,13 +99,21 @@ def quote(desk, meter, tender):
     return json.loads(ask_until_known(desk, "GET", f"/meters/{meter}/quote?tender={tender}"))
 
 
+def error_in(text):
+    """The name of a desk's refusal, or None: a body that a proxy sends need not be JSON."""
+    try:
+        return json.loads(text)["error"]
+    except (ValueError, LookupError, TypeError):
+        return None
+
+
 def sale_of(desk, operator, ref):
     """The sale under a ref, or None. An order whose message may still be on its way is not settled by
     None: send it again."""
     status, text = ask(desk, "GET", f"/operators/{operator}/sales/{ref}")
     if status == 200:
         return json.loads(text)
-    if status == 404 and json.loads(text).get("error") == "NoSale":
+    if status == 404 and error_in(text) == "NoSale":
         return None
     raise (Unknown if may_be_done(status) else Refused)(f"{status} {text.decode(errors='replace')}")
 
