@@ -1,9 +1,9 @@
 //! The test whether one transform wrote the tokens of an office.
 
-ghost use Rattle.std.specs.Prelude.{◌≡◌, ◌↔◌, All, IfErr, IfOk, IsTrue, List, OnOk, length};
+ghost use Rattle.std.specs.Prelude.{◌↔◌, All, IfErr, IfOk, IsTrue, List, OnOk, length};
 ghost use Rattle.sts_token.specs.Fields.{AreFields};
 ghost use Rattle.sts_token.specs.Token.{BlockFunction, IsToken};
-ghost use Rattle.vend_core.specs.Law.Life.{AreLives, Life};
+ghost use Rattle.vend_core.specs.Law.Life.{AreLives, Life, SellsUnder};
 ghost use Rattle.office_rules.specs.Law.NewSale.{fields_of};
 ghost use Rattle.vend_core.specs.Law.Reached.{HasTokensOf, IsWrittenBy};
 ghost use Rattle.office_rules.specs.Office.{IsSaleRow, Office};
@@ -107,7 +107,7 @@ pub fn tokens_law()
     ensures none { (forward : BlockFunction) (o : Office) (f : Findings) → HasTokensOf forward o
         → IsFirst (written_tie forward o) f → ⊥ }
     ensures lives { (forward : BlockFunction) (lives : List Life) (o : Office) (f : Findings)
-        → AreLives lives o → All (λ life. life.forward ≡ forward) lives
+        → AreLives lives o → All (SellsUnder forward) lives
         → IsFirst (written_tie forward o) f → ⊥ }
 {
     reached_law();

@@ -14,7 +14,7 @@ use Rattle.sts_token.specs.Transform.{IsTransform}
 use Rattle.office_rules.specs.Office.{Office, empty_office}
 use Rattle.office_rules.proofs.OfficeLemmas.RowLemmas.{contains_first}
 use Rattle.vend_core.specs.Law.Apart.{HaveMade}
-use Rattle.vend_core.specs.Law.Life.{LeadTo, Life, WasMadeSince}
+use Rattle.vend_core.specs.Law.Life.{LeadTo, Life, SellsUnder, WasMadeSince}
 use Rattle.office_rules.specs.Law.Growth.{HasGrown}
 use Rattle.vend_core.specs.Law.SoldTokens.{AreMadeFor, SimMeter}
 use Rattle.core_tests.specs.Lived.{HasSold, IsLived}
@@ -56,10 +56,10 @@ module _ (forward : BlockFunction) (number : Text) (key : ℕ) (base : Base) (o 
   one : (P : Sale → Type 0) → P s → All P (s ∷ [])
   one P holds = All-cons P s [] holds (All-nil P)
 
-  -- the life is under the transform
-  pub under_one : All (λ (life : Life). life.forward ≡ forward) (sold.lived.life ∷ [])
-  under_one = All-cons (λ (life : Life). life.forward ≡ forward) sold.lived.life [] sold.lived.forward_is
-      (All-nil (λ (life : Life). life.forward ≡ forward))
+  -- the life is under the transform, and so it sells under it
+  pub sells_under : All (SellsUnder forward) (sold.lived.life ∷ [])
+  sells_under = All-cons (SellsUnder forward) sold.lived.life [] (λ k d below order asks. sold.lived.forward_is)
+      (All-nil (SellsUnder forward))
 
   -- where each sale has the token of its fields, it has that of the office's key
   pub sold_token : HasTokensOf forward o → IsToken forward key (fields_of s) s.digits
@@ -76,7 +76,7 @@ module _ (forward : BlockFunction) (number : Text) (key : ℕ) (base : Base) (o 
     begins = sold.begins;
     lead = leads empty_office forward o sold.lived;
     transform = transform;
-    under_it = under_one;
+    under_it = sells_under;
     meter = sold.has_key.meter;
     meter_is = sold.has_key.meter_is;
     key_is = sold.has_key.key_is;

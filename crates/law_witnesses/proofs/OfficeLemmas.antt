@@ -1,7 +1,7 @@
 -- The life that requests and replies make.
 use Rattle.std.proofs.Common.{◌≡◌, ◌∙◌, ◌⊎◌, ℕ, zero, suc, Bool, true, false, List, [], ◌∷◌, ◌++◌, length, Option, None, Some, Result, Ok, Err, inl, inr, refl, sym, ap, subst, arith}
-use Rattle.std.proofs.Common.{rules}
 use Rattle.std.specs.Prelude.{◌≢◌, All, Contains, IfErr, map}
+use Rattle.std.proofs.lemmas.List.Elements.{All-cons, All-nil}
 use Rattle.audit_lists.specs.declared.fault.OfficeFault.{OfficeFault}
 use Rattle.audit_lists.specs.declared.fault.OfficeFault.TheVariants as fault
 use Rattle.audit_rows.specs.declared.finding.Finding.{Finding}
@@ -17,7 +17,7 @@ use Rattle.office_rules.specs.declared.decision.answer.Answer.{Answer}
 use Rattle.office_rules.specs.declared.decision.refusal.Refusal.{Refusal}
 use Rattle.office_rules.specs.declared.decision.request.Stamped.{Stamped}
 use Rattle.sts_token.specs.Token.{BlockFunction}
-use Rattle.vend_core.specs.Law.Life.{Answered, AreLives, Exchange, IsLife, Life, present}
+use Rattle.vend_core.specs.Law.Life.{Answered, AreLives, Exchange, IsLife, Life, SellsUnder, present}
 use Rattle.vend_core.specs.Law.LifeLaws.{exchanges_of}
 use Rattle.law_witnesses.specs.Offices.{life_of}
 
@@ -79,6 +79,7 @@ pub found_nothing : (Tells : Finding → Type 0) (tested : Result (Unit {0}) Fin
 found_nothing Tells (Ok tt) tells none = refl
 found_nothing Tells (Err f) tells none = absurd (none f tells)
 
--- one life has the transform that it has
-pub one_forward : (life : Life) (forward : BlockFunction) → life.forward ≡ forward → All (λ (l : Life). l.forward ≡ forward) (life ∷ [])
-one_forward life forward is = search rules
+-- one life sells under the transform that it has
+pub sells_under : (life : Life) (forward : BlockFunction) → life.forward ≡ forward → All (SellsUnder forward) (life ∷ [])
+sells_under life forward is =
+    All-cons (SellsUnder forward) life [] (λ k d below order asks. is) (All-nil (SellsUnder forward))

@@ -35,7 +35,7 @@ ghost use Rattle.office_commands.specs.office.Audits.{AuditsIn};
 ghost use Rattle.office_commands.specs.office.Closed.{IsClosed};
 ghost use Rattle.vend_commands.specs.serving.Connections.{AreHeld, Service, service};
 ghost use Rattle.program_laws.specs.Courses.{Course, KeepsLast, LiveOn};
-ghost use Rattle.vend_core.specs.Law.Life.{AreLives, Life};
+ghost use Rattle.vend_core.specs.Law.Life.{AreLives, Life, SellsUnder};
 ghost use Rattle.office_rules.specs.Office.{IsOffice, Office};
 ghost use Rattle.office_rules.specs.declared.decision.answer.Answer.TheVariants.{Sold};
 ghost use Rattle.office_rules.specs.declared.decision.request.Order.{Order};
@@ -156,13 +156,14 @@ pub fn sound_law<H: OfficeFile>()
 {}
 
 /// `audit` finds no broken row in files that stand for an office that lives lead to, if the disk
-/// returned what was written and, with a transform, these lives had it: it counts, or could not
-/// read the files. So of a file that nothing else wrote it never prints `broken`.
+/// returned what was written and, with a transform, these lives took orders under it alone: it
+/// counts, or could not read the files. So of a file that nothing else wrote it never prints
+/// `broken`.
 pub fn broken_law<H: OfficeFile>()
     ensures { (image : Image) (back : Option (H.Medium × H.Medium)) (given : Option BlockFunction)
         (answer : Result Audited AuditFault) (lives : List Life) (office : Office)
         → AreLives lives office
-        → IfSome given (λ forward. All (λ life. life.forward ≡ forward) lives)
+        → IfSome given (λ forward. All (SellsUnder forward) lives)
         → StandsIn image office
         → (told : AuditsIn H.Medium.Disk image (lets_go_giving H.OfficeFile back) given answer)
         → HasCleanDisk (file_state told.last) → IfErr answer IsFailure }

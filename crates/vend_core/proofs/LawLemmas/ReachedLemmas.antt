@@ -86,5 +86,5 @@ module _ (laws : LowerLaws) (codes : AmountCodes) where
   pub led_plausible : (start : Office) (lives : List Life) (o : Office) → IsOffice start
       → LeadTo start lives o → IsPlausible start → IsPlausible o
   led_plausible start lives o office lead plausible =
-      led_keeps laws IsPlausible start lives o (λ k d below o at office is range holds.
+      led_keeps laws IsPlausible start lives o (λ k d below o at there office is range holds.
       step_plausible (get_or lives k d).forward o at office is range holds) office lead plausible

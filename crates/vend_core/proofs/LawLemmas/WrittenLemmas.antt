@@ -1,14 +1,14 @@
 -- Under one transform each sale has the token of its fields by its meter's key, which stays from the
 -- first sale on: along requests, and in what lives lead to.
 use Rattle.std.proofs.Common.{◌≡◌, ◌⊎◌, ℕ, inl, inr, List, Some, refl, sym, ◌∙◌, ap, subst, arith}
-use Rattle.std.specs.Prelude.{All, Contains}
-use Rattle.std.proofs.lemmas.List.Elements.{All-contains, All-nil, All-push, All-weaker, Contains-get_or}
+use Rattle.std.specs.Prelude.{All, Contains, map}
+use Rattle.std.proofs.lemmas.List.Elements.{All-contains, All-map, All-nil, All-push, All-weaker, Contains-get_or}
 use Rattle.std.proofs.lemmas.Option.{same_Some}
 use Rattle.sts_token.specs.Token.{IsToken, KeepsRange}
 use Rattle.office_rules.specs.Decision.Fold.{after, step}
 use Rattle.office_rules.specs.Decision.Requests.{IsStamped}
 use Rattle.vend_core.specs.Law.Imports.{LeavesRow}
-use Rattle.vend_core.specs.Law.Life.{LeadTo, Life, WasMadeSince}
+use Rattle.vend_core.specs.Law.Life.{Exchange, LeadTo, Life, SellsUnder, WasMadeSince}
 use Rattle.office_rules.specs.Law.Growth.{HasGrown}
 use Rattle.office_rules.specs.Law.NewSale.{IsNewSale, fields_of}
 use Rattle.vend_core.specs.Law.Reached.{HasTokensOf, IsWrittenBy}
@@ -25,7 +25,7 @@ use Rattle.vend_core.proofs.LawLemmas.AnswerLemmas.{sells_one}
 use Rattle.vend_core.proofs.LawLemmas.LeaveLemmas.{step_stays}
 use Rattle.vend_core.proofs.LawLemmas.FoldLemmas.{step_grows}
 use Rattle.vend_core.proofs.LifeLemmas.{led_office}
-use Rattle.vend_core.proofs.LifeLemmas.AlongLemmas.{StepKeepsBy, after_keeps_by, led_keeps}
+use Rattle.vend_core.proofs.LifeLemmas.AlongLemmas.{LifeKeeps, after_keeps_by, led_keeps}
 use Rattle.vend_core.proofs.LawLemmas.MeterLemmas.{SoldTo, from_one_made, rising_made, stand_made}
 use Rattle.office_rules.proofs.OfficeLemmas.{empty_is_office}
 use Rattle.office_rules.proofs.OfficeLemmas.MapLemmas.{all_from_contains}
@@ -75,19 +75,21 @@ module _ (laws : LowerLaws) where
       (subst (λ request. LeavesRow request (kinds.Meter s.meter new.to_meter)) (sym asks) tt)
       (ap o.meters new.meter ∙ new.meter_is)
 
-  -- if each sale but those of the start has the token of its fields, it has it after a request too
-  step_writes_since : (start : Office) (forward : ℕ → ℕ → ℕ) (o : Office) (at : Stamped)
-      → IsOffice o → IsStamped at → KeepsRange forward → HasTokensSince start forward o
-      → HasTokensSince start forward (step forward o at)
-  step_writes_since start forward o at office is range have =
-      let p = step forward o at in
-      let grown = step_grows laws forward o at office is range in
+  -- if each sale but those of the start has the token of its fields by a transform, it has it after a
+  -- request too: under this transform, or any other where the request is no order
+  step_writes_since : (start : Office) (forward other : ℕ → ℕ → ℕ) (o : Office) (at : Stamped)
+      → IsOffice o → IsStamped at → KeepsRange other
+      → ((order : Order) → at.request ≡ requests.Sell order → other ≡ forward)
+      → HasTokensSince start forward o → HasTokensSince start forward (step other o at)
+  step_writes_since start forward other o at office is range sells have =
+      let p = step other o at in
+      let grown = step_grows laws other o at office is range in
       let stay = all_from_contains (IsOldOrWritten start forward p) o.sales (λ s there.
       elim (All-contains (IsOldOrWritten start forward o) o.sales s have there) [
         | inl old ↦ inl old
         | inr written ↦ inr (written_stays forward o p s grown there written)
       ]) in
-      elim (sells_one laws forward o at office range) [
+      elim (sells_one laws other o at office range) [
         | inl same ↦
             subst (λ (sales : List Sale). All (IsOldOrWritten start forward p) sales) (sym same) stay
         | inr (s, (order, asks, new), pushed, answered) ↦
@@ -95,34 +97,36 @@ module _ (laws : LowerLaws) where
             (All-push (IsOldOrWritten start forward p) o.sales s stay
             (inr (record {
               meter = new.to_meter;
-              meter_is = meter_of_new forward o at order s asks new;
-              token = new.digits;
+              meter_is = meter_of_new other o at order s asks new;
+              token = subst (λ by. IsToken by new.to_meter.key (fields_of s) s.digits)
+                  (sells order asks) new.digits;
             })))
       ]
 
-  writes_by : (start : Office) (forward other : ℕ → ℕ → ℕ) → other ≡ forward
-      → StepKeepsBy (HasTokensSince start forward) other
-  writes_by start forward other same =
-      subst (StepKeepsBy (HasTokensSince start forward)) (sym same)
-      (λ o at office is range holds. step_writes_since start forward o at office is range holds)
+  -- so it does after each request of a life that sells under the transform
+  life_writes : (start : Office) (forward : ℕ → ℕ → ℕ) (life : Life) → SellsUnder forward life
+      → LifeKeeps (HasTokensSince start forward) life
+  life_writes start forward life sells o at there office is range holds =
+      step_writes_since start forward life.forward o at office is range
+      (All-contains (λ (at : Stamped). (order : Order) → at.request ≡ requests.Sell order
+      → life.forward ≡ forward) (map (λ (e : Exchange). e.request) life.exchanges) at
+      (All-map (λ (at : Stamped). (order : Order) → at.request ≡ requests.Sell order
+      → life.forward ≡ forward) (λ (e : Exchange). e.request) life.exchanges sells) there) holds
 
-  -- each sale that lives under one transform made has the token of its fields
+  -- each sale that lives made that sell under one transform has the token of its fields
   led_write_since : (forward : ℕ → ℕ → ℕ) (start earlier : Office) (lives : List Life) (o : Office)
-      → IsOffice earlier → LeadTo earlier lives o
-      → All (λ (life : Life). life.forward ≡ forward) lives → HasTokensSince start forward earlier
-      → HasTokensSince start forward o
+      → IsOffice earlier → LeadTo earlier lives o → All (SellsUnder forward) lives
+      → HasTokensSince start forward earlier → HasTokensSince start forward o
   led_write_since forward start earlier lives o office lead one have =
       led_keeps laws (HasTokensSince start forward) earlier lives o
-      (All-weaker (λ (life : Life). life.forward ≡ forward)
-      (λ (life : Life). StepKeepsBy (HasTokensSince start forward) life.forward)
-      (λ life same. writes_by start forward life.forward same) lives one)
+      (All-weaker (SellsUnder forward) (LifeKeeps (HasTokensSince start forward))
+      (life_writes start forward) lives one)
       office lead have
 
-  -- under one transform a sale that lives made was written by it
+  -- where lives sell under one transform, a sale that they made was written by it
   pub made_writes : (forward : ℕ → ℕ → ℕ) (start : Office) (lives : List Life) (o : Office)
-      (s : Sale) → IsOffice start → LeadTo start lives o
-      → All (λ (life : Life). life.forward ≡ forward) lives → WasMadeSince start o s
-      → IsWrittenBy forward o s
+      (s : Sale) → IsOffice start → LeadTo start lives o → All (SellsUnder forward) lives
+      → WasMadeSince start o s → IsWrittenBy forward o s
   made_writes forward start lives o s office lead one made =
       let have = led_write_since forward start start lives o office lead one
       (λ k d below. inl (Contains-get_or start.sales k d below)) in
@@ -137,7 +141,8 @@ module _ (laws : LowerLaws) where
       → HasTokensOf forward (step forward o at)
   step_writes forward o at office is range have =
       all_written forward (step forward o at)
-      (step_writes_since empty_office forward o at office is range (none_old forward o have))
+      (step_writes_since empty_office forward forward o at office is range (λ order asks. refl)
+      (none_old forward o have))
 
   -- requests from the empty office on lead to sales with the tokens of their fields
   pub after_writes : (forward : ℕ → ℕ → ℕ) (ats : List Stamped) → All IsStamped ats
@@ -147,18 +152,18 @@ module _ (laws : LowerLaws) where
       (λ o at office is range holds. step_writes forward o at office is range holds)
       empty_office ats empty_is_office are range (All-nil (IsWrittenBy forward empty_office))
 
-  -- if each sale has the token of its fields, it has it in what lives under the transform lead to
+  -- if each sale has the token of its fields, it has it in what lives lead to that sell under the
+  -- transform
   pub led_write : (forward : ℕ → ℕ → ℕ) (start : Office) (lives : List Life) (o : Office)
-      → IsOffice start → LeadTo start lives o
-      → All (λ (life : Life). life.forward ≡ forward) lives → HasTokensOf forward start
-      → HasTokensOf forward o
+      → IsOffice start → LeadTo start lives o → All (SellsUnder forward) lives
+      → HasTokensOf forward start → HasTokensOf forward o
   led_write forward start lives o office lead one have =
       all_written forward o
       (led_write_since forward empty_office start lives o office lead one
       (none_old forward start have))
 
-  -- sales that lives under a meter's transform made to it were written with the key that the office
-  -- has for it in the end
+  -- sales that lives made to a meter, and that sell under its transform, were written with the key
+  -- that the office has for it in the end
   made_for_token : (start : Office) (lives : List Life) (o : Office) (m : SimMeter)
       (sales : List Sale) → AreMadeFor start lives o m sales → (s : Sale) → Contains sales s
       → IsToken m.forward m.key (fields_of s) s.digits

@@ -10,6 +10,8 @@ use Rattle.office_rules.specs.Decision.Requests.{IsStamped}
 use Rattle.office_rules.specs.declared.decision.answer.Answer.{Answer}
 use Rattle.office_rules.specs.declared.decision.refusal.Refusal.{Refusal}
 use Rattle.office_rules.specs.declared.decision.refusal.Refusal.TheVariants.{Memory, Store, Stopped}
+use Rattle.office_rules.specs.declared.decision.request.Order.{Order}
+use Rattle.office_rules.specs.declared.decision.request.Request.TheVariants.{Sell}
 use Rattle.office_rules.specs.declared.decision.request.Stamped.{Stamped}
 use Rattle.office_rules.specs.declared.office.sale.Sale.{Sale}
 
@@ -65,6 +67,12 @@ pub record IsLife (life : Life) : Type 0 where
   pub stamped : All (λ e. IsStamped e.request) life.exchanges
   pub replies : replies_acknowledged life ≡ replies_to life.forward life.opening (acknowledged life)
   pub stops : StopsAtDoubt (map (λ e. e.reply) life.exchanges)
+
+-- a life sells under this transform: where an order is among its requests, it writes tokens with it
+abbrev pub SellsUnder : BlockFunction → Life → Type 0
+SellsUnder forward life =
+    All (λ e. (order : Order) → e.request.request ≡ Sell order → life.forward ≡ forward)
+    life.exchanges
 
 -- the office after all acknowledged requests
 abbrev pub present : Life → Office

@@ -8,7 +8,7 @@ use Rattle.sts_token.specs.Meter.{Entry, Reader, entered, is_member, taken_over}
 use Rattle.sts_token.specs.Reading.{reading_of}
 use Rattle.sts_token.specs.Token.{IsToken, BlockFunction}
 use Rattle.sts_token.specs.Transform.{IsTransform}
-use Rattle.vend_core.specs.Law.Life.{IsHanded, LeadTo, Life, WasMadeSince}
+use Rattle.vend_core.specs.Law.Life.{IsHanded, LeadTo, Life, SellsUnder, WasMadeSince}
 use Rattle.office_rules.specs.Law.NewSale.{fields_of}
 use Rattle.office_rules.specs.Office.{IsOffice, Office}
 use Rattle.office_rules.specs.declared.office.meter.Meter.{Meter}
@@ -47,15 +47,15 @@ pub record AreSalesTo (lives : List Life) (m : SimMeter) (sales : List Sale) : T
   pub tokens : All (λ s. IsToken m.forward m.key (fields_of s) s.digits) sales
   pub in_order : AllPairs (λ a b. a.number < b.number) sales
 
--- lives under the meter's transform lead to an office, and these are sales that they made to it
--- under its base, each once, in the order of sale. Its key is the one that the office has for it:
--- nothing is said of the key that a token was written with
+-- lives that take orders under the meter's transform alone lead to an office, and these are sales
+-- that they made to it under its base, each once, in the order of sale. Its key is the one that the
+-- office has for it: nothing is said of the key that a token was written with
 pub record AreMadeFor (start : Office) (lives : List Life) (o : Office) (m : SimMeter)
     (sales : List Sale) : Type 0 where
   pub begins : IsOffice start
   pub lead : LeadTo start lives o
   pub transform : IsTransform m.forward m.inverse
-  pub under_it : All (λ life. life.forward ≡ m.forward) lives
+  pub under_it : All (SellsUnder m.forward) lives
   pub meter : Meter
   pub meter_is : o.meters m.number ≡ Some meter
   pub key_is : meter.key ≡ m.key

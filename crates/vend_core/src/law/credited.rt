@@ -15,7 +15,8 @@ use sts_fields::fresh_law;
 use sts_token::{meter_law, token_law};
 use tariff::purchase_law;
 
-/// What a simulated meter credits that has the transform of the lives and the key of the office.
+/// What a simulated meter credits that has the key of the office, and the transform under which its
+/// lives take orders (`SellsUnder`).
 ///
 /// A meter keeps its key from its first sale on; so its tokens were all written with the key that
 /// the office has for it in the end (`AreMadeFor`).

@@ -1,7 +1,7 @@
-ghost use Rattle.std.specs.Prelude.{◌≡◌, List, All};
+ghost use Rattle.std.specs.Prelude.{List, All};
 ghost use Rattle.sts_token.specs.Token.{KeepsRange, BlockFunction};
 ghost use Rattle.office_rules.specs.Decision.Fold.{after, step};
-ghost use Rattle.vend_core.specs.Law.Life.{AreLives, LeadTo, Life};
+ghost use Rattle.vend_core.specs.Law.Life.{AreLives, LeadTo, Life, SellsUnder};
 ghost use Rattle.vend_core.specs.Law.Reached.{HasTokensOf, IsPlausible};
 ghost use Rattle.office_rules.specs.Office.{IsOffice, Office, empty_office};
 ghost use Rattle.office_rules.specs.Decision.Requests.{IsStamped};
@@ -27,7 +27,7 @@ pub fn reached_law()
     ensures lives_from { (start : Office) (lives : List Life) (o : Office)
         → IsOffice start → LeadTo start lives o → IsPlausible start → IsPlausible o }
 
-    // Under one transform the digits of each sale are the token of its fields by its meter's key.
+    // Where all orders are under one transform, the digits of each sale are the token of its fields by its meter's key.
     ensures keeps_tokens { (forward : BlockFunction) (o : Office) (at : Stamped)
         → IsOffice o → IsStamped at → KeepsRange forward → HasTokensOf forward o
         → HasTokensOf forward (step forward o at) }
@@ -35,11 +35,10 @@ pub fn reached_law()
         → All IsStamped ats → KeepsRange forward
         → HasTokensOf forward (after forward empty_office ats) }
     ensures tokens_of_lives { (forward : BlockFunction) (lives : List Life) (o : Office)
-        → AreLives lives o → All (λ life. life.forward ≡ forward) lives
-        → HasTokensOf forward o }
+        → AreLives lives o → All (SellsUnder forward) lives → HasTokensOf forward o }
     ensures tokens_of_lives_from { (forward : BlockFunction) (start : Office) (lives : List Life)
         (o : Office)
-        → IsOffice start → LeadTo start lives o → All (λ life. life.forward ≡ forward) lives
+        → IsOffice start → LeadTo start lives o → All (SellsUnder forward) lives
         → HasTokensOf forward start → HasTokensOf forward o }
 {
     amount_law();

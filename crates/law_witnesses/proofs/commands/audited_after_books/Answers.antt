@@ -9,7 +9,7 @@ use Rattle.sqlite_wal.specs.Recovery.{Image}
 use Rattle.law_witnesses.proofs.AuditLemmas.{count_of, some_text}
 use Rattle.law_witnesses.proofs.FileLemmas.{clean_files}
 use Rattle.law_witnesses.proofs.KeptLemmas.{held_by, same_image}
-use Rattle.law_witnesses.proofs.OfficeLemmas.{one_forward}
+use Rattle.law_witnesses.proofs.OfficeLemmas.{sells_under}
 use Rattle.law_witnesses.proofs.commands.audited_after_books.Goals as goal
 
 pub returns : goal.returns
@@ -28,4 +28,4 @@ returns c =
     (λ none. some_text c.is_empty.result c.as_slice.result.now c.is_empty.ensures c.if-is_empty.false (c.as_slice.ensures.value ∙ none))
     printed.1.did
     (λ answer audits it. c.broken_law.ensures image printed.0 (Some (forward_of Plain)) answer lives it.office it.lead
-    (one_forward left.life (forward_of Plain) left.plain) it.stands audits (clean_files all audits.last))
+    (sells_under left.life (forward_of Plain) left.plain) it.stands audits (clean_files all audits.last))

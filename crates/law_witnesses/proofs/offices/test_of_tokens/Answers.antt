@@ -9,7 +9,7 @@ use Rattle.book_tables.specs.reading.Reading.{HasAllTables}
 use Rattle.books.specs.Keeps.{seen}
 use Rattle.vend_core.specs.Law.Life.{present}
 use Rattle.law_witnesses.specs.Offices.{life_of}
-use Rattle.law_witnesses.proofs.OfficeLemmas.{found_nothing, leads, one_forward}
+use Rattle.law_witnesses.proofs.OfficeLemmas.{found_nothing, leads, sells_under}
 use Rattle.law_witnesses.proofs.offices.test_of_tokens.Goals as goal
 
 pub returns-in-Ok-meter_places : goal.returns-in-Ok-meter_places
@@ -31,5 +31,5 @@ returns-in-Ok-meter_places c =
     let led = leads life kept.is_life refl in
     let forward = (seen c.in-Some.books).forward in
     found_nothing (TellsUnwritten forward c.in-Ok.rows) c.test_tokens.result c.test_tokens.ensures.found
-    (λ f tells. c.tokens_law.ensures.lives forward (life ∷ []) o f led (one_forward life forward kept.forward)
+    (λ f tells. c.tokens_law.ensures.lives forward (life ∷ []) o f led (sells_under life forward kept.forward)
     (tells o (rows.only o (holds.now was_open))))

@@ -1,17 +1,17 @@
-use Rattle.std.proofs.Common.{◌≡◌, List, Option, None, Some, All, IfSome, arith}
+use Rattle.std.proofs.Common.{List, Option, None, Some, All, IfSome, arith}
 use Rattle.sqlite.specs.Files.{file_state}
 use Rattle.sqlite.specs.State.{HasCleanDisk}
 use Rattle.sts_token.specs.Token.{BlockFunction}
-use Rattle.vend_core.specs.Law.Life.{AreLives, Life}
+use Rattle.vend_core.specs.Law.Life.{AreLives, Life, SellsUnder}
 use Rattle.vend_core.specs.Law.Reached.{HasTokensOf}
 use Rattle.office_rules.specs.Office.{Office}
 use Rattle.audit.specs.Fails.{AreWritten}
 use Rattle.program_laws.proofs.laws.broken_law.Goals as goal
 
--- lives with the transform that is given wrote all tokens by it
+-- lives that sell under the transform that is given wrote all tokens by it
 all_written : (lives : List Life) (office : Office) → AreLives lives office
-    → ((forward : BlockFunction) → All (λ (life : Life). life.forward ≡ forward) lives → HasTokensOf forward office)
-    → (given : Option BlockFunction) → IfSome given (λ forward. All (λ (life : Life). life.forward ≡ forward) lives) → AreWritten given office
+    → ((forward : BlockFunction) → All (SellsUnder forward) lives → HasTokensOf forward office)
+    → (given : Option BlockFunction) → IfSome given (λ forward. All (SellsUnder forward) lives) → AreWritten given office
 all_written lives office are law None by = tt
 all_written lives office are law (Some forward) by = law forward by
 
