@@ -3,5 +3,4 @@ pub mod Listing
 pub mod Looking
 pub mod Lookups
 pub mod LookupsSeen
-pub mod LookupsSpoilt
 pub mod Totals

@@ -9,8 +9,7 @@ ghost use Rattle.book_states.specs.Stores.{Stores};
 ghost use Rattle.book_states.specs.Same.{IsSame};
 ghost use Rattle.book_facts.specs.Lookups.{Finds, IsFoundIn, IsOfRules};
 ghost use Rattle.book_facts.specs.Looking.{LooksUpByRules, TellsTables};
-ghost use Rattle.book_facts.specs.LookupsSeen.{FindsSeen, IsFoundSeen};
-ghost use Rattle.book_facts.specs.LookupsSpoilt.{LookupSpoilt};
+ghost use Rattle.book_facts.specs.LookupsSeen.{FindsSeen, IsFoundSeen, LookupSpoilt};
 
 use book_states::{Found, Health, Lookup, refusal_of};
 use book_tables::TableError;

@@ -9,8 +9,7 @@ use Rattle.office_rules.specs.declared.decision.refusal.Refusal.{Refusal}
 use Rattle.office_rules.specs.declared.decision.refusal.Refusal.TheVariants.{Memory, Store, Stopped}
 use Rattle.office_rules.specs.declared.office.sale.Sale.{Sale}
 use Rattle.book_facts.specs.Lookups.{Finds, IsOfRules}
-use Rattle.book_facts.specs.LookupsSeen.{IsFoundSeen}
-use Rattle.book_facts.specs.LookupsSpoilt.{LookupSpoilt}
+use Rattle.book_facts.specs.LookupsSeen.{IsFoundSeen, LookupSpoilt}
 use Rattle.asks.specs.declared.lookup.Lookup.{Lookup}
 use Rattle.asks.specs.declared.lookup.Lookup.TheVariants as lookups
 use Rattle.book_states.specs.declared.lookup.Found.{Found}

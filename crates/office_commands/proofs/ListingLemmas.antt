@@ -6,8 +6,7 @@ use Rattle.std.proofs.lemmas.List.{length-append}
 use Rattle.sqlite.specs.Effect.{Database}
 use Rattle.sqlite.specs.State.{HasCleanDisk}
 use Rattle.book_facts.specs.Lookups.{Finds}
-use Rattle.book_facts.specs.LookupsSeen.{FindsSeen, IsFoundSeen}
-use Rattle.book_facts.specs.LookupsSpoilt.{LookupSpoilt}
+use Rattle.book_facts.specs.LookupsSeen.{FindsSeen, IsFoundSeen, LookupSpoilt}
 use Rattle.asks.specs.declared.lookup.Lookup.{Lookup}
 use Rattle.asks.specs.declared.lookup.Lookup.TheVariants as lookups
 use Rattle.book_states.specs.declared.lookup.Found.{Found}

@@ -5,8 +5,9 @@ ghost use Rattle.sqlite.specs.State.{IsUnchanged};
 ghost use Rattle.one_table.specs.Over.{Over};
 ghost use Rattle.book_facts.specs.Lookups.{last_found, last_sale, last_under};
 ghost use Rattle.book_facts.specs.Looking.{LooksUp, LooksUpByRules};
-ghost use Rattle.book_facts.specs.LookupsSeen.{IsLastFoundSeen, IsLastSaleSeen, IsLastUnderSeen};
-ghost use Rattle.book_facts.specs.LookupsSpoilt.{IsLastFoundSpoilt, IsLastSaleSpoilt, IsLastUnderSpoilt};
+ghost use Rattle.book_facts.specs.LookupsSeen.{IsLastFoundSeen, IsLastFoundSpoilt, IsLastSaleSeen};
+ghost use Rattle.book_facts.specs.LookupsSeen.{IsLastSaleSpoilt, IsLastUnderSeen};
+ghost use Rattle.book_facts.specs.LookupsSeen.{IsLastUnderSpoilt};
 
 use crate::looking::sales::sale_or_none;
 use book_states::Found;

@@ -4,8 +4,7 @@ ghost use Rattle.sqlite.specs.State.{IsUnchanged};
 ghost use Rattle.one_table.specs.Over.{Over};
 ghost use Rattle.book_facts.specs.Lookups.{AreLaterSteps};
 ghost use Rattle.book_facts.specs.Looking.{LooksUp};
-ghost use Rattle.book_facts.specs.LookupsSeen.{AreLaterSeen};
-ghost use Rattle.book_facts.specs.LookupsSpoilt.{AreLaterSpoilt};
+ghost use Rattle.book_facts.specs.LookupsSeen.{AreLaterSeen, AreLaterSpoilt};
 
 use book_lists::first_day_after;
 use book_states::LaterSteps;

@@ -6,8 +6,7 @@ ghost use Rattle.one_table.specs.Over.{Over};
 ghost use Rattle.book_facts.specs.Listing.{listed_meter};
 ghost use Rattle.book_facts.specs.Lookups.{FindsMeters};
 ghost use Rattle.book_facts.specs.Looking.{LooksUpByRules};
-ghost use Rattle.book_facts.specs.LookupsSeen.{FindsMetersSeen};
-ghost use Rattle.book_facts.specs.LookupsSpoilt.{AreMetersSpoilt};
+ghost use Rattle.book_facts.specs.LookupsSeen.{AreMetersSpoilt, FindsMetersSeen};
 
 use book_lists::meters_after;
 use book_states::{Found, ListedMeter};

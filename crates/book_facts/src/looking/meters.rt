@@ -7,8 +7,7 @@ ghost use Rattle.sts_fields.specs.Calendar.{month_at};
 ghost use Rattle.office_rules.specs.Office.Lookup.{prior};
 ghost use Rattle.book_facts.specs.Lookups.{last_sale, meter_found};
 ghost use Rattle.book_facts.specs.Looking.{LooksUpByRules};
-ghost use Rattle.book_facts.specs.LookupsSeen.{IsMeterFoundSeen};
-ghost use Rattle.book_facts.specs.LookupsSpoilt.{IsMeterFoundSpoilt};
+ghost use Rattle.book_facts.specs.LookupsSeen.{IsMeterFoundSeen, IsMeterFoundSpoilt};
 
 use crate::looking::last_sales::last_sale;
 use book_states::{Found, MeterSummary};

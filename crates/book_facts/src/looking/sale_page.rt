@@ -4,8 +4,7 @@ ghost use Rattle.sqlite.specs.State.{IsUnchanged};
 ghost use Rattle.one_table.specs.Over.{Over};
 ghost use Rattle.book_facts.specs.Lookups.{FindsSales};
 ghost use Rattle.book_facts.specs.Looking.{LooksUpByRules};
-ghost use Rattle.book_facts.specs.LookupsSeen.{FindsSalesSeen};
-ghost use Rattle.book_facts.specs.LookupsSpoilt.{AreSalesSpoilt};
+ghost use Rattle.book_facts.specs.LookupsSeen.{AreSalesSpoilt, FindsSalesSeen};
 
 use book_lists::PAGE;
 use book_states::Found;

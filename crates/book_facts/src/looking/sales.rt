@@ -6,8 +6,7 @@ ghost use Rattle.one_table.specs.Over.{Over};
 ghost use Rattle.office_rules.specs.Office.Lookup.{sale_of_ref};
 ghost use Rattle.book_facts.specs.Lookups.{IsOfRules, sale_found};
 ghost use Rattle.book_facts.specs.Looking.{LooksUpByRules};
-ghost use Rattle.book_facts.specs.LookupsSeen.{IsSaleFoundSeen};
-ghost use Rattle.book_facts.specs.LookupsSpoilt.{IsSaleFoundSpoilt};
+ghost use Rattle.book_facts.specs.LookupsSeen.{IsSaleFoundSeen, IsSaleFoundSpoilt};
 
 use book_states::Found;
 use book_tables::TableError;

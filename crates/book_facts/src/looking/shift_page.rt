@@ -4,8 +4,7 @@ ghost use Rattle.one_table.specs.Over.{Over};
 ghost use Rattle.book_states.specs.Same.{IsSame};
 ghost use Rattle.book_facts.specs.Lookups.{FindsShifts};
 ghost use Rattle.book_facts.specs.Looking.{LooksUpByRules};
-ghost use Rattle.book_facts.specs.LookupsSeen.{FindsShiftsSeen};
-ghost use Rattle.book_facts.specs.LookupsSpoilt.{AreShiftsSpoilt};
+ghost use Rattle.book_facts.specs.LookupsSeen.{AreShiftsSpoilt, FindsShiftsSeen};
 
 use book_lists::shifts_after;
 use book_states::{Found, ListedShift};

@@ -8,8 +8,8 @@ ghost use Rattle.book_states.specs.Same.{IsSame};
 ghost use Rattle.book_facts.specs.Listing.{TellsOf};
 ghost use Rattle.book_facts.specs.Lookups.{FindsTariffs};
 ghost use Rattle.book_facts.specs.Looking.{LooksUp, LooksUpByRules};
-ghost use Rattle.book_facts.specs.LookupsSeen.{FindsTariffsSeen, IsTariffNamedSeen};
-ghost use Rattle.book_facts.specs.LookupsSpoilt.{AreTariffsSpoilt, IsTariffNamedSpoilt};
+ghost use Rattle.book_facts.specs.LookupsSeen.{AreTariffsSpoilt, FindsTariffsSeen};
+ghost use Rattle.book_facts.specs.LookupsSeen.{IsTariffNamedSeen, IsTariffNamedSpoilt};
 
 use crate::facts::steps::steps_on;
 use crate::looking::later_steps::later_steps;

@@ -5,8 +5,7 @@ use Rattle.sqlite.specs.Effect.{Database}
 use Rattle.sqlite.specs.State.{HasCleanDisk}
 use Rattle.book_facts.specs.Lookups.{Finds}
 use Rattle.book_facts.specs.LookupsSeen.{FindsMetersSeen, FindsSalesSeen, FindsShiftsSeen}
-use Rattle.book_facts.specs.LookupsSeen.{FindsTariffsSeen}
-use Rattle.book_facts.specs.LookupsSpoilt.{LookupSpoilt}
+use Rattle.book_facts.specs.LookupsSeen.{FindsTariffsSeen, LookupSpoilt}
 use Rattle.book_states.specs.declared.lookup.Found.{Found}
 use Rattle.books.specs.Keeps.{BooksHaveTables, Represents, Seen}
 use Rattle.asks.specs.declared.lookup.Lookup.{Lookup}

@@ -5,8 +5,7 @@ use Rattle.sts_fields.specs.Day.{last_day}
 use Rattle.office_rules.specs.Office.{IsOffice, Office}
 use Rattle.book_tables.specs.reading.Reading.{HasAllTables}
 use Rattle.book_states.specs.Members.{HasMembers}
-use Rattle.book_facts.specs.LookupsSeen.{AreLaterSeen}
-use Rattle.book_facts.specs.LookupsSpoilt.{IsSpoiltBehind}
+use Rattle.book_facts.specs.LookupsSeen.{AreLaterSeen, IsSpoiltBehind}
 use Rattle.book_states.specs.declared.lookup.LaterSteps.{LaterSteps}
 use Rattle.book_facts.proofs.LaterLemmas.{AreUntil}
 use Rattle.book_facts.proofs.PassedLemmas.{HasPassed}

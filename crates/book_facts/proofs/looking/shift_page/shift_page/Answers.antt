@@ -16,8 +16,7 @@ use Rattle.book_states.specs.declared.lookup.ListedShift.{ListedShift}
 use Rattle.book_facts.proofs.FactsLemmas.{members_after, sales_told, shifts_told, tables_of}
 use Rattle.book_facts.proofs.ListedLemmas.{map_more}
 use Rattle.book_facts.proofs.PassedLemmas.{clean_before, passed, passed_after, passed_none, passed_reads, passed_then, read_after, same_on, stops_on, earlier, tables_after}
-use Rattle.book_facts.specs.LookupsSeen.{IsShiftListedSeen}
-use Rattle.book_facts.specs.LookupsSpoilt.{IsShiftListedSpoilt}
+use Rattle.book_facts.specs.LookupsSeen.{IsShiftListedSeen, IsShiftListedSpoilt}
 use Rattle.book_facts.proofs.LooksLemmas.{by_rules_on, first_shown, first_spoilt, table_shown, table_spoilt, zip_more}
 use Rattle.book_facts.proofs.looking.shift_page.shift_page.Goals as goal
 

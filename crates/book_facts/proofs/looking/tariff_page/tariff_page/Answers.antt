@@ -17,8 +17,7 @@ use Rattle.book_facts.proofs.FactsLemmas.{members_after, of_no_office, office_sa
 use Rattle.book_facts.proofs.ListedLemmas.{TellTariffs, never_none, tariffs_listed, tell_more, tell_none}
 use Rattle.book_facts.proofs.PassedLemmas.{clean_before, passed, passed_after, passed_none, passed_reads, passed_then, read_after, same_on, stops_on, earlier, tables_after}
 use Rattle.book_states.specs.FactsSeen.{AreStepsSeenOn}
-use Rattle.book_facts.specs.LookupsSeen.{IsTariffNamedSeen, IsTariffListedSeen}
-use Rattle.book_facts.specs.LookupsSpoilt.{IsTariffListedSpoilt, IsTariffNamedSpoilt}
+use Rattle.book_facts.specs.LookupsSeen.{IsTariffListedSeen, IsTariffListedSpoilt, IsTariffNamedSeen, IsTariffNamedSpoilt}
 use Rattle.book_facts.proofs.LooksLemmas.{by_rules_none, by_rules_on, looks_shown, looks_spoilt, first_shown, first_spoilt, zip_more}
 use Rattle.book_facts.proofs.looking.tariff_page.tariff_page.Goals as goal
 

@@ -4,8 +4,7 @@ use Rattle.sqlite.specs.Held.{state}
 use Rattle.office_rules.specs.declared.decision.refusal.Refusal.{Refusal}
 use Rattle.book_facts.specs.Looking.{TellsTables}
 use Rattle.book_facts.specs.Lookups.{IsOfRules}
-use Rattle.book_facts.specs.LookupsSeen.{IsFoundSeen}
-use Rattle.book_facts.specs.LookupsSpoilt.{LookupSpoilt}
+use Rattle.book_facts.specs.LookupsSeen.{IsFoundSeen, LookupSpoilt}
 use Rattle.book_states.specs.Health.{IsHealthOf}
 use Rattle.book_states.specs.declared.lookup.Found.{Found}
 use Rattle.book_states.specs.declared.lookup.Found.TheVariants as variants
