@@ -47,7 +47,7 @@ reason_of (Refused refusal) = refusal_reason refusal
 reason_of Amount =
     codes "No token carries this amount, or it is 0."
 reason_of Clock =
-    codes "The computer's clock is outside the years 1993 to 2099."
+    codes "The clock of the office's computer is outside the years 1993 to 2099."
 reason_of Value =
     codes "A value is outside its rule."
 reason_of Place =

@@ -76,9 +76,9 @@ refusal_remedy Differs =
 refusal_remedy BeforeBase =
     codes "Have the clock set right, or wait for the day."
 refusal_remedy IdentifiersSpent =
-    codes "A manager has to move it to a later base date, and have the meter cleared."
+    codes "Have the clock set right. If it is right, have the meter moved to a later base date and cleared."
 refusal_remedy IdentifierAhead =
-    codes "Have the clock set right. If it is right, wait, or move the meter to a later base date."
+    codes "Have the clock set right. If it is right, wait."
 refusal_remedy TooLittle =
     codes "Ask for more money."
 refusal_remedy OfficeFull =

@@ -97,7 +97,8 @@ impl Advice {
         match self {
             Advice::Refused(refusal) => refusal_reason(refusal),
             Advice::Amount => "No token carries this amount, or it is 0.",
-            Advice::Clock => "The computer's clock is outside the years 1993 to 2099.",
+            Advice::Clock =>
+                "The clock of the office's computer is outside the years 1993 to 2099.",
             Advice::Value => "A value is outside its rule.",
             Advice::Place => "The command needs one office: a file, or a running desk.",
             Advice::File => "The file cannot be read.",

@@ -1,6 +1,6 @@
 //! A look at the computer, to say more closely why the program refused, and whether its clock is
 //! right.
-ghost use Rattle.std.specs.Prelude.{ℕ, ⊤, IfSome};
+ghost use Rattle.std.specs.Prelude.{◌≡◌, ℕ, ⊤, Bool, false, List, [], IfSome};
 ghost use Rattle.sts_fields.specs.Text.{Text};
 
 use crate::advice::Advice;
@@ -8,7 +8,7 @@ use crate::last_sale::last_moment_here;
 use crate::schema::schema_fault;
 use conversation::MachineClock;
 use os::RangeLock;
-use sqlite::Wary;
+use sqlite::Start;
 use std::fs::{self, File, Metadata, OpenOptions};
 use std::io::{ErrorKind, Read, Write};
 use std::net::TcpListener;
@@ -86,6 +86,23 @@ pub trait Look {
     fn door(&self, address: &str) -> Option<Advice>;
 }
 
+// What an office's file holds as it is looked at. The command opens it again after that, when it may
+// hold other bytes: so the two openings have no type in common.
+#[derive(Drop)]
+struct Looked;
+
+impl Start for Looked {
+    ghost log = { [] };
+
+    ghost db = { [] };
+
+    ghost is_mixing = { false };
+
+    fn mixes() -> bool {
+        false
+    }
+}
+
 /// The computer that the program runs on, and when it began.
 #[derive(Drop)]
 pub struct Here<'a> {
@@ -115,7 +132,7 @@ impl<'a> Here<'a> {
 
 impl Look for Here<'_> {
     fn last_sale(&self, path: &str) -> Option<Moment> {
-        last_moment_here(self.rt, Wary, path)
+        last_moment_here(self.rt, Looked, path)
     }
 
     fn now(&self) -> Option<Moment> {

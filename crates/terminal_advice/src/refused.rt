@@ -50,11 +50,9 @@ pub(crate) fn refusal_remedy(refusal: Refusal) -> &'static str
         Refusal::Differs => "Take another name, or compare what you entered.",
         Refusal::BeforeBase => "Have the clock set right, or wait for the day.",
         Refusal::IdentifiersSpent => {
-            "A manager has to move it to a later base date, and have the meter cleared."
+            "Have the clock set right. If it is right, have the meter moved to a later base date and cleared."
         }
-        Refusal::IdentifierAhead => {
-            "Have the clock set right. If it is right, wait, or move the meter to a later base date."
-        }
+        Refusal::IdentifierAhead => { "Have the clock set right. If it is right, wait." }
         Refusal::TooLittle => "Ask for more money.",
         Refusal::OfficeFull => "Whoever runs it has to begin a new file.",
         Refusal::NoSale => "Correct what you entered.",

@@ -37,8 +37,8 @@ const STEPS: Argument = Argument {
     name: "steps",
     kind: ArgumentKind::Word("STEPS"),
     help: "One to eight steps of a tariff as END:PRICE with ';' between them: rising ends in tenths \
-        of a kWh a month, 1 to 4294967295, the last without an end, and prices in cents per kWh, \
-        1 to 1000000",
+        of a kWh a month, 1 to 4294967295, the last without an end, and prices in cents per \
+        kWh, 1 to 1000000",
 };
 
 const PRIOR: Argument = Argument {

@@ -25,7 +25,7 @@ use vend_ports::{TextFiles, Watched};
 
 /// Asks the office in the file what the words ask, and prints what it answers, or why it does not.
 ///
-/// `report`, `show`, `list` and `quote` make no file. Only an import reads a file of rows. It tells
+/// `report`, `show`, `list` and `offer` make no file. Only an import reads a file of rows. It tells
 /// `progress` how far an export is.
 pub fn run<H: OfficeFile, F: TextFiles, C: Clock, P: Progress, O: Write, E: Write>(
     file: &FilePlace<'_>,
