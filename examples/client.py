@@ -8,20 +8,27 @@ The first connection is closed before its reply is read, so that nobody here kno
 was made. The same message with the same ref is then sent on a new connection: there is one sale,
 and this is its token.
 
-Status 0: sold. Status 1: refused, or still not known; standard error says which.
+Status 0: sold, and here is the receipt. Status 1: sold without one, refused, or still not known, or the
+arguments are wrong; standard error says which.
 """
 import http.client
 import json
 import sys
 import time
 
-TIMEOUT = 10  # seconds for each wait: others may be served before this client
+# Seconds for each wait, while others may be served before this client. All tries together take some 46 s. One
+# client may hold the desk for 60 (docs/DESK.md): in a shop with several tills take 90.
+TIMEOUT = 10
 PAUSES = [0.2, 1, 5]  # seconds before the second and each further try
 PAGE = 100  # members of a page of a list; a shorter one is the last
+# How a desk names what is wrong with a message as it is written. The same message gets the same word again.
+WRONG = ("Head", "Method", "Host", "Coding", "Length", "Body", "NoRoute")
 
 
 class Refused(Exception):
-    """The desk refused the message. Sending it again changes nothing before its cause is mended."""
+    """The message was refused. No sale was made by an earlier try of it either; another message may have been
+    done by one, if somebody has changed its tariff or meter since. Sending it again changes nothing before its
+    cause is mended."""
 
 
 class Unknown(Exception):
@@ -48,25 +55,37 @@ def may_be_done(status):
     return status >= 500 and status != 501
 
 
-def ask_until_known(desk, method, target, body=None):
-    """The body of the good reply, by as many tries as it takes.
+def told(text, read):
+    """What `read` finds in the body of a good reply. A body in which it finds nothing is of no desk, but
+    of a proxy or another server: then nothing is known."""
+    try:
+        return read(text)
+    except (ValueError, LookupError, TypeError) as error:
+        raise Unknown(f"200 {text.decode(errors='replace')}") from error
 
-    A message may come twice where the same one again changes nothing: a sale with its ref, a
-    tariff or its dated steps, a meter, its base date or its key, an import, steps that are taken
-    back, and all that is asked by GET.
+
+def ask_until_known(desk, method, target, body=None, read=bytes, is_first=True):
+    """What `read` finds in the body of the good reply, by as many tries as it takes.
+
+    A message may come twice where the same one again changes nothing: a sale with its ref, all that is
+    asked by GET, and, unless somebody has changed it meanwhile, a tariff or its dated steps, a meter, its
+    base date or its key, an import, and steps that are taken back.
+
+    Once an earlier try may have been done, which the caller says of those before by `is_first`, only a
+    refusal of the office or of the desk settles it: that of a proxy says nothing of the earlier one.
     """
     for pause in [*PAUSES, None]:
         try:
             status, text = ask(desk, method, target, body)
             if status == 200:
-                return text
+                return told(text, read)
             why = f"{status} {text.decode(errors='replace')}"
-            if not may_be_done(status):
-                # {"error":"TooLittle","refusal":10}, or without a number: {"error":"Body"}
+            if not may_be_done(status) and (is_first or settles(text)):
                 raise Refused(why)
             # out of memory, a failed disk, a wrong clock, a proxy that got no reply: it may pass
         except (OSError, http.client.HTTPException) as error:
             why = repr(error)  # no connection, or no whole reply
+        is_first = False
         if pause is not None:
             time.sleep(pause)
     raise Unknown(why)
@@ -75,36 +94,61 @@ def ask_until_known(desk, method, target, body=None):
 def add_steps(desk, tariff, day, steps):
     """Gives a tariff further steps, such as "500:110;:220", from a later day such as 2099-01-01 on."""
     body = json.dumps({"from": day, "steps": steps})
-    ask_until_known(desk, "POST", f"/tariffs/{tariff}/steps", body)
+    ask_until_known(desk, "POST", f"/tariffs/{tariff}/steps", body, member("done"))
 
 
 def withdraw_steps(desk, tariff, day):
     """Takes back the steps that a tariff was to have from a later day on. Whether there were any: False
     also after a first message whose reply was lost."""
-    return json.loads(ask_until_known(desk, "DELETE", f"/tariffs/{tariff}/steps/{day}"))["withdrawn"] == 1
+    target = f"/tariffs/{tariff}/steps/{day}"
+    return ask_until_known(desk, "DELETE", target, read=member("withdrawn")) == 1
 
 
 def set_key(desk, meter, key):
     """Gives a meter to which nothing was sold another key, of sixteen hexadecimal digits."""
-    ask_until_known(desk, "POST", f"/meters/{meter}/key", json.dumps({"key": key}))
+    ask_until_known(desk, "POST", f"/meters/{meter}/key", json.dumps({"key": key}), member("done"))
 
 
 def move_base(desk, meter, year):
     """Has a meter's next identifiers count from a later base date: 2014 or 2035."""
-    ask_until_known(desk, "POST", f"/meters/{meter}/base", json.dumps({"base": year}))
+    ask_until_known(desk, "POST", f"/meters/{meter}/base", json.dumps({"base": year}), member("done"))
 
 
 def quote(desk, meter, tender):
     """What a tender would buy for a meter now: `tenths`, `price`, `change`, `tariff`. Nothing is sold."""
-    return json.loads(ask_until_known(desk, "GET", f"/meters/{meter}/quote?tender={tender}"))
+    return ask_until_known(desk, "GET", f"/meters/{meter}/quote?tender={tender}", read=json.loads)
 
 
-def error_in(text):
-    """The name of a desk's refusal, or None: a body that a proxy sends need not be JSON."""
+def member(name):
+    """Reads the member of this name."""
+    return lambda text: json.loads(text)[name]
+
+
+def sale_in(text):
+    """Reads a sale, by the members that are used here."""
+    sale = json.loads(text)
+    sale["number"], sale["token"]
+    return sale
+
+
+def receipt_in(text):
+    """Reads a receipt: its first line is SALE and the number."""
+    if not text.startswith(b"SALE "):
+        raise ValueError("no receipt")
+    return text.decode()
+
+
+def found_in(text, name):
+    """The member of this name, or None: a body that a proxy sends need not be JSON."""
     try:
-        return json.loads(text)["error"]
+        return json.loads(text)[name]
     except (ValueError, LookupError, TypeError):
         return None
+
+
+def settles(text):
+    """Whether it is the refusal of an office, {"error":"TooLittle","refusal":10}, or of a desk, {"error":"Body"}."""
+    return found_in(text, "refusal") or found_in(text, "error") in WRONG
 
 
 def sale_of(desk, operator, ref):
@@ -112,8 +156,8 @@ def sale_of(desk, operator, ref):
     None: send it again."""
     status, text = ask(desk, "GET", f"/operators/{operator}/sales/{ref}")
     if status == 200:
-        return json.loads(text)
-    if status == 404 and error_in(text) == "NoSale":
+        return told(text, sale_in)
+    if status == 404 and found_in(text, "error") == "NoSale":
         return None
     raise (Unknown if may_be_done(status) else Refused)(f"{status} {text.decode(errors='replace')}")
 
@@ -121,7 +165,7 @@ def sale_of(desk, operator, ref):
 def listed(desk, kind, key, after):
     """The members of a list in order, each page asked for after the last member of the one before."""
     while True:
-        page = json.loads(ask_until_known(desk, "GET", f"/{kind}?after={after}"))[kind]
+        page = ask_until_known(desk, "GET", f"/{kind}?after={after}", read=member(kind))
         yield from page
         if len(page) < PAGE:
             return
@@ -162,19 +206,24 @@ def main(desk, operator, meter, tender, ref):
     message = ("POST", "/sales", json.dumps(order))
     try:
         lose_the_reply(desk, *message)
-        sale = json.loads(ask_until_known(desk, *message))
-        again = json.loads(ask_until_known(desk, *message))
-        if again["token"] != sale["token"]:
-            raise Unknown(f"two tokens for {ref}")
-        receipt = ask_until_known(desk, "GET", f"/sales/{sale['number']}/receipt")
+        sale = ask_until_known(desk, *message, read=sale_in, is_first=False)
+    except http.client.InvalidURL:
+        sys.exit(f"no desk is named so: {desk}")
     except Refused as refusal:
         sys.exit(f"refused: {refusal}")
     except (OSError, Unknown) as error:
         sys.exit(f"not known, ask again for {ref}: {error}")
-    sys.stdout.write(receipt.decode())
+    try:
+        again = ask_until_known(desk, *message, read=sale_in)
+        if again["token"] != sale["token"]:
+            raise Unknown(f"two tokens for {ref}")
+        receipt = ask_until_known(desk, "GET", f"/sales/{sale['number']}/receipt", read=receipt_in)
+    except (Refused, Unknown) as error:
+        sys.exit(f"sold as {sale['number']}, with the token {sale['token']}; its receipt did not come: {error}")
+    sys.stdout.write(receipt)
 
 
 if __name__ == "__main__":
-    if len(sys.argv) != 6:
+    if len(sys.argv) != 6 or not sys.argv[4].isdecimal():
         sys.exit(__doc__)
     main(*sys.argv[1:])
