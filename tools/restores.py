@@ -24,7 +24,7 @@ def safe_after(seconds):
 
 
 def safe_line(moment):
-    return f"safe to sell from {stamp(moment)} on, {DAY} minutes after the last sale that may be missing"
+    return f"safe to sell from {stamp(moment)} on, a day after the end of the minute of the last sale that may be missing"
 
 
 def moment_of(shop):

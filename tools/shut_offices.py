@@ -20,7 +20,7 @@ STATEMENTS = {
             "CREATE VIEW other AS SELECT * FROM sales;",
             "CREATE TABLE mine (word TEXT); CREATE VIEW other AS SELECT * FROM mine;"))),
     "a view with SQL that `vend` does not read, such as `OVER`, `FILTER`, `GLOB`, `ESCAPE`, `NATURAL JOIN`, "
-    "`RIGHT JOIN`, `VALUES`, `MATERIALIZED`, `->>` or `json_each`": tuple(f"CREATE VIEW name AS {it};" for it in (
+    "`RIGHT JOIN`, `VALUES`, `MATERIALIZED`, `->>`, `json_each` or `main.sales`": tuple(f"CREATE VIEW name AS {it};" for it in (
         "SELECT number, row_number() OVER () FROM sales",
         "SELECT count(*) FILTER (WHERE price > 5) FROM sales",
         "SELECT * FROM sales WHERE ref GLOB 'A*'",
@@ -30,7 +30,8 @@ STATEMENTS = {
         "VALUES (1)",
         "WITH some AS MATERIALIZED (SELECT * FROM sales) SELECT * FROM some",
         "SELECT '{}' ->> 'word'",
-        "SELECT value FROM json_each('[1]')")),
+        "SELECT value FROM json_each('[1]')",
+        "SELECT number FROM main.sales")),
     "a virtual table, as of FTS or R-tree": tuple(
         f"CREATE VIRTUAL TABLE name USING {it};" for it in ("fts4(word)", "fts5(word)", "rtree(id, low, high)")),
     "an index with `WHERE`, or on an expression, on a table of the office": (
