@@ -173,7 +173,7 @@ def check_printed(name, prints, ran):
 def check_strangers(offices):
     """Which commands leave a stranger's database as it is: those of which docs/USING.md says so, and `audit`."""
     page = (TOP / "docs" / "USING.md").read_text(encoding="utf-8")
-    said = re.search(r"((?:`\w+`(?:, | and ))+`\w+`) never create a file or add tables", page)
+    said = re.search(r"((?:`\w+`(?:, | and ))+`\w+`) never create a file, and never add tables", page)
     keep = {*quoted(said[1])}
     stranger = offices.new()
     change(stranger, "CREATE TABLE notes (text TEXT); INSERT INTO notes VALUES ('kept');")
@@ -235,21 +235,24 @@ def check_statuses(offices):
     file = offices.copy()
     broken = offices.copy("UPDATE sales SET month = 9;")
     runs = {
-        "done; help; `meter`, even if it refuses a token": (
-            [["audit", "--file", file], ["sell", "--help"], ["meter", "--key", KEY, "00000000000000000000"]], b""),
+        "done; `--help`; `--version`; `meter`, even if it refuses a token": (
+            [["audit", "--file", file], ["sell", "--help"], ["--help"], ["--version"], ["show", "--file", file, "meter",
+              "--meter", METER, "--operator", "!!"], ["meter", "--key", KEY, "00000000000000000000"]], b""),
         "refused; or a file, the clock or a connection failed": (
             [["report", "--file", file, "--kind", "receipt", "--number", "7"], ["audit", "--file", "none.db"]], None),
         "`audit` found no office, or a row that breaks a rule; or standard output failed": (
             [["audit", "--file", broken]], b""),
-        "an argument is missing or unknown (the next two rows have the exceptions)": (
-            [["sell"], ["audit", "--file", file, "--more"]], None),
+        "an argument is missing, unknown, given twice or without its value (the next three rows have the exceptions)": (
+            [["sell"], ["audit", "--file", file, "--more"], ["audit", "--file", file, "--file", file],
+             ["audit", "--file"]], None),
+        "no command is given": ([[]], vend("--help").stdout),
         "a command that takes `--file` or `--desk` ('yes' in [the table](#what-each-command-prints)) has neither, or both, "
         "or `--desk` with an option that only a file has": (
             [["list", "meters"], ["list", "--file", file, "--desk", "127.0.0.1:1", "meters"],
              ["list", "meters", "--wait", "1", "--desk", "127.0.0.1:1"]], b"give --file or --desk\n"),
-        "a value is outside its rule; any argument is not UTF-8; `show meter` or `show last` lacks `--meter`; "
-        "`show sale` lacks `--operator` or `--ref`; `show last` has `--json`": (
-            [["quote", ":0", "0", "1"], ["quote", ":100", "0", b"\xff"], [b"\xff"], ["audit", "--file", b"\xff.db"],
+        "a value is outside its rule, even that of a `--transform` that is ignored; any argument is not UTF-8; `show meter` "
+        "or `show last` lacks `--meter`; `show sale` lacks `--operator` or `--ref`; `show last` has `--json`": (
+            [["quote", ":0", "0", "1"], ["quote", "--transform", "no", ":100", "0", "500"], ["quote", ":100", "0", b"\xff"], [b"\xff"], ["audit", "--file", b"\xff.db"],
              ["show", "--file", file, "meter"], ["show", "--file", file, "last"],
              ["show", "--file", file, "sale", "--operator", "ann"], ["show", "--file", file, "sale", "--ref", "A-1"],
              ["show", "--file", file, "last", "--meter", METER, "--json"]],
@@ -356,9 +359,11 @@ def check_spreadsheets(offices):
     runs = {
         "`ImportRow 0 Header`": [whole.replace(",", ";"), whole.replace(",", "\t"), whole.encode("utf-16"),
                                  f"sep=,\n{whole}", whole.replace(",", ", "), whole.replace("\n", ",\n")],
+        "`Field 2` of that row": [whole + row.replace(",", ", ", 1)],
         "`Field 1` of that row": [f"{whole},,,\n"],
         "`Field 4` of its row": [f"{head}\n{row[:-16]}1200000\n", f"{head}\n{row[:-16]}00000000000012E5\n"],
         "`Field 1` of its row": [f"{head}\n1.2E+10{row[11:]}\n"],
+        "`Field 3` of its row": ["name,steps,from\nflat,:130,01/01/2030\n"],
     }
     rows = rows_of_page("TEXTS.md", "What it wrote", "What `import` says")
     same([said for _, said in rows], [*runs], "docs/TEXTS.md: what an import says")
@@ -369,7 +374,8 @@ def check_spreadsheets(offices):
             wanted = quoted(said)[0]
             if wanted.startswith("Field"):
                 wanted = f"ImportRow {2 if 'that' in said else 1} {wanted}"
-            expect(vend("import", "--file", offices.copy(), "--at", AT, "meters", str(file)), 1, b"",
+            kind = "tariffs" if text[:4] == "name" else "meters"
+            expect(vend("import", "--file", offices.copy(), "--at", AT, kind, str(file)), 1, b"",
                    f"refused 14 {wanted}\n".encode())
     return len(rows)
 

@@ -103,7 +103,7 @@ def claims():
     yield page, r"An audit\*\* takes (\S+) to (\S+) times as long as an opening", [min(longer), max(longer)]
     yield page, r"holds all rows in memory: (\d+) MiB with 100,000 sales", \
         [number(all_tables[audit][-1]["audit, MiB at most"])]
-    yield "docs/FAQ.md", r"a `sell` takes (\S+) s\. .*`sell --desk` took (\S+) ms", \
+    yield "docs/FAQ.md", r"a `sell` took (\S+) s; .*`sell --desk` took (\S+) ms", \
         [number(sells["100000"]["vend"]) / 1000, max(at_desk[0])]
     yield "docs/FAQ.md", r"and (\d+) times as fast at 100,000", [1 / number(sells["100000"]["vend to Python"])]
     # Between two sizes of a file the ratio is taken as a line over logarithms.
