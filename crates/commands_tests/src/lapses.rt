@@ -178,31 +178,42 @@ fn met_by(ran: &Outcome) -> Result<Met, Fail> {
     Err(Fail::new(format_args!("{ran:?}")))
 }
 
-// So many calls of one file fail, one in each run: more than are made, so the last runs have none.
+// How many runs there are at the most: more than a run makes calls of one file.
 const CALLS: u64 = 600;
 
-const PAST: u64 = CALLS - 50;
+// After so many runs in a row without a failure no later call is made.
+const QUIET: u64 = 50;
 
-// Each call of one file fails once. Answers how many requests met that; of the database file, how
-// many openings.
+// Each call of one file fails once, in a run of its own. Answers how many requests met that; of the
+// database file, how many openings.
 fn sweep(rt: &HostRuntime, is_log: bool) -> Result<u64, Fail> {
     let path = folder::enter(rt)?;
     let mut failures: u64 = 0;
+    let mut quiet: u64 = 0;
     for before in 0..CALLS {
         let ran = served(rt, calls_fail(is_log, before, 1), usize::MAX)?;
         let met = met_by(&ran)?;
-        if met != Met::Nobody && before >= PAST {
-            return Err(Fail::new(format_args!("there are calls past {before}")));
-        }
+        quiet = quiet_after(quiet, met == Met::Nobody);
         // A request reads and writes the log alone. Of the database file an opening meets the
         // failure.
         let sought = if is_log { Met::Request } else { Met::Opening };
         if met == sought {
             failures = failures.saturating_add(1);
         }
+        if quiet == QUIET {
+            break;
+        }
     }
     folder::remove(rt, path)?;
-    Ok(failures)
+    if quiet == QUIET {
+        return Ok(failures);
+    }
+    Err(Fail::new("there are calls past the last run"))
+}
+
+// How many runs in a row met no failure, with one more.
+fn quiet_after(quiet: u64, is_whole: bool) -> u64 {
+    if is_whole { quiet.saturating_add(1) } else { 0 }
 }
 
 #[test]

@@ -1,7 +1,7 @@
 //! Look-ups and lists in a file in which nothing was written, at the moment that is given or else
 //! at the clock's; and where a call of it fails once, which is told, and nothing is printed.
-use crate::lapses::calls_fail;
 use crate::lapses::ports::{LapsingOffice, NoTexts, ScriptedMachine, Texts, Trouble, Unseen};
+use crate::lapses::{CALLS, QUIET, calls_fail, quiet_after};
 use crate::support::words_of;
 use desk::Script;
 use std::test::Fail;
@@ -140,31 +140,40 @@ fn lists_of_a_new_office(rt: HostRuntime) -> Result<(), Fail> {
     Ok(())
 }
 
-// So many calls of one file fail, one in each run: more than are made, so the last runs have none.
-const CALLS: u64 = 300;
+// Each call of one file fails once, in a run of its own: the opening or the look-up tells it.
+// Answers how often.
+fn failures_of(rt: &HostRuntime, is_log: bool, line: &str, found: &str) -> Result<u64, Fail> {
+    let mut failures: u64 = 0;
+    let mut quiet: u64 = 0;
+    for before in 0..CALLS {
+        let trouble = calls_fail(is_log, before, 1);
+        let said = if line.starts_with("list ") {
+            listed(rt, trouble, line, MOMENT)?
+        } else {
+            told(rt, trouble, line, MOMENT)?
+        };
+        let is_whole = said.as_str() == found;
+        if !is_whole {
+            if said.as_str() != "open 3 Store\n" && said.as_str() != "refused 16 Store\n" {
+                return Err(Fail::new(format_args!("{line}: {said}")));
+            }
+            failures = failures.saturating_add(1);
+        }
+        quiet = quiet_after(quiet, is_whole);
+        if quiet == QUIET {
+            return Ok(failures);
+        }
+    }
+    Err(Fail::new("there are calls past the last run"))
+}
 
-// Each call of one file fails once: the opening or the look-up tells it. Answers how often.
 fn sweep(rt: &HostRuntime, is_log: bool) -> Result<u64, Fail> {
     let mut failures: u64 = 0;
     for (line, found) in LOOK_UPS {
-        for before in 0..CALLS {
-            let told = told(rt, calls_fail(is_log, before, 1), line, MOMENT)?;
-            if told.as_str() == "open 3 Store\n" || told.as_str() == "refused 16 Store\n" {
-                failures = failures.saturating_add(1);
-            } else if told.as_str() != found {
-                return Err(Fail::new(format_args!("{line}: {told}")));
-            }
-        }
+        failures = failures.saturating_add(failures_of(rt, is_log, line, found)?);
     }
-    for (line, header) in LISTS {
-        for before in 0..CALLS {
-            let told = listed(rt, calls_fail(is_log, before, 1), line, MOMENT)?;
-            if told.as_str() == "open 3 Store\n" || told.as_str() == "refused 16 Store\n" {
-                failures = failures.saturating_add(1);
-            } else if told.as_str() != header {
-                return Err(Fail::new(format_args!("{line}: {told}")));
-            }
-        }
+    for (line, found) in LISTS {
+        failures = failures.saturating_add(failures_of(rt, is_log, line, found)?);
     }
     Ok(failures)
 }

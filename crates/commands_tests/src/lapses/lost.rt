@@ -2,7 +2,8 @@
 use crate::folder;
 use crate::lapses::ports::Trouble;
 use crate::lapses::{
-    CALLS, LISTENING, MESSAGES, OPEN_AGAIN, Outcome, STOPPED, calls_fail, count_in, served,
+    CALLS, LISTENING, MESSAGES, OPEN_AGAIN, Outcome, QUIET, STOPPED, calls_fail, count_in,
+    quiet_after, served,
 };
 use disk_testing::{Faults, NO_FAULTS};
 use std::test::Fail;
@@ -84,21 +85,25 @@ fn failing_from(is_log: bool, is_sync: bool, before: u64) -> Trouble {
     }
 }
 
-// Answers how often the office could not be opened again. There are more runs than calls.
-fn sweep(rt: &HostRuntime, is_log: bool, is_sync: bool, runs: u64) -> Result<u64, Fail> {
+// Answers how often the office could not be opened again.
+fn sweep(rt: &HostRuntime, is_log: bool, is_sync: bool) -> Result<u64, Fail> {
     let path = folder::enter(rt)?;
     let whole = served(rt, calls_fail(is_log, 0, 0), usize::MAX)?.replies;
     let mut lost: u64 = 0;
-    let mut last = Way::Whole;
-    for before in 0..runs {
+    let mut quiet: u64 = 0;
+    for before in 0..CALLS {
         let ran = served(rt, failing_from(is_log, is_sync, before), usize::MAX)?;
-        last = way_of(&ran, whole.as_str())?;
-        if last == Way::Lost {
+        let way = way_of(&ran, whole.as_str())?;
+        quiet = quiet_after(quiet, way == Way::Whole);
+        if way == Way::Lost {
             lost = lost.saturating_add(1);
+        }
+        if quiet == QUIET {
+            break;
         }
     }
     folder::remove(rt, path)?;
-    if last == Way::Whole {
+    if quiet == QUIET {
         return Ok(lost);
     }
     Err(Fail::new("there are calls past the last run"))
@@ -106,26 +111,26 @@ fn sweep(rt: &HostRuntime, is_log: bool, is_sync: bool, runs: u64) -> Result<u64
 
 #[test]
 fn the_log_fails_for_good(rt: HostRuntime) -> Result<(), Fail> {
-    assert!(rt; sweep(&rt, true, false, CALLS)? > 0);
+    assert!(rt; sweep(&rt, true, false)? > 0);
     Ok(())
 }
 
 // What a request writes goes to the log, so none need meet this.
 #[test]
 fn the_database_file_fails_for_good(rt: HostRuntime) -> Result<(), Fail> {
-    let _ = sweep(&rt, false, false, CALLS)?;
+    let _ = sweep(&rt, false, false)?;
     Ok(())
 }
 
 #[test]
 fn syncs_of_the_log_fail(rt: HostRuntime) -> Result<(), Fail> {
-    assert!(rt; sweep(&rt, true, true, 60)? > 0);
+    assert!(rt; sweep(&rt, true, true)? > 0);
     Ok(())
 }
 
 #[test]
 fn syncs_of_the_database_file_fail(rt: HostRuntime) -> Result<(), Fail> {
-    let _ = sweep(&rt, false, true, 60)?;
+    let _ = sweep(&rt, false, true)?;
     Ok(())
 }
 
