@@ -33,7 +33,7 @@ impl Ask<'_> {
     /// Adds the target of its message.
     ///
     /// # Errors
-    /// Want of memory; then a part of the text may have been added.
+    /// `AllocError` if there is no memory; then a part of the text may have been added.
     pub fn put_target(&self, text: &mut Vec<u8>) -> Result<(), AllocError>
         ensures { OnOk result (text.new.items ≡ text.old.items ++ target_of self.now) }
     {
@@ -45,7 +45,7 @@ impl Ask<'_> {
     /// Adds the body of its message.
     ///
     /// # Errors
-    /// Want of memory; then a part of the text may have been added.
+    /// `AllocError` if there is no memory; then a part of the text may have been added.
     pub fn put_body(&self, text: &mut Vec<u8>) -> Result<(), AllocError>
         ensures { OnOk result (text.new.items ≡ text.old.items ++ body_of self.now) }
     {
@@ -87,7 +87,7 @@ impl AskKind {
     /// each value.
     ///
     /// # Errors
-    /// Want of memory; then a part of the text may have been added.
+    /// `AllocError` if there is no memory; then a part of the text may have been added.
     pub fn put_pattern(self, text: &mut Vec<u8>) -> Result<(), AllocError>
         ensures { OnOk result (text.new.items ≡ text.old.items
             ++ pattern_text (endpoint_of self).places (endpoint_of self).end) }

@@ -27,7 +27,7 @@ fn is_of_meter<'a>(base: &'a BaseRow, meters: &'a [MeterRow], places: &Places<'a
 /// Nothing where each base is of a meter, and none is later than the present one.
 ///
 /// # Errors
-/// A finding.
+/// The `Finding` of the first that is not.
 pub(crate) fn test_bases<'a>(
     bases: &'a [BaseRow],
     meters: &'a [MeterRow],

@@ -36,7 +36,7 @@ impl Numbered for Sale {
 /// Nothing where the rows are numbered; or the first number, from 1, that is not that of its row.
 ///
 /// # Errors
-/// A finding.
+/// The `Finding` of that row.
 pub(crate) fn test_numbers<T: Named + Numbered>(rows: &[T]) -> Result<(), Finding>
     ensures passes { OnOk result (IsTieKept (numbered (listed T.name T.key rows.now) T.number)) }
     ensures found { IfErr result (IsFirst (numbered (listed T.name T.key rows.now) T.number)) }
@@ -53,7 +53,7 @@ pub(crate) fn test_numbers<T: Named + Numbered>(rows: &[T]) -> Result<(), Findin
 /// Nothing where there are no more rows than an office holds; or the first number that is too high.
 ///
 /// # Errors
-/// A finding.
+/// The `Finding` of that number.
 pub(crate) fn test_count<T: Named>(rows: &[T]) -> Result<(), Finding>
     ensures passes { OnOk result (IsTieKept (few (listed T.name T.key rows.now))) }
     ensures found { IfErr result (IsFirst (few (listed T.name T.key rows.now))) }

@@ -15,7 +15,8 @@ use std::alloc::Global;
 /// one.
 ///
 /// # Errors
-/// A finding, and want of memory.
+/// `OfficeFault::Found` with the first row that breaks a rule, `OfficeFault::Memory` if there is no
+/// memory.
 pub fn test_office(alloc: Global, format: u32, rows: &OfficeRows) -> Result<(), OfficeFault>
     ensures passes { OnOk result (AreKept (rules_of format rows.now)) }
     ensures found { IfErr result (Says (BreaksOffice format rows.now)) }

@@ -24,7 +24,8 @@ pub(crate) fn place_of<'a>(places: &Places<'a>, key: LentKey<'a>) -> Option<usiz
 /// one, as one that breaks this rule.
 ///
 /// # Errors
-/// A finding, and want of memory.
+/// `OfficeFault::Found` with the first that has an earlier one's key, `OfficeFault::Memory` if
+/// there is no memory.
 pub(crate) fn places_of<'a, T: Named, K: KeyOf<T>>(
     alloc: Global,
     rows: &'a [T],
@@ -50,7 +51,7 @@ pub(crate) fn places_of<'a, T: Named, K: KeyOf<T>>(
 /// The places of rows, of which some may have one key.
 ///
 /// # Errors
-/// Want of memory.
+/// `AllocError` if there is no memory.
 pub(crate) fn all_places_of<'a, T, K: KeyOf<T>>(
     alloc: Global,
     rows: &'a [T],
@@ -90,7 +91,7 @@ pub(crate) fn first_astray<'a, T, K: KeyOf<T>, U, N: KeyOf<U>>(
 /// that names none, as one that breaks this rule.
 ///
 /// # Errors
-/// A finding.
+/// The `Finding` of the first that names none.
 pub(crate) fn test_names<'a, T: Named, K: KeyOf<T>, U, N: KeyOf<U>>(
     rows: &'a [T],
     others: &'a [U],

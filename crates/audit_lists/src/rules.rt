@@ -134,7 +134,8 @@ fn test_sales<'a>(
 /// has, but for the nine places of a tariff.
 ///
 /// # Errors
-/// A finding, and want of memory.
+/// `OfficeFault::Found` with the first row that breaks a rule, `OfficeFault::Memory` if there is no
+/// memory.
 pub(crate) fn test_rules(alloc: Global, rows: &OfficeRows) -> Result<(), OfficeFault>
     ensures passes { OnOk result (AreKept (tie_rules rows.now)) }
     ensures found { IfErr result (Says (FindsFirst (tie_rules rows.now))) }

@@ -85,7 +85,7 @@ fn are_steps<'a, T: HasStep, K: KeyOf<T>>(
 /// first of these where they are not.
 ///
 /// # Errors
-/// A finding, and want of memory.
+/// `OfficeFault::Found` with the first that are not, `OfficeFault::Memory` if there is no memory.
 pub(crate) fn test_steps<'a, T: HasStep, K: KeyOf<T>, U: Named, G: KeyOf<U>>(
     alloc: Global,
     rows: &'a [T],

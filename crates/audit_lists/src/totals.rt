@@ -22,7 +22,8 @@ mod summed;
 /// than an office has; or the first that breaks a rule.
 ///
 /// # Errors
-/// A finding, and want of memory.
+/// `OfficeFault::Found` with the first row that breaks a rule, `OfficeFault::Memory` if there is no
+/// memory.
 pub(crate) fn test_totals(alloc: Global, rows: &OfficeRows) -> Result<(), OfficeFault>
     requires { length rows.now.sales.items ≤ greatest_count }
     ensures passes { OnOk result (AreKept (total_rules rows.now)) }

@@ -28,7 +28,8 @@ pub fn rows_law()
     calendar_law();
 }
 
-/// Which office a database stands for whose tables were read whole.
+/// A database whose tables were read whole stands for the office that has just these rows, and for
+/// no other.
 pub fn stored_law()
     // The one whose members the rows are that were read, in whatever order: where SQLite keeps rows
     // in the order of their numbers, and no row of a shift lacks a column.

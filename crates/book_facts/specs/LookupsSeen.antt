@@ -1,8 +1,8 @@
 -- What is found where something is looked up, as it was seen of a database that has the office's
 -- tables, whatever their rows are: nothing is found where a row of an answer shows no record. And
--- which look-ups the rows stop: a row of an answer to one of the questions that a look-up asks shows
--- no record, or rows of two answers contradict each other. A question counts only where the answers
--- before it were such that it is asked.
+-- which look-ups the rows stop: a row of an answer to one of the questions that a look-up asks
+-- shows no record, or rows of two answers contradict each other. A question counts only where the
+-- answers before it were such that it is asked.
 use Rattle.std.specs.Prelude.{◌≡◌, ◌⊎◌, ◌<◌, ◌+◌, ℕ, List, [], ◌∷◌, map, Option, None, Some, IsSome}
 use Rattle.std.specs.Prelude.{Result, Ok, Err, unwrap_or, ◌≤◌, Any}
 use Rattle.std.specs.List.{AllZip}

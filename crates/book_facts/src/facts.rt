@@ -24,7 +24,8 @@ pub(crate) mod steps;
 /// caller's.
 ///
 /// # Errors
-/// What the database refuses, want of memory, and a row that is no office's.
+/// `TableError::Database` if the database refuses or fails, or memory runs out.
+/// `TableError::RowOfNoOffice` if a row that was found is no office's.
 // The facts are large: they stay where they are written, and no other function has room for them.
 #[inline(never)]
 pub(crate) fn facts_of<S: Alter>(

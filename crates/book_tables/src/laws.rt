@@ -29,7 +29,8 @@ ghost use Rattle.book_tables.specs.Stands.{AreMembersOf};
 ghost use Rattle.book_tables.specs.row.Values.{AreMeterValues, AreSaleValues, AreShiftValues};
 ghost use Rattle.book_tables.specs.row.Values.{AreStepValues, IsNumber, IsSoldAmount, IsTid};
 
-/// Which office a database stands for.
+/// A database stands for at most one office: the empty one if it has none of the tables, else the
+/// one whose members its rows are.
 pub fn stands_law()
     // It stands for at most one, and for the empty one where it has none of the tables.
     ensures one_office { (db : Database) (o p : Office) → StandsFor db o → StandsFor db p → o ≡ p }

@@ -101,8 +101,8 @@ add_steps name day steps today true (Some there) =
     if steps_eq there steps then unchanged answers.Done else Err refusals.Differs
 add_steps name day steps today true None = added_if_later name day steps (nat_lt today day)
 
--- steps are withdrawn where they are free: their first day is later than today, and nothing was sold
--- since it
+-- steps are withdrawn where they are free: their first day is later than today, and nothing was
+-- sold since it
 abbrev pub withdrawn_if_free : List ℕ → ℕ → (free : Bool) → Result Change Refusal
 withdrawn_if_free name day free =
     if free then changed (edits.WithdrawSteps name day) (answers.Withdrawn 1)

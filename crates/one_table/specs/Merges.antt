@@ -97,8 +97,8 @@ module _ (t : Table) (m : Merging) (params : Row) where
     abbrev pub Touches : Type 0
     Touches = (rows : List Row) × HasChanged t rows old new
 
-    -- The same of why an upsert fails. Where a row is the cause, the text was carried out, and does not
-    -- show first a row that stands for something.
+    -- The same of why an upsert fails. Where a row is the cause, the text was carried out, and does
+    -- not show first a row that stands for something.
     abbrev pub FailsToTouch : ℕ → List ℕ → (Row → Type 0) → ReadFault → Type 0
     FailsToTouch at sql IsReadable (fault.Database e) =
         FailsToWriteAs (Some (returning_as m)) (upsert_as at t m) params old new e

@@ -33,7 +33,7 @@ fn create_table<S: Alter>(tx: &mut Transaction<'_, S>, text: &str) -> Result<(),
 /// before an error go with the transaction, which the caller drops.
 ///
 /// # Errors
-/// A name that is taken, and what the store refuses.
+/// `Error::SqliteFailure` if a name is taken, the store refuses or fails, or memory runs out.
 pub fn create_tables<S: Alter>(tx: &mut Transaction<'_, S>, texts: &[&str]) -> Result<(), Error>
     requires some { 0 < length texts.now }
     requires creations { list_all (λ t. is_creation t.now) texts.now ≡ true }

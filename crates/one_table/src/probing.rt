@@ -13,7 +13,7 @@ const NOTHING: &str = "";
 /// each table seems to be missing.
 ///
 /// # Errors
-/// Those of the database: that the connection is shut, or that there is no memory for a text.
+/// `Error::SqliteFailure` if the connection is shut, or there is no memory for a text.
 pub fn test_open<S: Alter>(conn: &mut Connection<S>) -> Result<(), Error>
     ensures open { Over S.Store conn (λ old new. HasCleanDisk new
         → OnOk result (IsTrue old.is_open)) }

@@ -25,7 +25,8 @@ fn stands_as(alloc: Global, schema: &Schema, text: &str) -> Result<bool, Compile
 /// Whether each table that a text defines stands.
 ///
 /// # Errors
-/// Want of memory, where each text defines a table.
+/// `CompileError::OutOfMemory` if there is no memory; another `CompileError` only if a text defines
+/// no table.
 pub fn stand(alloc: Global, schema: &Schema, texts: &[&str]) -> Result<bool, CompileError>
     ensures told { IfOk result
         (λ all. IsTrue all ↔ AllByRecursion (λ text. StandsAs schema.now text.now) texts.now) }

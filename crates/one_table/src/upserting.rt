@@ -21,8 +21,9 @@ use sqlite::{Alter, Transaction};
 /// CONFLICT and RETURNING. The value is what the text shows of the row as it is afterwards.
 ///
 /// # Errors
-/// Those of a write. Where a row was written of which the shown columns stand for nothing, or there
-/// is no memory for its value, the row stays until the caller drops the transaction.
+/// `ReadFault::Database` if the database refuses or fails, or memory runs out. `ReadFault::Row` if
+/// the shown columns of the row stand for no value. A row that was written before an error stays
+/// until the caller drops the transaction.
 pub fn upsert<S: Alter, X: FromRow>(
     tx: &mut Transaction<'_, S>,
     sql: &str,

@@ -11,7 +11,7 @@ use std::alloc::AllocError;
 /// Adds the text of the record with these names and these cells: as many as there are of both.
 ///
 /// # Errors
-/// Want of memory; then a part of the text may have been added.
+/// `AllocError` if there is no memory; then a part of the text may have been added.
 pub fn put_record(text: &mut Vec<u8>, names: &[&str], cells: &[Cell<'_>]) -> Result<(), AllocError>
     ensures { OnOk result (text.new.items
         ≡ text.old.items ++ record_text (map now names.now) (map held cells.now)) }
@@ -44,7 +44,7 @@ fn put_members(
 /// Adds a name and its colon, behind a comma where members stand before.
 ///
 /// # Errors
-/// Want of memory; then a part of the text may have been added.
+/// `AllocError` if there is no memory; then a part of the text may have been added.
 pub fn put_name(text: &mut Vec<u8>, later: bool, name: &str) -> Result<(), AllocError>
     ensures { OnOk result (text.new.items
         ≡ text.old.items ++ (comma_if later ++ (in_quotes name.now ++ (58 ∷ [])))) }
@@ -68,7 +68,7 @@ pub(crate) fn put_comma(text: &mut Vec<u8>, later: bool) -> Result<(), AllocErro
 /// Adds the text of a cell: a number's digits, a text in quotes, or `null`.
 ///
 /// # Errors
-/// Want of memory; then a part of the text may have been added.
+/// `AllocError` if there is no memory; then a part of the text may have been added.
 pub fn put_cell(text: &mut Vec<u8>, cell: &Cell<'_>) -> Result<(), AllocError>
     ensures { OnOk result (text.new.items ≡ text.old.items ++ cell_text (held cell.now)) }
 {

@@ -1,5 +1,5 @@
--- What is said of the refusals of an office, in the order of docs/COMMANDS.md. The line of a row has
--- the advice for its cause, so that the sentences for a row stand on that page alone.
+-- What is said of the refusals of an office, in the order of docs/COMMANDS.md. The line of a row
+-- has the advice for its cause, so that the sentences for a row stand on that page alone.
 use Rattle.std.specs.Prelude.{codes}
 use Rattle.sts_fields.specs.Text.{Text}
 use Rattle.office_rules.specs.declared.decision.refusal.Refusal.{Refusal}

@@ -86,8 +86,8 @@ pub trait Look {
     fn door(&self, address: &str) -> Option<Advice>;
 }
 
-// What an office's file holds as it is looked at. The command opens it again after that, when it may
-// hold other bytes: so the two openings have no type in common.
+// What an office's file holds as it is looked at. The command opens it again after that, when it
+// may hold other bytes: so the two openings have no type in common.
 #[derive(Drop)]
 struct Looked;
 

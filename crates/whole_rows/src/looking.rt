@@ -29,7 +29,7 @@ fn place_of_partial(rows: &[Row], width: usize) -> Option<usize>
 /// its number is the first.
 ///
 /// # Errors
-/// What the store tells, and want of memory.
+/// The `StoreError` of the first read that fails, also for want of memory.
 pub fn first_partial<S: Store>(
     alloc: Global,
     store: &mut S,

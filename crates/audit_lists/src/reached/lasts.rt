@@ -21,7 +21,7 @@ pub(crate) fn last_of<'a>(lasts: &LastShifts<'a>, operator: &'a [u8]) -> Option<
 /// none where that one is no later.
 ///
 /// # Errors
-/// Want of memory.
+/// `AllocError` if there is no memory.
 pub(crate) fn add_shifts<'a>(
     lasts: &mut LastShifts<'a>,
     shifts: &'a [Shift],

@@ -9,7 +9,7 @@ ghost use Rattle.audit_rows.specs.declared.finding.Finding.{Finding};
 
 use vend_core::reached_law;
 
-/// Of an office that requests lead to no row is ever found.
+/// If requests lead to an office, no row of it is ever found: a finding proves that none do.
 pub fn honest_law()
     ensures none { (o : Office) (f : Finding) → IsPlausible o → FindsByRequests o f → ⊥ }
     ensures lives { (lives : List Life) (o : Office) (f : Finding)

@@ -87,7 +87,7 @@ fn lists_of<'a, T: HasStep + Named, K: KeyOf<T>>(
 /// The steps that the tariffs of the office of these rows may have had.
 ///
 /// # Errors
-/// A row of no office's, and want of memory.
+/// `OfficeFault::Found` if a row is no office's, `OfficeFault::Memory` if there is no memory.
 pub(crate) fn listed_steps(
     alloc: Global,
     rows: &OfficeRows,

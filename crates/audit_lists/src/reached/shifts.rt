@@ -34,7 +34,7 @@ fn end_after(shifts: &[Shift], at: usize, end: usize) -> usize
 /// Nothing where each shift was opened once the one before of its operator was closed.
 ///
 /// # Errors
-/// The first that was not.
+/// The `Finding` of the first that was not.
 pub(crate) fn test_shifts(shifts: &[Shift]) -> Result<(), Finding>
     ensures passes { OnOk result (IsTieKept (closed_first shifts.now)) }
     ensures found { IfErr result (IsFirst (closed_first shifts.now)) }

@@ -59,7 +59,7 @@ fn broken_rule<'a>(
 /// Nothing where each sale is one that requests may have led to.
 ///
 /// # Errors
-/// The first that is not, and want of memory.
+/// `OfficeFault::Found` with the first that is not, `OfficeFault::Memory` if there is no memory.
 pub(crate) fn test_sales(alloc: Global, rows: &OfficeRows) -> Result<(), OfficeFault>
     ensures passes { OnOk result ((o : Office) → AreRowsOfOffice rows.now o
         → EachAfter (IsGrantedAfter o) o.sales) }

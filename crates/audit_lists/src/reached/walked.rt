@@ -37,7 +37,7 @@ impl<'a> Walked<'a> {
     /// Adds the next sale.
     ///
     /// # Errors
-    /// Want of memory.
+    /// `AllocError` if there is no memory.
     pub(crate) fn add(&mut self, shifts: &'a [Shift], sale: &Sale) -> Result<(), AllocError>
         ensures { OnOk result ((earlier : List Sale) → length earlier < 2 ^ 32
             → IsWalked shifts.now earlier self.old

@@ -67,7 +67,7 @@ fn fill_bases<S: Alter>(tx: &mut Transaction<'_, S>, meters: &[MeterRow]) -> Res
 /// Fills the tables that a format lacked, which have no rows.
 ///
 /// # Errors
-/// What the database refuses, and want of memory.
+/// `TableError::Database` if the database refuses or fails, or memory runs out.
 pub(crate) fn fill_missing<S: Alter>(
     alloc: Global,
     tx: &mut Transaction<'_, S>,

@@ -99,7 +99,8 @@ pub fn last_sale_number<S: Alter>(conn: &mut Connection<S>) -> Result<Option<u32
 /// rise with their numbers.
 ///
 /// # Errors
-/// What the database refuses, and a row that is no office's.
+/// `TableError::Database` if the database refuses or fails, or memory runs out.
+/// `TableError::RowOfNoOffice` if the row that was found is no office's.
 pub fn sold_since<S: Alter>(conn: &mut Connection<S>, day: Day) -> Result<bool, TableError>
     ensures given { Over S.Store conn (λ old new. SaysOfTable sales_kept (λ rows sold. sold ≡
         list_any (λ s. nat_le day (day_at s.moment)) rows.sales) old new result) }

@@ -58,7 +58,8 @@ fn number_of(found: Option<Tid>) -> Option<u32>
 /// Whether anything was sold to a meter, under any base.
 ///
 /// # Errors
-/// What the database refuses, and a row that is no office's.
+/// `TableError::Database` if the database refuses or fails, or memory runs out.
+/// `TableError::RowOfNoOffice` if the row that was found is no office's.
 pub fn has_sales<S: Alter>(conn: &mut Connection<S>, meter: &MeterNo) -> Result<bool, TableError>
     ensures given { Over S.Store conn (λ old new. SaysOfTable last_ids_kept (λ rows sold. sold ≡
         list_any (λ s. bytes_eq s.meter meter.now) rows.sales) old new result) }

@@ -208,7 +208,9 @@ impl Gathered {
         Ok(())
     }
 
-    /// Adds several sales to them, one after another.
+    /// Adds each of these sales, in order, as `add` does: its identifier to the last ones, its
+    /// tenths of a kWh to its meter's month, and its tenths and price in cents to its shift. After
+    /// an error they hold a part of them and are of no use.
     ///
     /// # Errors
     /// `AllocError` if there is no memory.

@@ -48,8 +48,8 @@ pub fn add_shift<S: Alter>(tx: &mut Transaction<'_, S>, shift: &Shift) -> Result
 /// Adds the row of a meter, with its number and its key.
 ///
 /// # Errors
-/// What the database refuses: a number that is taken, a tariff that is not there; want of memory,
-/// and the disk.
+/// `TableError::Database`: a number that is taken, a tariff that is not there; or there is no
+/// memory, or the disk fails.
 fn add_meter_row<S: Alter>(
     tx: &mut Transaction<'_, S>,
     number: &MeterNo,

@@ -51,7 +51,7 @@ pub fn set_tariff<S: Alter>(
 /// Sets the key of the meter of a number.
 ///
 /// # Errors
-/// Want of memory, and the disk.
+/// `TableError::Database` if there is no memory, or the disk fails.
 pub fn set_key<S: Alter>(
     tx: &mut Transaction<'_, S>,
     number: &MeterNo,

@@ -77,7 +77,7 @@ pub fn add_steps<S: Alter>(
 /// Deletes the steps that a tariff has from a day on, if there are any.
 ///
 /// # Errors
-/// Want of memory, and the disk.
+/// `TableError::Database` if there is no memory, or the disk fails.
 pub fn withdraw_steps<S: Alter>(
     tx: &mut Transaction<'_, S>,
     name: &TariffName,

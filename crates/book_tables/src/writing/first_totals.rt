@@ -31,7 +31,7 @@ pub(crate) trait TotalRow: Sized {
     /// Puts the row in.
     ///
     /// # Errors
-    /// Want of memory, the disk, and a row of the key.
+    /// `TableError::Database` if there is a row of that key, there is no memory, or the disk fails.
     fn put<S: Alter>(&self, tx: &mut Transaction<'_, S>) -> Result<(), TableError>
         ensures writes { WorksInside S.Store tx result (λ old new. (w : Write) × puts self.now w
             × WritesTables w (PutsNext in_table are self.now) old new result) };

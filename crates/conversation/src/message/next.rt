@@ -10,7 +10,8 @@ use crate::message::received::Received;
 use crate::message::target::path_of;
 use httparse::spans::{EMPTY_HEADER_SPAN, HeaderSpan, RequestSpans};
 
-/// What stands at the front of an input of which more may come.
+/// What an input begins with, of which more bytes may come: a whole message, one that is refused,
+/// or a part of one.
 #[derive(Clone, Copy, Debug, PartialEq, Eq)]
 pub enum Next<'b> {
     /// A whole message.

@@ -68,8 +68,8 @@ fn told_of(audited: Audited, partial: Result<Option<usize>, Error>) -> Result<Au
 /// are looked at once more, as they are stored: no statement shows that one lacks its last column.
 ///
 /// # Errors
-/// Those of the audit; the first shift that lacks a column; what the store tells, and want of
-/// memory.
+/// That of the audit, if it failed. Else `AuditFault::Found` with the first shift that lacks a
+/// column, or `AuditFault::Failed` if the store refuses or fails, or memory runs out.
 pub(crate) fn end_audit<H: OfficeFile>(
     alloc: Global,
     found: Result<Audited, AuditFault>,

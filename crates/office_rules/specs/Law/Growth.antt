@@ -34,9 +34,9 @@ pub record SoldStepsStay (earlier later : Office) : Type 0 where
   pub dated : (name : List ℕ) (day : ℕ) (steps : List Step) → WasSoldSince earlier day
       → earlier.dated_steps name day ≡ Some steps → later.dated_steps name day ≡ Some steps
 
--- an office and the same one later: its sales stand unchanged, its shifts but for their closing, and
--- its steps as far as something was sold by them; a meter is never moved back, a base that it had is
--- one that it had for good, and once it has a sale it keeps its key
+-- an office and the same one later: its sales stand unchanged, its shifts but for their closing,
+-- and its steps as far as something was sold by them; a meter is never moved back, a base that it
+-- had is one that it had for good, and once it has a sale it keeps its key
 pub record HasGrown (earlier later : Office) : Type 0 where
   pub sales : BeginsWith later.sales earlier.sales
   pub shifts : (i : ℕ) (s : Shift) → slice_get earlier.shifts i ≡ Some s

@@ -3,7 +3,8 @@ ghost use Rattle.std.specs.Prelude.{◌≡◌};
 use crate::decision::RowFacts;
 use std::marker::Model;
 
-/// What the office has under the names of an import's rows, in order (`docs/OFFICE.md`, "Requests").
+/// What the office has under the names of an import's rows, in order (`docs/OFFICE.md`,
+/// "Requests").
 ///
 /// Contracts see the list of them.
 #[derive(Debug, Drop)]
@@ -21,7 +22,8 @@ impl Model for ImportFacts {
 }
 
 impl ImportFacts {
-    /// These facts, without taking memory.
+    /// Makes the facts of an import: one entry for each row of the file, in its order. It takes no
+    /// memory.
     pub fn of(items: Vec<RowFacts>) -> ImportFacts
         ensures { result ≡ items.items }
     {

@@ -27,7 +27,8 @@ pub fn reached_law()
     ensures lives_from { (start : Office) (lives : List Life) (o : Office)
         → IsOffice start → LeadTo start lives o → IsPlausible start → IsPlausible o }
 
-    // Where all orders are under one transform, the digits of each sale are the token of its fields by its meter's key.
+    // Where all orders are under one transform, the digits of each sale are the token of its fields
+    // by its meter's key.
     ensures keeps_tokens { (forward : BlockFunction) (o : Office) (at : Stamped)
         → IsOffice o → IsStamped at → KeepsRange forward → HasTokensOf forward o
         → HasTokensOf forward (step forward o at) }
