@@ -8,16 +8,16 @@ The first connection is closed before its reply is read, so that nobody here kno
 was made. The same message with the same ref is then sent on a new connection: there is one sale,
 and this is its token.
 
-Status 0: sold, and here is the receipt. Status 1: sold without one, refused, or still not known, or the
-arguments are wrong; standard error says which.
+Status 0: sold, and here is the receipt. Status 1: sold, but the receipt did not come; or refused; or still not
+known; or the arguments are wrong. Standard error says which.
 """
 import http.client
 import json
 import sys
 import time
 
-# Seconds for each wait, while others may be served before this client. All tries together take some 46 s. One
-# client may hold the desk for 60 (docs/DESK.md): in a shop with several tills take 90.
+# Seconds for each wait, while others may be served before this client. All tries together take some 46 s. Another
+# client may hold the desk for 60 to 90 (docs/DESK.md): in a shop with several tills take 90.
 TIMEOUT = 10
 PAUSES = [0.2, 1, 5]  # seconds before the second and each further try
 PAGE = 100  # members of a page of a list; a shorter one is the last
