@@ -2,26 +2,35 @@
 tools/check_pages. It is no script of its own.
 
 A small name in square brackets is a clause; behind the name of a law it is a clause of that law, or a field of a
-record that the law's contract names. A small name in round brackets is a definition, a function, a field, a lemma or
-a crate. A capitalised name is a definition or a type of this repository, a module of definitions or lemmas, or one of
-the toolchain, and then the page says so. A pair `CRATE/EDIT` is an edit, and so is each name under
-'Wrong implementations' on a crate's page.
+record that the law's contract names. Elsewhere it is one of what its row or paragraph names, or else of what its
+section names above it. A small name in round brackets is a definition, a function, a field, a lemma or
+a crate. A capitalised name is a definition or a type of this repository, a module of definitions or lemmas, a name of
+the scripts, or one of the toolchain, and then the page says so. A name that is a link to a source stands there. A pair
+`CRATE/EDIT` is an edit, and so is each name under 'Wrong implementations' on a crate's page.
 
-CONTRIBUTING.md shows a whole change, and docs/DEVELOPING.md lists the files of such a change and the idioms of proofs:
-each line stands in its file, each file is in the list, and each idiom has its example."""
+CONTRIBUTING.md shows a whole change, and docs/DEVELOPING.md lists and counts the files of such a change and has the
+idioms of proofs: each line stands in its file, each file is in the list, the counts are right, and each idiom has its
+example."""
+import functools
 import re
+import subprocess
 from collections import defaultdict
 
 from functions import FUNCTION, TEXT, blank, end_of_function, indent_of
 from program import TOP
 from shared import quoted, rows_of_page
 
-PAGES = ("docs/PROMISE.md", "docs/PROVED.md", "docs/DESIGN.md", "docs/OFFICE.md")
-# The names of the toolchain that the pages use, and others: its crates, the file that lists the program's handles.
+PAGES = ("docs/PROMISE.md", "docs/PROVED.md", "docs/DESIGN.md", "docs/OFFICE.md", "docs/DECISIONS.md",
+         "docs/DEVELOPING.md")
+# The names of the toolchain that the pages use, and others: its crates, the file that lists the program's handles, a
+# type of SQL, a field of HTTP, a type of Rust, and a name that stands for many.
 TOOLCHAIN = {"HasCleanDisk", "Wary", "Unknown"}
-OTHERS = {"HANDLES", "sqlite_disk", "sqlite_std_file", "sqlite_wal"}
+OTHERS = {"HANDLES", "sqlite_disk", "sqlite_std_file", "sqlite_wal", "INT", "Date", "String", "NameTexts"}
 FENCE = re.compile(r"^```.*?^```[ ]*$", re.DOTALL | re.MULTILINE)
 DEFINED = re.compile(r"^ *(?:pub )?(?:abbrev|record|data|unfoldable) (?:pub )?(\w+)", re.MULTILINE)
+CONSTANT = re.compile(r"^([A-Z][A-Z_]+) ?=", re.MULTILINE)
+NAMED = re.compile(r"`(?:\w+::)*(\w+)`|\b(\w+_law)\b")
+SOURCE = re.compile(r"\[([^\]]*)\]\(([^)#]+\.(?:rt|antt))\)")
 ENSURED = re.compile(r"\bensures (\w+)")
 FIELD = re.compile(r"^ +(?:pub )?(\w+) :", re.MULTILINE)
 LAW = r"(\w+_law|receipt_once)"
@@ -43,6 +52,9 @@ class Sources:
             for found, after in zip(places, [*places[1:], None]):
                 self.definitions[found[1]] += text[found.start():after.start() if after else len(text)]
             self.fields |= {*FIELD.findall(text)}
+        files = [path for path in (TOP / "tools").iterdir() if path.is_file() and path.name != "page_names.py"]
+        self.scripts = {name for path in [TOP / ".ci" / "run", *files]
+                        for name in CONSTANT.findall(path.read_text(encoding="utf-8"))}
         self.lemmas = {name for text in texts_of("proofs/**/*.antt")
                        for name in re.findall(r"(?m)^ *(?:pub )?(\w+) :", text)}
         self.modules = {file.stem for kind in ("specs", "proofs") for file in TOP.glob(f"crates/*/{kind}/**/*.antt")}
@@ -66,6 +78,7 @@ class Sources:
     def is_name(self, word):
         return word in self.definitions or word in self.types or word in self.modules
 
+    @functools.lru_cache(maxsize=None)
     def clauses_of(self, law):
         """The clauses of a law, and the fields of the records that its contract names, or that they name."""
         found, words = {*ENSURED.findall(self.contracts[law])}, {*re.findall(r"\b[A-Z]\w*", self.contracts[law])}
@@ -78,14 +91,21 @@ class Sources:
             words = {word for text in texts for word in re.findall(r"\b[A-Z]\w*", text)}
         return found
 
-    def all_clauses(self):
-        return {name for text in self.contracts.values() for name in ENSURED.findall(text)} | self.fields
+    def clauses_by(self, text, folder):
+        """The clauses of what a text names: of laws and functions, the fields of definitions, and the clauses of a
+        source to which it links by other words."""
+        names = {name for pair in NAMED.findall(text) for name in pair}
+        found = {it for name in names & {*self.contracts} for it in self.clauses_of(name)}
+        found |= {it for name in names & {*self.definitions} for it in FIELD.findall(self.definitions[name])}
+        for words, path in SOURCE.findall(text):
+            if "`" not in words and (folder / path).is_file():
+                found |= {*ENSURED.findall((folder / path).read_text(encoding="utf-8"))}
+        return found
 
 
 def wrong_names(texts):
     """A line for each name that is none of the crates', or not of the kind that the page says."""
     sources, count = Sources(), 0
-    every = sources.all_clauses()
     for page, whole in texts.items():
         if page not in PAGES and not re.fullmatch(r"crates/\w+/README\.md", page):
             continue
@@ -94,19 +114,30 @@ def wrong_names(texts):
             count += 1
             if law not in sources.contracts:
                 yield f"{page}: {law} is no function of the crates"
-        for before, inside in re.findall(r"([^\[\n]{0,60})\[(`[^\]]*)\](?!\()", text):
-            own = re.search(rf"`{LAW}`(?:\]\(\))?\)?[ ,]*$", before)
-            allowed = sources.clauses_of(own[1]) if own else every
-            for clause in re.findall(r"`([a-z_]+)`", inside):
+        for line, above in lines_with_sections(FENCE.sub("", whole)):
+            plain_line = re.sub(r"\]\([^)]*\)", "]()", line)
+            for before, inside in re.findall(r"([^\[\n]{0,60})\[(`[^\]]*)\](?!\()", plain_line):
+                own = re.search(rf"`{LAW}`(?:\]\(\))?\)?[ ,]*$", before)
+                for clause in re.findall(r"`([a-z_]+)`", inside):
+                    count += 1
+                    there = (sources.clauses_of(own[1]) if own else sources.clauses_by(it, (TOP / page).parent)
+                             for it in ([line] if own else [line, *above]))
+                    if clause not in sources.crates and not any(clause in clauses for clauses in there):
+                        yield f"{page}: [{clause}] is no clause of " + (own[1] if own else "what is named with it: "
+                                                                        + line[:60])
+        for words, path in SOURCE.findall(FENCE.sub("", whole)):
+            file = (TOP / page).parent / path
+            for name in quoted(words) if file.is_file() else []:
                 count += 1
-                if clause not in allowed and clause not in sources.crates:
-                    yield f"{page}: [{clause}] is no clause" + (f" of {own[1]}" if own else "")
+                if name.split("::")[-1] not in (file.name, file.stem) and not re.search(
+                        rf"\b{re.escape(name.split('::')[-1])}\b", file.read_text(encoding="utf-8")):
+                    yield f"{page}: {path} has no {name}"
         for word in {*re.findall(r"`([A-Z]\w*)`", text)}:
             count += 1
             if word in TOOLCHAIN:
                 if "toolchain's" not in text:
                     yield f"{page}: it does not say that {word} is the toolchain's"
-            elif word not in OTHERS and not sources.is_name(word):
+            elif word not in OTHERS | sources.scripts and not sources.is_name(word):
                 yield f"{page}: {word} is nothing that the crates have"
         for word in (it for inside in re.findall(r"\(([^()]*)\)", text) for it in re.findall(r"`([a-z]\w*)`", inside)):
             count += 1
@@ -125,9 +156,20 @@ def wrong_names(texts):
     yield from wrong_witnesses()
     yield from lost_clauses(texts["docs/PROMISE.md"])
     yield from missing_files()
+    yield from wrong_counts(texts["CONTRIBUTING.md"], texts["docs/DEVELOPING.md"])
     yield from wrong_change(texts["CONTRIBUTING.md"], texts["docs/DEVELOPING.md"])
     yield from missing_examples()
     print(f"pages: {count} names of laws, clauses, definitions and edits")
+
+
+def lines_with_sections(text):
+    """Each line of a page with what stands above it: in its section, and in those that this one is a part of."""
+    starts, lines = [], text.split("\n")
+    for at, line in enumerate(lines):
+        level = len(line) - len(line.lstrip("#"))
+        if level:
+            starts = [it for it in starts if it[0] < level] + [(level, at)]
+        yield line, ["\n".join(lines[start:at]) for _, start in reversed(starts[1:] or starts)]
 
 
 def missing_files():
@@ -144,6 +186,46 @@ def missing_files():
             for name in filter(own.fullmatch, quoted(cells[1])):
                 if not any(path.endswith(f"/{name}") for path in found) and name not in words:
                     yield f"docs/DEVELOPING.md: {crate} has no {name}"
+
+
+def files_of_table(change, developing):
+    """The files that the table of a change names, each with whether it always changes: what is in its place in `src`
+    or `specs`, a module of both, and lemmas and texts in `proofs`. `if ..` holds up to the next semicolon."""
+    section = re.search(rf"^### {re.escape(change)}\n(.*?)^##", developing, re.DOTALL | re.MULTILINE | re.IGNORECASE)
+    found, crate = {}, None
+    for crates, cell in re.findall(r"^\|([^|]*)\|([^|]*)\|$", section[1] if section else "", re.MULTILINE):
+        crate = (quoted(crates) or [crate])[0]
+        for part in cell.split(";"):
+            for name in quoted(part):
+                folder, own = TOP / "crates" / str(crate), name.rpartition("/")[2]
+                module = name.removesuffix(own) + (own if own[0].isupper() else own.title().replace("_", ""))
+                places = [folder / "src" / f"{name}.rt", folder / "specs" / f"{module}.antt"]
+                if own.endswith(("Lemmas", "Texts")):
+                    places += folder.glob(f"proofs/**/{own}.antt")
+                found |= {place: "if " not in part for place in places if place.is_file()}
+    return found
+
+
+def wrong_counts(contributing, developing):
+    """The files of each change, counted as the last column of docs/DEVELOPING.md says."""
+    for change, files, crates, way in rows_of_page("DEVELOPING.md", "Change", "Files", "Crates", "Counted as"):
+        kinds = [f"crates/*/{kind}/**" for kind in ("src", "specs", "proofs")]
+        if "files that name" in way:
+            ran = subprocess.run(["git", "grep", "--untracked", "-lw", "-e", quoted(way)[0], "--", *kinds], cwd=TOP,
+                                 capture_output=True, text=True)
+            found = {TOP / path for path in ran.stdout.splitlines()}
+        elif "#a-whole-change" in way:
+            found = {TOP / path for path in change_shown(contributing)
+                     if re.match(r"crates/\w+/(src|specs|proofs)/", path)}
+        else:
+            table = files_of_table(change, developing)
+            found = {*table}
+            said, at_times = re.search(r"(\d+) of them only if", way), sum(not always for always in table.values())
+            if said and int(said[1]) != at_times:
+                yield f"docs/DEVELOPING.md: {change}: {at_times} files change only if .., and not {said[1]}"
+        counts = len(found), len({path.relative_to(TOP).parts[1] for path in found})
+        if counts != (int(files), int(crates)):
+            yield f"docs/DEVELOPING.md: {change}: {counts[0]} files in {counts[1]} crates, and not {files} in {crates}"
 
 
 def wrong_witnesses():

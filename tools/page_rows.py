@@ -1,9 +1,11 @@
 """Each row of the tables of docs/COMMANDS.md and docs/AUDIT.md, and the bounds of docs/OFFICE.md, beside the program:
 a part of tools/check_pages. It is no script of its own.
 
-Most rows are run here. A row that takes more than a run names the script that runs it (`ELSEWHERE`), in which the
-named text has to stand. A row that is neither is wrong."""
+Most rows are run here. A row that takes more than a run names the script that runs it (`ELSEWHERE`), which the gate
+runs, and whose last lines have to reach what it expects. A row that is neither is wrong."""
+import ast
 import contextlib
+import functools
 import http.client
 import json
 import re
@@ -27,6 +29,7 @@ FAR = "20000000008"
 # Half a year after the last identifier under the base date 1993.
 SPENT_AT = "1750000000"
 SALES_OF_LOG = 500
+TRIES = 5  # to see a log that goes when its command ends
 EXPORT = "number,moment,shift,operator,ref,meter,base,tid,tenths,price,tender,change,token"
 
 
@@ -273,16 +276,57 @@ def check_statuses(offices):
     return len(rows)
 
 
-# Where a refusal takes more than a command on a file: the script that brings it about, and its text there.
+# Where a refusal takes more than a command on a file: the script of the gate that brings it about, and what it expects.
 ELSEWHERE = {
-    "refused 6 Differs": ("tools/check_desk", 'refusal(6, "Differs")'),
-    "refused 11 OfficeFull": ("tools/check_at_desk", "refused 11 OfficeFull"),
-    "refused 15 Memory": ("tools/check_memory", "refused 15 Memory"),
-    "open 4 Memory": ("tools/check_memory", "open 4 Memory"),
-    "refused 17 Stopped": ("tools/bad_desks.py", "refused 17 Stopped"),
-    "refused 19 DayPast": ("tools/check_desk", 'refusal(19, "DayPast")'),
-    "refused clock": ("tools/check_at_desk", "refused clock"),
+    "refused 6 Differs": ("check_desk", 'refusal(6, "Differs")'),
+    "refused 11 OfficeFull": ("check_at_desk", r'b"refused 11 OfficeFull\n"'),
+    "refused 15 Memory": ("check_memory", r'b"refused 15 Memory\n"'),
+    "open 4 Memory": ("check_memory", r'b"open 4 Memory\n"'),
+    "refused 17 Stopped": ("check_at_desk", r'b"refused 17 Stopped\n"'),
+    "refused 19 DayPast": ("check_desk", 'refusal(19, "DayPast")'),
+    "refused clock": ("check_at_desk", r'b"refused clock\n"'),
 }
+
+
+@functools.lru_cache(maxsize=None)
+def definitions_in(script):
+    """What a script of tools/ or its module defines, by name: the code, or the module from which it is imported; and
+    under no name what it does when it is run."""
+    path = next(it for it in (TOP / "tools" / script, TOP / "tools" / f"{script}.py", None) if it is None or it.is_file())
+    found = {}
+    for part in ast.parse(path.read_text(encoding="utf-8")).body if path else []:
+        if isinstance(part, ast.ImportFrom):
+            found |= {it.asname or it.name: (part.module, it.name) for it in part.names}
+        elif isinstance(part, (ast.FunctionDef, ast.ClassDef)):
+            found[part.name] = part
+        elif isinstance(part, ast.Assign):
+            found |= {it.id: part for target in part.targets for it in ast.walk(target) if isinstance(it, ast.Name)}
+        elif isinstance(part, ast.If):
+            found[""] = part
+    return found
+
+
+@functools.lru_cache(maxsize=None)
+def code_reached(script):
+    """The code that a script reaches from its end, by the names that it calls and uses: each expression as it is dumped."""
+    seen, unread, found = set(), [(script, "")], set()
+    while unread:
+        place = unread.pop()
+        code = None if place in seen else definitions_in(place[0]).get(place[1])
+        seen.add(place)
+        if isinstance(code, tuple):
+            unread.append(code)
+        elif code is not None:
+            unread += [(place[0], it.id) for it in ast.walk(code) if isinstance(it, ast.Name)]
+            found |= {ast.dump(it) for it in ast.walk(code) if isinstance(it, ast.expr)}
+    return found
+
+
+def is_run_elsewhere(script, expected):
+    """Whether the gate runs a script, whose last lines reach an expression."""
+    gate = (TOP / ".ci" / "run").read_text(encoding="utf-8")
+    return bool(re.search(rf"^look \d+ {script}$", gate, re.MULTILINE)) and \
+        ast.dump(ast.parse(expected, mode="eval").body) in code_reached(script)
 
 
 def check_refusals(offices):
@@ -320,9 +364,8 @@ def check_refusals(offices):
     same({*lines}, {*runs, *ELSEWHERE}, f"docs/{PAGE}: the lines of refusals that are run")
     for line in lines:
         if line in ELSEWHERE:
-            script, text = ELSEWHERE[line]
-            if text not in (TOP / script).read_text(encoding="utf-8"):
-                wrong(f"docs/{PAGE}: {script} does not run {line}")
+            if not is_run_elsewhere(*ELSEWHERE[line]):
+                wrong(f"docs/{PAGE}: tools/{ELSEWHERE[line][0]} does not run {line}")
             continue
         *before, last = runs[line](offices.copy())
         for words in before:
@@ -482,7 +525,7 @@ def check_tables(offices):
 
 
 def check_limits(offices):
-    """The limits, each at its end and beyond it; of the log, that it is no longer than the page says."""
+    """The limits, each at its end and beyond it; of the log, that it is as long as the page says."""
     limits = dict(rows_of_page(PAGE, "What", "Limit"))
     steps = lambda count: ";".join([*(f"{place + 1}:9" for place in range(count - 1)), ":9"])
     brings = lambda text, file: vend("import", "--file", file, "--at", AT, "tariffs", offices.text(text))
@@ -500,32 +543,50 @@ def check_limits(offices):
     for more, status in ((0, 0), (1, 1)):
         file = offices.folder / ("n" * (length + more))
         expect(vend("shift", "--file", str(file), "--operator", "ann", "--at", AT, "open"), status)
-    same(limits.pop("shifts, and sales, in one file"), "10^9", "the shifts and sales of a file")  # as 11, above
+    check_fullness(offices, limits.pop("shifts, and sales, in one file"))
     megabytes = lambda what: float(limits.pop(f"log beside the file: {what}").split()[0]) * 1e6
-    file = str(offices.new())
-    sold = offices.copy()
-    is_at_most(megabytes("a command that is no import"), watched(sold, *sell(sold, "A-2")), "a command")
+    fresh = lambda whole: shutil.copy(whole, offices.new())
+    sold = lambda file: watched(file, *sell(file, "A-2"))
+    is_about(megabytes("a command that is no import"), lambda: sold(offices.copy()), "a command")
+    brought = lambda file, kind, text: watched(file, "import", "--file", file, "--at", AT, kind, text)
     # The longest names, ends and prices, in no order: of sorted rows the log is shorter.
     rows = "".join(f"{number:032},{';'.join([*(f'{4294967280 + it}:1000000' for it in range(7)), ':1000000'])}\n"
                    for number in Random(1).sample(range(10000), 10000))
     tariffs = offices.text(f"name,steps\n{rows}")
-    is_at_most(megabytes("an import of 10,000 tariffs of eight steps"),
-               watched(file, "import", "--file", file, "--at", AT, "tariffs", tariffs), "an import of tariffs")
+    is_about(megabytes("an import of 10,000 tariffs of eight steps"),
+             lambda: brought(str(offices.new()), "tariffs", tariffs), "an import of tariffs")
     rows = "".join(f"{audited_offices.meter_of(f'{number:010}')},2014,flat,{KEY}\n" for number in range(10000))
-    file, meters = offices.copy(), offices.text(f"meter,base,tariff,key\n{rows}")
+    meters, copies = offices.text(f"meter,base,tariff,key\n{rows}"), []
     # Into an empty office: one of 100,000 meters takes too long here.
-    is_at_most(megabytes("an import of 10,000 meters"),
-               watched(file, "import", "--file", file, "--at", AT, "meters", meters), "an import")
+    is_about(megabytes("an import of 10,000 meters"),
+             lambda: copies.append(offices.copy()) or brought(copies[-1], "meters", meters), "an import")
+    file = copies[-1]
     grown = lambda file: (Path(file).stat().st_size - offices.whole.stat().st_size)
     of_meter = grown(file) / 10000
     change(file, f"{back_to(1)} PRAGMA wal_checkpoint(TRUNCATE);")
-    is_at_most(megabytes("migrating an older file"), watched(file, "list", "--file", file, "tariffs"), "a migration")
+    listed = lambda file: watched(file, "list", "--file", file, "tariffs")
+    is_about(megabytes("migrating an older file"), lambda: listed(fresh(file)), "a migration")
     desk = offices.copy()
-    is_at_most(megabytes("a desk"), log_of_desk(desk), "a desk")
+    is_about(megabytes("a desk"), lambda: log_of_desk(desk), "a desk")
     change(desk, "PRAGMA wal_checkpoint(TRUNCATE);")
     check_growth(of_meter, grown(desk) / SALES_OF_LOG)
     same(limits, {}, f"docs/{PAGE}: the limits that are not tried")
     return len(rows_of_page(PAGE, "What", "Limit"))
+
+
+def check_fullness(offices, most):
+    """The greatest number of a shift and of a sale is given, and none after it."""
+    ten, power = map(int, most.split("^"))
+    later = str(int(AT) + 86400)  # so that the sale has another identifier than the one that is copied
+    for last, is_full in ((ten ** power - 1, False), (ten ** power, True)):
+        file = offices.copy(f"INSERT INTO shifts VALUES ({last}, 'zoe', {AT}, NULL); INSERT INTO sales SELECT {last}, moment,"
+                            " month, shift, operator, 'last', meter, base, tid + 1, 0, tenths, price, tender, digits FROM"
+                            " sales WHERE number = 1;")
+        for words, said in ((["shift", "--file", file, "--operator", "bob", "--at", later, "open"], f"shift {last + 1}\n"),
+                            (sell(file, "A-2", at=later), f"SALE {last + 1}\n")):
+            ran = vend(*words)
+            expect(ran, int(is_full), b"" if is_full else None, b"refused 11 OfficeFull\n" if is_full else b"")
+            same(is_full or ran.stdout.decode().startswith(said), True, f"docs/{PAGE}: number {last + 1} of {most}")
 
 
 def check_growth(of_meter, of_sale):
@@ -588,9 +649,16 @@ def check_examples(offices):
     return 3
 
 
-def is_at_most(said, found, what):
-    if found > said:
-        wrong(f"docs/{PAGE}: the log of {what} has {found} bytes, more than {said:.0f}")
+def is_about(said, look, what):
+    """A log is as long as the page says at the most, and no less than a tenth. A log that goes when its command ends
+    may be missed: then it is looked for again."""
+    found = 0
+    for _ in range(TRIES):
+        found = max(found, look())
+        if found >= said / 10:
+            break
+    if not said / 10 <= found <= said:
+        wrong(f"docs/{PAGE}: the log of {what} has {found} bytes, and by the page up to {said:.0f}")
 
 
 def size_of(file):
