@@ -623,11 +623,23 @@ def check_answers(offices):
     return len(rows)
 
 
+def readme_examples():
+    """The sale of README.md and the receipt, its message and the reply."""
+    readme = (TOP / "README.md").read_text(encoding="utf-8")
+    (sold, printed), (sent, replied) = re.findall(r"^```console\n\$ (.*)\n((?:.*\n)+?)```$", readme, re.MULTILINE)
+    return sold, printed, sent, replied
+
+
+def sale_at_desk():
+    """The sale at a desk of docs/COMMANDS.md."""
+    page = (TOP / "docs" / PAGE).read_text(encoding="utf-8")
+    return re.search(r"^\./vend (sell --desk .*)$", page, re.MULTILINE)[1]
+
+
 def check_examples(offices):
     """The sale and the message of README.md, and the sale at a desk of docs/COMMANDS.md, as they are written: what is
     sold at once is sold at the moment of the example."""
-    readme = (TOP / "README.md").read_text(encoding="utf-8")
-    (sold, printed), (sent, replied) = re.findall(r"^```console\n\$ (.*)\n((?:.*\n)+?)```$", readme, re.MULTILINE)
+    sold, printed, sent, replied = readme_examples()
     file = offices.copy("DELETE FROM sales; DELETE FROM last_ids; DELETE FROM month_tenths; DELETE FROM shift_totals;")
     words = shlex.split(sold)[1:]
     words[words.index("office.db")] = file
@@ -640,9 +652,7 @@ def check_examples(offices):
         line.close()
         before, _, after = replied.strip().partition(" .. ")
         same((reply.startswith(before), reply.endswith(after)), (True, True), f"README.md: the desk replied {reply}")
-        page = (TOP / "docs" / PAGE).read_text(encoding="utf-8")
-        command = re.search(r"^\./vend (sell --desk .*)$", page, re.MULTILINE)[1]
-        expect(vend(*shlex.split(command.replace("127.0.0.1:8080", f"127.0.0.1:{port}"))), 0, None, b"")
+        expect(vend(*shlex.split(sale_at_desk().replace("127.0.0.1:8080", f"127.0.0.1:{port}"))), 0, None, b"")
     finally:
         process.kill()
         process.communicate()
