@@ -28,6 +28,7 @@ TOOLCHAIN = {"HasCleanDisk", "Wary", "Unknown"}
 OTHERS = {"HANDLES", "sqlite_disk", "sqlite_std_file", "sqlite_wal", "INT", "Date", "String", "NameTexts"}
 FENCE = re.compile(r"^```.*?^```[ ]*$", re.DOTALL | re.MULTILINE)
 DEFINED = re.compile(r"^ *(?:pub )?(?:abbrev|record|data|unfoldable) (?:pub )?(\w+)", re.MULTILINE)
+MOST_OF_A_NAME = 3
 CONSTANT = re.compile(r"^([A-Z][A-Z_]+) ?=", re.MULTILINE)
 NAMED = re.compile(r"`(?:\w+::)*(\w+)`|\b(\w+_law)\b")
 SOURCE = re.compile(r"\[([^\]]*)\]\(([^)#]+\.(?:rt|antt))\)")
@@ -45,7 +46,11 @@ class Sources:
 
     def __init__(self):
         self.contracts, self.definitions, self.types, self.fields = defaultdict(str), defaultdict(str), set(), set()
+        self.times, self.clauses_beside = defaultdict(int), defaultdict(set)
         for text in texts_of("src/**/*.rt"):
+            # The clauses of a type are those of the source in which it stands.
+            for name in re.findall(r"(?m)^(?:pub )?(?:struct|trait) (\w+)", text):
+                self.clauses_beside[name] |= {*ENSURED.findall(text)}
             self.read_source(TEXT.sub(blank, text))
         for text in texts_of("specs/**/*.antt") + texts_of("proofs/**/*.antt"):
             places = [*DEFINED.finditer(text)]
@@ -72,6 +77,7 @@ class Sources:
                 own = lines[at:end_of_function(lines, at)]
                 body = next((place for place, line in enumerate(own)
                              if line.startswith("{", indent_of(lines[at]))), len(own))
+                self.times[found[2]] += 1
                 self.contracts[found[2]] += "\n".join(own[:body]) + "\n"
             at += 1
 
@@ -95,8 +101,11 @@ class Sources:
         """The clauses of what a text names: of laws and functions, the fields of definitions, and the clauses of a
         source to which it links by other words."""
         names = {name for pair in NAMED.findall(text) for name in pair}
-        found = {it for name in names & {*self.contracts} for it in self.clauses_of(name)}
+        # A word that many functions have for a name, or a crate, names none of them: it would have too many clauses.
+        functions = {name for name in names & {*self.contracts} - self.crates if self.times[name] <= MOST_OF_A_NAME}
+        found = {it for name in functions for it in self.clauses_of(name)}
         found |= {it for name in names & {*self.definitions} for it in FIELD.findall(self.definitions[name])}
+        found |= {it for name in names & {*self.clauses_beside} for it in self.clauses_beside[name]}
         for words, path in SOURCE.findall(text):
             if "`" not in words and (folder / path).is_file():
                 found |= {*ENSURED.findall((folder / path).read_text(encoding="utf-8"))}
@@ -120,6 +129,8 @@ def wrong_names(texts):
                 own = re.search(rf"`{LAW}`(?:\]\(\))?\)?[ ,]*$", before)
                 for clause in re.findall(r"`([a-z_]+)`", inside):
                     count += 1
+                    if page.startswith("crates/"):  # at last what the crate itself has
+                        above = [*above, f"[]({'){}[]('.join(own_sources(page))})"]
                     there = (sources.clauses_of(own[1]) if own else sources.clauses_by(it, (TOP / page).parent)
                              for it in ([line] if own else [line, *above]))
                     if clause not in sources.crates and not any(clause in clauses for clauses in there):
@@ -160,6 +171,12 @@ def wrong_names(texts):
     yield from wrong_change(texts["CONTRIBUTING.md"], texts["docs/DEVELOPING.md"])
     yield from missing_examples()
     print(f"pages: {count} names of laws, clauses, definitions and edits")
+
+
+def own_sources(page):
+    """The sources of the crate of a page, from its folder."""
+    folder = (TOP / page).parent
+    return [path.relative_to(folder).as_posix() for path in folder.glob("src/**/*.rt")]
 
 
 def lines_with_sections(text):
