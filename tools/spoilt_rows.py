@@ -1,17 +1,22 @@
 """A row that is no office's, under every command that may read it: a part of tools/check_program and
 tools/check_at_desk. It is no script of its own.
 
-Each row of an office is spoilt by itself. A command that reads it (`commands`, from docs/OFFICE.md: what each
-request and each look-up looks at) is refused with 16, prints nothing and changes nothing; every other
-prints what it prints where no row is spoilt. Of the last sale it is the opening that is refused. What changes
-nothing is asked of a desk too. A list whose second page has such a row prints the first one, and is refused
-behind it."""
+Rows of each table but `about`, whose are in no_offices.py, are spoilt one at a time. A command that reads such a
+row (`commands`, from docs/OFFICE.md: what each request and each look-up looks at), or whose change the tables do
+not take beside it, is refused with 16, prints nothing and changes nothing; every other prints what it prints where
+no row is spoilt. Each kind of change is made by one of the commands at least. Of the last sale it is the opening
+that is refused. What changes nothing is asked of a desk too, and each change once, in turn (`changes`); its health
+looks at no row. A list or an export whose second page has such a row prints the first one, and is refused behind
+it."""
+import http.client
 import shutil
 
-from clocked_desk import Clocked, run
+from clocked_desk import Clocked, rows_of as desk_rows, run
+from many_sales import ORACLE, SALES as MANY_SALES, export, rows as many_rows
 from no_offices import NO_OFFICE, rows_of
-from program import METER, OTHER_METER, SPENT as MOVED_METER, change, expect, vend
-from shared import luhn, wrong
+from program import (METER, OTHER_METER, RECEIPT, SPENT as MOVED_METER, WAIT, change, expect, prepare, sell_words,
+                     vend)
+from shared import FORMAT, luhn, same, wrong
 
 AT = "1388534430"  # 2014-01-01
 LATER = "1391126430"  # thirty days later
@@ -19,6 +24,7 @@ IN_2035 = "2051308800"  # 2035-01-02
 NEW_METER, UNSOLD_METER = "20000000008", "40000000006"
 KEY, OTHER_KEY = "0000000000000000", "0000000000000001"
 PAGE = 100  # members of a list
+EXPORT_PAGE = 1000  # sales of an export of a file; at a desk it is a list
 TARIFFS = {
     # `flat` has other steps from a day on; `later` has them from a day that has not come; `plain` has them from
     # one behind all sales.
@@ -36,10 +42,22 @@ TARIFFS = {
                  f"{OTHER_METER},2014,later,0000000000000000\n",
     "known-tariff": "name,steps,from\nflat,:100,\n",
     "known-steps": "name,steps,from\nflat,:200,2014-01-15\n",
+    "other-tariff": "name,steps,from\nflat,:150,\nlater,:100,\nlater,:300,2014-03-01\n",
+    "other-steps": "name,steps,from\nflat,:250,2014-01-15\nflat,:100,\n",
 }
 REFUSED = (1, b"", b"refused 16 Store\n")
+DONE = (0, b"done\n", b"")
+OTHER_ROW = (1, b"", b"refused 14 ImportRow 1 Differs\n")
 # A row, and what makes it no office's.
 SPOILT = {
+    # Names that are none, before all tariffs and behind them, and a tariff of which there are no steps.
+    "name-before": "INSERT INTO tariffs VALUES ('_');",
+    "name-behind": "INSERT INTO tariffs VALUES ('plain_');",
+    "stepless": "INSERT INTO tariffs VALUES ('stepless');",
+    # No request looks at the bases that a meter has or had; a move adds one, and here it is taken.
+    "had-base": f"UPDATE meter_bases SET base = 2015 WHERE meter = '{METER}';",
+    "left-base": f"UPDATE meter_bases SET base = 1992 WHERE meter = '{MOVED_METER}' AND base = 2014;",
+    "later-base": f"INSERT INTO meter_bases VALUES ('{METER}', 2035);",
     "meter": f"UPDATE meters SET secret = 'xyz' WHERE meter = '{METER}';",
     "other-meter": f"UPDATE meters SET base = 2015 WHERE meter = '{OTHER_METER}';",
     "flat-steps": "UPDATE tariff_steps SET price = 0 WHERE tariff = 'flat';",
@@ -66,11 +84,17 @@ SPOILT = {
     "last-sale": "UPDATE sales SET rnd = 16 WHERE number = 5;",
 }
 SALES = {"sale", "other-sale", "left-sale"}
+# What a list of tariffs meets behind the first one.
+NAMES_BEHIND = {"name-behind", "stepless"}
+NAMES = NAMES_BEHIND | {"name-before"}
 # The steps of a day are the latest that have begun.
 PLAIN = {"plain-steps", "plain-later"}
 STEPS = {"flat-later", "later-steps", "later-later"} | PLAIN
 # What is asked of a desk as well.
 READING = {"offer", "report", "show", "list"}
+# Each kind of change (`kind_of`), of which one command at least makes one.
+CHANGES = {("sell",), ("import", "tariffs"), ("import", "meters"), ("shift", "open"), ("shift", "close"), ("tariff",),
+           ("base",), ("withdraw",), ("key",)}
 
 
 def commands(file, texts):
@@ -105,10 +129,16 @@ def commands(file, texts):
     yield ["import", *now, "meters", texts["known-meter"]], {"other-meter"}
     yield ["import", *now, "meters", texts["known-meters"]], {"meter", "other-meter"}
     yield ["import", *now, "meters", texts["other-key"]], {"meter"}
+    yield ["import", *now, "tariffs", texts["other-tariff"]], {"flat-steps"}
+    yield ["import", *now, "tariffs", texts["other-steps"]], {"flat-later"}
     yield ["tariff", *now, "--meter", METER, "--tariff", "flat"], {"meter"}
+    # Of another tariff the name alone is looked at.
+    yield ["tariff", *now, "--meter", METER, "--tariff", "plain"], {"meter"}
     yield ["tariff", *now, "--meter", METER, "--tariff", "none"], {"meter"}
     yield ["tariff", *now, "--meter", NEW_METER, "--tariff", "flat"], set()
     yield ["base", *now, "--meter", METER, "--base", "2014"], {"meter"}
+    yield ["base", *late, "--meter", METER, "--base", "2035"], {"meter", "later-base"}
+    yield ["base", *late, "--meter", UNSOLD_METER, "--base", "2035"], set()
     yield ["base", *now, "--meter", NEW_METER, "--base", "2014"], set()
     # Steps behind all sales, of a day that has none, of a day before a sale, and of no tariff.
     yield ["withdraw", *now, "--tariff", "plain", "--from", "2036-01-01"], {"plain-later"}
@@ -145,11 +175,13 @@ def commands(file, texts):
     yield ["show", *now, "--operator", "ann", "--ref", "A-1", "sale"], {"sale"}
     yield ["show", *now, "--operator", "bob", "--ref", "A-1", "sale"], set()
     yield ["show", *now, "--operator", "ann", "--ref", "A-3", "sale"], {"left-sale"}
-    yield ["list", *now, "tariffs"], STEPS
-    yield ["list", *now, "--after", "flat", "tariffs"], STEPS - {"flat-later"}
-    yield ["list", *now, "--after", "later", "tariffs"], PLAIN
+    yield ["list", *now, "tariffs"], STEPS | NAMES
+    yield ["list", *now, "--after", "flat", "tariffs"], STEPS - {"flat-later"} | NAMES_BEHIND
+    yield ["list", *now, "--after", "later", "tariffs"], PLAIN | NAMES_BEHIND
+    yield ["list", *now, "--after", "plain", "tariffs"], NAMES_BEHIND
+    yield ["list", *now, "--after", "stepless", "tariffs"], set()
     # The latest steps have begun by then, and no others begin later.
-    yield ["list", *late, "--after", "flat", "tariffs"], {"later-later"} | PLAIN
+    yield ["list", *late, "--after", "flat", "tariffs"], {"later-later"} | PLAIN | NAMES_BEHIND
     yield ["list", *now, "meters"], {"meter", "other-meter"}
     yield ["list", *now, "--after", OTHER_METER, "meters"], {"meter"}
     yield ["list", *now, "shifts"], {"shift", "closed-shift", "totals", "closed-totals"}
@@ -159,6 +191,38 @@ def commands(file, texts):
     yield ["list", *now, "--after", "1", "sales"], {"other-sale", "left-sale"}
     yield ["list", *now, "--after", "3", "sales"], {"left-sale"}
     yield ["list", *now, "--after", "4", "sales"], set()
+
+
+def kind_of(words):
+    """The name of a command, and what it imports or does to a shift."""
+    return words[0], *(it for it in words[1:] if it in ("tariffs", "meters", "open", "close"))
+
+
+def new_receipt():
+    """Of ann's next sale, the sixth, thirty days later: 5 kWh at 200 cents, the minute's identifier."""
+    token = ORACLE.token_of("plain", 0, 6, (int(LATER) - 1388534400) // 60, 50)
+    groups = " ".join(token[place:place + 4] for place in range(0, 20, 4))
+    return (f"SALE 6\nMETER {METER}\nTIME 2014-01-31T00:00:30Z\nKWH 5.0\nPRICE 1000\nTENDER 1000\nCHANGE 0\n"
+            f"TOKEN {groups}\n").encode()
+
+
+def changes(texts):
+    """Changes that a desk is asked for one after another, each at a moment: how it ends, the rows that it reads, and
+    whether it is in writing that it meets them. None alters how another one ends, whether it was refused or not."""
+    sell = ["sell", "--operator", "ann", "--ref", "N-1", "--meter", METER, "--tender", "1000"]
+    yield LATER, sell, (0, new_receipt(), b""), {"shift", "meter", "flat-later", "last-id", "month"}, {"totals"}
+    for moment, words, ended, reads in (
+            (LATER, ["import", "meters", texts["new-meter"]], (0, b"added 1\n", b""), set()),
+            (LATER, ["import", "tariffs", texts["new-tariff"]], (0, b"added 1\n", b""), set()),
+            (LATER, ["import", "tariffs", texts["known-steps"]], (0, b"added 0\n", b""), {"flat-later"}),
+            (LATER, ["import", "tariffs", texts["other-tariff"]], OTHER_ROW, {"flat-steps"}),
+            (LATER, ["tariff", "--meter", METER, "--tariff", "plain"], DONE, {"meter"}),
+            (LATER, ["key", "--meter", UNSOLD_METER, "--key", OTHER_KEY], DONE, set()),
+            (LATER, ["withdraw", "--tariff", "plain", "--from", "2036-01-01"], (0, b"withdrawn 1\n", b""), {"plain-later"})):
+        yield moment, words, ended, reads, set()
+    yield IN_2035, ["base", "--meter", METER, "--base", "2035"], DONE, {"meter"}, {"later-base"}
+    yield LATER, ["shift", "--operator", "bob", "open"], (0, b"shift 3\n", b""), set(), set()
+    yield LATER, ["shift", "--operator", "ann", "close"], (0, b"shift 1\n", b""), {"shift"}, set()
 
 
 def office_in(folder):
@@ -230,6 +294,28 @@ def check_second_pages(folder):
             wrong(f"{kind} behind a page with a spoilt row: {ended}\nexpected {behind}")
 
 
+def check_second_page_of_export(folder, library):
+    """An export of a file, and of its desk, in which a sale of one page or of the next is spoilt."""
+    whole, here = folder / "many.db", folder / "export"
+    here.mkdir()
+    file = here / "office.db"
+    prepare(whole)
+    expect(vend(*sell_words(whole, "A-1")), 0, RECEIPT, b"")
+    change(whole, "\n".join(["BEGIN;", *many_rows(), "COMMIT;", "PRAGMA wal_checkpoint(TRUNCATE);"]))
+    lines = export().splitlines(True)  # behind the names of the columns
+    for number in (EXPORT_PAGE, EXPORT_PAGE + 1, MANY_SALES - 1):
+        shutil.copy(whole, file)
+        change(file, f"UPDATE sales SET rnd = 16 WHERE number = {number};")
+        for page in (PAGE, EXPORT_PAGE):
+            before = (number - 1) // page * page
+            ended = (1, b"".join(lines[:before + 1]) if before else b"", b"refused 16 Store\n")
+            if page == EXPORT_PAGE:
+                same(end_of(["report", "--file", str(file), "--kind", "sales"]), ended, f"an export with {number} spoilt")
+            elif library:
+                with Clocked(here, file, library) as desk:
+                    same(tuple(run(["report", "--desk", desk.address, "--kind", "sales"])), ended, f"a desk's: {number}")
+
+
 def at_desk(desk, words):
     """Asks a desk what a command asks a file, at its moment."""
     name, _, _, *more = words
@@ -239,9 +325,41 @@ def at_desk(desk, words):
     return run([name, "--desk", desk.address, *more])
 
 
+def has_health(desk, sales, moment, last_write):
+    """The health of a desk, which looks at no row: what it knows is of its opening and of its own sales."""
+    client = http.client.HTTPConnection("127.0.0.1", desk.desk.port, timeout=WAIT)
+    client.request("GET", "/health")
+    reply = client.getresponse()
+    told = f'{{"format":{FORMAT},"last_moment":{moment},"last_write":"{last_write}","sales":{sales}}}'
+    same((reply.status, reply.read()), (200, told.encode()), "the health of a desk with a spoilt row")
+    client.close()
+
+
+def check_changes_at_desk(desk, row, texts):
+    """The changes, asked of a desk with a spoilt row, each beside the same command on a copy of the file."""
+    sales, moment, last_write, refused = 5, IN_2035, "done", 0
+    for at, words, ended, reads, meets in changes(texts):
+        before = desk_rows(desk.copy())
+        expected = REFUSED if row in reads | meets else ended
+        # A change that the tables did not take, or one that was written since, is the last that was tried.
+        is_written = ended[0] == 0 and ended[1] != b"added 0\n"
+        if row in meets:
+            last_write = "failed"
+        elif is_written and expected != REFUSED:
+            last_write = "done"
+        same(tuple(desk.ask(int(at), *words)), expected, f"{row}: {words} at a desk")
+        if expected == ended and words[0] == "sell":
+            sales, moment = sales + 1, at
+        if (desk_rows(desk.copy()) != before) != (is_written and expected != REFUSED):
+            wrong(f"{row}: {words} at a desk, ended with {expected}, and what it changed")
+        refused += expected == REFUSED
+        has_health(desk, sales, moment, last_write)
+    return refused
+
+
 def check_spoilt_rows_at_desk(folder, library):
-    """Each spoilt row under each command that changes nothing, asked of a desk. Whatever it could not read, it answers
-    the next one."""
+    """Each spoilt row under each command that changes nothing, asked of a desk, and then under the changes in turn.
+    Whatever it could not read, it answers the next one."""
     folder = folder / "spoilt"
     folder.mkdir()
     whole, texts = office_in(folder)
@@ -255,13 +373,19 @@ def check_spoilt_rows_at_desk(folder, library):
         shutil.copy(whole, here / "office.db")
         change(here / "office.db", text)
         with Clocked(here, here / "office.db", library) as desk:
+            has_health(desk, 5, IN_2035, "done")
             for words, reads, sound in asked:
                 expected = REFUSED if row in reads else sound
                 refused += expected is REFUSED
                 ended = tuple(at_desk(desk, words))
                 if ended != expected:
                     wrong(f"{row}: {words} at a desk ended with {ended}\nexpected {expected}")
-    print(f"spoilt rows at a desk: {len(SPOILT) - 1} under {len(asked)} commands each, {refused} refused")
+            # A read that failed is no write.
+            has_health(desk, 5, IN_2035, "done")
+            refused += check_changes_at_desk(desk, row, texts)
+    check_second_page_of_export(folder, library)
+    print(f"spoilt rows at a desk: {len(SPOILT) - 1} under {len(asked)} commands and {len([*changes(texts)])} changes "
+          f"each, {refused} refused")
 
 
 def check_spoilt_rows(folder):
@@ -269,7 +393,8 @@ def check_spoilt_rows(folder):
     folder = folder / "spoilt"
     folder.mkdir()
     whole, texts = office_in(folder)
-    file, refused, spoilts, before = folder / "office.db", 0, {}, {}
+    file, refused, spoilts, before, changed = folder / "office.db", 0, {}, {}, set()
+    whole_rows = rows_of(whole)
     for row, text in SPOILT.items():
         spoilts[row] = folder / f"{row}.db"
         shutil.copy(whole, spoilts[row])
@@ -278,6 +403,8 @@ def check_spoilt_rows(folder):
     for place, (words, reads) in enumerate(commands(str(file), texts)):
         shutil.copy(whole, file)
         sound = end_of(words)
+        if rows_of(file) != whole_rows:
+            changed.add(kind_of(words))
         for row, spoilt in spoilts.items():
             shutil.copy(spoilt, file)
             ended, expected = end_of(words), sound
@@ -291,5 +418,7 @@ def check_spoilt_rows(folder):
                 refused += 1
                 if rows_of(file) != before[row]:
                     wrong(f"{row}: {words} was refused, and has changed the file")
+    same(changed, CHANGES, "the kinds of changes that are made where no row is spoilt")
     check_second_pages(folder)
+    check_second_page_of_export(folder, None)
     print(f"spoilt rows: {len(SPOILT)} under {place + 1} commands each, {refused} refused")
