@@ -141,6 +141,40 @@ def try_orphan(trial, line, cure):
     trial.is_open("a row without its parent")
 
 
+def is_whole(file):
+    with contextlib.closing(sqlite3.connect(file)) as base, contextlib.suppress(sqlite3.DatabaseError):
+        return base.execute("PRAGMA integrity_check;").fetchall() == [("ok",)]
+    return False
+
+
+def try_damage(trial, line):
+    """Pages that the disk lost, and a file whose log was lost while it was written into the file."""
+    whole = trial.file.read_bytes()
+    size = 4096
+    same(is_whole(trial.file), True, "the check of a whole file")
+    for at in (0, size, len(whole) // 2 // size * size, len(whole) - size):
+        trial.renew()
+        trial.file.write_bytes(whole[:at] + bytes(size) + whole[at + size:])
+        trial.is_shut(line)
+        same(is_whole(trial.file), False, f"the check of a file without the page at {at}")
+    trial.renew()
+    with contextlib.closing(sqlite3.connect(trial.file, isolation_level=None)) as base:
+        base.executescript("PRAGMA journal_mode=WAL; PRAGMA wal_autocheckpoint=0;"
+                           "CREATE TABLE name (word TEXT UNIQUE);"
+                           "INSERT INTO name SELECT hex(zeroblob(500)) || number FROM sales;")
+        log = trial.file.with_name(trial.file.name + "-wal").read_bytes()
+    trial.renew()
+    # Half of the pages of its log, each behind a head of 24 bytes, are in the file.
+    with open(trial.file, "r+b") as file:
+        for at in range(32, len(log) // 2, 24 + size):
+            file.seek((int.from_bytes(log[at:at + 4], "big") - 1) * size)
+            file.write(log[at + 24:at + 24 + size])
+    trial.is_shut(line)
+    same(is_whole(trial.file), False, "the check of a file without its log")
+    trial.file.with_name(trial.file.name + "-wal").write_bytes(log)
+    trial.is_open("its log was put back")
+
+
 def try_dump(trial, line):
     dump = subprocess.run(["sqlite3", trial.file, ".dump"], capture_output=True, text=True, check=True).stdout
     trial.is_open("a dump", trial.made_of(dump))
@@ -162,6 +196,7 @@ def check_shut(folder):
         "`office.db-journal`, which a killed `sqlite3` left": try_journal,
         "a row of a table of yours breaks a foreign key of that table": try_orphan,
         "the file was made of a dump without `STRICT`": try_dump,
+        "the file is damaged, or its log is lost: `PRAGMA integrity_check;` does not print `ok`": try_damage,
     }
     for line, what, cure in rows_of_page("OPENING.md", *COLUMNS):
         line = quoted(line)[0]
