@@ -168,6 +168,7 @@ def wrong_names(texts):
     yield from lost_clauses(texts["docs/PROMISE.md"])
     yield from missing_files()
     yield from wrong_counts(texts["CONTRIBUTING.md"], texts["docs/DEVELOPING.md"])
+    yield from lost_columns(texts["docs/DEVELOPING.md"])
     yield from wrong_change(texts["CONTRIBUTING.md"], texts["docs/DEVELOPING.md"])
     yield from missing_examples()
     print(f"pages: {count} names of laws, clauses, definitions and edits")
@@ -207,19 +208,20 @@ def missing_files():
 
 def files_of_table(change, developing):
     """The files that the table of a change names, each with whether it always changes: what is in its place in `src`
-    or `specs`, a module of both, and lemmas and texts in `proofs`. `if ..` holds up to the next semicolon."""
+    or `specs`, a module of both, and lemmas and texts in `proofs`. `if ..` holds to the end of its cell."""
     section = re.search(rf"^### {re.escape(change)}\n(.*?)^##", developing, re.DOTALL | re.MULTILINE | re.IGNORECASE)
     found, crate = {}, None
     for crates, cell in re.findall(r"^\|([^|]*)\|([^|]*)\|$", section[1] if section else "", re.MULTILINE):
         crate = (quoted(crates) or [crate])[0]
-        for part in cell.split(";"):
+        before, condition, behind = cell.partition("if ")
+        for part, always in ((before, True), (condition + behind, False)):
             for name in quoted(part):
                 folder, own = TOP / "crates" / str(crate), name.rpartition("/")[2]
                 module = name.removesuffix(own) + (own if own[0].isupper() else own.title().replace("_", ""))
                 places = [folder / "src" / f"{name}.rt", folder / "specs" / f"{module}.antt"]
                 if own.endswith(("Lemmas", "Texts")):
                     places += folder.glob(f"proofs/**/{own}.antt")
-                found |= {place: "if " not in part for place in places if place.is_file()}
+                found |= {place: always for place in places if place.is_file()}
     return found
 
 
@@ -243,6 +245,15 @@ def wrong_counts(contributing, developing):
         counts = len(found), len({path.relative_to(TOP).parts[1] for path in found})
         if counts != (int(files), int(crates)):
             yield f"docs/DEVELOPING.md: {change}: {counts[0]} files in {counts[1]} crates, and not {files} in {crates}"
+
+
+def lost_columns(developing):
+    """Each source that names the columns of an export is among the files of a new column."""
+    ran = subprocess.run(["git", "grep", "--untracked", "-lE", "number[ ,]moment[ ,]shift", "--", "crates"], cwd=TOP,
+                         capture_output=True, text=True)
+    table = files_of_table("A column of `sales`", developing)
+    yield from (f"docs/DEVELOPING.md: a column of sales has no {path}" for path in ran.stdout.splitlines()
+                if TOP / path not in table)
 
 
 def wrong_witnesses():
