@@ -35,6 +35,7 @@ SOURCE = re.compile(r"\[([^\]]*)\]\(([^)#]+\.(?:rt|antt))\)")
 ENSURED = re.compile(r"\bensures (\w+)")
 FIELD = re.compile(r"^ +(?:pub )?(\w+) :", re.MULTILINE)
 LAW = r"(\w+_law|receipt_once)"
+COUNTS = ("None", "One", "Two", "Three", "Four", "Five", "Six", "Seven", "Eight", "Nine", "Ten")
 
 
 def texts_of(pattern):
@@ -165,6 +166,7 @@ def wrong_names(texts):
             if edit not in sources.edits:
                 yield f"{page}: {edit} is no edit"
     yield from wrong_witnesses()
+    yield from wrong_gate_count(texts["docs/PROMISE.md"])
     yield from lost_clauses(texts["docs/PROMISE.md"])
     yield from missing_files()
     yield from wrong_counts(texts["CONTRIBUTING.md"], texts["docs/DEVELOPING.md"])
@@ -258,18 +260,36 @@ def lost_columns(developing):
 
 def wrong_witnesses():
     """The witnesses in the table of promises are those of PROVED.md. What stands in brackets behind one is a
-    clause of a law of its row, or of the one that it is said to be of."""
-    known = {quoted(witness)[0] for _, witness in rows_of_page("PROVED.md", "Law", "Witness") if quoted(witness)}
+    clause of a law of its row, or of the one that it is said to be of. Of a law that a row names as a whole a witness
+    stands there, where it has any."""
+    known = defaultdict(set)
+    for law, witness in rows_of_page("PROVED.md", "Law", "Witness"):
+        known[quoted(witness)[0]].add(quoted(law)[0])
     for promise, laws, witness, _ in rows_of_page("PROMISE.md", "The promise", "Law [clauses]", "Witness",
                                                   "A wrong program that was refused"):
-        for name in quoted(re.sub(r"\[[^]]*\]", "", witness)):
+        named = quoted(re.sub(r"\[[^]]*\]", "", witness))
+        for name in named:
             if name not in known:
                 yield f"docs/PROMISE.md: {name} is no witness in PROVED.md: {promise}"
+        for law in re.findall(r"\[`(\w+)`\]\([^)]*\)(?! \[)", laws):
+            own = {name for name, of in known.items() if law in of}
+            if own and not own & {*named}:
+                yield f"docs/PROMISE.md: {law} has a witness in PROVED.md, and none here: {promise}"
         for clauses, law in re.findall(r"\[(`[^]]*)\](?: of (\w+))?", witness):
             texts = [text_of_law(it) for it in ([law] if law else re.findall(r"\[`(\w+)`\]\(", laws))]
             for clause in quoted(clauses):
                 if not any(has_clause(text, clause) for text in texts):
                     yield f"docs/PROMISE.md: {clause} is no clause of a law of its witness: {promise}"
+
+
+def wrong_gate_count(text):
+    """docs/PROMISE.md says how many of the wrong programs in its table the gate tries."""
+    cells = [row[3] for row in rows_of_page("PROMISE.md", "The promise", "Law [clauses]", "Witness",
+                                            "A wrong program that was refused")]
+    pairs = [edit.split("/") for cell in cells for edit in quoted(cell)]
+    count = sum((TOP / "crates" / crate / "must-fail" / f"{name}.edit").is_file() for crate, name in pairs)
+    if f"{COUNTS[count]} of them are in `must-fail`" not in text:
+        yield f"docs/PROMISE.md: {count} of its wrong programs are in must-fail"
 
 
 def text_of_law(law):
