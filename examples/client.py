@@ -26,9 +26,9 @@ WRONG = ("Head", "Method", "Host", "Coding", "Length", "Body", "NoRoute")
 
 
 class Refused(Exception):
-    """The message was refused. No sale was made by an earlier try of it either; another message may have been
-    done by one, if somebody has changed its tariff or meter since. Sending it again changes nothing before its
-    cause is mended."""
+    """The message was refused. If it is a sale, no earlier try of it sold anything either. Any other message may
+    have been done by an earlier try, if somebody has changed the tariff or the meter since. Sending it again
+    changes nothing before its cause is mended."""
 
 
 class Unknown(Exception):
@@ -51,7 +51,7 @@ def ask(desk, method, target, body=None):
 
 def may_be_done(status):
     """Whether a reply of this status leaves open what was done: a desk has 503 for what may pass, and 501 for
-    a method that it does not know; each other one of 500 and more is of a proxy before it."""
+    a method or a coding that it does not know; each other one of 500 and more is of a proxy before it."""
     return status >= 500 and status != 501
 
 
@@ -65,11 +65,11 @@ def told(text, read):
 
 
 def ask_until_known(desk, method, target, body=None, read=bytes, is_first=True):
-    """What `read` finds in the body of the good reply, by as many tries as it takes.
+    """What `read` finds in the body of the good reply, by up to four tries (PAUSES).
 
     A message may come twice where the same one again changes nothing: a sale with its ref, all that is
     asked by GET, and, unless somebody has changed it meanwhile, a tariff or its dated steps, a meter, its
-    base date or its key, an import, and steps that are taken back.
+    tariff, base date or key, an import, and steps that are taken back.
 
     Once an earlier try may have been done, which the caller says of those before by `is_first`, only a
     refusal of the office or of the desk settles it: that of a proxy says nothing of the earlier one.
@@ -105,7 +105,7 @@ def withdraw_steps(desk, tariff, day):
 
 
 def set_key(desk, meter, key):
-    """Gives a meter to which nothing was sold another key, of sixteen hexadecimal digits."""
+    """Gives a meter to which nothing was sold another key, of sixteen hexadecimal digits in small letters."""
     ask_until_known(desk, "POST", f"/meters/{meter}/key", json.dumps({"key": key}), member("done"))
 
 
@@ -152,8 +152,8 @@ def settles(text):
 
 
 def sale_of(desk, operator, ref):
-    """The sale under a ref, or None. An order whose message may still be on its way is not settled by
-    None: send it again."""
+    """The sale under a ref, or None. None does not settle an order whose message may still be on its way:
+    send it again."""
     status, text = ask(desk, "GET", f"/operators/{operator}/sales/{ref}")
     if status == 200:
         return told(text, sale_in)
@@ -207,7 +207,7 @@ def main(desk, operator, meter, tender, ref):
     try:
         lose_the_reply(desk, *message)
         sale = ask_until_known(desk, *message, read=sale_in, is_first=False)
-    except http.client.InvalidURL:
+    except (http.client.InvalidURL, UnicodeError):
         sys.exit(f"no desk is named so: {desk}")
     except Refused as refusal:
         sys.exit(f"refused: {refusal}")
