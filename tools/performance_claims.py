@@ -67,7 +67,7 @@ def claims():
             [number(slow[takes][side]) for side in ("vend", "C", "Python")]
     yield page, r"a sale at the desk was (\S+) times as fast as in Python, and (\S+) times as fast as in C", \
         [number(slow["0 ms"][f"vend to {peer}"]) for peer in ("Python", "C")]
-    yield page, r"The rates above give (\S+) and (\S+) instead\.", \
+    yield page, r"The first row of the table above gives (\S+) and (\S+) instead\.", \
         [number(slow["0 ms"]["vend"]) / number(slow["0 ms"][peer]) for peer in ("Python", "C")]
     yield page, r"lay between (\S+) and (\S+) \(Python\), and between (\S+) and (\S+) \(C\)", \
         [end for peer in ("Python", "C") for end in brackets(slow["0 ms"][f"vend to {peer}"])]
