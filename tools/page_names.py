@@ -21,7 +21,7 @@ from program import TOP
 from shared import quoted, rows_of_page
 
 PAGES = ("docs/PROMISE.md", "docs/PROVED.md", "docs/DESIGN.md", "docs/OFFICE.md", "docs/DECISIONS.md",
-         "docs/DEVELOPING.md")
+         "docs/DEVELOPING.md", "docs/GROWING.md")
 # The names of the toolchain that the pages use, and others: its crates, the file that lists the program's handles, a
 # type of SQL, a field of HTTP, a type of Rust, and a name that stands for many.
 TOOLCHAIN = {"HasCleanDisk", "Wary", "Unknown"}

@@ -6,6 +6,7 @@ import re
 from pathlib import Path
 
 WEEKS = 365.25 / 7  # of a year
+METERS_AUDITED = 1e4  # of each file that bench/sales audits
 DOCS = Path(__file__).resolve().parent.parent / "docs"
 
 
@@ -112,7 +113,10 @@ def claims():
     held_by_audit = number(all_tables[audit][-1]["audit, MiB at most"])
     gigabytes = held_by_audit * 2 ** 20 / 1e5 * 1e6 / 1e9  # for a million sales
     growing = "docs/GROWING.md"
-    yield growing, r"a million sales take some (\S+) s", [number(most["format 4, ms"]) * 10 / 1000]
+    # The file that was opened on a disk has METERS_AUDITED meters beside its sales; each takes about as long.
+    on_disk = number(all_tables[audit][-1]["opening, ms"]) * 1e6 / (1e5 + METERS_AUDITED) / 1000
+    yield growing, r"A million sales take some (\S+) s with the file in memory and some (\S+) s on a disk", \
+        [number(most["format 4, ms"]) * 10 / 1000, on_disk]
     yield growing, r"some (\S+) GB with a million sales and (\d+) GB with ten million", \
         [gigabytes, gigabytes * 10]
     years = 1e5 / WEEKS
