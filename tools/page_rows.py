@@ -1,5 +1,5 @@
-"""Each row of the tables of docs/COMMANDS.md and docs/AUDIT.md, and the bounds of docs/OFFICE.md, beside the program:
-a part of tools/check_pages. It is no script of its own.
+"""Each row of the tables of docs/COMMANDS.md and docs/AUDIT.md, the bounds of docs/OFFICE.md, and what docs/PROFILE.md
+computes, beside the program: a part of tools/check_pages. It is no script of its own.
 
 Most rows are run here. A row that takes more than a run names the script that runs it (`ELSEWHERE`), which the gate
 runs, and whose last lines have to reach what it expects. A row that is neither is wrong."""
@@ -21,7 +21,7 @@ import audited_offices
 from help_texts import helps_of
 from page_bounds import check_bounds
 from program import AT, KEY, METER, NO_METER, RECEIPT, SPENT, TOP, VEND, begin_desk, change, expect, prepare, vend
-from shared import FORMAT, back_to, quoted, rows_of_page, same, tables_of, wrong
+from shared import FORMAT, back_to, numbers, quoted, rows_of_page, same, tables_of, wrong
 from shut_offices import check_shut
 
 PAGE, AUDIT_PAGE = "COMMANDS.md", "AUDIT.md"
@@ -636,6 +636,28 @@ def sale_at_desk():
     return re.search(r"^\./vend (sell --desk .*)$", page, re.MULTILINE)[1]
 
 
+def check_profile(_):
+    """The amounts, the tokens and the price that docs/PROFILE.md computes."""
+    page = (TOP / "docs" / "PROFILE.md").read_text(encoding="utf-8")
+    trial = lambda amount, *words: vend("trial", "--base", "2014", "--at", AT, "--key", *(words or [KEY]), str(amount))
+    rows, begins = rows_of_page("PROFILE.md", "e", "Amounts", "In steps of"), 0
+    for power, amounts, step in rows:
+        (least, greatest), step = numbers(amounts), int(step)
+        same((least, greatest, step), (begins, begins + step * (2 ** 14 - 1), 10 ** int(power)),
+             f"docs/PROFILE.md: the amounts of e = {power}")
+        for amount, line in ((least + step, b""), (greatest, b""), (greatest - step + 1, b"refused amount\n")):
+            expect(trial(amount), int(line != b"" and step > 1), None, line if step > 1 else b"")
+        begins = greatest + step
+    expect(trial(begins), 1, b"", b"refused amount\n")
+    for words in ([KEY], ["0123456789abcdef", "--transform", "demo"]):
+        token = trial(1, *words).stdout.decode().strip()
+        same(f"the token is `{token}`" in page, True, f"docs/PROFILE.md: the token {token}")
+    price = re.search(r"under `(.*)` (\d+) tenths after (\d+) cost .* = (\d+) cents", page)
+    steps, tenths, prior, cents = price.groups()
+    expect(vend("quote", steps, prior, cents), 0, f"{tenths} {cents} 0\n".encode())
+    return len(rows) + 3
+
+
 def check_examples(offices):
     """The sale and the message of README.md, and the sale at a desk of docs/COMMANDS.md, as they are written: what is
     sold at once is sold at the moment of the example."""
@@ -706,7 +728,8 @@ def log_of_desk(file):
 
 
 PARTS = (check_commands, check_strangers, check_columns, check_statuses, check_refusals, check_causes,
-         check_audit_lines, check_audits, check_tables, check_limits, check_answers, check_examples, check_spreadsheets)
+         check_audit_lines, check_audits, check_tables, check_limits, check_answers, check_profile, check_examples,
+         check_spreadsheets)
 
 
 def check_page_rows(folder):
@@ -714,6 +737,6 @@ def check_page_rows(folder):
     offices = Offices(folder)
     count = sum(check(offices) for check in PARTS)
     values = check_bounds(offices)
-    print(f"docs/{PAGE}, {AUDIT_PAGE}, TEXTS.md: {count} rows of tables and examples run; "
+    print(f"docs/{PAGE}, {AUDIT_PAGE}, TEXTS.md, PROFILE.md: {count} rows of tables and examples run; "
           f"docs/OFFICE.md: {values} values at its bounds and beyond")
     check_shut(folder)
