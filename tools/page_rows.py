@@ -404,8 +404,8 @@ def check_spreadsheets(offices):
                                  f"sep=,\n{whole}", whole.replace(",", ", "), whole.replace("\n", ",\n")],
         "`Field 2` of that row": [whole + row.replace(",", ", ", 1)],
         "`Field 1` of that row": [f"{whole},,,\n"],
-        "`Field 4` of its row": [f"{head}\n{row[:-16]}1200000\n", f"{head}\n{row[:-16]}00000000000012E5\n"],
-        "`Field 1` of its row": [f"{head}\n1.2E+10{row[11:]}\n"],
+        "`Field 4` of its row": [f"{head}\n{row[:-16]}{key}\n" for key in ("0", "1200000", "00000000000012E5")],
+        "`Field 1` of its row": [f"{head}\n{meter}{row[11:]}\n" for meter in ("1.2E+10", "12173001")],
         "`Field 3` of its row": ["name,steps,from\nflat,:130,01/01/2030\n"],
     }
     rows = rows_of_page("TEXTS.md", "What it wrote", "What `import` says")
