@@ -59,13 +59,14 @@ def after_restore(shop):
     check_restored(shop, newest)
     check_put_back(shop)
     check_transform(shop, newest)
+    check_quotes(shop)
     check_clock_ahead(shop)
     check_old_restore(shop)
     same(shop.ask("find", "/var/lib/vend", BACKUPS, "-type", "f", "-perm", "/077", "-not", "-name", "*.wait"), "",
          "files that others can read")
     print("restores: the newest copy, into an empty folder, over a stale log, of an older format, after a forged "
-          "sale, of another transform, of a clock that was ahead and of what is no office; owner, rights, last sale "
-          "and the moment of safe selling", flush=True)
+          "sale, of another transform, by settings in quotes, of a clock that was ahead and of what is no office; "
+          "owner, rights, last sale and the moment of safe selling", flush=True)
 
 
 def check_restored(shop, newest):
@@ -168,6 +169,17 @@ def check_transform(shop, newest):
          f"a copy while the transform is another one: {ran.stderr}")
     shop.shell(f"rm {copy}; sed -i 's/^VEND_TRANSFORM=demo/VEND_TRANSFORM=plain/' /etc/default/vend; "
                "systemctl restart vend")
+
+
+def check_quotes(shop):
+    """Values in quotes are the same values to the commands as to systemd, which takes the quotes away."""
+    shop.shell("cp -p /etc/default/vend /srv/others/settings; "
+               "sed -i 's/^\\(VEND_[A-Z]*\\)=\\(.*\\)/\\1=\"\\2\"/' /etc/default/vend; systemctl restart vend")
+    copy = shop.ask("vend-backup").splitlines()[-1]
+    same(shop.status_lines()["desk"][0], "ok", "vend-status by settings in quotes")
+    lines = shop.ask("vend-restore", "--start", copy).splitlines()
+    same(lines[3], "safe to sell now: the replaced file has the same last sale", f"settings in quotes: {lines}")
+    shop.shell(f"rm {copy}; mv /srv/others/settings /etc/default/vend; systemctl restart vend")
 
 
 def check_clock_ahead(shop):
