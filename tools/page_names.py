@@ -35,7 +35,7 @@ SOURCE = re.compile(r"\[([^\]]*)\]\(([^)#]+\.(?:rt|antt))\)")
 ENSURED = re.compile(r"\bensures (\w+)")
 FIELD = re.compile(r"^ +(?:pub )?(\w+) :", re.MULTILINE)
 LAW = r"(\w+_law|receipt_once)"
-COUNTS = ("None", "One", "Two", "Three", "Four", "Five", "Six", "Seven", "Eight", "Nine", "Ten")
+COUNTS = ("None", "One", "Two", "Three", "Four", "Five", "Six", "Seven", "Eight", "Nine", "Ten", "Eleven", "Twelve")
 
 
 def texts_of(pattern):
@@ -172,6 +172,7 @@ def wrong_names(texts):
     yield from wrong_counts(texts["CONTRIBUTING.md"], texts["docs/DEVELOPING.md"])
     yield from lost_columns(texts["docs/DEVELOPING.md"])
     yield from wrong_change(texts["CONTRIBUTING.md"], texts["docs/DEVELOPING.md"])
+    yield from wrong_sums(texts["CONTRIBUTING.md"])
     yield from missing_examples()
     print(f"pages: {count} names of laws, clauses, definitions and edits")
 
@@ -361,6 +362,25 @@ def wrong_change(page, developing):
                 yield f"docs/DEVELOPING.md: a look-up has no {path}, and CONTRIBUTING.md has it"
     for crate, name in sorted(place for place, always in listed.items() if always and place not in named):
         yield f"CONTRIBUTING.md: the change has no {name} of {crate}, and docs/DEVELOPING.md has it for a look-up"
+
+
+def wrong_sums(page):
+    """CONTRIBUTING.md says how many files its change takes, and how many of them and of others its search finds."""
+    shown = {*change_shown(page)}
+    inside = [path for path in shown if path.startswith("crates/")]
+    crates, edits = (COUNTS[len({*it})].lower() for it in ([path.split("/")[1] for path in inside],
+                                                          [path for path in inside if path.endswith(".edit")]))
+    said = (f"A look-up takes {len(shown)} files: {len(inside)} in {crates} crates ({edits} of these are edits), and "
+            f"{len(shown) - len(inside)} elsewhere.")
+    if said not in page:
+        yield f"CONTRIBUTING.md does not say: {said}"
+    pattern, own, others = re.search(r"`git grep -iE '([^']+)'` finds (\d+) of these files. It also finds (\d+) others",
+                                     page).groups()
+    ran = subprocess.run(["git", "grep", "--untracked", "-liE", pattern], cwd=TOP, capture_output=True, text=True)
+    found = {*ran.stdout.splitlines()}
+    counts = len(found & shown), len(found - shown)
+    if counts != (int(own), int(others)):
+        yield f"CONTRIBUTING.md: its search finds {counts[0]} of its files, and {counts[1]} others"
 
 
 def missing_examples():
