@@ -10,7 +10,7 @@ import subprocess
 import sys
 
 TOP = os.path.dirname(os.path.dirname(os.path.abspath(__file__)))
-# A check takes 1 to 7 GB, and seldom more than this.
+# A check of a crate takes 1 to 5 GB, and that of tests up to 9 (docs/DEVELOPING.md, "What it costs").
 GB_OF_A_CHECK = 5
 # Debian's packages of the commands that the scripts call, and of the modules that they import.
 COMMANDS = {"cc": "gcc and libc6-dev", "chromedriver": "chromium-driver", "chromium": "chromium",
