@@ -8,7 +8,7 @@ import subprocess
 import sys
 
 from program import change, expect, prepare, sell_words, vend
-from shared import quoted, rows_of_page, same, wrong
+from shared import FORMAT, quoted, rows_of_page, same, tables_of, wrong
 
 COLUMNS = ("Line", "What is in the way", "What opens it again")
 # What brings each row about, by what the page says of it. `name` stands for a name, here and there.
@@ -40,7 +40,13 @@ STATEMENTS = {
     "another index on a table of the office, of columns alone": (
         "CREATE INDEX name ON sales (meter);", "CREATE UNIQUE INDEX name ON meters (meter, tariff);",
         "CREATE INDEX name ON sales (ref COLLATE NOCASE, number DESC);"),
-    "a column more": ("ALTER TABLE sales ADD COLUMN name TEXT;",),
+    "a column with a default value, added to a table of yours that had rows": (
+        "CREATE TABLE mine (word TEXT); INSERT INTO mine VALUES ('a'); ALTER TABLE mine ADD COLUMN name TEXT DEFAULT 'b';",
+        "CREATE TABLE mine (word TEXT) STRICT; INSERT INTO mine VALUES ('a'), ('b'); "
+        "ALTER TABLE mine ADD COLUMN name INTEGER NOT NULL DEFAULT 0; VACUUM;"),
+    "a column more": tuple(f"ALTER TABLE sales ADD COLUMN name {it};" for it in (
+        "TEXT", "INTEGER REFERENCES shifts (number)", "INTEGER CHECK (name > 1)", "TEXT DEFAULT 'a'",
+        "INTEGER NOT NULL DEFAULT 0", "INTEGER AS (price + 1)")),
     "a table of the office has another name": ("ALTER TABLE sales RENAME TO name;",),
     "a table of yours with a foreign key to one of the office's": (
         "CREATE TABLE name (sale INTEGER REFERENCES sales (number));", "CREATE TABLE name (of REFERENCES tariffs);"),
@@ -57,6 +63,8 @@ LEAVE_OPEN = (
     "CREATE TABLE name (id INTEGER PRIMARY KEY); CREATE TABLE other (of REFERENCES name); INSERT INTO name VALUES (7); "
     "INSERT INTO other VALUES (7);",
     "CREATE TABLE name (word TEXT); CREATE TRIGGER other AFTER INSERT ON name BEGIN SELECT 1; END;",
+    "CREATE TABLE name (word TEXT CHECK (word GLOB 'a*') DEFAULT 'a', more INTEGER AS (length(word))); "
+    "INSERT INTO name DEFAULT VALUES; ALTER TABLE name ADD COLUMN other TEXT;",
 )
 COPIES = (".backup {}", ".clone {}", "VACUUM INTO '{}';")
 # A transaction that is larger than its cache, and is killed.
@@ -89,9 +97,13 @@ class Trial:
             self.file.with_name(self.file.name + end).unlink(missing_ok=True)
         shutil.copy(self.whole, self.file)
 
-    def is_shut(self, line):
-        expect(self.audit(self.file), 1, b"", f"{line}\n".encode())
+    def is_shut(self, *lines):
+        """The audit says one of these lines, which this gives."""
+        ran = self.audit(self.file)
+        said = ran.stderr.decode().strip()
+        expect(ran, 1, b"", f"{said if said in lines else lines}\n".encode())
         self.count += 1
+        return said
 
     def is_open(self, what, file=None):
         same(self.audit(file or self.file).stdout, self.sound, f"an office after {what}")
@@ -199,23 +211,25 @@ def check_shut(folder):
         "the file is damaged, or its log is lost: `PRAGMA integrity_check;` does not print `ok`": try_damage,
     }
     for line, what, cure in rows_of_page("OPENING.md", *COLUMNS):
-        line = quoted(line)[0]
+        lines = [it for it in quoted(line) if it.startswith("open ")]
+        line, said = lines[0], set()
         if what in STATEMENTS:
             unseen = [it for it in quoted(what) if what.startswith("a view") and it not in " ".join(STATEMENTS[what])]
             same(unseen, ["vend"] * len(unseen), "docs/OPENING.md: parts of SQL in views that are not tried")
             for text in STATEMENTS[what]:
                 trial.renew()
                 change(trial.file, text)
-                trial.is_shut(line)
-                change(trial.file, " ".join(quoted(cure)))
+                said.add(trial.is_shut(*lines))
+                change(trial.file, " ".join(it for it in quoted(cure) if it.endswith(";")))
                 trial.is_open(text)
         elif what in ways:
             trial.renew()
             ways[what](trial, line, *([quoted(cure)[0]] if ways[what] in (try_journal, try_orphan) else []))
         elif what == "a table of the office is gone":
-            trial.renew()
-            change(trial.file, "DROP TABLE last_ids;")
-            trial.is_shut(line)
+            for table in tables_of(FORMAT):
+                trial.renew()
+                change(trial.file, f"DROP TABLE {table};")
+                said.add(trial.is_shut(*lines))
         elif what.startswith("the last sale has a column outside"):
             trial.renew()
             change(trial.file, "UPDATE sales SET tid = 16777216 WHERE number = 2;")
@@ -224,6 +238,7 @@ def check_shut(folder):
             trial.count += 1
         elif what != "the user cannot write the file or its log, or cannot make the log in the folder":  # root always can
             wrong(f"docs/OPENING.md has a row that is not tried: {what}")
+        same(said or {line}, set(lines), f"docs/OPENING.md: what is said where this is in the way: {what}")
     for text in LEAVE_OPEN:
         trial.renew()
         change(trial.file, text)
