@@ -172,9 +172,9 @@ def check_transform(shop, newest):
 
 
 def check_quotes(shop):
-    """Values in quotes are the same values to the commands as to systemd, which takes the quotes away."""
+    """Values in quotes and blanks are the same values to the commands as to systemd, which takes these away."""
     shop.shell("cp -p /etc/default/vend /srv/others/settings; "
-               "sed -i 's/^\\(VEND_[A-Z]*\\)=\\(.*\\)/\\1=\"\\2\"/' /etc/default/vend; systemctl restart vend")
+               "sed -i 's/^\\(VEND_[A-Z]*\\)=\\(.*\\)/ \\1 = \"\\2\" \\r/' /etc/default/vend; systemctl restart vend")
     copy = shop.ask("vend-backup").splitlines()[-1]
     same(shop.status_lines()["desk"][0], "ok", "vend-status by settings in quotes")
     lines = shop.ask("vend-restore", "--start", copy).splitlines()
