@@ -44,6 +44,10 @@ STATEMENTS = {
         "CREATE TABLE mine (word TEXT); INSERT INTO mine VALUES ('a'); ALTER TABLE mine ADD COLUMN name TEXT DEFAULT 'b';",
         "CREATE TABLE mine (word TEXT) STRICT; INSERT INTO mine VALUES ('a'), ('b'); "
         "ALTER TABLE mine ADD COLUMN name INTEGER NOT NULL DEFAULT 0; VACUUM;"),
+    "a row of a table of yours breaks a `CHECK` or `NOT NULL`: `PRAGMA integrity_check;` prints only lines such as "
+    "`CHECK constraint failed in mine`": (
+        "CREATE TABLE mine (number INTEGER CHECK (number > 0)); PRAGMA ignore_check_constraints=1; "
+        "INSERT INTO mine VALUES (-1);",),
     "a column more": tuple(f"ALTER TABLE sales ADD COLUMN name {it};" for it in (
         "TEXT", "INTEGER REFERENCES shifts (number)", "INTEGER CHECK (name > 1)", "TEXT DEFAULT 'a'",
         "INTEGER NOT NULL DEFAULT 0", "INTEGER AS (price + 1)")),
@@ -208,7 +212,7 @@ def check_shut(folder):
         "`office.db-journal`, which a killed `sqlite3` left": try_journal,
         "a row of a table of yours breaks a foreign key of that table": try_orphan,
         "the file was made of a dump without `STRICT`": try_dump,
-        "the file is damaged, or its log is lost: `PRAGMA integrity_check;` does not print `ok`": try_damage,
+        "the file is damaged, or its log is lost: `PRAGMA integrity_check;` prints neither `ok` nor only such lines": try_damage,
     }
     for line, what, cure in rows_of_page("OPENING.md", *COLUMNS):
         lines = [it for it in quoted(line) if it.startswith("open ")]
